@@ -1,0 +1,6 @@
+pub mod Code
+pub mod Machine
+pub mod Causes
+pub mod Bytes
+pub mod ViewError
+pub mod Program

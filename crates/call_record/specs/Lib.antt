@@ -1,0 +1,5 @@
+pub mod Words
+pub mod Record
+pub mod Verdict
+pub mod Least
+pub mod Text

@@ -1,0 +1,38 @@
+//! The least number from a start on that has given bits under a mask.
+ghost use Rattle.std.specs.Prelude.{◌≡◌, ◌<◌, ◌≤◌, ◌^◌, ℕ, IfSome, IfNone, bit_and};
+ghost use Rattle.call_record.specs.Least.{IsLeastFrom};
+
+/// The least number `u` from `from` on with `u & mask == datum`. There is none where the datum has
+/// bits outside the mask, or where no such number of 64 bits is as great as `from`.
+pub fn least_from(from: u64, mask: u64, datum: u64) -> Option<u64>
+    ensures found { IfSome result (IsLeastFrom from mask datum) }
+    ensures none { IfNone result ((v : ℕ) → v < 2 ^ 64 → from ≤ v → bit_and v mask ≡ datum → ⊥) }
+{
+    least_below(64, from, mask, datum)
+}
+
+/// The same among the numbers of this many bits.
+pub fn least_below(bits: u32, from: u64, mask: u64, datum: u64) -> Option<u64>
+    requires { bits ≤ 64 }
+    ensures found { IfSome result (IsLeastFrom from mask datum) }
+    ensures below { IfSome result (λ u. u < 2 ^ bits) }
+    ensures none { IfNone result ((v : ℕ) → v < 2 ^ bits → from ≤ v → bit_and v mask ≡ datum → ⊥) }
+{
+    if bits < 64 && from >> bits != 0 {
+        return None;
+    }
+    if from & mask == datum {
+        return Some(from);
+    }
+    if bits == 0 {
+        return None;
+    }
+    if mask % 2 < datum % 2 {
+        return None;
+    }
+    // The lowest bit of the answer is the datum's, and the start of the higher bits is rounded up
+    // where that bit is below the start's.
+    let next = from / 2 + (from % 2 + 1 - datum % 2) / 2;
+    let high = least_below(bits - 1, next, mask / 2, datum / 2)?;
+    Some(high * 2 + datum % 2)
+}

@@ -1,0 +1,5 @@
+use Rattle.cli.proofs.AnswerLaws as laws
+use Rattle.cli.proofs.law.one_answer.Goals as goal
+
+pub returns : goal.returns
+returns c = laws.one_answer

@@ -1,0 +1,22 @@
+-- Why a run stopped, and its exit status.
+use Rattle.std.specs.Prelude.{ℕ}
+use Rattle.command_line.specs.declared.Misuse.{Misuse}
+use Rattle.command_line.specs.declared.Misuse.TheVariants as misuse
+use Rattle.cli.specs.declared.sink.ExportFault.{ExportFault}
+use Rattle.cli.specs.declared.sink.ExportFault.TheVariants as fault
+use Rattle.cli.specs.declared.program.Stop.{Stop}
+use Rattle.cli.specs.declared.program.Stop.TheVariants.{Usage, CannotRead, Write, OutOfMemory}
+
+abbrev pub status_of : Stop → ℕ
+status_of Usage = 2
+status_of (CannotRead name) = 3
+status_of (Write out) = 3
+status_of OutOfMemory = 3
+
+abbrev pub stop_at_misuse : Misuse → Stop
+stop_at_misuse misuse.Usage = Usage
+stop_at_misuse misuse.OutOfMemory = OutOfMemory
+
+abbrev pub stop_at_fault : ExportFault → Stop
+stop_at_fault (fault.Write out) = Write out
+stop_at_fault fault.OutOfMemory = OutOfMemory

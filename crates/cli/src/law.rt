@@ -1,0 +1,6 @@
+ghost use Rattle.cli.specs.Answer.{OneAnswer};
+
+/// A filter's and a record's bytes have one answer at most.
+pub fn one_answer()
+    ensures { OneAnswer }
+{}

@@ -1,0 +1,91 @@
+//! Where bytes go.
+ghost use Rattle.std.specs.Prelude.{◌≡◌, ◌≤◌, ◌<◌, ℕ, List, Option, IfOk, length, if◌then◌else◌};
+ghost use Rattle.std.specs.Io.KnownBytes.{WriteAppends};
+ghost use Rattle.cli.specs.Sink.{Writes};
+
+use std::io;
+
+/// A read or a write that failed.
+#[derive(Clone, Copy, Debug, PartialEq, Eq)]
+pub struct Failed;
+
+/// Why bytes were not all written.
+#[derive(Clone, Copy, Debug, PartialEq, Eq)]
+pub enum ExportFault {
+    /// The sink failed after it took so many bytes.
+    Write { out: u64 },
+    OutOfMemory,
+}
+
+/// What takes bytes.
+pub trait Sink {
+    ghost use Rattle.cli.specs.Sink.{one_more, is_failure};
+
+    /// The bytes that it holds, where its writer tells them.
+    ghost held: { Self → Option (List ℕ) };
+
+    /// How many calls failed, up to the greatest u64.
+    ghost failures: { Self → ℕ };
+
+    /// Takes some of the bytes, from the first on, and says how many. A call that takes none counts as a failure.
+    fn write(&mut self, bytes: &[u8]) -> Result<usize, Failed>
+        ensures count { IfOk result (λ n. n ≤ length bytes.now) }
+        ensures bytes { WriteAppends (held self.old) (held self.new) result bytes.now }
+        ensures failures { failures self.new ≡ (if is_failure result then one_more (failures self.old) else failures self.old) };
+}
+
+/// A sink over any writer.
+#[derive(Drop)]
+pub struct ToWrite<W: io::Write + Drop> {
+    pub writer: W,
+    pub failures: u64,
+}
+
+impl<W: io::Write + Drop> ToWrite<W> {
+    /// A sink that has not failed.
+    pub fn new(writer: W) -> Self
+        ensures writer { result.writer ≡ writer }
+        ensures failures { result.failures ≡ 0 }
+    {
+        ToWrite {
+            writer,
+            failures: 0,
+        }
+    }
+}
+
+impl<W: io::Write + Drop> Sink for ToWrite<W> {
+    ghost held = { λ s. W.contents s.writer };
+
+    ghost failures = { λ s. s.failures };
+
+    fn write(&mut self, bytes: &[u8]) -> Result<usize, Failed> {
+        match self.writer.write(bytes) {
+            Ok(n) => {
+                if n == 0 {
+                    self.failures = self.failures.saturating_add(1);
+                }
+                Ok(n)
+            }
+            Err(_) => {
+                self.failures = self.failures.saturating_add(1);
+                Err(Failed)
+            }
+        }
+    }
+}
+
+/// Writes all of the bytes, or says how many were written. A call that failed is not tried again.
+pub(crate) fn write_all<S: Sink>(bytes: &[u8], sink: &mut S) -> Result<(), ExportFault>
+    ensures { Writes S.held S.failures sink.old sink.new bytes.now result }
+{
+    let mut out = 0;
+    'write: while out < bytes.len() {
+        match sink.write(&bytes[out..]) {
+            Ok(0) => return Err(ExportFault::Write { out: out as u64 }),
+            Ok(n) => out += n,
+            Err(_) => return Err(ExportFault::Write { out: out as u64 }),
+        }
+    }
+    Ok(())
+}

@@ -1,0 +1,3 @@
+pub mod Cause
+pub mod Accepted
+pub mod Lent
