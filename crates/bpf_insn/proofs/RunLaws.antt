@@ -12,10 +12,12 @@ use Rattle.bpf_insn.specs.Machine.{Registers, Step, Ends, Goes, Stuck, Ending, a
 abbrev pub counted : ℕ → Ending → Ending
 counted n e = option_map (λ (end : ℕ × ℕ). (end.0, n + end.1)) e
 
+-- one instruction that a run begins with is one that came before its rest
 pub counted-after_one : (n : ℕ) (e : Ending) → counted n (after_one e) ≡ counted (n + 1) e
 counted-after_one n None = refl
 counted-after_one n (Some (word, m)) = let e : n + (m + 1) ≡ n + 1 + m = omega arith in ap (λ k. Some (word, k)) e
 
+-- a run whose first instruction ends it
 pub ending_ends : (p : List Insn) (pc : ℕ) (i : Insn) (s : Registers) (r : List ℕ) (word : ℕ)
     → slice_get p pc ≡ Some i → step r i s ≡ Ends word → ending p pc s r ≡ Some (word, 1)
 ending_ends [] pc i s r word found e = cc
@@ -25,6 +27,7 @@ ending_ends (x ∷ p) zero i s r word found e =
     ap (λ done. follow done (λ skip t. ending p skip t r)) here
 ending_ends (x ∷ p) (suc pc) i s r word found e = ending_ends p pc i s r word found e
 
+-- a run whose first instruction goes on to a later position
 pub ending_goes : (p : List Insn) (pc : ℕ) (i : Insn) (s : Registers) (r : List ℕ) (skip : ℕ) (t : Registers) (next : ℕ)
     → slice_get p pc ≡ Some i → step r i s ≡ Goes skip t → next ≡ pc + 1 + skip
     → ending p pc s r ≡ after_one (ending p next t r)
@@ -53,6 +56,7 @@ loaded-more true r more j s does goes h = by_word (slice_get r j) refl h where
   by_word None e g = absurd (goes (sym g))
   by_word (Some w) e g = ap (loaded s) (slice_get-more r more j w e) ∙ g
 
+-- an instruction that is not stuck does the same where more words are
 perform_if-more : (op : Option Operation) (r more : List ℕ) (i : Insn) (s : Registers) (does : Step) → (does ≡ Stuck → ⊥)
     → perform_if op r i s ≡ does → perform_if op (r ++ more) i s ≡ does
 perform_if-more None r more i s does goes h = h

@@ -1,7 +1,8 @@
 -- What is said of a filter and a record, both as bytes: the kernel's check (seccomp(2), and the seccomp_filter page of
 -- the kernel's documentation), and the word that the filter answers.
-use Rattle.std.specs.Prelude.{ℕ, zero, suc, ◌≡◌, ◌≢◌, ◌+◌, ◌/◌, ◌%◌, ◌^◌, nat_lt, Bool, true, false, if◌then◌else◌, List, [], ◌∷◌, ◌++◌, length, Option, Some, None, Result, IfOk, codes}
+use Rattle.std.specs.Prelude.{ℕ, ◌≡◌, ◌≢◌, Bool, true, false, List, [], ◌∷◌, ◌++◌, length, Option, Some, None, Result, IfOk, codes}
 use Rattle.std.specs.Fmt.{decimal}
+use Rattle.call_record.specs.Text.{text_of}
 use Rattle.call_record.specs.Words.{words_of}
 use Rattle.bpf_insn.specs.Bytes.{insns_of, view_fault}
 use Rattle.bpf_insn.specs.Machine.{verdict_of}
@@ -30,21 +31,13 @@ abbrev pub is_verdict : Answer → Bool
 is_verdict (Verdict v) = true
 is_verdict other = false
 
-abbrev pub hex_digit : ℕ → ℕ
-hex_digit d = if nat_lt d 10 then 48 + d else 87 + d
-
--- the lowest n hexadecimal digits, the highest first
-abbrev pub hex : ℕ → ℕ → List ℕ
-hex zero v = []
-hex (suc n) v = hex_digit (v / 16 ^ n % 16) ∷ hex n v
-
 -- a fault, by its number and its name
 abbrev pub fault_text : ℕ → List ℕ → List ℕ
 fault_text number name = decimal number ++ codes " " ++ name
 
 -- the line that says it, which ends by a line feed
 abbrev pub line_of : Answer → List ℕ
-line_of (Verdict v) = codes "0x" ++ hex 8 v ++ 10 ∷ []
+line_of (Verdict v) = text_of v ++ 10 ∷ []
 line_of NoRecord = codes "refused record" ++ 10 ∷ []
 line_of (NoProgram e) = codes "refused view " ++ fault_text (view_error.number_of e) (view_error.name_of e) ++ 10 ∷ []
 line_of (Refusal e) = codes "refused kernel " ++ fault_text (cause.number_of e.cause) (cause.name_of e.cause) ++ codes " pc " ++ decimal e.pc ++ 10 ∷ []

@@ -1,7 +1,7 @@
 //! The line of `ccell verdict`.
-ghost use Rattle.std.specs.Prelude.{◌≡◌, ◌≤◌, ◌+◌, ◌%◌, ◌++◌, ◌<◌, ◌^◌, length};
+ghost use Rattle.std.specs.Prelude.{◌≡◌, ◌≤◌, ◌+◌, ◌++◌, length};
 ghost use Rattle.arrayvec.specs.ArrayVec.{array_vec_len};
-ghost use Rattle.cli.specs.Answer.{WritesAnswer, hex, hex_digit, fault_text, line_of};
+ghost use Rattle.cli.specs.Answer.{WritesAnswer, fault_text, line_of};
 
 use crate::answer::{Answer, answer_to};
 use crate::sink::{ExportFault, Sink, write_all};
@@ -35,10 +35,7 @@ fn line(answer: &Answer) -> ArrayVec<u8, ROOM>
 {
     let mut line = ArrayVec::new();
     match answer {
-        Answer::Verdict(word) => {
-            put(&mut line, b"0x");
-            put(&mut line, &hex_of(word.0));
-        }
+        Answer::Verdict(word) => put(&mut line, &word.text()),
         Answer::NoRecord => put(&mut line, b"refused record"),
         Answer::NoProgram(e) => {
             put(&mut line, b"refused view ");
@@ -53,30 +50,6 @@ fn line(answer: &Answer) -> ArrayVec<u8, ROOM>
     }
     put(&mut line, b"\n");
     line
-}
-
-// The lowest hexadecimal digit.
-fn digit(v: u32) -> u8
-    ensures { result ≡ hex_digit (v % 16) }
-{
-    let d = (v % 16) as u8;
-    if d < 10 { 48 + d } else { 87 + d }
-}
-
-// Eight hexadecimal digits.
-fn hex_of(v: u32) -> [u8; 8]
-    ensures { result ≡ hex 8 v }
-{
-    [
-        digit(v >> 28),
-        digit(v >> 24),
-        digit(v >> 20),
-        digit(v >> 16),
-        digit(v >> 12),
-        digit(v >> 8),
-        digit(v >> 4),
-        digit(v),
-    ]
 }
 
 /// Writes the line for a filter and a record. It is true of a word, and false of a refusal.

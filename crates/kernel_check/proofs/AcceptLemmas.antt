@@ -14,6 +14,7 @@ at_insn p n i insn k size found (other, e, s) =
     let same : other ≡ insn = cc in
     subst (λ m. StandsAt k m i insn) (sym size) (subst (λ x. StandsAt k (length p) i x) same s)
 
+-- nothing stands at one position more
 pub none_more : (p : List Insn) (n i : ℕ) (insn : Insn) → n ≡ length p → slice_get p i ≡ Some insn
     → ((j : ℕ) (k : Cause) → j < i → Stands p j k → ⊥) → ((k : Cause) → StandsAt k n i insn → ⊥)
     → (j : ℕ) (k : Cause) → j < i + 1 → Stands p j k → ⊥
@@ -23,6 +24,7 @@ none_more p n i insn size found before here j k h s =
       | inr le ↦ let e : j ≡ i = omega arith in here k (at_insn p n i insn k size found (subst (λ m. Stands p m k) e s))
     ]
 
+-- what stands at the first such position is the first refusal
 pub first : (p : List Insn) (n i : ℕ) (insn : Insn) (cause : Cause) → n ≡ length p → slice_get p i ≡ Some insn
     → ((j : ℕ) (k : Cause) → j < i → Stands p j k → ⊥)
     → StandsAt cause n i insn → ((k : Cause) → StandsAt k n i insn → number_of cause ≤ number_of k)
@@ -33,6 +35,7 @@ first p n i insn cause size found before here least = record {
   least_cause = λ k s. least k (at_insn p n i insn k size found s);
 }
 
+-- where nothing stands at any position the program is accepted
 pub accepted : (p : List Insn) (n i : ℕ) → n ≡ length p → 1 ≤ n → n ≤ 4096 → n ≤ i → ((j : ℕ) (k : Cause) → j < i → Stands p j k → ⊥) → IsAccepted p
 accepted p n i size some limit past none = record {
   some = omega arith;

@@ -21,9 +21,11 @@ load_fits i never = (
   elim (cases_eq (i.k % 4) 0) [ inl e ↦ e | inr ne ↦ absurd (never (inr ne)) ],
 )
 
+-- a shift that is not refused is by less than 32 bits
 shift_fits : (k : ℕ) → (32 ≤ k → ⊥) → k < 32
 shift_fits k never = elim (cases_lt k 32) [ inl lt ↦ lt | inr le ↦ absurd (never le) ]
 
+-- no instruction of an accepted program has a cause of its own
 pub plain : (p : List Insn) (pc : ℕ) (i : Insn) → IsAccepted p → slice_get p pc ≡ Some i → IsPlain i
 plain p pc i ok found = record {
   listed = λ e. ok.no_cause pc Code (i, found, e);
@@ -32,6 +34,7 @@ plain p pc i ok found = record {
   shifts_right = λ e. shift_fits i.k (λ bad. ok.no_cause pc Shift (i, found, (inr e, bad)));
 }
 
+-- what is no jump goes on with the next instruction
 loaded_skips : (o : Option ℕ) (s t : Registers) (skip : ℕ) → loaded s o ≡ Goes skip t → skip ≡ 0
 loaded_skips None s t skip e = cc
 loaded_skips (Some w) s t skip e = cc
@@ -40,6 +43,7 @@ guarded_skips : (b : Bool) (n : ℕ) (s t : Registers) (skip : ℕ) → cond b (
 guarded_skips true n s t skip e = cc
 guarded_skips false n s t skip e = cc
 
+-- a jump that is not refused leads to an instruction
 branch_lands : (b : Bool) (jt jf n pc : ℕ) (s t : Registers) (skip : ℕ) → ((n ≤ pc + 1 + jt) ⊎ (n ≤ pc + 1 + jf) → ⊥)
     → Goes (cond b jt jf) s ≡ Goes skip t → pc + 1 + skip < n
 branch_lands true jt jf n pc s t skip never e =
@@ -54,17 +58,21 @@ jump_lands k n pc s t skip never e =
     let same : k ≡ skip = cc in
     elim (cases_lt (pc + 1 + skip) n) [ inl lt ↦ lt | inr le ↦ absurd (never (omega arith)) ]
 
+-- an instruction that is not the last has a next one
 falls : (n pc skip : ℕ) → pc < n → (pc + 1 ≡ n → ⊥) → skip ≡ 0 → pc + 1 + skip < n
 falls n pc skip h never e =
     elim (cases_eq (pc + 1) n) [ inl at ↦ absurd (never at) | inr ne ↦ omega arith ]
 
+-- the operation is a return
 Returns : Option Operation → Type 0
 Returns op = (op ≡ Some ReturnK) ⊎ (op ≡ Some ReturnA)
 
+-- the others are none
 no_return : (op : Operation) → op ≢ ReturnK → op ≢ ReturnA → Returns (Some op) → ⊥
 unfolding Returns
 no_return op k a h = elim h [ inl e ↦ let f : op ≡ ReturnK = cc in k f | inr e ↦ let f : op ≡ ReturnA = cc in a f ]
 
+-- where an instruction goes on, by its operation
 lands_by : (op : Option Operation) (n pc : ℕ) (i : Insn) (r : List ℕ) (s t : Registers) (skip : ℕ)
     → pc < n → (LeadsOut op n pc i → ⊥) → (pc + 1 ≡ n → (Returns op → ⊥) → ⊥)
     → perform_if op r i s ≡ Goes skip t → pc + 1 + skip < n
@@ -101,9 +109,11 @@ load_found r k s size fits whole e =
       | inr past ↦ absurd (omega (arith, past.0))
     ]
 
+-- a shift by less than 32 bits is not stuck
 shift_goes : (k n : ℕ) (s : Registers) → k < 32 → cond (nat_lt k 32) (with_a s n) Stuck ≡ Stuck → ⊥
 shift_goes k n s fits e = let test : nat_lt k 32 ≡ true = grind (arith, nat_tests) in cc
 
+-- an instruction without a cause is not stuck, by its operation
 goes_on : (op : Option Operation) (r : List ℕ) (i : Insn) (s : Registers) → length r ≡ 16
     → op ≢ None → (op ≡ Some LoadWord → (i.k < 64) × (i.k % 4 ≡ 0)) → (op ≡ Some ShiftLeft → i.k < 32) → (op ≡ Some ShiftRight → i.k < 32)
     → perform_if op r i s ≡ Stuck → ⊥
@@ -130,6 +140,7 @@ step-Stuck i r s ok size e = goes_on (operation_of i.code) r i s size ok.listed 
 abbrev pub EndsWithin : ℕ → Ending → Type 0
 EndsWithin most e = (word : ℕ) × (n : ℕ) × (e ≡ Some (word, n)) × (n ≤ most)
 
+-- one instruction more at the front
 EndsWithin-after_one : (most more : ℕ) (e : Ending) → most + 1 ≤ more → EndsWithin most e → EndsWithin more (after_one e)
 EndsWithin-after_one most more e room h = (h.0, h.1 + 1, ap after_one h.2, omega (arith, h.3))
 

@@ -1,13 +1,7 @@
 use Rattle.std.proofs.Common.{arith}
-use Rattle.bpf_insn.specs.Program.{insns}
 use Rattle.bpf_insn.proofs.BytesLemmas.{spelling-insns_of}
 use Rattle.bpf_insn.proofs.view.Program.view.Goals as goal
 
 pub invariant_of-result-clause-spelled : goal.invariant_of-result-clause-spelled
 invariant_of-result-clause-spelled c =
-    spelling-insns_of c.args.bytes.now (λ i. omega (arith, c.type_inv.bytes i)) (omega arith)
-
-pub returns-clause-spelled : goal.returns-clause-spelled
-unfolding insns
-returns-clause-spelled c =
     spelling-insns_of c.args.bytes.now (λ i. omega (arith, c.type_inv.bytes i)) (omega arith)
