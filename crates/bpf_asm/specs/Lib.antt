@@ -1,0 +1,5 @@
+pub mod Words
+pub mod Digits
+pub mod Listing
+pub mod Faults
+pub mod Reading

@@ -1,0 +1,172 @@
+-- How a line is read.
+use Rattle.std.specs.Prelude.{ℕ, ◌<◌, ◌^◌, ◌==◌, nat_lt, nat_le, Bool, true, false, not, ◌&&◌, ◌||◌, if◌then◌else◌, List, [], ◌∷◌, length, slice_index, Option, Some, None, option_and_then, Result, Ok, Err, codes, is_some}
+use Rattle.std.specs.List.{list_all}
+use Rattle.std.specs.Option.{option_map}
+use Rattle.std.specs.Char.{is_ascii_digit}
+use Rattle.std.specs.Str.{bytes_eq}
+use Rattle.std.specs.Str.Parse.{digits_value}
+use Rattle.bpf_insn.specs.declared.code.Operation.{Operation}
+use Rattle.bpf_insn.specs.declared.code.Operation.TheVariants as operations
+use Rattle.bpf_insn.specs.declared.code.Operand.TheVariants.{K, X}
+use Rattle.bpf_insn.specs.declared.instruction.Insn.{Insn}
+use Rattle.bpf_insn.specs.Code.{code_of}
+use Rattle.bpf_asm.specs.declared.line.Fields.{Fields}
+use Rattle.bpf_asm.specs.declared.fault.LineFault.{LineFault}
+use Rattle.bpf_asm.specs.declared.fault.LineFault.TheVariants.{UnknownWord, BadNumber, BadLine}
+use Rattle.bpf_asm.specs.Listing.{Piece, form_of}
+use Rattle.bpf_asm.specs.Listing as pieces
+use Rattle.bpf_asm.specs.Words.{is_raw, word_at}
+use Rattle.bpf_asm.specs.declared.word.Word.{Word}
+use Rattle.bpf_asm.specs.declared.word.Word.TheVariants.{Ld, Ldx, Ret, Ja, Branch, Compute, Lsh, Rsh, Neg, Tax, Txa, Raw}
+use Rattle.bpf_asm.specs.declared.arguments.Part.{Part}
+use Rattle.bpf_asm.specs.declared.arguments.Part.TheVariants.{RegisterA, RegisterX, Address, Constant, Decimal, Hexadecimal}
+use Rattle.bpf_asm.specs.declared.arguments.Arguments.{Arguments}
+use Rattle.bpf_asm.specs.declared.arguments.Arguments.TheVariants.{Nothing, One, Three, Four}
+use Rattle.bpf_asm.specs.Digits.{are_digits, has_leading_zero, is_hexadecimal_digit}
+
+infixl 10 ◌>>=◌
+abbrev pub ◌>>=◌ : {A B : Type 0} → Option A → (A → Option B) → Option B
+o >>= f = option_and_then f o
+
+-- a text at the first such byte in it
+abbrev pub split_at : ℕ → List ℕ → Option (List ℕ × List ℕ)
+split_at byte [] = None
+split_at byte (b ∷ text) = if b == byte then Some ([], text) else option_map (λ parts. (b ∷ parts.0, parts.1)) (split_at byte text)
+
+-- what follows such a text at the front
+abbrev pub behind : List ℕ → List ℕ → Option (List ℕ)
+behind [] text = Some text
+behind (c ∷ front) [] = None
+behind (c ∷ front) (b ∷ text) = if b == c then behind front text else None
+
+-- what stands before such a byte at the end
+abbrev pub ahead_of : ℕ → List ℕ → Option (List ℕ)
+ahead_of byte [] = None
+ahead_of byte (b ∷ []) = if b == byte then Some [] else None
+ahead_of byte (b ∷ c ∷ text) = option_map (λ front. b ∷ front) (ahead_of byte (c ∷ text))
+
+-- the number that digits write, where it has no leading zero and 32 bits hold it
+unfoldable pub number_of : ℕ → List ℕ → Option ℕ
+number_of radix ds =
+    if has_leading_zero ds then None
+    else if nat_lt (digits_value radix ds) (2 ^ 32) then Some (digits_value radix ds) else None
+
+unfoldable pub decimal_at : List ℕ → Option (Option ℕ)
+decimal_at text = if are_digits is_ascii_digit text then Some (number_of 10 text) else None
+
+unfoldable pub hexadecimal_at : List ℕ → Option (Option ℕ)
+hexadecimal_at text = do
+  ds ← behind (codes "0x") text
+  if are_digits is_hexadecimal_digit ds then Some (number_of 16 ds) else None
+
+abbrev pub number_part : Option (Option ℕ) → List ℕ → Option Part
+number_part (Some n) text = Some (Hexadecimal n)
+number_part None text = option_map Decimal (decimal_at text)
+
+-- the two options are what follows `#` and `[` at the front
+abbrev pub marked_part : Option (List ℕ) → Option (List ℕ) → List ℕ → Option Part
+marked_part (Some rest) bracket text = option_map Constant (hexadecimal_at rest)
+marked_part None (Some rest) text = do
+  ds ← ahead_of 93 rest
+  option_map Address (decimal_at ds)
+marked_part None None text = number_part (hexadecimal_at text) text
+
+unfoldable pub part_at : List ℕ → Option Part
+part_at text =
+    if bytes_eq text (codes "a") then Some RegisterA
+    else if bytes_eq text (codes "x") then Some RegisterX
+    else marked_part (behind (codes "#") text) (behind (codes "[") text) text
+
+abbrev pub last_parts : Part → Part → List ℕ → Option (List ℕ × List ℕ) → Option Arguments
+last_parts first second rest None = do
+  third ← part_at rest
+  Some (Three first second third)
+last_parts first second rest (Some parts) = do
+  third ← part_at parts.0
+  fourth ← part_at parts.1
+  Some (Four first second third fourth)
+
+abbrev pub parts_of : List ℕ → Option (List ℕ × List ℕ) → Option Arguments
+parts_of text None = do
+  part ← part_at text
+  Some (One part)
+parts_of text (Some parts) = do
+  first ← part_at parts.0
+  more ← split_at 44 parts.1
+  second ← part_at more.0
+  last_parts first second more.1 (split_at 44 more.1)
+
+unfoldable pub arguments_at : List ℕ → Option Arguments
+arguments_at text = parts_of text (split_at 44 text)
+
+abbrev pub branch_fields : Operation → Option ℕ → Option ℕ → Option ℕ → Fields
+branch_fields operation k jt jf = record { code = Some (code_of operation); jt = jt; jf = jf; k = k }
+
+abbrev pub plain_fields : Operation → Option ℕ → Fields
+plain_fields operation k = branch_fields operation k (Some 0) (Some 0)
+
+-- the fields that a line gives, where what stands after its word has a shape of the word
+abbrev pub fields_of : Word → Arguments → Option Fields
+fields_of Ld (One (Address k)) = Some (plain_fields operations.LoadWord k)
+fields_of Ld (One (Constant k)) = Some (plain_fields operations.SetA k)
+fields_of Ldx (One (Constant k)) = Some (plain_fields operations.SetX k)
+fields_of Ret (One (Constant k)) = Some (plain_fields operations.ReturnK k)
+fields_of Ret (One RegisterA) = Some (plain_fields operations.ReturnA (Some 0))
+fields_of Ja (One (Decimal k)) = Some (plain_fields operations.Jump k)
+fields_of (Branch test) (Three (Constant k) (Decimal jt) (Decimal jf)) = Some (branch_fields (operations.Branch test K) k jt jf)
+fields_of (Branch test) (Three RegisterX (Decimal jt) (Decimal jf)) = Some (branch_fields (operations.Branch test X) (Some 0) jt jf)
+fields_of (Compute arithmetic) (One (Constant k)) = Some (plain_fields (operations.Compute arithmetic K) k)
+fields_of (Compute arithmetic) (One RegisterX) = Some (plain_fields (operations.Compute arithmetic X) (Some 0))
+fields_of Lsh (One (Constant k)) = Some (plain_fields operations.ShiftLeft k)
+fields_of Rsh (One (Constant k)) = Some (plain_fields operations.ShiftRight k)
+fields_of Neg Nothing = Some (plain_fields operations.Negate (Some 0))
+fields_of Tax Nothing = Some (plain_fields operations.CopyToX (Some 0))
+fields_of Txa Nothing = Some (plain_fields operations.CopyToA (Some 0))
+fields_of Raw (Four (Hexadecimal code) (Decimal jt) (Decimal jf) (Hexadecimal k)) = Some (record { code = code; jt = jt; jf = jf; k = k })
+fields_of word arguments = None
+
+-- a number of so many bits
+abbrev pub within : ℕ → Option ℕ → Option ℕ
+within bits o = option_and_then (λ n. if nat_lt n (2 ^ bits) then Some n else None) o
+
+-- the instruction with these fields, code, jt, jf and k, if there are all
+abbrev pub insn_with : Option ℕ → Option ℕ → Option ℕ → Option ℕ → Option Insn
+insn_with (Some code) (Some jt) (Some jf) (Some k) = Some (record { code = code; jt = jt; jf = jf; k = k })
+insn_with code jt jf k = None
+
+-- the same, where each number is good and within its width
+abbrev pub insn_of : Fields → Option Insn
+insn_of f = insn_with (within 16 f.code) (within 8 f.jt) (within 8 f.jf) f.k
+
+abbrev pub first_part : List ℕ → Option (List ℕ × List ℕ) → List ℕ
+first_part line None = line
+first_part line (Some parts) = parts.0
+
+abbrev pub read_rest : Option (List ℕ × List ℕ) → Option Arguments
+read_rest None = Some Nothing
+read_rest (Some parts) = arguments_at parts.1
+
+abbrev pub checked : Bool → Option Insn → Result Insn LineFault
+checked raw None = Err BadNumber
+checked raw (Some i) = if raw && is_some (form_of i) then Err BadLine else Ok i
+
+abbrev pub shaped : Bool → Option Fields → Result Insn LineFault
+shaped raw None = Err BadLine
+shaped raw (Some f) = checked raw (insn_of f)
+
+abbrev pub named : Option Word → Option Arguments → Result Insn LineFault
+named None arguments = Err UnknownWord
+named (Some word) arguments = shaped (is_raw word) (option_and_then (fields_of word) arguments)
+
+-- the instruction of a line, or what is wrong with it
+unfoldable pub line_at : List ℕ → Result Insn LineFault
+line_at line = named (word_at (first_part line (split_at 32 line))) (read_rest (split_at 32 line))
+
+-- a piece, with the number that its digits write
+abbrev pub part_of : Piece → Part
+part_of pieces.RegisterA = RegisterA
+part_of pieces.RegisterX = RegisterX
+part_of (pieces.Address ds) = Address (number_of 10 ds)
+part_of (pieces.Constant ds) = Constant (number_of 16 ds)
+part_of (pieces.Decimal ds) = Decimal (number_of 10 ds)
+part_of (pieces.Hexadecimal ds) = Hexadecimal (number_of 16 ds)

@@ -1,0 +1,17 @@
+//! Laws of listings.
+ghost use Rattle.std.specs.Prelude.{◌≡◌, ◌≤◌, List, ℕ, length};
+ghost use Rattle.bpf_insn.specs.declared.instruction.Insn.{Insn};
+ghost use Rattle.bpf_asm.specs.declared.fault.LineFault.{LineFault};
+ghost use Rattle.bpf_asm.specs.Faults.{FaultAt};
+ghost use Rattle.bpf_asm.specs.Listing.{AreInsns, listing};
+
+/// No two programs have one listing.
+pub fn listings_differ()
+    ensures { (p q : List Insn) → AreInsns p → AreInsns q → listing p ≡ listing q → p ≡ q }
+{}
+
+/// Where a fault stands, the text is the listing of no program of 1 to 4096 instructions.
+pub fn faults_exclude_programs()
+    ensures { (text : List ℕ) (line : ℕ) (fault : LineFault) → FaultAt text line fault
+        → (p : List Insn) → AreInsns p → 1 ≤ length p → length p ≤ 4096 → listing p ≡ text → ⊥ }
+{}
