@@ -1,0 +1,55 @@
+-- Rules are clear where none clashes with an earlier one.
+use Rattle.std.proofs.Common.{◌≡◌, ◌≢◌, ℕ, ◌+◌, ◌<◌, ◌⊎◌, inl, inr, List, [], ◌∷◌, ◌++◌, length, take, get_or, Some, refl, sym, ◌∙◌, ap, subst, arith}
+use Rattle.std.specs.List.{All, Contains, HoldsAt}
+use Rattle.std.proofs.lemmas.Bool.{cases_eq}
+use Rattle.std.proofs.lemmas.List.{take_more, get_or-take, length-take-le}
+use Rattle.std.proofs.lemmas.List.Elements.{All-contains, Contains-push_cases}
+use Rattle.std.proofs.lemmas.Option.{slice_get-get_or}
+use Rattle.call_record.specs.Words.{IsRecord}
+use Rattle.profile.specs.declared.rules.Rule.{Rule}
+use Rattle.profile.specs.Rule.{Matches, Clash}
+use Rattle.profile.specs.Policy.{IsClear}
+use Rattle.profile.specs.Build.{ClashAt}
+
+pub clear_none : IsClear []
+clear_none r is_r a b in-a in-b ma mb = absurd (omega (arith, in-a.1))
+
+same_word : (a b : Rule) (r : List ℕ) → IsRecord r → Matches a r → Matches b r → ¬ Clash a b → a.word ≡ b.word
+same_word a b r is_r ma mb none =
+    elim (cases_eq a.word b.word) [
+      | inl same ↦ same
+      | inr unlike ↦ absurd (none (unlike, (r, is_r, ma, mb)))
+    ]
+
+pub clear_more : (xs : List Rule) (x : Rule) → IsClear xs → All (λ a. ¬ Clash a x) xs → IsClear (xs ++ x ∷ [])
+clear_more xs x clear none r is_r a b in-a in-b ma mb =
+    elim (Contains-push_cases xs x a in-a) [
+      | inl a-before ↦ elim (Contains-push_cases xs x b in-b) [
+        | inl b-before ↦ clear r is_r a b a-before b-before ma mb
+        | inr b-last ↦ same_word a b r is_r ma mb (subst (λ (y : Rule). ¬ Clash a y) b-last (All-contains (λ y. ¬ Clash y x) xs a none a-before))
+      ]
+      | inr a-last ↦ elim (Contains-push_cases xs x b in-b) [
+        | inl b-before ↦ sym (same_word b a r is_r mb ma (subst (λ (y : Rule). ¬ Clash b y) a-last (All-contains (λ y. ¬ Clash y x) xs b none b-before)))
+        | inr b-last ↦ ap (λ (y : Rule). y.word) (sym a-last ∙ b-last)
+      ]
+    ]
+
+-- a clash with an earlier rule
+pub clash_found : (rules earlier : List Rule) (i j : ℕ) (b : Rule) → earlier ≡ take j rules → j < length rules → b ≡ get_or rules j b → i < length earlier → HoldsAt (λ a. Clash a b) earlier i → ClashAt rules i j
+clash_found rules earlier i j b is lt at in-earlier clash =
+    let few : length earlier ≡ j = ap length is ∙ length-take-le j rules (omega (arith, lt)) in
+    let below : i < j = omega (arith, few, in-earlier) in
+    let same : get_or earlier i b ≡ get_or rules i b = ap (λ (xs : List Rule). get_or xs i b) is ∙ get_or-take j rules i b below in (
+      below,
+      get_or rules i b,
+      b,
+      slice_get-get_or rules i b (omega (arith, below, lt)),
+      slice_get-get_or rules j b lt ∙ ap Some (sym at),
+      subst (λ (a : Rule). Clash a b) same (clash b),
+    )
+
+-- the earlier rules stay clear with the next
+pub clear_next : (rules earlier : List Rule) (j : ℕ) (b : Rule) → earlier ≡ take j rules → j < length rules → b ≡ get_or rules j b → IsClear (take j rules) → All (λ a. ¬ Clash a b) earlier → IsClear (take (j + 1) rules)
+clear_next rules earlier j b is lt at clear none =
+    let more : take (j + 1) rules ≡ take j rules ++ b ∷ [] = take_more rules j b lt ∙ ap (λ (y : Rule). take j rules ++ y ∷ []) (sym at) in
+    subst IsClear (sym more) (clear_more (take j rules) b clear (subst (All (λ a. ¬ Clash a b)) is none))

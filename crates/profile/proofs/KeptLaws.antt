@@ -1,0 +1,184 @@
+-- The different rules of a list, as the list grows by a rule.
+use Rattle.std.proofs.Common.{◌≡◌, ◌≢◌, ℕ, zero, suc, ◌+◌, ◌<◌, ◌≤◌, ◌⊎◌, inl, inr, Bool, true, false, List, [], ◌∷◌, ◌++◌, length, get_or, take, drop, refl, sym, ◌∙◌, ap, subst, arith, append_assoc, length-append, Some}
+use Rattle.std.specs.Prelude.{slice_get}
+use Rattle.std.specs.Bool.{Decides}
+use Rattle.std.specs.List.{Contains, enumerate_from}
+use Rattle.std.proofs.lemmas.Bool.{cases_Bool, cases_lt}
+use Rattle.std.proofs.lemmas.List.{append-nil, get_or_append_left, take_more, take-append-drop}
+use Rattle.std.proofs.lemmas.List.Elements.{Contains-append_left, Contains-push, Contains-push_cases}
+use Rattle.std.proofs.lemmas.Option.{slice_get_within, get_or_from_slice_get, slice_get-get_or}
+use Rattle.std.proofs.Math.Seq.{get_or-append_seam}
+use Rattle.profile.specs.declared.rules.Rule.{Rule}
+use Rattle.profile.specs.declared.build.TheConstants.{MAX_RULES}
+use Rattle.profile.specs.Build.{KeepsOnce, AreTooMany, ClashAt}
+use Rattle.profile.specs.Build as build
+use Rattle.profile.specs.Kept.{KeepsAt}
+use Rattle.profile.proofs.Same.{equal_rule, equal_rule_decides}
+
+-- what is kept is among the rules
+kept_in : (rules kept : List Rule) → KeepsOnce rules kept → (x : Rule) → Contains kept x → Contains rules x
+kept_in _ _ build.none x c = c
+kept_in _ _ (build.first rules kept rule h new) x c =
+    elim (Contains-push_cases kept rule x c) [
+      | inl before ↦ Contains-append_left rules (rule ∷ []) x (kept_in rules kept h x before)
+      | inr same ↦ subst (Contains (rules ++ rule ∷ [])) same (Contains-push rules rule)
+    ]
+kept_in _ _ (build.again rules kept rule h has) x c = Contains-append_left rules (rule ∷ []) x (kept_in rules kept h x c)
+
+-- each rule is kept
+in_kept : (rules kept : List Rule) → KeepsOnce rules kept → (x : Rule) → Contains rules x → Contains kept x
+in_kept _ _ build.none x c = c
+in_kept _ _ (build.first rules kept rule h new) x c =
+    elim (Contains-push_cases rules rule x c) [
+      | inl before ↦ Contains-append_left kept (rule ∷ []) x (in_kept rules kept h x before)
+      | inr same ↦ subst (Contains (kept ++ rule ∷ [])) same (Contains-push kept rule)
+    ]
+in_kept _ _ (build.again rules kept rule h has) x c =
+    elim (Contains-push_cases rules rule x c) [
+      | inl before ↦ in_kept rules kept h x before
+      | inr same ↦ subst (Contains kept) same (in_kept rules kept h rule has)
+    ]
+
+-- a rule stands in a list or does not
+contains_cases : (xs : List Rule) (x : Rule) → Contains xs x ⊎ ¬ Contains xs x
+contains_cases [] x = inr (λ c. absurd (omega (arith, c.1)))
+contains_cases (y ∷ ys) x =
+    elim (cases_Bool (equal_rule y x)) [
+      | inl same ↦ inl (0, omega arith, (equal_rule_decides y x).0 same)
+      | inr differs ↦ elim (contains_cases ys x) [
+        | inl later ↦ inl (suc later.0, omega (arith, later.1), later.2)
+        | inr never ↦ inr (absent y ys x differs never)
+      ]
+    ]
+  where
+    absent : (y : Rule) (ys : List Rule) (x : Rule) → equal_rule y x ≡ false → ¬ Contains ys x → ¬ Contains (y ∷ ys) x
+    absent y ys x differs never (zero, lt, at) = let t : equal_rule y x ≡ true = (equal_rule_decides y x).1 at in cc
+    absent y ys x differs never (suc k, lt, at) = never (k, omega (arith, lt), at)
+
+-- further rules keep what is kept
+pub keeps_further : (rules kept more : List Rule) → KeepsOnce rules kept → (all : List Rule) × KeepsOnce (rules ++ more) all × (length kept ≤ length all)
+keeps_further rules kept [] h = (kept, subst (λ xs. KeepsOnce xs kept) (sym (append-nil rules)) h, omega arith)
+keeps_further rules kept (x ∷ more) h =
+    elim (contains_cases rules x) [
+      | inl has ↦
+          let rest = keeps_further (rules ++ x ∷ []) kept more (build.again rules kept x h has) in
+          (rest.0, subst (λ xs. KeepsOnce xs rest.0) (append_assoc rules (x ∷ []) more) rest.1, rest.2)
+      | inr new ↦
+          let rest = keeps_further (rules ++ x ∷ []) (kept ++ x ∷ []) more (build.first rules kept x h new) in
+          let longer : length (kept ++ x ∷ []) ≤ length rest.0 = rest.2 in
+          (rest.0, subst (λ xs. KeepsOnce xs rest.0) (append_assoc rules (x ∷ []) more) rest.1, omega (arith, length-append kept (x ∷ []), longer))
+    ]
+
+-- ---- the places
+
+suc_or : (k n : ℕ) → k < n + 1 → (k < n) ⊎ (k ≡ n)
+suc_or k n lt = elim (cases_lt k n) [ inl below ↦ inl below | inr past ↦ inr (omega arith) ]
+
+push_length : {X : Type 0} (xs : List X) (x : X) → length (xs ++ x ∷ []) ≡ length xs + 1
+push_length xs x = omega (arith, length-append xs (x ∷ []))
+
+-- a rule that is not kept yet is kept at the next place
+pub keeps_first : (rules kept : List Rule) (places : List ℕ) (rule : Rule) → KeepsAt rules kept places → ¬ Contains kept rule → KeepsAt (rules ++ rule ∷ []) (kept ++ rule ∷ []) (places ++ length rules ∷ [])
+keeps_first rules kept places rule h new =
+    let as_many : length places ≡ length kept = h.as_many in
+    let before : (k : ℕ) → k < length kept → get_or (places ++ length rules ∷ []) k 0 ≡ get_or places k 0 = λ k lt. get_or_append_left places (length rules ∷ []) 0 k (omega arith) in
+    let last : (k : ℕ) → k ≡ length kept → get_or (places ++ length rules ∷ []) k 0 ≡ length rules = λ k e. ap (λ (j : ℕ). get_or (places ++ length rules ∷ []) j 0) (e ∙ sym as_many) ∙ get_or-append_seam places (length rules) [] 0 in
+    record {
+      once = build.first rules kept rule h.once (λ c. new (in_kept rules kept h.once rule c));
+      as_many = push_length places (length rules) ∙ ap (λ (n : ℕ). n + 1) as_many ∙ sym (push_length kept rule);
+      within = λ k lt.
+          elim (suc_or k (length kept) (omega (arith, push_length kept rule, lt))) [
+            | inl below ↦ omega (arith, before k below, h.within k below, push_length rules rule)
+            | inr end ↦ omega (arith, last k end, push_length rules rule)
+          ];
+      at = λ k d lt.
+          elim (suc_or k (length kept) (omega (arith, push_length kept rule, lt))) [
+            | inl below ↦
+                ap (λ (j : ℕ). get_or (rules ++ rule ∷ []) j d) (before k below) ∙ get_or_append_left rules (rule ∷ []) d (get_or places k 0) (h.within k below)
+                ∙ h.at k d below ∙ sym (get_or_append_left kept (rule ∷ []) d k below)
+            | inr end ↦
+                ap (λ (j : ℕ). get_or (rules ++ rule ∷ []) j d) (last k end) ∙ get_or-append_seam rules rule [] d
+                ∙ sym (ap (λ (j : ℕ). get_or (kept ++ rule ∷ []) j d) end ∙ get_or-append_seam kept rule [] d)
+          ];
+      rising = λ i j lt in-places.
+          elim (suc_or j (length kept) (omega (arith, push_length places (length rules), as_many, in-places))) [
+            | inl below ↦ omega (arith, before i (omega (arith, lt, below)), before j below, h.rising i j lt (omega (arith, as_many, below)))
+            | inr end ↦ omega (arith, before i (omega (arith, lt, end)), last j end, h.within i (omega (arith, lt, end)))
+          ];
+    }
+
+-- a rule that is kept already changes nothing
+pub keeps_again : (rules kept : List Rule) (places : List ℕ) (rule : Rule) → KeepsAt rules kept places → Contains kept rule → KeepsAt (rules ++ rule ∷ []) kept places
+keeps_again rules kept places rule h has = record {
+  once = build.again rules kept rule h.once (kept_in rules kept h.once rule has);
+  as_many = h.as_many;
+  within = λ k lt. omega (arith, h.within k lt, push_length rules rule);
+  at = λ k d lt. get_or_append_left rules (rule ∷ []) d (get_or places k 0) (h.within k lt) ∙ h.at k d lt;
+  rising = h.rising;
+}
+
+pub keeps_none : KeepsAt [] [] []
+keeps_none = record {
+  once = build.none;
+  as_many = refl;
+  within = λ k lt. absurd (omega (arith, lt));
+  at = λ k d lt. absurd (omega (arith, lt));
+  rising = λ i j lt in-places. absurd (omega (arith, in-places));
+}
+
+-- one different rule more than a profile may have
+pub too_many : (rules kept more : List Rule) (rule : Rule) → KeepsOnce rules kept → ¬ Contains kept rule → length kept ≡ MAX_RULES → AreTooMany (rules ++ rule ∷ more)
+too_many rules kept more rule h new full =
+    let all = keeps_further (rules ++ rule ∷ []) (kept ++ rule ∷ []) more (build.first rules kept rule h (λ c. new (in_kept rules kept h rule c))) in
+    let longer : length (kept ++ rule ∷ []) ≤ length all.0 = all.2 in
+    (all.0, subst (λ xs. KeepsOnce xs all.0) (append_assoc rules (rule ∷ []) more) all.1, omega (arith, push_length kept rule, full, longer))
+
+-- what clashes among the kept rules clashes in the list
+pub clash_at : (rules kept : List Rule) (places : List ℕ) (i j : ℕ) → KeepsAt rules kept places → ClashAt kept i j → ClashAt rules (get_or places i 0) (get_or places j 0)
+clash_at rules kept places i j h (lt, a, b, at-i, at-j, clash) =
+    let in-i : i < length kept = slice_get_within kept i a at-i in
+    let in-j : j < length kept = slice_get_within kept j b at-j in (
+      h.rising i j lt (omega (arith, h.as_many, in-j)),
+      a,
+      b,
+      slice_get-get_or rules (get_or places i 0) a (h.within i in-i) ∙ ap Some (h.at i a in-i ∙ get_or_from_slice_get kept i a a at-i),
+      slice_get-get_or rules (get_or places j 0) b (h.within j in-j) ∙ ap Some (h.at j b in-j ∙ get_or_from_slice_get kept j b b at-j),
+      clash,
+    )
+
+-- ---- a list with its places
+
+pub enumerate_at : (from : ℕ) (xs : List Rule) (n : ℕ) (d : ℕ × Rule) → n < length xs → get_or (enumerate_from from xs) n d ≡ (from + n, get_or xs n d.1)
+enumerate_at from [] n d lt = absurd (omega (arith, lt))
+enumerate_at from (x ∷ xs) zero d lt = ap (λ (k : ℕ). (k, x)) (omega arith)
+enumerate_at from (x ∷ xs) (suc n) d lt = enumerate_at (from + 1) xs n d (omega (arith, lt)) ∙ ap (λ (k : ℕ). (k, get_or xs n d.1)) (omega arith)
+
+pub length-enumerate : (from : ℕ) (xs : List Rule) → length (enumerate_from from xs) ≡ length xs
+length-enumerate from [] = refl
+length-enumerate from (x ∷ xs) = ap suc (length-enumerate (from + 1) xs)
+
+-- the place and the rule of one turn of a loop over a list with its places
+pub turn_of : (rules : List Rule) (n place : ℕ) (rule : Rule) → (n < length (enumerate_from 0 rules)) × ((place, rule) ≡ get_or (enumerate_from 0 rules) n (place, rule)) → (place ≡ n) × (n < length rules) × (take (n + 1) rules ≡ take n rules ++ rule ∷ [])
+turn_of rules n place rule (lt, at) =
+    let inside : n < length rules = omega (arith, lt, length-enumerate 0 rules) in
+    let both : (place, rule) ≡ (0 + n, get_or rules n rule) = at ∙ enumerate_at 0 rules n (place, rule) inside in
+    let same : rule ≡ get_or rules n rule = ap (λ (p : ℕ × Rule). p.1) both in
+    (ap (λ (p : ℕ × Rule). p.0) both ∙ omega arith, inside, take_more rules n rule inside ∙ ap (λ (y : Rule). take n rules ++ y ∷ []) (sym same))
+
+-- the list in two parts round a rule
+pub split_of : (rules : List Rule) (n : ℕ) (rule : Rule) → take (n + 1) rules ≡ take n rules ++ rule ∷ [] → rules ≡ take n rules ++ rule ∷ drop (n + 1) rules
+split_of rules n rule e =
+    sym (take-append-drop (n + 1) rules) ∙ ap (λ (xs : List Rule). xs ++ drop (n + 1) rules) e ∙ append_assoc (take n rules) (rule ∷ []) (drop (n + 1) rules)
+
+pub keeps_same : (rules rules' kept kept' : List Rule) (places places' : List ℕ) → rules' ≡ rules → kept' ≡ kept → places' ≡ places → KeepsAt rules kept places → KeepsAt rules' kept' places'
+keeps_same rules rules' kept kept' places places' er ek ep h =
+    subst (λ (xs : List Rule). KeepsAt xs kept' places') (sym er)
+    (subst (λ (xs : List Rule). KeepsAt rules xs places') (sym ek)
+    (subst (λ (xs : List ℕ). KeepsAt rules kept xs) (sym ep) h))
+
+-- both rules of a clash have a place
+pub clash_in : (rules kept : List Rule) (places : List ℕ) (i j : ℕ) → KeepsAt rules kept places → ClashAt kept i j → (i < length places) × (j < length places)
+clash_in rules kept places i j h (lt, a, b, at-i, at-j, clash) = (
+  omega (arith, h.as_many, slice_get_within kept i a at-i),
+  omega (arith, h.as_many, slice_get_within kept j b at-j),
+)

@@ -1,0 +1,9 @@
+pub mod Same
+pub mod Pieces
+pub mod Arguments
+pub mod Overlapping
+pub mod Saying
+pub mod SaidLaws
+pub mod KeptLaws
+pub mod ClearLaws
+pub mod MachineLaws

@@ -1,0 +1,21 @@
+-- Which records a rule matches.
+use Rattle.std.specs.Prelude.{◌≡◌, ◌≢◌, ℕ, List}
+use Rattle.std.specs.List.{All}
+use Rattle.call_record.specs.Words.{IsRecord, word, argument}
+use Rattle.call_tables.specs.Arch.{token_of}
+use Rattle.profile.specs.declared.rules.Rule.{Rule}
+use Rattle.profile.specs.Condition.{Holds}
+
+-- the record is of the rule's machine and call, and each condition holds of its argument
+pub record Matches (rule : Rule) (r : List ℕ) : Type 0 where
+  pub machine : word r 1 ≡ token_of rule.arch
+  pub number : word r 0 ≡ rule.nr
+  pub conditions : All (λ c. Holds c (argument r c.index)) rule.conds.items
+
+-- some record matches both
+abbrev pub Overlap : Rule → Rule → Type 0
+Overlap a b = (r : List ℕ) × IsRecord r × Matches a r × Matches b r
+
+-- some record matches both, and they have unlike words
+abbrev pub Clash : Rule → Rule → Type 0
+Clash a b = (a.word ≢ b.word) × Overlap a b

@@ -1,0 +1,26 @@
+//! Profiles of system calls: which word a call record gets (OCI Runtime Specification,
+//! config-linux, Seccomp; seccomp(2)).
+//!
+//! A [`Profile`] has a list of machines, a default word and rules. A [`Rule`] gives a word to the
+//! records of one call of one machine that meet all its conditions. [`Profile::build`] refuses
+//! rules that give unlike words to one record, so a profile gives each record one word, whatever
+//! the order of its rules.
+#![tactic(auto)]
+
+mod build;
+mod clashes;
+mod conditions;
+mod distinct;
+mod machines;
+mod meets;
+mod overlaps;
+mod policy;
+mod rules;
+#[cfg(test)]
+mod tests;
+
+pub use build::{BuildError, MAX_RULES};
+pub use conditions::{Cond, Op};
+pub use overlaps::overlap;
+pub use policy::{Profile, each_record_is_said_one_word};
+pub use rules::Rule;

@@ -1,0 +1,46 @@
+//! Which machines are listed.
+ghost use Rattle.std.specs.Prelude.{◌≡◌, ◌↔◌, IsTrue, IfSome, IfNone, All, Contains, Some, slice_get};
+ghost use Rattle.call_tables.specs.declared.arch.Arch.{Arch};
+ghost use Rattle.profile.specs.declared.rules.Rule.{Rule};
+ghost use Rattle.profile.specs.Build.{InOrder};
+
+use crate::rules::Rule;
+use call_tables::Arch;
+
+/// The listed machines, each once, x86-64 first.
+pub(crate) fn in_order(archs: &[Arch]) -> &'static [Arch]
+    requires { (arch : Arch) × Contains archs.now arch }
+    ensures ordered { InOrder result.now }
+    ensures listed { (arch : Arch) → Contains result.now arch → Contains archs.now arch }
+    ensures all { All (Contains result.now) archs.now }
+{
+    if lists(archs, Arch::X86_64) {
+        if lists(archs, Arch::Aarch64) {
+            &[Arch::X86_64, Arch::Aarch64]
+        } else {
+            &[Arch::X86_64]
+        }
+    } else {
+        &[Arch::Aarch64]
+    }
+}
+
+/// Whether the machine is listed.
+pub(crate) fn lists(archs: &[Arch], arch: Arch) -> bool
+    ensures { IsTrue result ↔ Contains archs.now arch }
+{
+    archs.contains(&arch)
+}
+
+/// The least place of a rule for a machine that is not listed.
+pub(crate) fn first_foreign(archs: &[Arch], rules: &[Rule]) -> Option<usize>
+    ensures some { IfSome result (λ i. (rule : Rule) × (slice_get rules.now i ≡ Some rule) × ¬ Contains archs.now rule.arch) }
+    ensures none { IfNone result (All (λ rule. Contains archs.now rule.arch) rules.now) }
+{
+    for (place, rule) in rules.iter().enumerate() {
+        if !lists(archs, rule.arch) {
+            return Some(place);
+        }
+    }
+    None
+}

@@ -1,0 +1,55 @@
+//! Whether one record matches two rules.
+ghost use Rattle.std.specs.Prelude.{◌≡◌, ◌↔◌, ◌<◌, ◌^◌, IsTrue, All};
+ghost use Rattle.profile.specs.Rule.{Overlap};
+ghost use Rattle.profile.specs.Meet.{CanMeet, Meet};
+
+use crate::conditions::Cond;
+use crate::meets::meet;
+use crate::rules::Rule;
+
+/// Whether some record matches both rules.
+pub fn overlap(a: &Rule, b: &Rule) -> bool
+    ensures { IsTrue result ↔ Overlap a.now b.now }
+{
+    number_fits(a);
+    can_meet(a, b)
+}
+
+// Whether the rules are for one call, and on each argument the conditions of both can be met.
+fn can_meet(a: &Rule, b: &Rule) -> bool
+    ensures { IsTrue result ↔ CanMeet a.now b.now }
+{
+    if a.nr != b.nr {
+        return false;
+    }
+    if a.arch != b.arch {
+        return false;
+    }
+    if !all_meet(a.conds.as_slice(), b.conds.as_slice()) {
+        return false;
+    }
+    if !all_meet(a.conds.as_slice(), a.conds.as_slice()) {
+        return false;
+    }
+    all_meet(b.conds.as_slice(), b.conds.as_slice())
+}
+
+fn all_meet(a: &[Cond], b: &[Cond]) -> bool
+    ensures { IsTrue result ↔ All (λ c. All (λ d. c.index ≡ d.index → Meet c d) b.now) a.now }
+{
+    a.iter().all(|c| meets_each(c, b))
+}
+
+fn meets_each(cond: &Cond, others: &[Cond]) -> bool
+    ensures { IsTrue result ↔ All (λ d. cond.now.index ≡ d.index → Meet cond.now d) others.now }
+{
+    others
+        .iter()
+        .all(|other| cond.index != other.index || meet(cond, other))
+}
+
+fn number_fits(rule: &Rule)
+    ensures { rule.now.nr < 2 ^ 32 }
+{
+    let _nr = rule.nr;
+}
