@@ -1,0 +1,101 @@
+//! Records to run filters on.
+ghost use Rattle.std.specs.Prelude.{◌<◌};
+
+use crate::tests::profiles::calls;
+use call_record::Record;
+use call_tables::Arch;
+use profile::Profile;
+use std::alloc::{AllocError, Global};
+use std::test::Fail;
+
+/// The parts that records are made of.
+#[derive(Drop)]
+pub struct Grid {
+    pub tokens: [u32; 3],
+    pub numbers: Vec<u32>,
+    pub arguments: Vec<[u64; 6]>,
+}
+
+impl Grid {
+    /// The grid of a profile: both machines and none; each call of a table, and the numbers on both
+    /// sides of the least x32 call; each argument that a condition names, or all where none does.
+    pub fn of(alloc: Global, profile: &Profile) -> Result<Grid, Fail> {
+        let mut numbers = calls(alloc, Arch::X86_64)?;
+        numbers.extend_from_slice(&calls(alloc, Arch::Aarch64)?)?;
+        numbers.extend_from_slice(&[0x3fff_ffff, 0x4000_0000])?;
+        Ok(Grid {
+            tokens: [Arch::X86_64.token(), Arch::Aarch64.token(), 0],
+            numbers,
+            arguments: arguments(alloc, profile)?,
+        })
+    }
+}
+
+/// The record of these parts.
+pub fn record(nr: u32, arch: u32, args: [u64; 6]) -> Record {
+    Record {
+        nr,
+        arch,
+        ip: 0,
+        args,
+    }
+}
+
+/// Each pair of words as one argument, and zeros as the others.
+fn arguments(alloc: Global, profile: &Profile) -> Result<Vec<[u64; 6]>, AllocError> {
+    let halves = halves(alloc, profile)?;
+    let plain = profile.rules().iter().all(|rule| rule.conds.is_empty());
+    let mut all = Vec::new(alloc);
+    for index in 0..6u8 {
+        if plain || names_argument(profile, index) {
+            place_pairs(&mut all, index, &halves)?;
+        }
+    }
+    Ok(all)
+}
+
+/// Whether some condition is on the argument.
+fn names_argument(profile: &Profile, index: u8) -> bool {
+    profile
+        .rules()
+        .iter()
+        .any(|rule| rule.conds.iter().any(|cond| cond.index == index))
+}
+
+/// Adds the arguments where one is a pair of words, and the others are 0.
+fn place_pairs(all: &mut Vec<[u64; 6]>, index: u8, halves: &[u32]) -> Result<(), AllocError>
+    requires { index < 6 }
+{
+    for high in halves {
+        for low in halves {
+            let mut args = [0; 6];
+            args[index as usize] = u64::from(*high) << 32 | u64::from(*low);
+            all.push(args)?;
+        }
+    }
+    Ok(())
+}
+
+/// The words 0, 1 and the greatest, and the words of conditions with their neighbours.
+fn halves(alloc: Global, profile: &Profile) -> Result<Vec<u32>, AllocError> {
+    let mut halves = vec![in alloc; 0, 1, u32::MAX]?;
+    for rule in profile.rules() {
+        for cond in rule.conds.iter() {
+            add_words(&mut halves, cond.value)?;
+            add_words(&mut halves, cond.datum)?;
+        }
+    }
+    Ok(halves)
+}
+
+/// Adds both words of a number, and their neighbours, where they are new.
+fn add_words(halves: &mut Vec<u32>, number: u64) -> Result<(), AllocError> {
+    for word in [(number >> 32) as u32, (number % (1 << 32)) as u32] {
+        for near in [word.wrapping_sub(1), word, word.wrapping_add(1)] {
+            if !halves.contains(&near) {
+                halves.push(near)?;
+            }
+        }
+    }
+    Ok(())
+}

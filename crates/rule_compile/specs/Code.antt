@@ -1,0 +1,28 @@
+-- Code that is written from its end to its beginning, and places in it.
+use Rattle.std.specs.Prelude.{ℕ, ◌≡◌, ◌≤◌, List, length}
+use Rattle.bpf_insn.specs.Code.{code_of}
+use Rattle.bpf_insn.specs.declared.code.Operation.{Operation}
+use Rattle.bpf_insn.specs.declared.instruction.Insn.{Insn}
+use Rattle.rule_compile.specs.declared.label.Label.{Label}
+use Rattle.rule_compile.specs.declared.label.Exits.{Exits}
+
+-- the place is in the code
+abbrev pub IsIn : List Insn → Label → Type 0
+IsIn code place = place.to_end ≤ length code
+
+-- the place is the first instruction of the code
+abbrev pub IsStart : List Insn → Label → Type 0
+IsStart code place = place.to_end ≡ length code
+
+-- both exits are in the code
+pub record HasExits (code : List Insn) (exits : Exits) : Type 0 where
+  pub yes : IsIn code exits.yes
+  pub no : IsIn code exits.no
+
+-- each place of the old code is in the new
+abbrev pub Grows : List Insn → List Insn → Type 0
+Grows old new = length old ≤ length new
+
+-- an instruction that is no conditional jump
+abbrev pub insn_of : Operation → ℕ → Insn
+insn_of operation k = record { code = code_of operation; jt = 0; jf = 0; k = k }

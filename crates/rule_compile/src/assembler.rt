@@ -1,0 +1,163 @@
+//! Code for a filter, written from its last instruction to its first.
+//!
+//! The jumps of a filter go forward. So where a jump goes to is there already when the jump is
+//! written, and how many instructions it skips is known.
+ghost use Rattle.std.specs.Prelude.{◌≡◌, ◌+◌, ◌≤◌, ◌<◌, ◌↔◌, [], ◌∷◌, None, length, IfOk, IsErrOf, OnOk};
+ghost use Rattle.bpf_insn.specs.Bytes.{insns_of, view_fault};
+ghost use Rattle.bpf_insn.specs.declared.code.Operation.TheVariants.{Compute, LoadWord, ReturnK};
+ghost use Rattle.bpf_insn.specs.declared.code.Arithmetic.TheVariants.{And};
+ghost use Rattle.bpf_insn.specs.declared.code.Operand.TheVariants.{K};
+ghost use Rattle.rule_compile.specs.Code.{Grows, HasExits, IsIn, IsStart, insn_of};
+
+use crate::fault::CompileError;
+use crate::label::{Exits, Label};
+use bpf_insn::{Arithmetic, Insn, Operand, Operation, Test, encode_into};
+use call_record::Word;
+use std::alloc::{AllocError, Global};
+use std::marker::Model;
+
+/// The most instructions of a filter.
+const LIMIT: usize = 4096;
+
+/// How many instructions a conditional jump skips at most.
+const FARTHEST: usize = 255;
+
+/// The code so far.
+#[derive(Drop)]
+pub(crate) struct Assembler {
+    /// The instructions, the last one first.
+    backwards: Vec<Insn>,
+}
+
+impl Model for Assembler {
+    ghost use Rattle.std.specs.Prelude.{◌≤◌, List, reverse, vec_len};
+    ghost use Rattle.bpf_insn.specs.declared.instruction.Insn.{Insn};
+    ghost use Rattle.rule_compile.specs.declared.assembler.TheConstants.{LIMIT};
+
+    ghost Value = { List Insn };
+
+    ghost view = { λ code. reverse code.backwards.items };
+
+    ghost invariant = { λ code. vec_len code.backwards ≤ LIMIT };
+}
+
+// An instruction that is no conditional jump.
+fn insn(operation: Operation, k: u32) -> Insn
+    ensures { result ≡ insn_of operation k }
+{
+    Insn {
+        code: operation.code(),
+        jt: 0,
+        jf: 0,
+        k,
+    }
+}
+
+impl Assembler {
+    /// No code.
+    pub(crate) fn new(alloc: Global) -> Self
+        ensures { result ≡ [] }
+    {
+        Assembler {
+            backwards: Vec::new(alloc),
+        }
+    }
+
+    // Writes an instruction in front of the code.
+    fn write(&mut self, insn: Insn) -> Result<Label, CompileError>
+        ensures written { OnOk result (self.new ≡ insn ∷ self.old) }
+        ensures start { IfOk result (IsStart self.new) }
+        ensures full { IsErrOf result CompileError.TooLong ↔ (length self.old ≡ LIMIT) }
+    {
+        if self.backwards.len() == LIMIT {
+            return Err(CompileError::TooLong);
+        }
+        self.backwards.push(insn)?;
+        Ok(Label {
+            to_end: self.backwards.len(),
+        })
+    }
+
+    /// Ends with the word as the verdict.
+    pub(crate) fn return_word(&mut self, word: Word) -> Result<Label, CompileError>
+        ensures written { OnOk result (self.new ≡ insn_of ReturnK word ∷ self.old) }
+        ensures start { IfOk result (IsStart self.new) }
+    {
+        self.write(insn(Operation::ReturnK, word.0))
+    }
+
+    /// Loads the word at an offset of the record.
+    pub(crate) fn load(&mut self, offset: u32) -> Result<Label, CompileError>
+        ensures written { OnOk result (self.new ≡ insn_of LoadWord offset ∷ self.old) }
+        ensures start { IfOk result (IsStart self.new) }
+    {
+        self.write(insn(Operation::LoadWord, offset))
+    }
+
+    /// Keeps the bits of a mask in the word that is loaded.
+    pub(crate) fn mask(&mut self, mask: u32) -> Result<Label, CompileError>
+        ensures written { OnOk result (self.new ≡ insn_of (Compute And K) mask ∷ self.old) }
+        ensures start { IfOk result (IsStart self.new) }
+    {
+        let and = Operation::Compute(Arithmetic::And, Operand::K);
+        self.write(insn(and, mask))
+    }
+
+    // How many instructions a jump skips that is written next and goes to the label.
+    fn distance(&self, to: Label) -> usize
+        requires { IsIn self.now to }
+        ensures skipped { result + to.to_end ≡ length self.now }
+        ensures limit { result ≤ LIMIT }
+    {
+        self.backwards.len() - to.to_end
+    }
+
+    // The label, or where it is far from here, that of a jump to it. A conditional jump that is
+    // written next reaches it, even after one more instruction.
+    fn near(&mut self, to: Label) -> Result<Label, CompileError>
+        requires { IsIn self.old to }
+        ensures grows { OnOk result (Grows self.old self.new) }
+        ensures placed { IfOk result (IsIn self.new) }
+        ensures near { IfOk result (λ place. length self.new < place.to_end + FARTHEST) }
+        ensures one { OnOk result (length self.new ≤ length self.old + 1) }
+    {
+        let skipped = self.distance(to);
+        if skipped < FARTHEST {
+            Ok(to)
+        } else {
+            self.write(insn(Operation::Jump, skipped as u32))
+        }
+    }
+
+    /// Goes on by how the word that is loaded compares with a number.
+    pub(crate) fn branch(&mut self, test: Test, k: u32, exits: Exits) -> Result<Label, CompileError>
+        requires { HasExits self.old exits }
+        ensures grows { OnOk result (Grows self.old self.new) }
+        ensures start { IfOk result (IsStart self.new) }
+    {
+        let no = self.near(exits.no)?;
+        let yes = self.near(exits.yes)?;
+        let jump = Insn {
+            code: Operation::Branch(test, Operand::K).code(),
+            jt: self.distance(yes) as u8,
+            jf: self.distance(no) as u8,
+            k,
+        };
+        self.write(jump)
+    }
+
+    /// The code as the bytes of a filter.
+    pub(crate) fn into_bytes(self, alloc: Global) -> Result<Vec<u8>, AllocError>
+        requires { 1 ≤ length self }
+        ensures program { IfOk result (λ bytes. view_fault bytes.items ≡ None) }
+        ensures read { IfOk result (λ bytes. insns_of bytes.items ≡ self) }
+    {
+        let Assembler {
+            backwards: mut insns,
+        } = self;
+        insns.reverse();
+        let mut bytes = vec![in alloc; 0u8; 8 * insns.len()]?;
+        encode_into(&insns, &mut bytes);
+        Ok(bytes)
+    }
+}

@@ -1,0 +1,16 @@
+//! Compiles a profile to a seccomp filter.
+//!
+//! The compiler is not trusted. What it answers is a program, and whether the verdicts of the
+//! program are those of the profile is left to a check of the filter.
+#![tactic(auto)]
+
+mod assembler;
+mod condition;
+mod fault;
+mod filter;
+mod label;
+mod record;
+mod search;
+
+pub use fault::CompileError;
+pub use filter::compile;
