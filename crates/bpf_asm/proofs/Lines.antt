@@ -1,11 +1,10 @@
 -- A line, and the instruction that is read from it.
-use Rattle.std.proofs.Common.{◌≡◌, ◌≢◌, ℕ, zero, suc, ◌+◌, ◌<◌, ◌≤◌, ◌^◌, Bool, true, false, cond, ◌&&◌, ◌||◌, List, [], ◌∷◌, ◌++◌, length, take, refl, ap, sym, ◌∙◌, subst, arith, lit<, lit≤, inl, inr}
-use Rattle.std.specs.Prelude.{◌==◌, ◌⊎◌, nat_le, not, map, Option, Some, None, Result, Ok, Err, option_and_then, find, is_some}
+use Rattle.std.proofs.Common.{◌≡◌, ◌≢◌, ℕ, suc, ◌+◌, Bool, true, false, cond, ◌&&◌, ◌||◌, List, [], ◌∷◌, ◌++◌, take, refl, ap, sym, ◌∙◌, subst, arith, lit<}
+use Rattle.std.specs.Prelude.{◌==◌, nat_le, not, map, Option, Some, None, Result, Ok, Err, option_and_then, find}
 use Rattle.std.specs.Option.{option_map}
 use Rattle.std.specs.List.{AllByRecursion, before_first, join_with_byte, list_all, position_or_len}
 use Rattle.std.specs.Fmt.{decimal}
 use Rattle.std.specs.Str.{bytes_eq}
-use Rattle.std.proofs.lemmas.Bool.{le-ltb}
 use Rattle.std.proofs.lemmas.Bool.Decides.{nat_tests}
 use Rattle.std.proofs.lemmas.Slice.Eq.{bytes_eq-Decides}
 use Rattle.bpf_insn.specs.declared.code.Test.TheVariants.{Equal, Greater, AtLeast, AnyBit}
@@ -25,8 +24,8 @@ use Rattle.bpf_asm.specs.declared.arguments.Arguments.{Arguments}
 use Rattle.bpf_asm.specs.declared.arguments.Arguments.TheVariants.{Nothing, One, Three, Four}
 use Rattle.bpf_asm.specs.Words.{is_raw, word_at, word_of, word_text, words}
 use Rattle.bpf_asm.specs.Listing.{IsInsn, Piece, RegisterA, RegisterX, Address, Constant, Decimal, Hexadecimal, form_of, hexadecimal, is_plain, line_of, line_text, piece_text, pieces_of, raw_pieces, text_by, uses_k, uses_targets}
-use Rattle.bpf_asm.specs.Faults.{HasBadNumber, HasBadPiece, IsNeedlesslyRaw, IsPiece, IsShaped, IsShapeless, IsUnknown, first_word, has_shape}
-use Rattle.bpf_asm.specs.Reading.{arguments_at, branch_fields, checked, fields_of, first_part, insn_of, insn_with, line_at, named, number_of, part_of, plain_fields, read_rest, shaped, split_at, within}
+use Rattle.bpf_asm.specs.Faults.{HasBadNumber, IsNeedlesslyRaw, IsPiece, IsShaped, IsShapeless, IsUnknown, first_word, has_shape}
+use Rattle.bpf_asm.specs.Reading.{arguments_at, branch_fields, checked, fields_of, first_part, insn_of, line_at, named, number_of, part_of, plain_fields, read_rest, shaped, split_at}
 use Rattle.bpf_asm.proofs.Numerals.{are_digits-decimal, are_digits-hexadecimal, number_of-decimal, number_of-hexadecimal, within_some}
 use Rattle.bpf_asm.proofs.Splits.{Lacks, lacks_append, split_at_first, split_at_none, split_at_sound}
 use Rattle.bpf_asm.proofs.Pieces.{Spells, OfOne, OfThree, OfFour, and_then_some, arguments_at-four, arguments_at-one, arguments_at-three, arguments_at_sound, cond_some, lacks_digits, lacks-piece_text}

@@ -1,7 +1,6 @@
 -- What becomes of a word and the pieces after it: an instruction, or a number that is bad.
-use Rattle.std.proofs.Common.{◌≡◌, ◌≢◌, ℕ, zero, suc, ◌<◌, ◌≤◌, ◌^◌, Bool, true, false, cond, ◌&&◌, ◌||◌, List, [], ◌∷◌, ◌++◌, length, refl, ap, sym, ◌∙◌, subst, arith, lit<, lit≤, inl, inr}
-use Rattle.std.specs.Prelude.{◌==◌, ◌⊎◌, nat_lt, Option, Some, None, option_and_then}
-use Rattle.std.specs.List.{AllByRecursion}
+use Rattle.std.proofs.Common.{◌≡◌, ℕ, ◌<◌, ◌^◌, true, false, List, [], ◌∷◌, refl, ap, sym, ◌∙◌, subst, lit<, lit≤, inl, inr}
+use Rattle.std.specs.Prelude.{Option, Some, None}
 use Rattle.std.specs.Fmt.{decimal}
 use Rattle.bpf_insn.specs.declared.code.Test.{Test}
 use Rattle.bpf_insn.specs.declared.code.Test.TheVariants.{Equal, Greater, AtLeast, AnyBit}
@@ -10,8 +9,8 @@ use Rattle.bpf_insn.specs.declared.code.Operand.TheVariants.{K, X}
 use Rattle.bpf_insn.specs.declared.code.Operation.{Operation}
 use Rattle.bpf_insn.specs.declared.code.Operation.TheVariants as operations
 use Rattle.bpf_insn.specs.declared.instruction.Insn.{Insn}
-use Rattle.bpf_insn.specs.Code.{code_of, operation_of}
-use Rattle.bpf_insn.proofs.CodeLaws.{code_of-operation_of, operation_of-code_of}
+use Rattle.bpf_insn.specs.Code.{code_of}
+use Rattle.bpf_insn.proofs.CodeLaws.{operation_of-code_of}
 use Rattle.bpf_asm.specs.declared.word.Word.{Word}
 use Rattle.bpf_asm.specs.declared.word.Word.TheVariants.{Ld, Ldx, Ret, Ja, Branch, Compute, Lsh, Rsh, Neg, Tax, Txa, Raw}
 use Rattle.bpf_asm.specs.declared.line.Fields.{Fields}
@@ -73,9 +72,6 @@ form_built op jt jf k plain = rw (operation_of-code_of op, plain) refl
 
 insn_of-branch_fields : (op : Operation) (k jt jf : Option ℕ) → insn_of (branch_fields op k jt jf) ≡ insn_with (Some (code_of op)) (within 8 jt) (within 8 jf) k
 insn_of-branch_fields op k jt jf = ap (λ code. insn_with code (within 8 jt) (within 8 jf) k) (within_some 16 (code_of op) (code_small op))
-
-no_code : (jt jf k : Option ℕ) → insn_with None jt jf k ≡ None
-no_code jt jf k = refl
 
 no_jt : (code jf k : Option ℕ) → insn_with code None jf k ≡ None
 no_jt None jf k = refl

@@ -1,11 +1,10 @@
 -- A part, read from its text.
-use Rattle.std.proofs.Common.{◌≡◌, ◌≢◌, ℕ, zero, suc, ◌<◌, Bool, true, false, cond, List, [], ◌∷◌, ◌++◌, length, refl, ap, sym, ◌∙◌, subst, arith}
-use Rattle.std.specs.Prelude.{◌==◌, Option, Some, None, option_and_then, codes}
+use Rattle.std.proofs.Common.{◌≡◌, ◌≢◌, ℕ, false, List, [], ◌∷◌, ◌++◌, refl, ap, ◌∙◌}
+use Rattle.std.specs.Prelude.{None, option_and_then, codes}
 use Rattle.std.specs.Option.{option_map}
 use Rattle.std.specs.Str.{bytes_eq}
-use Rattle.bpf_asm.specs.declared.arguments.Part.{Part}
-use Rattle.bpf_asm.specs.declared.arguments.Part.TheVariants.{RegisterA, RegisterX, Address, Constant, Decimal, Hexadecimal}
-use Rattle.bpf_asm.specs.Reading.{behind, ahead_of, decimal_at, hexadecimal_at, number_part, part_at}
+use Rattle.bpf_asm.specs.declared.arguments.Part.TheVariants.{Address}
+use Rattle.bpf_asm.specs.Reading.{decimal_at, hexadecimal_at, number_part, part_at}
 use Rattle.bpf_asm.proofs.Splits.{ahead_of-push, ahead_of_none, behind_none}
 
 -- between square brackets there is a decimal number

@@ -1,23 +1,23 @@
 -- What is read after a word is what is written there.
-use Rattle.std.proofs.Common.{◌≡◌, ◌≢◌, ℕ, zero, suc, ◌<◌, ◌≤◌, Bool, true, false, cond, ◌&&◌, List, [], ◌∷◌, ◌++◌, length, refl, ap, sym, ◌∙◌, subst, arith, lit<}
-use Rattle.std.specs.Prelude.{◌==◌, Option, Some, None, option_and_then, codes, map}
+use Rattle.std.proofs.Common.{◌≡◌, ◌≢◌, ℕ, ◌<◌, Bool, true, false, cond, List, [], ◌∷◌, ◌++◌, refl, ap, sym, ◌∙◌, arith, lit<}
+use Rattle.std.specs.Prelude.{◌==◌, Option, Some, None, option_and_then, codes}
 use Rattle.std.specs.Option.{option_map}
-use Rattle.std.specs.List.{AllByRecursion, list_all, join_with_byte}
+use Rattle.std.specs.List.{list_all}
 use Rattle.std.specs.Char.{is_ascii_digit}
 use Rattle.std.specs.Str.{bytes_eq}
-use Rattle.std.proofs.lemmas.Bool.{eqb-true, ne_eqb, eq-eqb}
+use Rattle.std.proofs.lemmas.Bool.{ne_eqb}
 use Rattle.std.proofs.lemmas.Bool.Decides.{nat_tests}
 use Rattle.std.proofs.lemmas.Slice.Eq.{bytes_eq-Decides}
 use Rattle.bpf_asm.specs.declared.arguments.Part.{Part}
 use Rattle.bpf_asm.specs.declared.arguments.Part.TheVariants as parts
 use Rattle.bpf_asm.specs.declared.arguments.Arguments.{Arguments}
-use Rattle.bpf_asm.specs.declared.arguments.Arguments.TheVariants.{Nothing, One, Three, Four}
+use Rattle.bpf_asm.specs.declared.arguments.Arguments.TheVariants.{One, Three, Four}
 use Rattle.bpf_asm.specs.Digits.{are_digits, is_hexadecimal_digit}
 use Rattle.bpf_asm.specs.Listing.{Piece, RegisterA, RegisterX, Address, Constant, Decimal, Hexadecimal, piece_text}
 use Rattle.bpf_asm.specs.Faults.{IsPiece}
 use Rattle.bpf_asm.specs.Reading.{ahead_of, arguments_at, behind, decimal_at, hexadecimal_at, last_parts, marked_part, number_of, number_part, part_at, part_of, parts_of, split_at}
 use Rattle.bpf_asm.proofs.Numerals.{both}
-use Rattle.bpf_asm.proofs.Splits.{Lacks, ahead_of_sound, behind_sound, lacks_append, split_at_first, split_at_lacks, split_at_none, split_at_sound}
+use Rattle.bpf_asm.proofs.Splits.{Lacks, ahead_of_sound, behind_sound, lacks_append, split_at_first, split_at_none, split_at_sound}
 use Rattle.bpf_asm.proofs.Parts.{part_at-address, part_at-number}
 
 pub and_then_some : {A B : Type 0} (f : A → Option B) (o : Option A) (y : B) → option_and_then f o ≡ Some y → (x : A) × (o ≡ Some x) × (f x ≡ Some y)

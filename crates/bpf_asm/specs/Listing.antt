@@ -22,6 +22,7 @@ pub data Piece : Type 0 where
   Decimal : (digits : List ℕ) → Piece
   Hexadecimal : (digits : List ℕ) → Piece
 
+-- how it is written
 abbrev pub piece_text : Piece → List ℕ
 piece_text RegisterA = codes "a"
 piece_text RegisterX = codes "x"
@@ -87,6 +88,7 @@ is_plain i operation = (uses_targets operation || (i.jt == 0 && i.jf == 0)) && (
 unfoldable pub form_of : Insn → Option Operation
 form_of i = option_and_then (λ operation. if is_plain i operation then Some operation else None) (operation_of i.code)
 
+-- the line by the operation whose form it has, else the raw line
 abbrev pub text_by : Option Operation → Insn → List ℕ
 text_by None i = line_text Raw (raw_pieces i)
 text_by (Some operation) i = line_text (word_of operation) (pieces_of operation i)
@@ -106,8 +108,10 @@ pub record IsInsn (i : Insn) : Type 0 where
   pub jf : i.jf < 2 ^ 8
   pub k : i.k < 2 ^ 32
 
+-- each is such an instruction
 abbrev pub AreInsns : List Insn → Type 0
 AreInsns p = AllByRecursion IsInsn p
 
+-- each number is a byte
 abbrev pub AreBytes : List ℕ → Type 0
 AreBytes bytes = AllByRecursion (λ b. b < 2 ^ 8) bytes

@@ -1,5 +1,5 @@
 -- Conditions read the same numbers in the fields of a record and in its words.
-use Rattle.std.proofs.Common.{◌≡◌, ℕ, List, get_or, sym, subst}
+use Rattle.std.proofs.Common.{ℕ, List, get_or, sym, subst}
 use Rattle.std.specs.List.{All}
 use Rattle.std.proofs.lemmas.List.Elements.{All-weaker}
 use Rattle.call_record.specs.Words.{argument, words_from}

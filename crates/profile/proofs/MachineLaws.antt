@@ -1,5 +1,5 @@
 -- Each machine of a list is among those that were found in it.
-use Rattle.std.proofs.Common.{◌≡◌, ℕ, zero, suc, ◌<◌, List, [], ◌∷◌, get_or, refl, sym, arith}
+use Rattle.std.proofs.Common.{List, [], ◌∷◌, get_or, refl, arith}
 use Rattle.std.specs.List.{All, Contains}
 use Rattle.std.proofs.lemmas.List.Elements.{All-weaker, All-contains_itself}
 use Rattle.call_tables.specs.declared.arch.Arch.{Arch}

@@ -1,18 +1,16 @@
 -- Two rules can match one record where each argument has a number for the conditions on it.
-use Rattle.std.proofs.Common.{◌≡◌, ◌≢◌, ℕ, zero, suc, ◌+◌, ◌*◌, ◌^◌, ◌<◌, ◌≤◌, ◌==◌, ◌&&◌, ◌||◌, ◌⊎◌, inl, inr, Bool, true, false, not, List, [], ◌∷◌, length, map, get_or, refl, sym, ◌∙◌, ap, subst, arith}
+use Rattle.std.proofs.Common.{◌≡◌, ◌≢◌, ℕ, zero, suc, ◌+◌, ◌*◌, ◌^◌, ◌<◌, ◌==◌, ◌||◌, ◌⊎◌, inl, inr, Bool, true, false, not, List, [], ◌∷◌, map, get_or, refl, sym, ◌∙◌, ap, subst, arith}
 use Rattle.std.specs.List.{All, Contains, list_any}
 use Rattle.std.proofs.lemmas.Bool.{cases_Bool, and_parts}
 use Rattle.std.proofs.lemmas.Bool.Decides.{Decides-eqb}
 use Rattle.std.proofs.lemmas.List.Elements.{All-nil, All-cons, All-weaker, All-contains}
-use Rattle.call_tables.specs.declared.arch.Arch.{Arch}
-use Rattle.call_tables.specs.declared.arch.Arch.TheVariants.{X86_64, Aarch64}
 use Rattle.call_tables.specs.Arch.{token_of}
 use Rattle.profile.specs.declared.conditions.Cond.{Cond}
 use Rattle.profile.specs.declared.rules.Rule.{Rule}
 use Rattle.profile.specs.Operator.{are_distinct}
 use Rattle.call_record.specs.Words.{IsRecord, word, argument, words_from}
 use Rattle.profile.specs.Condition.{Holds}
-use Rattle.profile.specs.Rule.{Matches, Overlap}
+use Rattle.profile.specs.Rule.{Overlap}
 use Rattle.profile.specs.Meet.{Meet, AllMeet, CanMeet}
 use Rattle.call_record.proofs.RecordLemmas.{argument-words_from, words_from-is_record}
 use Rattle.call_tables.proofs.ArchLaws.{token_of-same, token_of-fits}

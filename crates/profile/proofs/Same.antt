@@ -1,14 +1,11 @@
 -- Conditions and rules are the same where their parts are: the facts beside the parts are propositions.
-use Rattle.std.proofs.Common.{◌≡◌, ℕ, suc, ◌<◌, ◌&&◌, Bool, true, false, List, map, bit_and, eqb, refl, sym, ◌∙◌, ap, subst, rules}
+use Rattle.std.proofs.Common.{◌≡◌, ℕ, suc, ◌<◌, ◌&&◌, Bool, true, List, map, bit_and, eqb, refl, ◌∙◌, ap, subst, rules}
 use Rattle.std.proofs.Math.Nat.{ℕ_set}
 use Rattle.std.proofs.Math.Bridge.{le_prop}
 use Rattle.std.proofs.Math.Bool.{Bool-set}
-use Rattle.std.proofs.Props.{props}
 use Rattle.std.proofs.lemmas.Bool.{and_parts}
 use Rattle.std.proofs.lemmas.Bool.Decides.{Decides-eqb}
-use Rattle.std.specs.Bool.{Decides}
 use Rattle.std.specs.Cmp.Lexicographic.{pointwise, pointwise_decides}
-use Rattle.arrayvec.specs.ArrayVec.{ArrayVec}
 use denote.Enum.Bare.{sameb, same_true, true_same}
 use Rattle.call_tables.specs.declared.arch.Arch.{Arch}
 use Rattle.call_tables.specs.contracts.arch.Arch as arch_contract

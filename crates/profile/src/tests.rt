@@ -19,6 +19,15 @@ fn rule(rt: &impl Abort, name: &str, conds: &[Cond], word: Word) -> Rule {
     numbered(rt, nr, conds, word)
 }
 
+// The rule of a call, whatever its arguments.
+fn plain(rt: &impl Abort, name: &str, word: Word) -> Rule {
+    rule(rt, name, &[], word)
+}
+
+fn plain_numbered(rt: &impl Abort, nr: u32, word: Word) -> Rule {
+    numbered(rt, nr, &[], word)
+}
+
 fn numbered(rt: &impl Abort, nr: u32, conds: &[Cond], word: Word) -> Rule {
     let mut list = ArrayVec::new();
     for cond in conds {
@@ -91,7 +100,7 @@ fn conditions_on_one_argument_overlap_as_listed(rt: HostRuntime) {
 fn calls_are_decided_by_name(rt: HostRuntime) -> Result<(), Fail> {
     let mut rules = Vec::new(rt.alloc());
     for name in ["read", "getpid", "fork", "execve", "seccomp", "exit_group"] {
-        rules.push(rule(&rt, name, &[], ALLOWED))?;
+        rules.push(plain(&rt, name, ALLOWED))?;
     }
     let profile = profile(rt.alloc(), rules)?;
     assert_eq!(rt; profile.rules().len(), 6);
@@ -211,52 +220,20 @@ fn machines_are_listed_once_in_order(rt: HostRuntime) -> Result<(), Fail> {
     Ok(())
 }
 
+// Of each rule the number of the call, and whether it is allowed.
 #[test]
-fn an_overlap_names_the_least_second_place_then_the_least_first(
-    rt: HostRuntime,
-) -> Result<(), Fail> {
+fn an_overlap_names_the_least_second_place(rt: HostRuntime) -> Result<(), Fail> {
     let rows = [
-        (
-            [
-                ("write", ALLOWED),
-                ("write", ALLOWED),
-                ("write", DENIED),
-                ("read", DENIED),
-            ],
-            (0, 2),
-        ),
-        (
-            [
-                ("write", ALLOWED),
-                ("write", ALLOWED),
-                ("read", ALLOWED),
-                ("read", DENIED),
-            ],
-            (2, 3),
-        ),
-        (
-            [
-                ("read", ALLOWED),
-                ("write", ALLOWED),
-                ("read", DENIED),
-                ("write", DENIED),
-            ],
-            (0, 2),
-        ),
-        (
-            [
-                ("read", ALLOWED),
-                ("write", ALLOWED),
-                ("write", DENIED),
-                ("read", DENIED),
-            ],
-            (1, 2),
-        ),
+        ([(1, true), (1, true), (1, false), (0, false)], (0, 2)),
+        ([(1, true), (1, true), (0, true), (0, false)], (2, 3)),
+        ([(0, true), (1, true), (0, false), (1, false)], (0, 2)),
+        ([(0, true), (1, true), (1, false), (0, false)], (1, 2)),
     ];
     for (row, (first, second)) in rows {
         let mut rules = Vec::new(rt.alloc());
-        for (name, word) in row {
-            rules.push(rule(&rt, name, &[], word))?;
+        for (nr, is_allowed) in row {
+            let word = if is_allowed { ALLOWED } else { DENIED };
+            rules.push(plain_numbered(&rt, nr, word))?;
         }
         let answer = profile(rt.alloc(), rules).err();
         assert_eq!(rt; answer, Some(BuildError::Overlap(first, second)));
@@ -272,8 +249,8 @@ fn machines_are_judged_before_rules_clash(rt: HostRuntime) -> Result<(), Fail> {
     ];
     for (native, answer) in rows {
         let mut rules = vec![in rt.alloc();
-            rule(&rt, "read", &[], ALLOWED),
-            rule(&rt, "read", &[], DENIED),
+            plain(&rt, "read", ALLOWED),
+            plain(&rt, "read", DENIED),
         ]?;
         for _ in 0..2 {
             let foreign = Rule::new(Arch::Aarch64, 63, ArrayVec::new(), ALLOWED);
@@ -289,7 +266,7 @@ fn machines_are_judged_before_rules_clash(rt: HostRuntime) -> Result<(), Fail> {
 fn equal_rules_are_kept_once(rt: HostRuntime) -> Result<(), Fail> {
     let mut rules = Vec::new(rt.alloc());
     for _ in 0..10_000 {
-        rules.push(rule(&rt, "read", &[], ALLOWED))?;
+        rules.push(plain(&rt, "read", ALLOWED))?;
     }
     assert_eq!(rt; profile(rt.alloc(), rules)?.rules().len(), 1);
     Ok(())
@@ -302,34 +279,30 @@ fn different_rules_are_counted_before_they_clash(rt: HostRuntime) -> Result<(), 
         (8192, Some(BuildError::TooMany)),
     ] {
         let mut rules = Vec::new(rt.alloc());
-        rules.push(numbered(&rt, 0, &[], DENIED))?;
+        rules.push(plain_numbered(&rt, 0, DENIED))?;
         for nr in 0..count {
-            rules.push(numbered(&rt, nr, &[], ALLOWED))?;
+            rules.push(plain_numbered(&rt, nr, ALLOWED))?;
         }
         assert_eq!(rt; profile(rt.alloc(), rules).err(), answer);
     }
     Ok(())
 }
 
-// A test is given a minute: without the comparisons that come first this takes longer.
+// Of 32 calls 256 rules each: they are told apart by their last condition alone, in far less than
+// the minute that a test has.
 #[test]
 fn many_rules_are_compared_fast(rt: HostRuntime) -> Result<(), Fail> {
     let mut rules = Vec::new(rt.alloc());
     for nr in 0..32 {
         for value in 0..256 {
             let word = if value % 2 == 0 { ALLOWED } else { DENIED };
-            let all = cond(&rt, 0, Op::MaskedEq, u64::MAX, value);
-            rules.push(numbered(&rt, nr, &[all], word))?;
+            let conds = [
+                cond(&rt, 0, Op::Ge, 1, 0),
+                cond(&rt, 1, Op::MaskedEq, u64::MAX, value),
+            ];
+            rules.push(numbered(&rt, nr, &conds, word))?;
         }
     }
-    for _ in 0..7 {
-        let again = rules.clone()?;
-        rules.extend(again)?;
-        if rules.len() > 32_768 {
-            break;
-        }
-    }
-    assert_eq!(rt; rules.len(), 65_536);
     assert_eq!(rt; profile(rt.alloc(), rules)?.rules().len(), 8192);
     Ok(())
 }

@@ -1,4 +1,4 @@
-use Rattle.std.proofs.Common.{◌≡◌, ◌∙◌, sym, ap, refl, rules, lit<}
+use Rattle.std.proofs.Common.{◌∙◌, sym, ap, refl, rules, lit<}
 use Rattle.std.specs.Prelude.{◌∷◌, None, Some}
 use Rattle.std.proofs.lemmas.Str.Pattern.{strip_prefix_char, strip_suffix_char}
 use Rattle.bpf_asm.proofs.Parts.{part_at-address, part_at-open, part_at-number}

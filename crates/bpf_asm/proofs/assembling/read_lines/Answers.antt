@@ -1,4 +1,4 @@
-use Rattle.std.proofs.Common.{◌≡◌, ◌+◌, ◌<◌, length, sym, ◌∙◌, arith, rules}
+use Rattle.std.proofs.Common.{◌≡◌, ◌+◌, ◌<◌, length, sym, arith, rules}
 use Rattle.std.proofs.lemmas.Bool.Decides.{nat_tests}
 use Rattle.bpf_asm.proofs.Texts.{at_last, at_line, last_cause, line_ok, more_insns, one_more, shorter}
 use Rattle.bpf_asm.proofs.assembling.read_lines.Goals as goal

@@ -1,6 +1,5 @@
-use Rattle.std.proofs.Common.{◌≡◌, List, take, subst, arith}
+use Rattle.std.proofs.Common.{subst, arith}
 use Rattle.std.proofs.lemmas.List.{take_all}
-use Rattle.profile.specs.declared.rules.Rule.{Rule}
 use Rattle.profile.specs.Policy.{IsClear}
 use Rattle.profile.proofs.ClearLaws.{clash_found, clear_next}
 use Rattle.profile.proofs.clashes.first_clash.Goals as goal

@@ -1,11 +1,10 @@
-use Rattle.std.proofs.Common.{◌≡◌, ◌<◌, ◌≤◌, ℕ, ◌+◌, length, take, drop, List, [], ◌∷◌, ◌++◌, sym, ◌∙◌, ap, subst, arith, true, false}
+use Rattle.std.proofs.Common.{◌≡◌, ℕ, ◌+◌, length, take, drop, List, [], ◌∷◌, ◌++◌, sym, ◌∙◌, ap, subst, arith, true, false}
 use Rattle.std.specs.List.{Contains}
 use Rattle.std.proofs.lemmas.List.{length_push, take_all, length-take-le}
 use Rattle.std.proofs.lemmas.Iterator.Adapters.{YieldsList-from_vec}
 use Rattle.std.proofs.lemmas.Iterator.Consumers.{YieldsList-at, YieldsList-from_enumerate, YieldsList-turn, YieldsList-end}
 use Rattle.profile.specs.declared.rules.Rule.{Rule}
 use Rattle.profile.specs.declared.build.TheConstants.{MAX_RULES}
-use Rattle.profile.specs.Kept.{KeepsAt}
 use Rattle.profile.specs.Build.{AreTooMany}
 use Rattle.profile.proofs.KeptLaws.{keeps_none, keeps_first, keeps_again, keeps_same, too_many, turn_of, split_of, length-enumerate}
 use Rattle.profile.proofs.distinct.keep_once.Goals as goal

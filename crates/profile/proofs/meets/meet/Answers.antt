@@ -1,4 +1,4 @@
-use Rattle.std.proofs.Common.{◌≡◌, bit_and, sym, ◌∙◌, ap}
+use Rattle.std.proofs.Common.{bit_and, sym, ◌∙◌, ap}
 use Rattle.profile.proofs.Pieces.{agree}
 use Rattle.profile.proofs.meets.meet.Goals as goal
 

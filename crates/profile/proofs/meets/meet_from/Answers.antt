@@ -1,4 +1,4 @@
-use Rattle.std.proofs.Common.{◌≡◌, true, false, sym, ◌∙◌, arith}
+use Rattle.std.proofs.Common.{◌≡◌, true}
 use Rattle.profile.proofs.Pieces.{both_least, merged}
 use Rattle.profile.proofs.meets.meet_from.Goals as goal
 

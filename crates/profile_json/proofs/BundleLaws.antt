@@ -1,0 +1,165 @@
+-- A bundle as a whole: what is read and made is meant, and what is refused is broken.
+use Rattle.std.proofs.Common.{◌≡◌, ℕ, zero, suc, List, [], ◌∷◌, cond, Bool, Ok, Err, Option, Some, None, IfSome, true, false, inl, inr, refl, sym, ◌∙◌, ap, subst}
+use Rattle.std.specs.List.{All, AllZip, Contains, list_any, slice_get}
+use Rattle.std.proofs.lemmas.List.Elements.{All-contains}
+use Rattle.serde_json.specs.Data.{Data}
+use Rattle.call_tables.specs.declared.arch.Arch.{Arch}
+use Rattle.call_tables.specs.declared.arch.Arch.TheVariants.{X86_64, Aarch64}
+use Rattle.profile.specs.Policy.{Policy}
+use Rattle.profile.specs.Build.{InOrder}
+use Rattle.profile_json.specs.Fault.{Fault, overlap}
+use Rattle.profile_json.specs.Parts.{EntryParts}
+use Rattle.profile_json.specs.Refusal.{short_name}
+use Rattle.profile_json.specs.Rules.{same_arch, in_order, rules_of}
+use Rattle.profile_json.specs.Outcome.{◌>>=◌, IsFault}
+use Rattle.profile_json.specs.Reading.{Said, default_of, refused_of, archs_of, entries_of, root_of, said_of}
+use Rattle.profile_json.specs.Meaning.{IsText, RootMeans, DefaultMeans, KeysMean, ListsArchs, EntryMeans, EntriesMean, Means}
+use Rattle.profile_json.specs.Breaks.{Breaks, EntriesBreak, SeccompBreaks, ValueBreaks}
+use Rattle.profile_json.specs.Breaks as broken
+use Rattle.profile_json.specs.Making.{IsMade, IsNotMade, many, clash}
+use Rattle.profile_json.proofs.Steps.{bind_ok, bind_err, ok_same, not_ok, some_same}
+use Rattle.profile_json.proofs.RootLaws.{root_breaks}
+use Rattle.profile_json.proofs.ActionLaws.{default_means, default_breaks}
+use Rattle.profile_json.proofs.KeyLaws.{keys_mean, keys_break}
+use Rattle.profile_json.proofs.ArchLaws.{lists_archs, archs_refused, lists_native, native_lists}
+use Rattle.profile_json.proofs.EntryLaws.{entries_mean, EntriesRefused, is_no_list, are_many, in_one_entry, entries_refused}
+
+-- what is read of the object under linux.seccomp
+pub record SaidMeans (s : Data) (native : Arch) (said : Said) : Type 0 where
+  pub default_is : DefaultMeans s said.default_word
+  pub keys : KeysMean s
+  pub archs : ListsArchs s native said.archs
+  pub native_listed : Contains said.archs native
+  pub entries : EntriesMean s said.entries
+
+said : ℕ → List Arch → List EntryParts → Said
+said word archs entries = record { default_word = word; archs = archs; entries = entries }
+
+pub said_means : (s : Data) (native : Arch) (x : Said) → said_of native s ≡ Ok x → SaidMeans s native x
+unfolding said_of said
+said_means s native x h =
+    let w = bind_ok (default_of s) (λ word. refused_of s >>= (λ r. archs_of native s >>= (λ archs. entries_of s >>= (λ entries. Ok (said word archs entries))))) x h in
+    let r = bind_ok (refused_of s) (λ r. archs_of native s >>= (λ archs. entries_of s >>= (λ entries. Ok (said w.0 archs entries)))) x w.2 in
+    let a = bind_ok (archs_of native s) (λ archs. entries_of s >>= (λ entries. Ok (said w.0 archs entries))) x r.2 in
+    let e = bind_ok (entries_of s) (λ entries. Ok (said w.0 a.0 entries)) x a.2 in
+    let archs = lists_archs s native a.0 a.1 in
+    let means : SaidMeans s native (said w.0 a.0 e.0) = record {
+      default_is = default_means s w.0 w.1;
+      keys = keys_mean s r.0 r.1;
+      archs = archs.0;
+      native_listed = archs.1;
+      entries = entries_mean s e.0 e.1;
+    } in
+    subst (SaidMeans s native) (ok_same (said w.0 a.0 e.0) x e.2) means
+
+entries_break : (s : Data) (native : Arch) (f : Fault) → EntriesRefused s f → EntriesBreak s native f
+entries_break s native _ (is_no_list e) = broken.EntriesBreak.no_list e
+entries_break s native _ (are_many ds at e) = broken.EntriesBreak.many ds at e
+entries_break s native f (in_one_entry ds d _ at in_ds e) = broken.EntriesBreak.in_entry ds d f at in_ds e
+
+pub said_breaks : (s : Data) (native : Arch) (f : Fault) → said_of native s ≡ Err f → SeccompBreaks s native f
+unfolding said_of said
+said_breaks s native f h =
+    elim (bind_err (default_of s) (λ word. refused_of s >>= (λ r. archs_of native s >>= (λ archs. entries_of s >>= (λ entries. Ok (said word archs entries))))) f h) [
+      | inl bad ↦ broken.SeccompBreaks.default_action f (default_breaks s f bad)
+      | inr w ↦ elim (bind_err (refused_of s) (λ r. archs_of native s >>= (λ archs. entries_of s >>= (λ entries. Ok (said w.0 archs entries)))) f w.2) [
+        | inl bad ↦ broken.SeccompBreaks.keys f (keys_break s f bad)
+        | inr r ↦ elim (bind_err (archs_of native s) (λ archs. entries_of s >>= (λ entries. Ok (said w.0 archs entries))) f r.2) [
+          | inl bad ↦ broken.SeccompBreaks.archs f (archs_refused s native f bad)
+          | inr a ↦ elim (bind_err (entries_of s) (λ entries. Ok (said w.0 a.0 entries)) f a.2) [
+            | inl bad ↦ broken.SeccompBreaks.entries f (entries_break s native f (entries_refused s f bad))
+            | inr e ↦ absurd (not_ok (said w.0 a.0 e.0) f e.2)
+          ]
+        ]
+      ]
+    ]
+
+-- ---- machines in order
+
+same_test : (b c : Bool) → (b ≡ true → c ≡ true) → (c ≡ true → b ≡ true) → b ≡ c
+same_test true true f g = refl
+same_test true false f g = sym (f refl)
+same_test false true f g = g refl
+same_test false false f g = refl
+
+ordered : (machines : List Arch) → InOrder machines → in_order machines ≡ machines
+ordered machines (inl e) = ap in_order e ∙ sym e
+ordered machines (inr (inl e)) = ap in_order e ∙ sym e
+ordered machines (inr (inr e)) = ap in_order e ∙ sym e
+
+chosen : Bool → Bool → List Arch
+chosen x a = cond x (X86_64 ∷ cond a (Aarch64 ∷ []) []) (cond a (Aarch64 ∷ []) [])
+
+in_order_by : (xs ys : List Arch) → list_any (same_arch X86_64) xs ≡ list_any (same_arch X86_64) ys → list_any (same_arch Aarch64) xs ≡ list_any (same_arch Aarch64) ys → in_order xs ≡ in_order ys
+unfolding chosen
+in_order_by xs ys x a = ap (λ b. chosen b (list_any (same_arch Aarch64) xs)) x ∙ ap (chosen (list_any (same_arch X86_64) ys)) a
+
+test_in_order : (b c : Bool) → (list_any (same_arch X86_64) (chosen b c) ≡ b) × (list_any (same_arch Aarch64) (chosen b c) ≡ c)
+unfolding chosen
+test_in_order true true = (refl, refl)
+test_in_order true false = (refl, refl)
+test_in_order false true = (refl, refl)
+test_in_order false false = (refl, refl)
+
+pub one_order : (machines archs : List Arch) → InOrder machines → ((a : Arch) → Contains machines a → Contains (in_order archs) a) → All (Contains machines) (in_order archs) → machines ≡ in_order archs
+unfolding chosen
+one_order machines archs order listed all =
+    let agree : (a : Arch) → list_any (same_arch a) machines ≡ list_any (same_arch a) (in_order archs) = λ a. same_test (list_any (same_arch a) machines) (list_any (same_arch a) (in_order archs))
+    (λ t. native_lists a (in_order archs) (listed a (lists_native a machines t)))
+    (λ t. native_lists a machines (All-contains (Contains machines) (in_order archs) a all (lists_native a (in_order archs) t))) in
+    let tests = test_in_order (list_any (same_arch X86_64) archs) (list_any (same_arch Aarch64) archs) in
+    sym (ordered machines order) ∙ in_order_by machines archs (agree X86_64 ∙ tests.0) (agree Aarch64 ∙ tests.1)
+
+-- ---- the whole
+
+pub bundle_means : (t s : Data) (native : Arch) (x : Said) (p : Policy) → RootMeans t s → SaidMeans s native x → IsMade x native p → Means t native p
+bundle_means t s native x p root said made =
+    let built = made.built in
+    let machines : p.machines ≡ in_order x.archs = one_order p.machines x.archs built.machines_in_order built.machines_listed built.machines_all in
+    record {
+      seccomp = s;
+      root = root;
+      default_is = subst (DefaultMeans s) (sym built.default_is) said.default_is;
+      keys = said.keys;
+      archs = x.archs;
+      lists_archs = said.archs;
+      native_is = built.native_is;
+      native_listed = said.native_listed;
+      machines_are = machines;
+      entries = x.entries;
+      entries_are = said.entries;
+      said = made.rules;
+      said_is = made.rules_are ∙ ap (λ ms. rules_of ms x.entries) (sym machines);
+      kept = built.rules_kept;
+      few = built.few;
+      clear = built.clear;
+    }
+
+entry_at : (ds : List Data) (es : List EntryParts) (i : ℕ) (e : EntryParts) → AllZip EntryMeans ds es → slice_get es i ≡ Some e → (d : Data) × (slice_get ds i ≡ Some d) × EntryMeans d e
+entry_at [] [] i e z h = cc
+entry_at [] (y ∷ ys) i e z h = absurd z
+entry_at (d ∷ ds) [] i e z h = absurd z
+entry_at (d ∷ ds) (y ∷ ys) zero e z h = (d, refl, subst (EntryMeans d) (some_same y e h) z.0)
+entry_at (d ∷ ds) (y ∷ ys) (suc i) e z h = entry_at ds ys i e z.1 h
+
+pub not_made_breaks : (s : Data) (native : Arch) (x : Said) (f : Fault) → SaidMeans s native x → IsNotMade x f → SeccompBreaks s native f
+not_made_breaks s native x _ said (many rules are more) =
+    broken.SeccompBreaks.entries _ (broken.EntriesBreak.many_rules x.archs x.entries rules more.0 said.archs said.entries are more.1 more.2)
+not_made_breaks s native x f said (clash _ o) =
+    let d = entry_at said.entries.values x.entries o.first o.x said.entries.each o.x_at in
+    let e = entry_at said.entries.values x.entries o.second o.y said.entries.each o.y_at in
+    let break : EntriesBreak s native (overlap (short_name o.name) o.first o.second) = broken.EntriesBreak.overlapping x.archs said.entries.values o.first o.second d.0 e.0 o.x o.y o.name said.archs said.entries.values_are o.in_order d.1 e.1 d.2 e.2 o.clash in
+    broken.SeccompBreaks.entries f (subst (EntriesBreak s native) (sym o.fault_is) break)
+
+-- what each refusal of the reader says of the bytes
+pub root_fault : (bytes : List ℕ) (native : Arch) (t : Data) (o : Option Fault) → IsText bytes t → IsFault o (root_of t) → IfSome o (Breaks bytes native)
+root_fault bytes native t None text h = tt
+root_fault bytes native t (Some f) text h = broken.in_value t f text (broken.ValueBreaks.root f (root_breaks t f h))
+
+pub said_fault : (bytes : List ℕ) (native : Arch) (t s : Data) (o : Option Fault) → IsText bytes t → RootMeans t s → IsFault o (said_of native s) → IfSome o (Breaks bytes native)
+said_fault bytes native t s None text root h = tt
+said_fault bytes native t s (Some f) text root h = broken.in_value t f text (broken.ValueBreaks.seccomp s f root.seccomp (said_breaks s native f h))
+
+pub made_fault : (bytes : List ℕ) (native : Arch) (t s : Data) (x : Said) (o : Option Fault) → IsText bytes t → RootMeans t s → SaidMeans s native x → IfSome o (IsNotMade x) → IfSome o (Breaks bytes native)
+made_fault bytes native t s x None text root said h = tt
+made_fault bytes native t s x (Some f) text root said h = broken.in_value t f text (broken.ValueBreaks.seccomp s f root.seccomp (not_made_breaks s native x f said h))

@@ -1,0 +1,310 @@
+-- Entries: what reading gives is meant, and what it refuses is broken.
+use Rattle.std.proofs.Common.{◌≡◌, ℕ, suc, ◌<◌, ◌≤◌, ◌==◌, nat_lt, List, [], ◌∷◌, ◌++◌, length, map, cond, ◌||◌, Bool, Ok, Err, Some, None, IsSome, true, false, ◌⊎◌, inl, inr, refl, sym, ◌∙◌, ap, subst, arith}
+use Rattle.std.specs.List.{AllZip, Contains, list_any, slice_get}
+use Rattle.std.proofs.lemmas.Bool.Decides.{nat_tests}
+use Rattle.std.proofs.lemmas.List.{append_assoc, append-nil, map-append}
+use Rattle.serde_json.specs.Data.{Data}
+use Rattle.profile.specs.Operator.{are_distinct}
+use Rattle.profile_json.specs.declared.key.TheConstants as key
+use Rattle.profile_json.specs.Fault.{Fault, wrong_type, missing_key, unknown_call, empty_names, repeated_index, too_many}
+use Rattle.profile_json.specs.Parts.{CondParts, EntryParts}
+use Rattle.profile_json.specs.Lookup.{holds, member, or_default, object, text, whole, list}
+use Rattle.profile_json.specs.Names.{is_known}
+use Rattle.profile_json.specs.Refusal.{short_name}
+use Rattle.profile_json.specs.Outcome.{◌>>=◌}
+use Rattle.profile_json.specs.Reading.{typed, needed, is_empty, with_front, arg_of, args_after, args_of, name_of, names_in, names_of, word_at, entry_of, entries_in, entries_of}
+use Rattle.profile_json.specs.Meaning.{ArgMeans, ArgsMean, NamesMean, EntryMeans, EntriesMean}
+use Rattle.profile_json.specs.Breaks.{ArgBreaks, ArgsBreak, NamesBreak, EntryBreaks}
+use Rattle.profile_json.specs.Breaks as broken
+use Rattle.profile_json.proofs.Lists.{contains_head, contains_tail}
+use Rattle.profile_json.proofs.Conditions.{distinct_push}
+use Rattle.profile_json.proofs.ActionLaws.{WordMeans, word_means, word_breaks}
+use Rattle.profile_json.proofs.ArgLaws.{Refused, alone, repeated, arg_ok, arg_err}
+use Rattle.profile_json.proofs.Steps.{bind_ok, bind_err, ok_or_ok, ok_or_err, cond_ok, cond_err, guard_ok, guard_err, needed_ok, needed_breaks, object_is, object_not, ok_same, not_ok}
+
+-- ---- the list of conditions
+
+any_index : (cs : List CondParts) (i : ℕ) → list_any (λ x. x == i) (map (λ c. c.index) cs) ≡ list_any (λ c. c.index == i) cs
+any_index [] i = refl
+any_index (c ∷ cs) i = ap (λ b. (c.index == i) || b) (any_index cs i)
+
+apart_push : (front : List CondParts) (c : CondParts) → are_distinct (map (λ x. x.index) front) ≡ true → list_any (λ x. x.index == c.index) front ≡ false → are_distinct (map (λ x. x.index) (front ++ c ∷ [])) ≡ true
+apart_push front c h e = rw map-append (distinct_push (map (λ x. x.index) front) c.index h (any_index front c.index ∙ e))
+
+-- what is read after the conditions in front
+record After (front : List CondParts) (ds : List Data) (conds : List CondParts) : Type 0 where
+  own : List CondParts
+  all : conds ≡ front ++ own
+  each : AllZip ArgMeans ds own
+  apart : are_distinct (map (λ x. x.index) front) ≡ true → are_distinct (map (λ x. x.index) conds) ≡ true
+
+args_ok : (front : List CondParts) (ds : List Data) (conds : List CondParts) → args_after front ds ≡ Ok conds → After front ds conds
+args_ok front [] conds h =
+    let same : front ≡ conds = ok_same front conds h in
+    record { own = []; all = sym same ∙ sym (append-nil front); each = tt; apart = λ p. subst (λ xs. are_distinct (map (λ x. x.index) xs) ≡ true) same p }
+args_ok front (d ∷ ds) conds h =
+    let step = bind_ok (arg_of front d) (λ c. args_after (front ++ c ∷ []) ds) conds h in
+    let arg = arg_ok front d step.0 step.1 in
+    let rest : After (front ++ step.0 ∷ []) ds conds = args_ok (front ++ step.0 ∷ []) ds conds step.2 in
+    record {
+      own = step.0 ∷ rest.own;
+      all = rest.all ∙ append_assoc front (step.0 ∷ []) rest.own;
+      each = (arg.0, rest.each);
+      apart = λ p. rest.apart (apart_push front step.0 p arg.1);
+    }
+
+-- why the members are refused
+data ArgsRefused (front : List CondParts) (ds : List Data) : Fault → Type 0 where
+  in_one : (d : Data) (f : Fault) → Contains ds d → ArgBreaks d f → ArgsRefused front ds f
+  of_two : (i j : ℕ) (x y : Data) (n : ℕ) → i < j → slice_get ds i ≡ Some x → slice_get ds j ≡ Some y → member whole key.INDEX.now x ≡ holds n → member whole key.INDEX.now y ≡ holds n → ArgsRefused front ds repeated_index
+  with_earlier : (j : ℕ) (y : Data) (n : ℕ) → slice_get ds j ≡ Some y → member whole key.INDEX.now y ≡ holds n → list_any (λ c. c.index == n) front ≡ true → ArgsRefused front ds repeated_index
+
+first_refused : (front : List CondParts) (d : Data) (ds : List Data) (f : Fault) → Refused front d f → ArgsRefused front (d ∷ ds) f
+first_refused front d ds f (alone _ e) = in_one d f (contains_head d ds) e
+first_refused front d ds _ (repeated i at seen) = with_earlier 0 d i refl at seen
+
+seen_one : (m n : ℕ) → ((m == n) || false) ≡ true → m ≡ n
+seen_one m n h = grind (arith, nat_tests)
+
+seen_cons : (a b c : Bool) (P : Type 0) → (a || c) ≡ true → (c ≡ true → (b ≡ true) ⊎ P) → ((a || b) ≡ true) ⊎ P
+seen_cons true b c P h rest = inl refl
+seen_cons false b c P h rest = rest h
+
+-- a test that is true of a list with one more is true of the list, or of that one
+seen_push : (front : List CondParts) (c : CondParts) (n : ℕ) → list_any (λ x. x.index == n) (front ++ c ∷ []) ≡ true → (list_any (λ x. x.index == n) front ≡ true) ⊎ (c.index ≡ n)
+seen_push [] c n h = inr (seen_one c.index n h)
+seen_push (x ∷ xs) c n h = seen_cons (x.index == n) (list_any (λ y. y.index == n) xs) (list_any (λ y. y.index == n) (xs ++ c ∷ [])) (c.index ≡ n) h (seen_push xs c n)
+
+later_refused : (front : List CondParts) (d : Data) (c : CondParts) (ds : List Data) (f : Fault) → ArgMeans d c → ArgsRefused (front ++ c ∷ []) ds f → ArgsRefused front (d ∷ ds) f
+later_refused front d c ds f m (in_one x _ at e) = in_one x f (contains_tail d ds x at) e
+later_refused front d c ds _ m (of_two i j x y n lt at_i at_j is_x is_y) = of_two (suc i) (suc j) x y n (omega (arith, lt)) at_i at_j is_x is_y
+later_refused front d c ds _ m (with_earlier j y n at is seen) =
+    elim (seen_push front c n seen) [
+      | inl before ↦ with_earlier (suc j) y n at is before
+      | inr this ↦ of_two 0 (suc j) d y n (omega arith) refl at (m.index_is ∙ ap holds this) is
+    ]
+
+args_err : (front : List CondParts) (ds : List Data) (f : Fault) → args_after front ds ≡ Err f → ArgsRefused front ds f
+args_err front [] f h = absurd (not_ok front f h)
+args_err front (d ∷ ds) f h =
+    elim (bind_err (arg_of front d) (λ c. args_after (front ++ c ∷ []) ds) f h) [
+      | inl bad ↦ first_refused front d ds f (arg_err front d f bad)
+      | inr step ↦ later_refused front d step.0 ds f (arg_ok front d step.0 step.1).0 (args_err (front ++ step.0 ∷ []) ds f step.2)
+    ]
+
+args_mean : (d : Data) (conds : List CondParts) → args_of d ≡ Ok conds → ArgsMean d conds
+unfolding args_of
+args_mean d conds h =
+    let step = bind_ok (typed (or_default [] (member list key.ARGS.now d))) (λ ds. args_after [] ds) conds h in
+    let after : After [] step.0 conds = args_ok [] step.0 conds step.2 in
+    record {
+      values = step.0;
+      values_are = ok_or_ok (or_default [] (member list key.ARGS.now d)) wrong_type step.0 step.1;
+      each = subst (AllZip ArgMeans step.0) (sym after.all) after.each;
+      apart = after.apart refl;
+    }
+
+list_refused : (d : Data) (ds : List Data) (f : Fault) → or_default [] (member list key.ARGS.now d) ≡ Some ds → ArgsRefused [] ds f → ArgsBreak d f
+list_refused d ds f at (in_one x _ in_ds e) = broken.in_arg ds x f at in_ds e
+list_refused d ds _ at (of_two i j x y n lt at_i at_j is_x is_y) = broken.twice ds i j x y n at lt at_i at_j is_x is_y
+list_refused d ds _ at (with_earlier j y n at_j is seen) = cc
+
+args_break : (d : Data) (f : Fault) → args_of d ≡ Err f → ArgsBreak d f
+unfolding args_of
+args_break d f h =
+    elim (bind_err (typed (or_default [] (member list key.ARGS.now d))) (λ ds. args_after [] ds) f h) [
+      | inl bad ↦ (let at = ok_or_err (or_default [] (member list key.ARGS.now d)) wrong_type f bad in subst (ArgsBreak d) at.1 (broken.ArgsBreak.no_list at.0))
+      | inr step ↦ list_refused d step.0 f (ok_or_ok (or_default [] (member list key.ARGS.now d)) wrong_type step.0 step.1) (args_err [] step.0 f step.2)
+    ]
+
+-- ---- names
+
+name_ok : (d : Data) (name : List ℕ) → name_of d ≡ Ok name → (text d ≡ Some name) × (is_known name ≡ true)
+unfolding name_of
+name_ok d name h =
+    let step = bind_ok (typed (text d)) (λ n. cond (is_known n) (Ok n) (Err (unknown_call (short_name n)))) name h in
+    let known = cond_ok (is_known step.0) (unknown_call (short_name step.0)) step.0 name step.2 in
+    (ok_or_ok (text d) wrong_type step.0 step.1 ∙ ap Some known.1, ap is_known (sym known.1) ∙ known.0)
+
+-- a value that is no call name
+data NameBreaks (d : Data) : Fault → Type 0 where
+  has_no_text : text d ≡ None → NameBreaks d wrong_type
+  is_unknown : (name : List ℕ) → text d ≡ Some name → is_known name ≡ false → NameBreaks d (unknown_call (short_name name))
+
+name_err : (d : Data) (f : Fault) → name_of d ≡ Err f → NameBreaks d f
+unfolding name_of
+name_err d f h =
+    elim (bind_err (typed (text d)) (λ n. cond (is_known n) (Ok n) (Err (unknown_call (short_name n)))) f h) [
+      | inl bad ↦ (let at = ok_or_err (text d) wrong_type f bad in subst (NameBreaks d) at.1 (has_no_text at.0))
+      | inr step ↦ (let at = cond_err (is_known step.0) (unknown_call (short_name step.0)) f step.0 step.2 in subst (NameBreaks d) at.1 (is_unknown step.0 (ok_or_ok (text d) wrong_type step.0 step.1) at.0))
+    ]
+
+names_ok : (ds : List Data) (names : List (List ℕ)) → names_in ds ≡ Ok names → AllZip (λ value name. (text value ≡ Some name) × (is_known name ≡ true)) ds names
+names_ok [] names h = subst (AllZip (λ value name. (text value ≡ Some name) × (is_known name ≡ true)) []) (ok_same [] names h) tt
+names_ok (d ∷ ds) names h =
+    let step = bind_ok (name_of d) (λ n. with_front (n ∷ []) (names_in ds)) names h in
+    let rest = bind_ok (names_in ds) (λ xs. Ok (step.0 ∷ [] ++ xs)) names step.2 in
+    subst (AllZip (λ value name. (text value ≡ Some name) × (is_known name ≡ true)) (d ∷ ds)) (ok_same (step.0 ∷ rest.0) names rest.2) (name_ok d step.0 step.1, names_ok ds rest.0 rest.1)
+
+names_err : (ds : List Data) (f : Fault) → names_in ds ≡ Err f → (d : Data) × Contains ds d × NameBreaks d f
+names_err [] f h = cc
+names_err (d ∷ ds) f h =
+    elim (bind_err (name_of d) (λ n. with_front (n ∷ []) (names_in ds)) f h) [
+      | inl bad ↦ (d, contains_head d ds, name_err d f bad)
+      | inr step ↦ elim (bind_err (names_in ds) (λ xs. Ok (step.0 ∷ [] ++ xs)) f step.2) [
+        | inl bad ↦ (let at = names_err ds f bad in (at.0, contains_tail d ds at.0 at.1, at.2))
+        | inr rest ↦ absurd (not_ok (step.0 ∷ [] ++ rest.0) f rest.2)
+      ]
+    ]
+
+not_zero : (n : ℕ) → (n == 0) ≡ false → 0 < n
+not_zero n h = grind (arith, nat_tests)
+
+no_more : (m n : ℕ) → nat_lt m n ≡ false → n ≤ m
+no_more m n h = grind (arith, nat_tests)
+
+more : (m n : ℕ) → nat_lt m n ≡ true → m < n
+more m n h = grind (arith, nat_tests)
+
+nil_is : {A : Type 0} (xs : List A) → is_empty xs ≡ true → xs ≡ []
+nil_is [] h = refl
+nil_is (x ∷ xs) h = absurd (let no : (length (x ∷ xs) == 0) ≡ false = grind (arith, nat_tests) in let both : true ≡ false = sym h ∙ no in cc)
+
+names_mean : (d : Data) (names : List (List ℕ)) → names_of d ≡ Ok names → NamesMean d names
+unfolding names_of
+names_mean d names h =
+    let step = bind_ok (needed missing_key (member list key.NAMES.now d)) (λ ds. cond (is_empty ds) (Err empty_names) (cond (nat_lt 128 (length ds)) (Err too_many) (names_in ds))) names h in
+    let some = guard_ok (is_empty step.0) empty_names (cond (nat_lt 128 (length step.0)) (Err too_many) (names_in step.0)) names step.2 in
+    let few = guard_ok (nat_lt 128 (length step.0)) too_many (names_in step.0) names some.1 in
+    record {
+      values = step.0;
+      values_are = needed_ok missing_key (member list key.NAMES.now d) step.0 step.1;
+      some = not_zero (length step.0) some.0;
+      few = no_more 128 (length step.0) few.0;
+      each = names_ok step.0 names few.1;
+    }
+
+name_refused : (d : Data) (ds : List Data) (x : Data) (f : Fault) → member list key.NAMES.now d ≡ holds ds → Contains ds x → NameBreaks x f → NamesBreak d f
+name_refused d ds x _ at in_ds (has_no_text e) = broken.NamesBreak.no_text ds x at in_ds e
+name_refused d ds x _ at in_ds (is_unknown name e u) = broken.NamesBreak.unknown ds x name at in_ds e u
+
+names_break : (d : Data) (f : Fault) → names_of d ≡ Err f → NamesBreak d f
+unfolding names_of
+names_break d f h =
+    elim (bind_err (needed missing_key (member list key.NAMES.now d)) (λ ds. cond (is_empty ds) (Err empty_names) (cond (nat_lt 128 (length ds)) (Err too_many) (names_in ds))) f h) [
+      | inl bad ↦ broken.NamesBreak.no_list f (needed_breaks (member list key.NAMES.now d) f bad)
+      | inr step ↦
+          let at = needed_ok missing_key (member list key.NAMES.now d) step.0 step.1 in
+          elim (guard_err (is_empty step.0) empty_names f (cond (nat_lt 128 (length step.0)) (Err too_many) (names_in step.0)) step.2) [
+            | inl none ↦ subst (NamesBreak d) none.1 (broken.NamesBreak.none (at ∙ ap holds (nil_is step.0 none.0)))
+            | inr some ↦ elim (guard_err (nat_lt 128 (length step.0)) too_many f (names_in step.0) some.1) [
+              | inl many ↦ subst (NamesBreak d) many.1 (broken.NamesBreak.many step.0 at (more 128 (length step.0) many.0))
+              | inr few ↦ (let bad = names_err step.0 f few.1 in name_refused d step.0 bad.0 f at bad.1 bad.2)
+            ]
+          ]
+    ]
+
+-- ---- an entry
+
+entry_ok_in : (d : Data) (e : EntryParts) → IsSome (object d)
+    → (names_of d >>= (λ names. word_at d >>= (λ word. args_of d >>= (λ conds. Ok (record { names = names; conds = conds; word = word }))))) ≡ Ok e
+    → EntryMeans d e
+entry_ok_in d e is_object h =
+    let make : List (List ℕ) → ℕ → List CondParts → EntryParts = λ names word conds. record { names = names; conds = conds; word = word } in
+    let at_n = bind_ok (names_of d) (λ names. word_at d >>= (λ word. args_of d >>= (λ conds. Ok (make names word conds)))) e h in
+    let at_w = bind_ok (word_at d) (λ word. args_of d >>= (λ conds. Ok (make at_n.0 word conds))) e at_n.2 in
+    let at_c = bind_ok (args_of d) (λ conds. Ok (make at_n.0 at_w.0 conds)) e at_w.2 in
+    let word : WordMeans d at_w.0 = word_means d at_w.0 at_w.1 in
+    let means : EntryMeans d (make at_n.0 at_w.0 at_c.0) = record {
+      is_object = is_object;
+      names = names_mean d at_n.0 at_n.1;
+      action = word.action;
+      action_is = word.action_is;
+      errno = word.errno;
+      errno_is = word.errno_is;
+      word_is = word.word_is;
+      args = args_mean d at_c.0 at_c.1;
+    } in
+    subst (EntryMeans d) (ok_same (make at_n.0 at_w.0 at_c.0) e at_c.2) means
+
+entry_means : (d : Data) (e : EntryParts) → entry_of d ≡ Ok e → EntryMeans d e
+unfolding entry_of
+entry_means d e h =
+    let at = bind_ok (typed (object d)) (λ o. names_of o >>= (λ names. word_at o >>= (λ word. args_of o >>= (λ conds. Ok (record { names = names; conds = conds; word = word }))))) e h in
+    let o = object_is d at.0 at.1 in
+    let some : IsSome (object at.0) = subst (λ (x : Data). IsSome (object x)) o.1 o.0 in
+    subst (λ (x : Data). EntryMeans x e) (sym o.1) (entry_ok_in at.0 e some at.2)
+
+entry_err_in : (d : Data) (f : Fault) → (names_of d >>= (λ names. word_at d >>= (λ word. args_of d >>= (λ conds. Ok (let e : EntryParts = record { names = names; conds = conds; word = word } in e))))) ≡ Err f → EntryBreaks d f
+entry_err_in d f h =
+    let make : List (List ℕ) → ℕ → List CondParts → EntryParts = λ names word conds. record { names = names; conds = conds; word = word } in
+    elim (bind_err (names_of d) (λ names. word_at d >>= (λ word. args_of d >>= (λ conds. Ok (make names word conds)))) f h) [
+      | inl bad ↦ broken.names f (names_break d f bad)
+      | inr at_n ↦ elim (bind_err (word_at d) (λ word. args_of d >>= (λ conds. Ok (make at_n.0 word conds))) f at_n.2) [
+        | inl bad ↦ elim (word_breaks d f bad) [
+          | inl a ↦ broken.action f a
+          | inr n ↦ broken.errno f n
+        ]
+        | inr at_w ↦ elim (bind_err (args_of d) (λ conds. Ok (make at_n.0 at_w.0 conds)) f at_w.2) [
+          | inl bad ↦ broken.args f (args_break d f bad)
+          | inr at_c ↦ absurd (not_ok (make at_n.0 at_w.0 at_c.0) f at_c.2)
+        ]
+      ]
+    ]
+
+entry_breaks : (d : Data) (f : Fault) → entry_of d ≡ Err f → EntryBreaks d f
+unfolding entry_of
+entry_breaks d f h =
+    elim (bind_err (typed (object d)) (λ o. names_of o >>= (λ names. word_at o >>= (λ word. args_of o >>= (λ conds. Ok (let e : EntryParts = record { names = names; conds = conds; word = word } in e))))) f h) [
+      | inl bad ↦ (let at = object_not d f bad in subst (EntryBreaks d) at.1 (broken.EntryBreaks.no_object at.0))
+      | inr at ↦ (let o = object_is d at.0 at.1 in subst (λ (x : Data). EntryBreaks x f) (sym o.1) (entry_err_in at.0 f at.2))
+    ]
+
+entries_ok : (ds : List Data) (es : List EntryParts) → entries_in ds ≡ Ok es → AllZip EntryMeans ds es
+entries_ok [] es h = subst (AllZip EntryMeans []) (ok_same [] es h) tt
+entries_ok (d ∷ ds) es h =
+    let step = bind_ok (entry_of d) (λ e. with_front (e ∷ []) (entries_in ds)) es h in
+    let rest = bind_ok (entries_in ds) (λ xs. Ok (step.0 ∷ [] ++ xs)) es step.2 in
+    subst (AllZip EntryMeans (d ∷ ds)) (ok_same (step.0 ∷ rest.0) es rest.2) (entry_means d step.0 step.1, entries_ok ds rest.0 rest.1)
+
+entries_err : (ds : List Data) (f : Fault) → entries_in ds ≡ Err f → (d : Data) × Contains ds d × EntryBreaks d f
+entries_err [] f h = cc
+entries_err (d ∷ ds) f h =
+    elim (bind_err (entry_of d) (λ e. with_front (e ∷ []) (entries_in ds)) f h) [
+      | inl bad ↦ (d, contains_head d ds, entry_breaks d f bad)
+      | inr step ↦ elim (bind_err (entries_in ds) (λ xs. Ok (step.0 ∷ [] ++ xs)) f step.2) [
+        | inl bad ↦ (let at = entries_err ds f bad in (at.0, contains_tail d ds at.0 at.1, at.2))
+        | inr rest ↦ absurd (not_ok (step.0 ∷ [] ++ rest.0) f rest.2)
+      ]
+    ]
+
+pub entries_mean : (s : Data) (es : List EntryParts) → entries_of s ≡ Ok es → EntriesMean s es
+unfolding entries_of
+entries_mean s es h =
+    let step = bind_ok (typed (or_default [] (member list key.SYSCALLS.now s))) (λ ds. cond (nat_lt 256 (length ds)) (Err too_many) (entries_in ds)) es h in
+    let few = guard_ok (nat_lt 256 (length step.0)) too_many (entries_in step.0) es step.2 in
+    record {
+      values = step.0;
+      values_are = ok_or_ok (or_default [] (member list key.SYSCALLS.now s)) wrong_type step.0 step.1;
+      few = no_more 256 (length step.0) few.0;
+      each = entries_ok step.0 es few.1;
+    }
+
+-- why entries are refused, each by itself
+pub data EntriesRefused (s : Data) : Fault → Type 0 where
+  is_no_list : or_default [] (member list key.SYSCALLS.now s) ≡ None → EntriesRefused s wrong_type
+  are_many : (ds : List Data) → or_default [] (member list key.SYSCALLS.now s) ≡ Some ds → 256 < length ds → EntriesRefused s too_many
+  in_one_entry : (ds : List Data) (d : Data) (f : Fault) → or_default [] (member list key.SYSCALLS.now s) ≡ Some ds → Contains ds d → EntryBreaks d f → EntriesRefused s f
+
+pub entries_refused : (s : Data) (f : Fault) → entries_of s ≡ Err f → EntriesRefused s f
+unfolding entries_of
+entries_refused s f h =
+    elim (bind_err (typed (or_default [] (member list key.SYSCALLS.now s))) (λ ds. cond (nat_lt 256 (length ds)) (Err too_many) (entries_in ds)) f h) [
+      | inl bad ↦ (let at = ok_or_err (or_default [] (member list key.SYSCALLS.now s)) wrong_type f bad in subst (EntriesRefused s) at.1 (is_no_list at.0))
+      | inr step ↦
+          let at = ok_or_ok (or_default [] (member list key.SYSCALLS.now s)) wrong_type step.0 step.1 in
+          elim (guard_err (nat_lt 256 (length step.0)) too_many f (entries_in step.0) step.2) [
+            | inl many ↦ subst (EntriesRefused s) many.1 (are_many step.0 at (more 256 (length step.0) many.0))
+            | inr few ↦ (let bad = entries_err step.0 f few.1 in in_one_entry step.0 bad.0 f at bad.1 bad.2)
+          ]
+    ]

@@ -1,0 +1,161 @@
+-- What a list contains, and what lists made of it contain.
+use Rattle.std.proofs.Common.{◌≡◌, ℕ, zero, suc, ◌<◌, List, [], ◌∷◌, length, map, get_or, Option, Some, None, Bool, true, false, ◌||◌, ◌≤◌, ◌-◌, take, drop, Bor, ◌⊎◌, inl, inr, refl, sym, ◌∙◌, ap, subst, arith}
+use Rattle.std.specs.List.{Contains, flat_map, filter_map, cons_option, slice_get, list_any}
+use Rattle.std.specs.Str.{bytes_eq}
+use Rattle.std.proofs.lemmas.Slice.Eq.{bytes_eq-Decides}
+use Rattle.std.proofs.lemmas.List.{take_all}
+use Rattle.std.proofs.lemmas.List.Elements.{Contains-append_left, Contains-append_right, Contains-append_cases}
+
+module _ {A : Type 0} where
+  pub contains_nil : (y : A) → Contains [] y → ⊥
+  contains_nil y h = let no = h.1 in absurd (omega (arith, no))
+
+  pub contains_head : (x : A) (xs : List A) → Contains (x ∷ xs) x
+  contains_head x xs = (0, omega arith, refl)
+
+  pub contains_tail : (x : A) (xs : List A) (y : A) → Contains xs y → Contains (x ∷ xs) y
+  contains_tail x xs y h = Contains-append_right (x ∷ []) xs y h
+
+  cases_at : (x : A) (xs : List A) (y : A) (k : ℕ) → k < length (x ∷ xs) → get_or (x ∷ xs) k y ≡ y → (x ≡ y) ⊎ Contains xs y
+  cases_at x xs y zero lt is = inl is
+  cases_at x xs y (suc k) lt is = inr (k, omega (arith, lt), is)
+
+  pub contains_cases : (x : A) (xs : List A) (y : A) → Contains (x ∷ xs) y → (x ≡ y) ⊎ Contains xs y
+  contains_cases x xs y h = cases_at x xs y h.0 h.1 h.2
+
+  pub contains_at : (xs : List A) (i : ℕ) (x : A) → slice_get xs i ≡ Some x → Contains xs x
+  contains_at [] i x h = cc
+  contains_at (y ∷ ys) zero x h = let same : y ≡ x = cc in subst (λ z. Contains (y ∷ ys) z) same (contains_head y ys)
+  contains_at (y ∷ ys) (suc i) x h = contains_tail y ys x (contains_at ys i x h)
+
+  pub place_of : (xs : List A) (x : A) → Contains xs x → (i : ℕ) × (slice_get xs i ≡ Some x)
+  place_of [] x h = absurd (contains_nil x h)
+  place_of (y ∷ ys) x h =
+      elim (contains_cases y ys x h) [
+        | inl here ↦ (0, ap Some here)
+        | inr later ↦ (let at = place_of ys x later in (suc at.0, at.1))
+      ]
+
+module _ {B : Type 0} where
+  after : (zs : List B) (y : B) (o : Option B) → Contains zs y → Contains (cons_option o zs) y
+  after zs y None h = h
+  after zs y (Some w) h = contains_tail w zs y h
+
+  split_option : (o : Option B) (zs : List B) (y : B) → Contains (cons_option o zs) y → (o ≡ Some y) ⊎ Contains zs y
+  split_option None zs y h = inr h
+  split_option (Some w) zs y h =
+      elim (contains_cases w zs y h) [
+        | inl here ↦ inl (ap Some here)
+        | inr later ↦ inr later
+      ]
+
+module _ {A B : Type 0} where
+  pub contains_map : (f : A → B) (xs : List A) (x : A) → Contains xs x → Contains (map f xs) (f x)
+  contains_map f [] x h = absurd (contains_nil x h)
+  contains_map f (y ∷ ys) x h =
+      elim (contains_cases y ys x h) [
+        | inl here ↦ subst (λ z. Contains (map f (y ∷ ys)) (f z)) here (contains_head (f y) (map f ys))
+        | inr later ↦ contains_tail (f y) (map f ys) (f x) (contains_map f ys x later)
+      ]
+
+  pub contains_map_back : (f : A → B) (xs : List A) (y : B) → Contains (map f xs) y → (x : A) × Contains xs x × (f x ≡ y)
+  contains_map_back f [] y h = absurd (contains_nil y h)
+  contains_map_back f (x ∷ xs) y h =
+      elim (contains_cases (f x) (map f xs) y h) [
+        | inl here ↦ (x, contains_head x xs, here)
+        | inr later ↦ (let at = contains_map_back f xs y later in (at.0, contains_tail x xs at.0 at.1, at.2))
+      ]
+
+  pub contains_flat : (f : A → List B) (xs : List A) (x : A) (y : B) → Contains xs x → Contains (f x) y → Contains (flat_map f xs) y
+  contains_flat f [] x y h at = absurd (contains_nil x h)
+  contains_flat f (z ∷ zs) x y h at =
+      elim (contains_cases z zs x h) [
+        | inl here ↦ Contains-append_left (f z) (flat_map f zs) y (subst (λ w. Contains (f w) y) (sym here) at)
+        | inr later ↦ Contains-append_right (f z) (flat_map f zs) y (contains_flat f zs x y later at)
+      ]
+
+  pub contains_flat_back : (f : A → List B) (xs : List A) (y : B) → Contains (flat_map f xs) y → (x : A) × Contains xs x × Contains (f x) y
+  contains_flat_back f [] y h = absurd (contains_nil y h)
+  contains_flat_back f (x ∷ xs) y h =
+      elim (Contains-append_cases (f x) (flat_map f xs) y h) [
+        | inl here ↦ (x, contains_head x xs, here)
+        | inr later ↦ (let at = contains_flat_back f xs y later in (at.0, contains_tail x xs at.0 at.1, at.2))
+      ]
+
+  pub contains_filter_map : (f : A → Option B) (xs : List A) (x : A) (y : B) → Contains xs x → f x ≡ Some y → Contains (filter_map f xs) y
+  contains_filter_map f [] x y h is = absurd (contains_nil x h)
+  contains_filter_map f (z ∷ zs) x y h is =
+      elim (contains_cases z zs x h) [
+        | inl here ↦ (let at : f z ≡ Some y = ap f here ∙ is in rw at (contains_head y (filter_map f zs)))
+        | inr later ↦ after (filter_map f zs) y (f z) (contains_filter_map f zs x y later is)
+      ]
+
+  pub contains_filter_map_back : (f : A → Option B) (xs : List A) (y : B) → Contains (filter_map f xs) y → (x : A) × Contains xs x × (f x ≡ Some y)
+  contains_filter_map_back f [] y h = absurd (contains_nil y h)
+  contains_filter_map_back f (x ∷ xs) y h =
+      elim (split_option (f x) (filter_map f xs) y h) [
+        | inl here ↦ (x, contains_head x xs, here)
+        | inr later ↦ (let at = contains_filter_map_back f xs y later in (at.0, contains_tail x xs at.0 at.1, at.2))
+      ]
+
+-- texts
+bool_cases : (b : Bool) → (b ≡ true) ⊎ (b ≡ false)
+bool_cases true = inl refl
+bool_cases false = inr refl
+
+other_or : (a b : Bool) → a ≡ false → (a || b) ≡ true → b ≡ true
+other_or true b n h = cc
+other_or false b n h = h
+
+or_true : (a b : Bool) → b ≡ true → (a || b) ≡ true
+or_true true b h = refl
+or_true false b h = h
+
+pub named : (names : List (List ℕ)) (name : List ℕ) → list_any (λ n. bytes_eq n name) names ≡ true → Contains names name
+named [] name h = cc
+named (n ∷ ns) name h =
+    elim (bool_cases (bytes_eq n name)) [
+      | inl same ↦ subst (λ m. Contains (n ∷ ns) m) ((bytes_eq-Decides n name).0 same) (contains_head n ns)
+      | inr other ↦ contains_tail n ns name (named ns name (other_or (bytes_eq n name) (list_any (λ m. bytes_eq m name) ns) other h))
+    ]
+
+pub named_back : (names : List (List ℕ)) (name : List ℕ) → Contains names name → list_any (λ n. bytes_eq n name) names ≡ true
+named_back [] name h = absurd (contains_nil name h)
+named_back (n ∷ ns) name h =
+    elim (contains_cases n ns name h) [
+      | inl here ↦ rw ((bytes_eq-Decides n name).1 here) refl
+      | inr later ↦ or_true (bytes_eq n name) (list_any (λ m. bytes_eq m name) ns) (named_back ns name later)
+    ]
+
+-- the texts behind references
+any_now : (ns : List (Bor (List ℕ))) (name : List ℕ) → list_any (λ n. bytes_eq n.now name) ns ≡ list_any (λ n. bytes_eq n name) (map (λ n. n.now) ns)
+any_now [] name = refl
+any_now (n ∷ ns) name = ap (λ b. bytes_eq n.now name || b) (any_now ns name)
+
+pub has_names : (ns names : List (Bor (List ℕ))) (name : List ℕ) (b : Bool) → ns ≡ names → b ≡ list_any (λ n. bytes_eq n.now name) ns → (b ≡ true → Contains (map (λ n. n.now) names) name) × (Contains (map (λ n. n.now) names) name → b ≡ true)
+has_names ns names name b same is =
+    let all : b ≡ list_any (λ n. bytes_eq n name) (map (λ n. n.now) names) = is ∙ any_now ns name ∙ ap (λ xs. list_any (λ n. bytes_eq n name) (map (λ n. n.now) xs)) same in
+    (λ t. named (map (λ n. n.now) names) name (sym all ∙ t), λ h. all ∙ named_back (map (λ n. n.now) names) name h)
+
+pub now_first : (ns : List (Bor (List ℕ))) (d : Bor (List ℕ)) → 1 ≤ length ns → Contains (map (λ n. n.now) ns) (get_or ns 0 d).now
+now_first [] d h = absurd (omega (arith, h))
+now_first (n ∷ ns) d h = contains_head n.now (map (λ m. m.now) ns)
+
+rest_is : (n : Bor (List ℕ)) (ns : List (Bor (List ℕ))) → take (length (n ∷ ns) - 1) (drop 1 (n ∷ ns)) ≡ ns
+rest_is n ns = let size : length (n ∷ ns) - 1 ≡ length ns = omega arith in ap (λ k. take k ns) size ∙ take_all (length ns) ns (omega arith)
+
+pub now_split : (ns : List (Bor (List ℕ))) (d : Bor (List ℕ)) (name : List ℕ) → Contains (map (λ n. n.now) ns) name → ((get_or ns 0 d).now ≡ name) ⊎ Contains (map (λ n. n.now) (take (length ns - 1) (drop 1 ns))) name
+now_split [] d name h = absurd (contains_nil name h)
+now_split (n ∷ ns) d name h =
+    elim (contains_cases n.now (map (λ m. m.now) ns) name h) [
+      | inl here ↦ inl here
+      | inr later ↦ inr (subst (λ ms. Contains (map (λ m. m.now) ms) name) (sym (rest_is n ns)) later)
+    ]
+
+pub now_rest : (ns : List (Bor (List ℕ))) (name : List ℕ) → 1 ≤ length ns → Contains (map (λ n. n.now) (take (length ns - 1) (drop 1 ns))) name → Contains (map (λ n. n.now) ns) name
+now_rest [] name some h = absurd (omega (arith, some))
+now_rest (n ∷ ns) name some h = contains_tail n.now (map (λ m. m.now) ns) name (subst (λ ms. Contains (map (λ m. m.now) ms) name) (rest_is n ns) h)
+
+pub now_none : (ns : List (Bor (List ℕ))) (name : List ℕ) → length ns < 1 → Contains (map (λ n. n.now) ns) name → ⊥
+now_none [] name short h = contains_nil name h
+now_none (n ∷ ns) name short h = omega (arith, short)

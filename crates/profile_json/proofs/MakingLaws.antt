@@ -1,0 +1,40 @@
+-- What the answer of building a profile says of the entries.
+use Rattle.std.proofs.Common.{◌≡◌, ℕ, List, map, Some, option_map, sym, ◌∙◌, ap, subst}
+use Rattle.std.specs.List.{Contains, slice_get}
+use Rattle.std.proofs.lemmas.Option.{slice_get-map}
+use Rattle.call_tables.specs.declared.arch.Arch.{Arch}
+use Rattle.profile.specs.declared.rules.Rule.{Rule}
+use Rattle.profile.specs.declared.build.BuildError.{BuildError}
+use Rattle.profile.specs.declared.build.BuildError.TheVariants.{ForeignRule, Overlap, TooMany}
+use Rattle.profile.specs.Build.{Stands, ClashAt, AreTooMany}
+use Rattle.profile_json.specs.Fault.{Fault, too_many}
+use Rattle.profile_json.specs.Parts.{EntryParts, RuleParts, rule_parts}
+use Rattle.profile_json.specs.Rules.{in_order, rules_of_entry, rules_of, rules_under}
+use Rattle.profile_json.specs.Reading.{Said}
+use Rattle.profile_json.specs.Clashes.{HasClash, IsOverlap}
+use Rattle.profile_json.specs.Making.{IsNotMade, many, clash}
+use Rattle.profile_json.proofs.Lists.{contains_at, contains_flat_back}
+use Rattle.profile_json.proofs.Clashing.{IsUnder, under_back}
+
+pub has_clash : (native : Arch) (machines : List Arch) (es : List EntryParts) (rules : List Rule) (e : BuildError) (i j : ℕ) → map rule_parts rules ≡ rules_of machines es → e ≡ Overlap i j → Stands native machines rules e → HasClash machines es j
+has_clash native machines es rules e i j said is stands =
+    let at : ClashAt rules i j = subst (Stands native machines rules) is stands in
+    record { said = rules; said_is = said; earlier = i; before = at.0; first = at.1; first_at = at.3; second = at.2; second_at = at.4; clash = at.5 }
+
+pub no_foreign : (native : Arch) (machines : List Arch) (es : List EntryParts) (rules : List Rule) (e : BuildError) (i : ℕ) → map rule_parts rules ≡ rules_of machines es → e ≡ ForeignRule i → Stands native machines rules e → ⊥
+no_foreign native machines es rules e i said is stands =
+    let at : (rule : Rule) × (slice_get rules i ≡ Some rule) × ¬ Contains machines rule.arch = subst (Stands native machines rules) is stands in
+    let here : slice_get (rules_of machines es) i ≡ Some (rule_parts at.0) = ap (λ rs. slice_get rs i) (sym said) ∙ slice_get-map rule_parts rules i ∙ ap (option_map rule_parts) at.1 in
+    let among = contains_flat_back (rules_of_entry machines) es (rule_parts at.0) (contains_at (rules_of machines es) i (rule_parts at.0) here) in
+    let named = contains_flat_back (rules_under machines among.0) among.0.names (rule_parts at.0) among.2 in
+    let from : IsUnder machines among.0 named.0 (rule_parts at.0) = under_back machines among.0 named.0 (rule_parts at.0) named.2 in
+    let arch : from.arch ≡ at.0.arch = sym (ap (λ (r : RuleParts). r.arch) from.is) in
+    at.2 (subst (Contains machines) arch from.listed)
+
+pub too_many_rules : (said : Said) (native : Arch) (machines : List Arch) (rules : List Rule) (e : BuildError) → machines ≡ in_order said.archs → map rule_parts rules ≡ rules_of machines said.entries → e ≡ TooMany → Stands native machines rules e → IsNotMade said too_many
+too_many_rules said native machines rules e order are is stands =
+    let at : AreTooMany rules = subst (Stands native machines rules) is stands in
+    many rules (are ∙ ap (λ ms. rules_of ms said.entries) order) at
+
+pub clash_refused : (said : Said) (machines : List Arch) (f : Fault) → machines ≡ in_order said.archs → IsOverlap machines said.entries f → IsNotMade said f
+clash_refused said machines f order is = clash f (subst (λ ms. IsOverlap ms said.entries f) order is)

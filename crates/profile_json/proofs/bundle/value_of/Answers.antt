@@ -1,0 +1,6 @@
+use Rattle.std.proofs.Common.{rules}
+use Rattle.profile_json.specs.Breaks.{no_value}
+use Rattle.profile_json.proofs.bundle.value_of.Goals as goal
+
+pub returns-else-is_memory-clause-err : goal.returns-else-is_memory-clause-err
+returns-else-is_memory-clause-err c = no_value (c.in-Err.ensures.err (search rules))

@@ -1,0 +1,15 @@
+pub mod Fault
+pub mod Parts
+pub mod Lookup
+pub mod Names
+pub mod Rules
+pub mod Refusal
+pub mod Meaning
+pub mod Breaks
+pub mod Entries
+pub mod Outcome
+pub mod Reading
+pub mod Clashes
+pub mod Saying
+pub mod Making
+pub mod Unbroken

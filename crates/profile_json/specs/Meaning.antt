@@ -1,0 +1,132 @@
+-- What a bundle means (OCI Runtime Specification 1.0.2, config-linux, Seccomp).
+use Rattle.std.specs.Prelude.{◌≡◌, ℕ, ◌<◌, ◌≤◌, List, [], length, map, bit_and, true, Some, IsSome}
+use Rattle.std.specs.List.{AllZip, Contains}
+use Rattle.std.specs.Str.{IsUtf8}
+use Rattle.serde_json.specs.Read.{read}
+use Rattle.serde_json.specs.Data.{Data}
+use Rattle.call_tables.specs.declared.arch.Arch.{Arch}
+use Rattle.profile.specs.declared.rules.Rule.{Rule}
+use Rattle.profile.specs.Operator.{are_distinct, mask_of}
+use Rattle.profile.specs.Policy.{Policy, IsClear}
+use Rattle.profile.specs.declared.build.TheConstants.{MAX_RULES}
+use Rattle.profile.specs.Build.{KeepsOnce}
+use Rattle.profile_json.specs.declared.action.Action.{Action}
+use Rattle.profile_json.specs.declared.key.TheConstants as key
+use Rattle.profile_json.specs.Parts.{CondParts, EntryParts, rule_parts}
+use Rattle.profile_json.specs.Lookup.{missing, holds, member, or_default, object, text, whole, list}
+use Rattle.profile_json.specs.Names.{action_named, takes_data, word_of, op_named, arch_named, is_known}
+use Rattle.profile_json.specs.Rules.{or_native, in_order, rules_of}
+
+-- the text of these bytes is the value t
+abbrev pub IsText : List ℕ → Data → Type 0
+IsText bytes t = IsUtf8 bytes × (read bytes ≡ Some t)
+
+-- the object s stands under linux.seccomp of t
+abbrev pub IsSeccomp : Data → Data → Type 0
+IsSeccomp t s = (l : Data) × (member object key.LINUX.now t ≡ holds l) × (member object key.SECCOMP.now l ≡ holds s)
+
+-- t is a bundle of the edition that is read, with the object s under linux.seccomp
+pub record RootMeans (t s : Data) : Type 0 where
+  pub root : IsSome (object t)
+  pub version_is : member text key.OCI_VERSION.now t ≡ holds key.VERSION.now
+  pub seccomp : IsSeccomp t s
+
+-- the member under a key names the action a
+abbrev pub NamesAction : List ℕ → Data → Action → Type 0
+NamesAction k d a = (name : List ℕ) × (member text k d ≡ holds name) × (action_named name ≡ Some a)
+
+-- the default word: ERRNO and TRACE have data 1
+abbrev pub DefaultMeans : Data → ℕ → Type 0
+DefaultMeans s word = (a : Action) × NamesAction key.DEFAULT_ACTION.now s a × (word ≡ word_of a 1)
+
+-- no key is used that is refused
+pub record KeysMean (s : Data) : Type 0 where
+  pub no_errno : member whole key.DEFAULT_ERRNO_RET.now s ≡ missing
+  pub no_flags : or_default [] (member list key.FLAGS.now s) ≡ Some []
+  pub no_path : or_default [] (member text key.LISTENER_PATH.now s) ≡ Some []
+  pub no_metadata : or_default [] (member text key.LISTENER_METADATA.now s) ≡ Some []
+
+-- a text that names the machine a
+abbrev pub NamesArch : Data → Arch → Type 0
+NamesArch d a = (name : List ℕ) × (text d ≡ Some name) × (arch_named name ≡ Some a)
+
+-- the machines that are listed, in the order of the text: the native one alone where there is none
+pub record ListsArchs (s : Data) (native : Arch) (archs : List Arch) : Type 0 where
+  pub values : List Data
+  pub values_are : or_default [] (member list key.ARCHITECTURES.now s) ≡ Some values
+  pub named : List Arch
+  pub names : AllZip NamesArch values named
+  pub archs_are : archs ≡ or_native native named
+
+-- the condition that a member of `args` says. The second value counts under MASKED_EQ alone.
+pub record ArgMeans (d : Data) (c : CondParts) : Type 0 where
+  pub is_object : IsSome (object d)
+  pub index_is : member whole key.INDEX.now d ≡ holds c.index
+  pub index_small : c.index < 6
+  pub value_is : member whole key.VALUE.now d ≡ holds c.value
+  pub second : ℕ
+  pub second_is : or_default 0 (member whole key.VALUE_TWO.now d) ≡ Some second
+  pub op_name : List ℕ
+  pub op_text : member text key.OP.now d ≡ holds op_name
+  pub op_is : op_named op_name ≡ Some c.op
+  pub datum_is : c.datum ≡ mask_of c.op second
+  pub no_stray : bit_and c.datum (mask_of c.op c.value) ≡ c.datum
+
+-- the conditions of an entry, each on an argument of its own
+pub record ArgsMean (d : Data) (conds : List CondParts) : Type 0 where
+  pub values : List Data
+  pub values_are : or_default [] (member list key.ARGS.now d) ≡ Some values
+  pub each : AllZip ArgMeans values conds
+  pub apart : are_distinct (map (λ c. c.index) conds) ≡ true
+
+-- the call names of an entry: at least one and at most 128, each in the table of some machine
+pub record NamesMean (d : Data) (names : List (List ℕ)) : Type 0 where
+  pub values : List Data
+  pub values_are : member list key.NAMES.now d ≡ holds values
+  pub some : 0 < length values
+  pub few : length values ≤ 128
+  pub each : AllZip (λ value name. (text value ≡ Some name) × (is_known name ≡ true)) values names
+
+-- the data that an action gets: `errnoRet`, which ERRNO and TRACE alone take, or 1
+pub data ErrnoMeans (d : Data) (a : Action) : ℕ → Type 0 where
+  none : member whole key.ERRNO_RET.now d ≡ missing → ErrnoMeans d a 1
+  given : (n : ℕ) → member whole key.ERRNO_RET.now d ≡ holds n → takes_data a ≡ true → n ≤ 4095 → ErrnoMeans d a n
+
+pub record EntryMeans (d : Data) (e : EntryParts) : Type 0 where
+  pub is_object : IsSome (object d)
+  pub names : NamesMean d e.names
+  pub action : Action
+  pub action_is : NamesAction key.ACTION.now d action
+  pub errno : ℕ
+  pub errno_is : ErrnoMeans d action errno
+  pub word_is : e.word ≡ word_of action errno
+  pub args : ArgsMean d e.conds
+
+-- the entries, at most 256
+pub record EntriesMean (s : Data) (entries : List EntryParts) : Type 0 where
+  pub values : List Data
+  pub values_are : or_default [] (member list key.SYSCALLS.now s) ≡ Some values
+  pub few : length values ≤ 256
+  pub each : AllZip EntryMeans values entries
+
+-- The bundle t, read for a native machine, means the profile p.
+pub record Means (t : Data) (native : Arch) (p : Policy) : Type 0 where
+  pub seccomp : Data
+  pub root : RootMeans t seccomp
+  pub default_is : DefaultMeans seccomp p.default_word
+  pub keys : KeysMean seccomp
+  pub archs : List Arch
+  pub lists_archs : ListsArchs seccomp native archs
+  pub native_is : p.native ≡ native
+  pub native_listed : Contains archs native
+  pub machines_are : p.machines ≡ in_order archs
+  pub entries : List EntryParts
+  pub entries_are : EntriesMean seccomp entries
+  -- one rule for each entry, name and listed machine that has the name
+  pub said : List Rule
+  pub said_is : map rule_parts said ≡ rules_of p.machines entries
+  -- equal ones once, at the first place, and not too many
+  pub kept : KeepsOnce said p.rules
+  pub few : length p.rules ≤ MAX_RULES
+  -- no record is given unlike words
+  pub clear : IsClear p.rules

@@ -1,0 +1,59 @@
+-- What the names of actions, operators, machines and calls stand for.
+use Rattle.std.specs.Prelude.{ℕ, ◌+◌, List, [], ◌∷◌, Bool, true, false, ◌||◌, Option, Some, None, is_some, if◌then◌else◌}
+use Rattle.std.specs.Str.{bytes_eq}
+use Rattle.call_record.specs.Verdict as verdict
+use Rattle.call_tables.specs.declared.arch.Arch.{Arch}
+use Rattle.call_tables.specs.declared.arch.Arch.TheVariants.{X86_64, Aarch64}
+use Rattle.call_tables.specs.Arch.{scmp_of, table_of}
+use Rattle.call_tables.specs.Table.{number_in}
+use Rattle.profile.specs.declared.conditions.Op.{Op}
+use Rattle.profile.specs.declared.conditions.Op.TheVariants as op
+use Rattle.profile_json.specs.declared.action.Action.{Action}
+use Rattle.profile_json.specs.declared.action.Action.TheVariants as action
+use Rattle.profile_json.specs.declared.key.TheConstants as key
+
+-- the value beside the first such name
+abbrev pub named : {A : Type 0} → List (List ℕ × A) → List ℕ → Option A
+named [] name = None
+named (e ∷ es) name = if bytes_eq name e.0 then Some e.1 else named es name
+
+unfoldable pub action_named : List ℕ → Option Action
+action_named = named (
+    (key.KILL.now, action.KillThread) ∷ (key.KILL_PROCESS.now, action.KillProcess) ∷ (key.TRAP.now, action.Trap) ∷
+    (key.ERRNO.now, action.Errno) ∷ (key.TRACE.now, action.Trace) ∷ (key.LOG.now, action.Log) ∷ (key.ALLOW.now, action.Allow) ∷ [])
+
+-- an action's word without data
+abbrev pub action_bits : Action → ℕ
+action_bits action.KillThread = verdict.kill_thread
+action_bits action.KillProcess = verdict.kill_process
+action_bits action.Trap = verdict.trap
+action_bits action.Errno = verdict.errno
+action_bits action.Trace = verdict.trace
+action_bits action.Log = verdict.log
+action_bits action.Allow = verdict.allow
+
+-- the actions that take data from the text
+abbrev pub takes_data : Action → Bool
+takes_data action.KillThread = false
+takes_data action.KillProcess = false
+takes_data action.Trap = false
+takes_data action.Errno = true
+takes_data action.Trace = true
+takes_data action.Log = false
+takes_data action.Allow = false
+
+-- the word of an action, with the data that ERRNO and TRACE take
+abbrev pub word_of : Action → ℕ → ℕ
+word_of a errno = if takes_data a then action_bits a + errno else action_bits a
+
+unfoldable pub op_named : List ℕ → Option Op
+op_named = named (
+    (key.NE.now, op.Ne) ∷ (key.LT.now, op.Lt) ∷ (key.LE.now, op.Le) ∷ (key.EQ.now, op.Eq) ∷
+    (key.GE.now, op.Ge) ∷ (key.GT.now, op.Gt) ∷ (key.MASKED_EQ.now, op.MaskedEq) ∷ [])
+
+unfoldable pub arch_named : List ℕ → Option Arch
+arch_named = named ((scmp_of X86_64, X86_64) ∷ (scmp_of Aarch64, Aarch64) ∷ [])
+
+-- the call stands in the table of some machine, listed or not
+abbrev pub is_known : List ℕ → Bool
+is_known name = is_some (number_in (table_of X86_64) name) || is_some (number_in (table_of Aarch64) name)

@@ -1,0 +1,206 @@
+-- The reading of a bundle, step by step, to the first fault.
+use Rattle.std.specs.Prelude.{ℕ, ◌==◌, nat_lt, nat_le, List, [], ◌∷◌, ◌++◌, length, bit_and, Bool, Result, Ok, Err, Option, Some, None, if◌then◌else◌}
+use Rattle.std.specs.Option.{ok_or}
+use Rattle.std.specs.List.{list_any}
+use Rattle.std.specs.Str.{bytes_eq}
+use Rattle.serde_json.specs.Data.{Data}
+use Rattle.call_tables.specs.declared.arch.Arch.{Arch}
+use Rattle.profile.specs.declared.conditions.Op.{Op}
+use Rattle.profile.specs.Operator.{mask_of}
+use Rattle.profile_json.specs.declared.action.Action.{Action}
+use Rattle.profile_json.specs.declared.key.TheConstants as key
+use Rattle.profile_json.specs.Fault.{Fault, version, no_seccomp, wrong_type, missing_key, unknown_action, unknown_arch, native_missing, unknown_call, empty_names, errno_not_taken, errno_range, unknown_op, bad_index, repeated_index, stray_datum, unsupported_key, too_many}
+use Rattle.profile_json.specs.Parts.{CondParts, EntryParts}
+use Rattle.profile_json.specs.Lookup.{Member, missing, other_type, holds, member, or_default, object, text, whole, list}
+use Rattle.profile_json.specs.Names.{action_named, takes_data, word_of, op_named, arch_named, is_known}
+use Rattle.profile_json.specs.Rules.{or_native, same_arch}
+use Rattle.profile_json.specs.Refusal.{short_name}
+use Rattle.profile_json.specs.Outcome.{◌>>=◌}
+
+-- ---- members
+
+abbrev pub typed : {A : Type 0} → Option A → Result A Fault
+typed o = ok_or o wrong_type
+
+-- a member that has to be there, and the fault where it is missing
+abbrev pub needed : {A : Type 0} → Fault → Member A → Result A Fault
+needed f missing = Err f
+needed f other_type = Err wrong_type
+needed f (holds x) = Ok x
+
+abbrev pub if_there : {A : Type 0} → Member A → Result (Option A) Fault
+if_there missing = Ok None
+if_there other_type = Err wrong_type
+if_there (holds x) = Ok (Some x)
+
+abbrev pub is_empty : {A : Type 0} → List A → Bool
+is_empty xs = length xs == 0
+
+-- what is in front, and then what was read
+abbrev pub with_front : {A : Type 0} → List A → Result (List A) Fault → Result (List A) Fault
+with_front front reading = reading >>= (λ xs. Ok (front ++ xs))
+
+-- ---- root
+
+unfoldable pub version_of : Data → Result (Unit {0}) Fault
+version_of t = do
+  v ← needed missing_key (member text key.OCI_VERSION.now t)
+  if bytes_eq v key.VERSION.now then Ok tt else Err version
+
+unfoldable pub seccomp_of : Data → Result Data Fault
+seccomp_of t = do
+  l ← needed no_seccomp (member object key.LINUX.now t)
+  needed no_seccomp (member object key.SECCOMP.now l)
+
+unfoldable pub root_of : Data → Result Data Fault
+root_of t = do
+  root ← typed (object t)
+  v ← version_of root
+  seccomp_of root
+
+-- ---- actions
+
+unfoldable pub action_at : List ℕ → Data → Result Action Fault
+action_at k d = do
+  name ← needed missing_key (member text k d)
+  ok_or (action_named name) unknown_action
+
+unfoldable pub default_of : Data → Result ℕ Fault
+default_of s = do
+  a ← action_at key.DEFAULT_ACTION.now s
+  Ok (word_of a 1)
+
+-- ---- keys that are refused
+
+abbrev pub absent : {A : Type 0} → Member A → Result (Unit {0}) Fault
+absent missing = Ok tt
+absent other_type = Err wrong_type
+absent (holds x) = Err unsupported_key
+
+abbrev pub empty : {A : Type 0} → Member (List A) → Result (Unit {0}) Fault
+empty m = typed (or_default [] m) >>= (λ xs. if is_empty xs then Ok tt else Err unsupported_key)
+
+unfoldable pub refused_of : Data → Result (Unit {0}) Fault
+refused_of s = do
+  a ← absent (member whole key.DEFAULT_ERRNO_RET.now s)
+  b ← empty (member list key.FLAGS.now s)
+  c ← empty (member text key.LISTENER_PATH.now s)
+  empty (member text key.LISTENER_METADATA.now s)
+
+-- ---- machines
+
+unfoldable pub arch_of : Data → Result Arch Fault
+arch_of d = do
+  name ← typed (text d)
+  ok_or (arch_named name) unknown_arch
+
+abbrev pub archs_in : List Data → Result (List Arch) Fault
+archs_in [] = Ok []
+archs_in (d ∷ ds) = arch_of d >>= (λ a. with_front (a ∷ []) (archs_in ds))
+
+abbrev pub archs_or_native : Arch → List Data → Result (List Arch) Fault
+archs_or_native native ds = archs_in ds >>= (λ archs. Ok (or_native native archs))
+
+unfoldable pub archs_of : Arch → Data → Result (List Arch) Fault
+archs_of native s = do
+  ds ← typed (or_default [] (member list key.ARCHITECTURES.now s))
+  archs ← archs_or_native native ds
+  if list_any (same_arch native) archs then Ok archs else Err native_missing
+
+-- ---- conditions
+
+-- the datum of a condition: the second value counts under MASKED_EQ alone
+unfoldable pub index_at : List CondParts → Data → Result ℕ Fault
+index_at front d = do
+  i ← needed missing_key (member whole key.INDEX.now d)
+  if nat_lt i 6 then (if list_any (λ c. c.index == i) front then Err repeated_index else Ok i) else Err bad_index
+
+unfoldable pub op_at : Data → Result Op Fault
+op_at d = do
+  name ← needed missing_key (member text key.OP.now d)
+  ok_or (op_named name) unknown_op
+
+unfoldable pub cond_of : ℕ → Op → ℕ → ℕ → Result CondParts Fault
+cond_of index op value two =
+    if bit_and (mask_of op two) (mask_of op value) == mask_of op two
+    then Ok (record { index = index; op = op; value = value; datum = mask_of op two })
+    else Err stray_datum
+
+-- the condition of a member of `args`, after the conditions in front
+unfoldable pub arg_of : List CondParts → Data → Result CondParts Fault
+arg_of front d = do
+  o ← typed (object d)
+  index ← index_at front o
+  value ← needed missing_key (member whole key.VALUE.now o)
+  two ← typed (or_default 0 (member whole key.VALUE_TWO.now o))
+  op ← op_at o
+  cond_of index op value two
+
+abbrev pub args_after : List CondParts → List Data → Result (List CondParts) Fault
+args_after front [] = Ok front
+args_after front (d ∷ ds) = arg_of front d >>= (λ c. args_after (front ++ c ∷ []) ds)
+
+unfoldable pub args_of : Data → Result (List CondParts) Fault
+args_of d = do
+  ds ← typed (or_default [] (member list key.ARGS.now d))
+  args_after [] ds
+
+-- ---- entries
+
+unfoldable pub name_of : Data → Result (List ℕ) Fault
+name_of d = do
+  name ← typed (text d)
+  if is_known name then Ok name else Err (unknown_call (short_name name))
+
+abbrev pub names_in : List Data → Result (List (List ℕ)) Fault
+names_in [] = Ok []
+names_in (d ∷ ds) = name_of d >>= (λ n. with_front (n ∷ []) (names_in ds))
+
+unfoldable pub names_of : Data → Result (List (List ℕ)) Fault
+names_of d = do
+  ds ← needed missing_key (member list key.NAMES.now d)
+  if is_empty ds then Err empty_names else (if nat_lt 128 (length ds) then Err too_many else names_in ds)
+
+abbrev pub errno_in : Action → Member ℕ → Result ℕ Fault
+errno_in a missing = Ok 1
+errno_in a other_type = Err wrong_type
+errno_in a (holds n) = if takes_data a then (if nat_le n 4095 then Ok n else Err errno_range) else Err errno_not_taken
+
+unfoldable pub word_at : Data → Result ℕ Fault
+word_at d = do
+  a ← action_at key.ACTION.now d
+  n ← errno_in a (member whole key.ERRNO_RET.now d)
+  Ok (word_of a n)
+
+unfoldable pub entry_of : Data → Result EntryParts Fault
+entry_of d = do
+  o ← typed (object d)
+  names ← names_of o
+  word ← word_at o
+  conds ← args_of o
+  Ok (record { names = names; conds = conds; word = word })
+
+abbrev pub entries_in : List Data → Result (List EntryParts) Fault
+entries_in [] = Ok []
+entries_in (d ∷ ds) = entry_of d >>= (λ e. with_front (e ∷ []) (entries_in ds))
+
+unfoldable pub entries_of : Data → Result (List EntryParts) Fault
+entries_of s = do
+  ds ← typed (or_default [] (member list key.SYSCALLS.now s))
+  if nat_lt 256 (length ds) then Err too_many else entries_in ds
+
+-- ---- the whole
+
+-- what is read before the rules are made
+pub record Said : Type 0 where
+  pub default_word : ℕ
+  pub archs : List Arch
+  pub entries : List EntryParts
+
+unfoldable pub said_of : Arch → Data → Result Said Fault
+said_of native s = do
+  word ← default_of s
+  r ← refused_of s
+  archs ← archs_of native s
+  entries ← entries_of s
+  Ok (record { default_word = word; archs = archs; entries = entries })

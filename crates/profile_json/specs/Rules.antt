@@ -1,0 +1,41 @@
+-- The rules that entries say on the listed machines.
+use Rattle.std.specs.Prelude.{ℕ, ◌+◌, List, [], ◌∷◌, length, filter, Bool, true, false, option_map}
+use Rattle.std.specs.List.{list_any, filter_map, flat_map}
+use Rattle.call_tables.specs.declared.arch.Arch.{Arch}
+use Rattle.call_tables.specs.declared.arch.Arch.TheVariants.{X86_64, Aarch64}
+use Rattle.call_tables.specs.Arch.{table_of}
+use Rattle.call_tables.specs.Table.{number_in}
+use Rattle.profile_json.specs.Parts.{EntryParts, RuleParts}
+
+abbrev pub same_arch : Arch → Arch → Bool
+same_arch X86_64 X86_64 = true
+same_arch X86_64 Aarch64 = false
+same_arch Aarch64 X86_64 = false
+same_arch Aarch64 Aarch64 = true
+
+-- no machine listed means the native one
+abbrev pub or_native : Arch → List Arch → List Arch
+or_native native [] = native ∷ []
+or_native native (a ∷ more) = a ∷ more
+
+-- each listed machine once, x86-64 first
+abbrev pub in_order : List Arch → List Arch
+in_order archs = filter (λ a. list_any (same_arch a) archs) (X86_64 ∷ Aarch64 ∷ [])
+
+abbrev pub rule_of : EntryParts → Arch → ℕ → RuleParts
+rule_of e arch nr = record { arch = arch; nr = nr; conds = e.conds; word = e.word }
+
+-- one rule for each machine whose table has the name
+abbrev pub rules_under : List Arch → EntryParts → List ℕ → List RuleParts
+rules_under machines e name = filter_map (λ arch. option_map (rule_of e arch) (number_in (table_of arch) name)) machines
+
+abbrev pub rules_of_entry : List Arch → EntryParts → List RuleParts
+rules_of_entry machines e = flat_map (rules_under machines e) e.names
+
+abbrev pub rules_of : List Arch → List EntryParts → List RuleParts
+rules_of machines es = flat_map (rules_of_entry machines) es
+
+-- how many rules there are up to the end of each entry, after n rules
+abbrev pub ends_after : ℕ → List Arch → List EntryParts → List ℕ
+ends_after n machines [] = []
+ends_after n machines (e ∷ es) = (n + length (rules_of_entry machines e)) ∷ ends_after (n + length (rules_of_entry machines e)) machines es

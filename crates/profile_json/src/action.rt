@@ -1,0 +1,113 @@
+//! Actions, and the word of each.
+ghost use Rattle.std.specs.Prelude.{◌≡◌, ◌≤◌, IfOk};
+ghost use Rattle.serde_json.specs.View.{view};
+ghost use Rattle.profile_json.specs.Lookup.{member, whole};
+ghost use Rattle.profile_json.specs.Names as spec;
+ghost use Rattle.profile_json.specs.Outcome.{Gives};
+ghost use Rattle.profile_json.specs.Reading as read;
+
+use crate::error::ProfileError;
+use crate::key::{self, ACTION, DEFAULT_ACTION, ERRNO_RET};
+use crate::lookup::{text_at, whole_if_there};
+use call_record::Word;
+use serde_json::Value;
+
+/// What is done with a call.
+#[derive(Clone, Copy, Debug, PartialEq, Eq)]
+pub(crate) enum Action {
+    KillThread,
+    KillProcess,
+    Trap,
+    Errno,
+    Trace,
+    Log,
+    Allow,
+}
+
+/// The action of a name.
+#[tactic(auto, unfolding(crate::specs::Names::action_named))]
+pub(crate) fn action_named(name: &str) -> Option<Action>
+    ensures { result ≡ spec.action_named name.now }
+{
+    match name {
+        key::KILL => Some(Action::KillThread),
+        key::KILL_PROCESS => Some(Action::KillProcess),
+        key::TRAP => Some(Action::Trap),
+        key::ERRNO => Some(Action::Errno),
+        key::TRACE => Some(Action::Trace),
+        key::LOG => Some(Action::Log),
+        key::ALLOW => Some(Action::Allow),
+        _ => None,
+    }
+}
+
+impl Action {
+    ghost use Rattle.std.specs.Prelude.{◌≡◌, ◌≤◌};
+    ghost use Rattle.profile_json.specs.Names.{takes_data, word_of};
+
+    /// Whether the text may give data.
+    fn takes_data(self) -> bool
+        ensures { result ≡ takes_data self }
+    {
+        match self {
+            Action::Errno | Action::Trace => true,
+            _ => false,
+        }
+    }
+
+    /// The word, with these data where the action takes them.
+    fn word(self, errno: u16) -> Word
+        requires { errno ≤ 4095 }
+        ensures { result ≡ word_of self errno }
+    {
+        match self {
+            Action::KillThread => Word::KILL_THREAD,
+            Action::KillProcess => Word::KILL_PROCESS,
+            Action::Trap => Word::TRAP,
+            Action::Errno => Word::ERRNO.with_data(errno),
+            Action::Trace => Word::TRACE.with_data(errno),
+            Action::Log => Word::LOG,
+            Action::Allow => Word::ALLOW,
+        }
+    }
+}
+
+#[tactic(auto, unfolding(crate::specs::Reading::action_at))]
+fn action_at(value: &Value, key: &str) -> Result<Action, ProfileError>
+    ensures { Gives (λ a. a) result (read.action_at key.now (view value.now)) }
+{
+    let name = text_at(value, key)?;
+    action_named(name).ok_or(ProfileError::UnknownAction)
+}
+
+/// The word of `defaultAction`.
+#[tactic(auto, unfolding(crate::specs::Reading::default_of))]
+pub(crate) fn default_of(seccomp: &Value) -> Result<Word, ProfileError>
+    ensures { Gives (λ w. w) result (read.default_of (view seccomp.now)) }
+{
+    let action = action_at(seccomp, DEFAULT_ACTION)?;
+    Ok(action.word(1))
+}
+
+/// The data of `errnoRet`, 1 where it is missing.
+fn errno_of(action: Action, entry: &Value) -> Result<u16, ProfileError>
+    ensures reading { Gives (λ n. n) result (read.errno_in action (member whole ERRNO_RET.now (view entry.now))) }
+    ensures small { IfOk result (λ n. n ≤ 4095) }
+{
+    match whole_if_there(entry, ERRNO_RET)? {
+        None => Ok(1),
+        Some(_) if !action.takes_data() => Err(ProfileError::ErrnoNotTaken),
+        Some(number) if number <= 4095 => Ok(number as u16),
+        Some(_) => Err(ProfileError::ErrnoRange),
+    }
+}
+
+/// The word of an entry.
+#[tactic(auto, unfolding(crate::specs::Reading::word_at))]
+pub(crate) fn word_of(entry: &Value) -> Result<Word, ProfileError>
+    ensures { Gives (λ w. w) result (read.word_at (view entry.now)) }
+{
+    let action = action_at(entry, ACTION)?;
+    let errno = errno_of(action, entry)?;
+    Ok(action.word(errno))
+}

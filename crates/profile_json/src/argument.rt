@@ -1,0 +1,131 @@
+//! The conditions of an entry, from its `args`.
+ghost use Rattle.std.specs.Prelude.{◌≡◌, ◌<◌, ◌==◌, [], map, true, false, IfOk};
+ghost use Rattle.std.specs.List.{list_any};
+ghost use Rattle.serde_json.specs.View.{view};
+ghost use Rattle.profile.specs.Operator.{are_distinct, mask_of};
+ghost use Rattle.profile_json.specs.Names as names;
+ghost use Rattle.profile_json.specs.Outcome.{Gives};
+ghost use Rattle.profile_json.specs.Parts.{cond_parts};
+ghost use Rattle.profile_json.specs.Reading as spec;
+
+use crate::error::ProfileError;
+use crate::key::{self, ARGS, INDEX, OP, VALUE, VALUE_TWO};
+use crate::lookup::{list_or_empty, object_of, text_at, whole_at, whole_or_zero};
+use arrayvec::ArrayVec;
+use profile::{Cond, Op};
+use serde_json::Value;
+
+/// The operator of a name.
+#[tactic(auto, unfolding(crate::specs::Names::op_named))]
+fn op_named(name: &str) -> Option<Op>
+    ensures { result ≡ names.op_named name.now }
+{
+    match name {
+        key::NE => Some(Op::Ne),
+        key::LT => Some(Op::Lt),
+        key::LE => Some(Op::Le),
+        key::EQ => Some(Op::Eq),
+        key::GE => Some(Op::Ge),
+        key::GT => Some(Op::Gt),
+        key::MASKED_EQ => Some(Op::MaskedEq),
+        _ => None,
+    }
+}
+
+#[tactic(auto, unfolding(crate::specs::Reading::op_at))]
+fn op_at(member: &Value) -> Result<Op, ProfileError>
+    ensures { Gives (λ o. o) result (spec.op_at (view member.now)) }
+{
+    let name = text_at(member, OP)?;
+    op_named(name).ok_or(ProfileError::UnknownOp)
+}
+
+/// Whether a condition is on this argument.
+fn has_index(conds: &ArrayVec<Cond, 6>, index: u64) -> bool
+    ensures { result ≡ list_any (λ c. c.index == index) conds.now.items }
+{
+    conds.as_slice().iter().any(|c| u64::from(c.index) == index)
+}
+
+/// The argument that a member names, which no earlier condition names.
+#[tactic(auto, using(crate::proofs::Conditions::any_index), unfolding(crate::specs::Reading::index_at))]
+fn index_at(member: &Value, earlier: &ArrayVec<Cond, 6>) -> Result<u8, ProfileError>
+    ensures reading { Gives (λ i. i) result (spec.index_at (map cond_parts earlier.now.items) (view member.now)) }
+    ensures small { IfOk result (λ i. i < 6) }
+    ensures fresh { IfOk result (λ i. list_any (λ c. c.index == i) earlier.now.items ≡ false) }
+{
+    let index = whole_at(member, INDEX)?;
+    if index >= 6 {
+        return Err(ProfileError::BadIndex);
+    }
+    if has_index(earlier, index) {
+        return Err(ProfileError::RepeatedIndex);
+    }
+    Ok(index as u8)
+}
+
+/// The bits that a datum may have: those of the value under MASKED_EQ, and else none.
+fn mask_of(op: Op, value: u64) -> u64
+    ensures { result ≡ mask_of op value }
+{
+    match op {
+        Op::MaskedEq => value,
+        _ => 0,
+    }
+}
+
+/// A condition. The second value counts under MASKED_EQ alone.
+#[tactic(auto, unfolding(crate::specs::Reading::cond_of))]
+fn cond_of(index: u8, op: Op, value: u64, second: u64) -> Result<Cond, ProfileError>
+    requires { index < 6 }
+    ensures reading { Gives cond_parts result (spec.cond_of index op value second) }
+    ensures index { IfOk result (λ c. c.index ≡ index) }
+{
+    let datum = mask_of(op, second);
+    if datum & mask_of(op, value) == datum {
+        Ok(Cond {
+            index,
+            op,
+            value,
+            datum,
+        })
+    } else {
+        Err(ProfileError::StrayDatum)
+    }
+}
+
+/// The condition of a member of `args`, after those of the earlier members.
+#[tactic(auto, unfolding(crate::specs::Reading::arg_of))]
+fn arg_of(value: &Value, earlier: &ArrayVec<Cond, 6>) -> Result<Cond, ProfileError>
+    ensures reading { Gives cond_parts result (spec.arg_of (map cond_parts earlier.now.items) (view value.now)) }
+    ensures fresh { IfOk result (λ c. list_any (λ d. d.index == c.index) earlier.now.items ≡ false) }
+{
+    let member = object_of(value)?;
+    let index = index_at(member, earlier)?;
+    let first = whole_at(member, VALUE)?;
+    let second = whole_or_zero(member, VALUE_TWO)?;
+    let op = op_at(member)?;
+    cond_of(index, op, first, second)
+}
+
+/// The conditions of an entry, each on an argument of its own.
+fn args_in(mut values: &[Value]) -> Result<ArrayVec<Cond, 6>, ProfileError>
+    ensures reading { Gives (λ v. map cond_parts v.items) result (spec.args_after [] (map view values.entry.now)) }
+    ensures apart { IfOk result (λ v. are_distinct (map (λ c. c.index) v.items) ≡ true) }
+{
+    let mut found = ArrayVec::new();
+    while let [first, rest @ ..] = values {
+        let cond = arg_of(first, &found)?;
+        found.push(cond);
+        values = rest;
+    }
+    Ok(found)
+}
+
+#[tactic(auto, unfolding(crate::specs::Reading::args_of))]
+pub(crate) fn args_of(entry: &Value) -> Result<ArrayVec<Cond, 6>, ProfileError>
+    ensures reading { Gives (λ v. map cond_parts v.items) result (spec.args_of (view entry.now)) }
+    ensures apart { IfOk result (λ v. are_distinct (map (λ c. c.index) v.items) ≡ true) }
+{
+    args_in(list_or_empty(entry, ARGS)?)
+}

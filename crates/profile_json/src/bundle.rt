@@ -1,0 +1,99 @@
+//! Bundles.
+ghost use Rattle.std.specs.Prelude.{◌≡◌, true, IfOk, IfErr, IfSome};
+ghost use Rattle.std.specs.List.{list_any};
+ghost use Rattle.serde_json.specs.Data.{Data};
+ghost use Rattle.serde_json.specs.View.{view};
+ghost use Rattle.profile_json.specs.Breaks.{Breaks};
+ghost use Rattle.profile_json.specs.Making.{IsMade, IsNotMade};
+ghost use Rattle.profile_json.specs.Meaning.{IsText, Means};
+ghost use Rattle.profile_json.specs.Outcome.{Gives, fault_of};
+ghost use Rattle.profile_json.specs.Reading as spec;
+ghost use Rattle.profile_json.specs.Rules.{same_arch};
+ghost use Rattle.profile_json.specs.Saying.{said_parts};
+
+use crate::action::default_of;
+use crate::error::ProfileError;
+use crate::machines::{archs_of, in_order};
+use crate::overlaps::overlap_of;
+use crate::refused::refuse_keys;
+use crate::root::root_of;
+use crate::rules::{Rules, rules_of};
+use crate::said::Said;
+use crate::syscalls::entries_of;
+use call_tables::Arch;
+use profile::{BuildError, Profile};
+use serde_json::Value;
+use std::alloc::Global;
+
+/// What a bundle says of system calls.
+#[derive(Drop)]
+pub struct Bundle {
+    pub profile: Profile,
+}
+
+fn value_of(alloc: Global, text: &[u8], native: Arch) -> Result<Value, ProfileError>
+    ensures ok { IfOk result (λ v. IsText text.now (view v)) }
+    ensures err { IfErr result (λ e. IfSome (fault_of e) (Breaks text.now native)) }
+{
+    match Value::from_slice(alloc, text) {
+        Ok(value) => Ok(value),
+        Err(e) => {
+            if e.is_memory() {
+                Err(ProfileError::OutOfMemory)
+            } else {
+                Err(ProfileError::Syntax)
+            }
+        }
+    }
+}
+
+#[tactic(auto, unfolding(crate::specs::Reading::said_of))]
+fn said_of<'a>(alloc: Global, seccomp: &'a Value, native: Arch) -> Result<Said<'a>, ProfileError>
+    ensures reading { Gives said_parts result (spec.said_of native (view seccomp.now)) }
+    ensures native_listed { IfOk result (λ s. list_any (same_arch native) s.archs.items ≡ true) }
+{
+    let default_word = default_of(seccomp)?;
+    refuse_keys(seccomp)?;
+    let archs = archs_of(alloc, seccomp, native)?;
+    let entries = entries_of(alloc, seccomp)?;
+    Ok(Said {
+        default_word,
+        archs,
+        entries,
+    })
+}
+
+/// The profile of the rules that the entries say.
+fn profile_of(alloc: Global, said: &Said, native: Arch) -> Result<Profile, ProfileError>
+    requires { list_any (same_arch native) said.now.archs.items ≡ true }
+    ensures ok { IfOk result (IsMade (said_parts said.now) native) }
+    ensures err { IfErr result (λ e. IfSome (fault_of e) (IsNotMade (said_parts said.now))) }
+{
+    let machines = in_order(&said.archs);
+    let Rules { list, ends } = rules_of(alloc, &said.entries, machines)?;
+    match Profile::build(alloc, native, machines, said.default_word, list) {
+        Ok(profile) => Ok(profile),
+        Err(BuildError::Overlap(_, place)) => {
+            Err(overlap_of(&said.entries, machines, &ends, place))
+        }
+        Err(BuildError::TooMany) => Err(ProfileError::TooMany),
+        Err(BuildError::OutOfMemory) => Err(ProfileError::OutOfMemory),
+        Err(BuildError::NativeMissing) => unreachable!(),
+        Err(BuildError::ForeignRule(_)) => unreachable!(),
+    }
+}
+
+/// Reads a bundle for its native machine.
+pub fn read_bundle(alloc: Global, text: &[u8], native: Arch) -> Result<Bundle, ProfileError>
+    // The text is a value, and the profile is what it means.
+    ensures ok { IfOk result (λ b. (t : Data) × IsText text.now t × Means t native b.profile) }
+
+    // Unless memory ran out, the fault stands in the text.
+    ensures err { IfErr result (λ e. IfSome (fault_of e) (Breaks text.now native)) }
+{
+    let value = value_of(alloc, text, native)?;
+    let seccomp = root_of(&value)?;
+    let said = said_of(alloc, seccomp, native)?;
+    let profile = profile_of(alloc, &said, native)?;
+    Ok(Bundle { profile })
+}

@@ -1,0 +1,26 @@
+//! Reads the seccomp part of a bundle (OCI Runtime Specification 1.0.2, config-linux, Seccomp) into
+//! a profile, or says why it refuses it.
+#![tactic(auto)]
+
+mod action;
+mod argument;
+mod bundle;
+mod entry;
+mod error;
+mod key;
+mod law;
+mod lookup;
+mod machines;
+mod name;
+mod overlaps;
+mod refused;
+mod root;
+mod rules;
+mod said;
+mod syscalls;
+#[cfg(test)]
+mod tests;
+
+pub use bundle::{Bundle, read_bundle};
+pub use error::ProfileError;
+pub use law::meaning_is_unbroken;

@@ -1,0 +1,106 @@
+//! The machines that a bundle lists.
+ghost use Rattle.std.specs.Prelude.{◌≡◌, map, true, IfOk};
+ghost use Rattle.std.specs.List.{list_any};
+ghost use Rattle.serde_json.specs.View.{view};
+ghost use Rattle.profile_json.specs.Names as names;
+ghost use Rattle.profile_json.specs.Rules.{same_arch, in_order};
+ghost use Rattle.profile_json.specs.Outcome.{Gives};
+ghost use Rattle.profile_json.specs.Reading as spec;
+
+use crate::error::ProfileError;
+use crate::key::ARCHITECTURES;
+use crate::lookup::{list_or_empty, text_of};
+use call_tables::Arch;
+use serde_json::Value;
+use std::alloc::Global;
+
+/// The machine of a name.
+#[tactic(auto, unfolding(crate::specs::Names::arch_named))]
+fn arch_named(name: &str) -> Option<Arch>
+    ensures { result ≡ names.arch_named name.now }
+{
+    if name == Arch::X86_64.scmp() {
+        Some(Arch::X86_64)
+    } else if name == Arch::Aarch64.scmp() {
+        Some(Arch::Aarch64)
+    } else {
+        None
+    }
+}
+
+#[tactic(auto, unfolding(crate::specs::Reading::arch_of))]
+fn arch_of(value: &Value) -> Result<Arch, ProfileError>
+    ensures { Gives (λ a. a) result (spec.arch_of (view value.now)) }
+{
+    let name = text_of(value)?;
+    arch_named(name).ok_or(ProfileError::UnknownArch)
+}
+
+fn archs_in(alloc: Global, mut values: &[Value]) -> Result<Vec<Arch>, ProfileError>
+    ensures { Gives (λ v. v.items) result (spec.archs_in (map view values.entry.now)) }
+{
+    let mut found = Vec::new(alloc);
+    while let [first, rest @ ..] = values {
+        let arch = arch_of(first)?;
+        found.push(arch)?;
+        values = rest;
+    }
+    Ok(found)
+}
+
+/// The machines of a list, and the native one where the list is empty.
+fn archs_or_native(alloc: Global, values: &[Value], native: Arch) -> Result<Vec<Arch>, ProfileError>
+    ensures { Gives (λ v. v.items) result (spec.archs_or_native native (map view values.now)) }
+{
+    let mut archs = archs_in(alloc, values)?;
+    if archs.is_empty() {
+        archs.push(native)?;
+    }
+    Ok(archs)
+}
+
+fn same_arch(a: Arch, b: Arch) -> bool
+    ensures { result ≡ same_arch a b }
+{
+    a == b
+}
+
+fn is_listed(archs: &[Arch], native: Arch) -> bool
+    ensures { result ≡ list_any (same_arch native) archs.now }
+{
+    archs.iter().any(|arch| same_arch(native, *arch))
+}
+
+/// The listed machines as they stand in the text, or the native one where none is listed.
+#[tactic(auto, unfolding(crate::specs::Reading::archs_of))]
+pub(crate) fn archs_of(
+    alloc: Global,
+    seccomp: &Value,
+    native: Arch,
+) -> Result<Vec<Arch>, ProfileError>
+    ensures reading { Gives (λ v. v.items) result (spec.archs_of native (view seccomp.now)) }
+    ensures listed { IfOk result (λ v. list_any (same_arch native) v.items ≡ true) }
+{
+    let values = list_or_empty(seccomp, ARCHITECTURES)?;
+    let archs = archs_or_native(alloc, values, native)?;
+    if is_listed(&archs, native) {
+        Ok(archs)
+    } else {
+        Err(ProfileError::NativeMissing)
+    }
+}
+
+/// The listed machines, each once, x86-64 first.
+pub(crate) fn in_order(archs: &[Arch]) -> &'static [Arch]
+    ensures { result.now ≡ in_order archs.now }
+{
+    match (
+        is_listed(archs, Arch::X86_64),
+        is_listed(archs, Arch::Aarch64),
+    ) {
+        (true, true) => &[Arch::X86_64, Arch::Aarch64],
+        (true, false) => &[Arch::X86_64],
+        (false, true) => &[Arch::Aarch64],
+        (false, false) => &[],
+    }
+}

@@ -1,0 +1,24 @@
+//! Call names.
+ghost use Rattle.std.specs.Prelude.{◌≡◌};
+ghost use Rattle.profile_json.specs.Names as names;
+ghost use Rattle.profile_json.specs.Refusal as spec;
+
+use arrayvec::ArrayString;
+use call_tables::Arch;
+
+/// Whether some machine has the call, listed or not.
+pub(crate) fn is_known(name: &str) -> bool
+    ensures { result ≡ names.is_known name.now }
+{
+    Arch::X86_64.number(name).is_some() || Arch::Aarch64.number(name).is_some()
+}
+
+/// The longest beginning of a name with at most 64 bytes and whole characters.
+pub(crate) fn short_name(name: &str) -> ArrayString<64>
+    ensures { result.bytes ≡ spec.short_name name.now }
+{
+    let end = name.floor_char_boundary(64);
+    let mut short = ArrayString::new();
+    short.push_str(&name[..end]);
+    short
+}

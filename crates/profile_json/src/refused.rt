@@ -1,0 +1,52 @@
+//! Keys of the standard that are not supported: they may be missing, or empty.
+ghost use Rattle.serde_json.specs.View.{view};
+ghost use Rattle.profile_json.specs.Lookup.{member, text, whole, list};
+ghost use Rattle.profile_json.specs.Outcome.{Gives};
+ghost use Rattle.profile_json.specs.Reading.{absent, empty, refused_of};
+
+use crate::error::ProfileError;
+use crate::key::{DEFAULT_ERRNO_RET, FLAGS, LISTENER_METADATA, LISTENER_PATH};
+use crate::lookup::{list_or_empty, text_or_empty, whole_if_there};
+use serde_json::Value;
+
+fn no_number(value: &Value, key: &str) -> Result<(), ProfileError>
+    ensures { Gives (λ u. u) result (absent (member whole key.now (view value.now))) }
+{
+    match whole_if_there(value, key)? {
+        None => Ok(()),
+        Some(_) => Err(ProfileError::UnsupportedKey),
+    }
+}
+
+fn no_list(value: &Value, key: &str) -> Result<(), ProfileError>
+    ensures { Gives (λ u. u) result (empty (member list key.now (view value.now))) }
+{
+    let found = list_or_empty(value, key)?;
+    if found.is_empty() {
+        Ok(())
+    } else {
+        Err(ProfileError::UnsupportedKey)
+    }
+}
+
+fn no_text(value: &Value, key: &str) -> Result<(), ProfileError>
+    ensures { Gives (λ u. u) result (empty (member text key.now (view value.now))) }
+{
+    let found = text_or_empty(value, key)?;
+    if found.is_empty() {
+        Ok(())
+    } else {
+        Err(ProfileError::UnsupportedKey)
+    }
+}
+
+/// Refuses each key that is not supported.
+#[tactic(auto, unfolding(crate::specs::Reading::refused_of))]
+pub(crate) fn refuse_keys(seccomp: &Value) -> Result<(), ProfileError>
+    ensures { Gives (λ u. u) result (refused_of (view seccomp.now)) }
+{
+    no_number(seccomp, DEFAULT_ERRNO_RET)?;
+    no_list(seccomp, FLAGS)?;
+    no_text(seccomp, LISTENER_PATH)?;
+    no_text(seccomp, LISTENER_METADATA)
+}

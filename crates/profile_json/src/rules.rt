@@ -1,0 +1,84 @@
+//! The rules that entries say: one for each entry, name and listed machine that has the name.
+ghost use Rattle.std.specs.Prelude.{◌≡◌, ◌++◌, map, IfOk, option_map};
+ghost use Rattle.call_tables.specs.Arch.{table_of};
+ghost use Rattle.call_tables.specs.Table.{number_in};
+ghost use Rattle.profile_json.specs.Entries.{entry_parts};
+ghost use Rattle.profile_json.specs.Parts.{rule_parts};
+ghost use Rattle.profile_json.specs.Rules as spec;
+
+use crate::entry::Entry;
+use call_tables::Arch;
+use profile::Rule;
+use std::alloc::{AllocError, Global};
+
+/// The rules of entries in order, and for each entry how many there are up to its end.
+#[derive(Drop)]
+pub(crate) struct Rules {
+    pub(crate) list: Vec<Rule>,
+    pub(crate) ends: Vec<usize>,
+}
+
+/// The rule of an entry for one call of one machine.
+pub(crate) fn rule_of(entry: &Entry, arch: Arch, nr: u32) -> Rule
+    ensures { rule_parts result ≡ spec.rule_of (entry_parts entry.now) arch nr }
+{
+    Rule {
+        arch,
+        nr,
+        conds: entry.conds.clone().unwrap(),
+        word: entry.word,
+    }
+}
+
+/// Adds the rules of one name, x86-64 first.
+fn add_name(
+    rules: &mut Vec<Rule>,
+    entry: &Entry,
+    name: &str,
+    machines: &[Arch],
+) -> Result<(), AllocError>
+    ensures { IfOk result (λ _. map rule_parts rules.new.items
+        ≡ map rule_parts rules.old.items ++ spec.rules_under machines.now (entry_parts entry.now) name.now) }
+{
+    let mut left = machines;
+    while let [arch, rest @ ..] = left {
+        if let Some(nr) = arch.number(name) {
+            rules.push(rule_of(entry, *arch, nr))?;
+        }
+        left = rest;
+    }
+    Ok(())
+}
+
+/// Adds the rules of one entry, name by name.
+fn add_entry(rules: &mut Vec<Rule>, entry: &Entry, machines: &[Arch]) -> Result<(), AllocError>
+    ensures { IfOk result (λ _. map rule_parts rules.new.items
+        ≡ map rule_parts rules.old.items ++ spec.rules_of_entry machines.now (entry_parts entry.now)) }
+{
+    let mut left = entry.names.as_slice();
+    while let [name, rest @ ..] = left {
+        add_name(rules, entry, name, machines)?;
+        left = rest;
+    }
+    Ok(())
+}
+
+/// The rules of the entries, entry by entry.
+pub(crate) fn rules_of(
+    alloc: Global,
+    entries: &[Entry],
+    machines: &[Arch],
+) -> Result<Rules, AllocError>
+    ensures said { IfOk result (λ r. map rule_parts r.list.items ≡ spec.rules_of machines.now (map entry_parts entries.now)) }
+    ensures ends { IfOk result (λ r. r.ends.items ≡ spec.ends_after 0 machines.now (map entry_parts entries.now)) }
+{
+    let mut list = Vec::new(alloc);
+    let mut ends = Vec::new(alloc);
+    let mut left = entries;
+    while let [entry, rest @ ..] = left {
+        add_entry(&mut list, entry, machines)?;
+        ends.push(list.len())?;
+        left = rest;
+    }
+    Ok(Rules { list, ends })
+}
