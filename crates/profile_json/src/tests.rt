@@ -334,6 +334,83 @@ fn overlaps(rt: HostRuntime) -> Result<(), Fail> {
     Ok(())
 }
 
+/// As many copies of a text, with commas between them.
+fn copies(alloc: Global, text: &str, count: usize) -> Result<String, AllocError> {
+    let mut list = String::new(alloc);
+    for i in 0..count {
+        if i > 0 {
+            list.push_str(",")?;
+        }
+        list.push_str(text)?;
+    }
+    Ok(list)
+}
+
+#[test]
+fn entries_and_names_are_limited(rt: HostRuntime) -> Result<(), Fail> {
+    let alloc = rt.alloc();
+    let read = r#"{"names":["read"],"action":"SCMP_ACT_ALLOW"}"#;
+    for (entry, count, want) in [(read, 256, "read"), (read, 257, "19 TooMany"), ("3", 257, "19 TooMany")] {
+        let entries = copies(alloc, entry, count)?;
+        let text = with_entries(alloc, entries.as_str())?;
+        expect(&rt, text.as_str(), want)?;
+    }
+    let read = r#""read""#;
+    for (name, count, want) in [(read, 128, "read"), (read, 129, "19 TooMany"), ("3", 129, "19 TooMany")] {
+        let names = copies(alloc, name, count)?;
+        let entry = wrapped(alloc, r#"{"names":["#, names.as_str(), r#"],"action":"SCMP_ACT_ALLOW"}"#)?;
+        let text = with_entries(alloc, entry.as_str())?;
+        expect(&rt, text.as_str(), want)?;
+    }
+    Ok(())
+}
+
+/// The first calls of x86-64 as a list of names.
+fn first_names(alloc: Global, count: usize) -> Result<String, AllocError> {
+    let mut list = String::new(alloc);
+    let mut listed = 0usize;
+    for nr in 0..512 {
+        if listed < count && let Some(name) = Arch::X86_64.name(nr) {
+            if listed > 0 {
+                list.push_str(",")?;
+            }
+            let quoted = wrapped(alloc, "\"", name, "\"")?;
+            list.push_str(quoted.as_str())?;
+            listed += 1;
+        }
+    }
+    Ok(list)
+}
+
+/// 256 entries of the first calls, each under a condition on one number of its own, with two words in turn.
+fn many_rules(alloc: Global, names: &str, op: &str) -> Result<String, AllocError> {
+    let mut entries = String::new(alloc);
+    for i in 0..256u32 {
+        let action = if i % 2 == 0 { "ALLOW" } else { "LOG" };
+        let comma = if i == 0 { "" } else { "," };
+        let entry = format!(in alloc; "{comma}{{\"names\":[{names}],\"action\":\"SCMP_ACT_{action}\",\"args\":[{{\"index\":0,\"value\":{i},\"op\":\"{op}\"}}]}}")?;
+        entries.push_str(entry.as_str())?;
+    }
+    with_entries(alloc, entries.as_str())
+}
+
+#[test]
+fn different_rules_are_limited(rt: HostRuntime) -> Result<(), Fail> {
+    let rows = [
+        (32, "SCMP_CMP_EQ", "read"),
+        (33, "SCMP_CMP_EQ", "19 TooMany"),
+        (32, "SCMP_CMP_NE", "17 Overlap read 0 1"),
+        (33, "SCMP_CMP_NE", "19 TooMany"),
+    ];
+    for (count, op, want) in rows {
+        let names = first_names(rt.alloc(), count)?;
+        let text = many_rules(rt.alloc(), names.as_str(), op)?;
+        let got = answer(rt.alloc(), text.as_bytes(), Arch::X86_64)?;
+        assert_eq!(rt; got.as_str(), want, "{count} names, {op}");
+    }
+    Ok(())
+}
+
 /// The word that a bundle says of one call.
 fn word_of(alloc: Global, text: &str, native: Arch, call: &Record) -> Result<Word, Fail> {
     let bundle = read_bundle(alloc, text.as_bytes(), native)?;
