@@ -350,15 +350,28 @@ fn copies(alloc: Global, text: &str, count: usize) -> Result<String, AllocError>
 fn entries_and_names_are_limited(rt: HostRuntime) -> Result<(), Fail> {
     let alloc = rt.alloc();
     let read = r#"{"names":["read"],"action":"SCMP_ACT_ALLOW"}"#;
-    for (entry, count, want) in [(read, 256, "read"), (read, 257, "19 TooMany"), ("3", 257, "19 TooMany")] {
+    for (entry, count, want) in [
+        (read, 256, "read"),
+        (read, 257, "19 TooMany"),
+        ("3", 257, "19 TooMany"),
+    ] {
         let entries = copies(alloc, entry, count)?;
         let text = with_entries(alloc, entries.as_str())?;
         expect(&rt, text.as_str(), want)?;
     }
     let read = r#""read""#;
-    for (name, count, want) in [(read, 128, "read"), (read, 129, "19 TooMany"), ("3", 129, "19 TooMany")] {
+    for (name, count, want) in [
+        (read, 128, "read"),
+        (read, 129, "19 TooMany"),
+        ("3", 129, "19 TooMany"),
+    ] {
         let names = copies(alloc, name, count)?;
-        let entry = wrapped(alloc, r#"{"names":["#, names.as_str(), r#"],"action":"SCMP_ACT_ALLOW"}"#)?;
+        let entry = wrapped(
+            alloc,
+            r#"{"names":["#,
+            names.as_str(),
+            r#"],"action":"SCMP_ACT_ALLOW"}"#,
+        )?;
         let text = with_entries(alloc, entry.as_str())?;
         expect(&rt, text.as_str(), want)?;
     }
@@ -370,7 +383,9 @@ fn first_names(alloc: Global, count: usize) -> Result<String, AllocError> {
     let mut list = String::new(alloc);
     let mut listed = 0usize;
     for nr in 0..512 {
-        if listed < count && let Some(name) = Arch::X86_64.name(nr) {
+        if listed < count
+            && let Some(name) = Arch::X86_64.name(nr)
+        {
             if listed > 0 {
                 list.push_str(",")?;
             }
@@ -388,7 +403,9 @@ fn many_rules(alloc: Global, names: &str, op: &str) -> Result<String, AllocError
     for i in 0..256u32 {
         let action = if i % 2 == 0 { "ALLOW" } else { "LOG" };
         let comma = if i == 0 { "" } else { "," };
-        let entry = format!(in alloc; "{comma}{{\"names\":[{names}],\"action\":\"SCMP_ACT_{action}\",\"args\":[{{\"index\":0,\"value\":{i},\"op\":\"{op}\"}}]}}")?;
+        let entry = format!(in alloc;
+            "{comma}{{\"names\":[{names}],\"action\":\"SCMP_ACT_{action}\",\"args\":[{{\"index\":0,\"value\":{i},\"op\":\"{op}\"}}]}}"
+        )?;
         entries.push_str(entry.as_str())?;
     }
     with_entries(alloc, entries.as_str())
