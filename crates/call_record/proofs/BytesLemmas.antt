@@ -1,5 +1,6 @@
 -- The words that bytes spell.
-use Rattle.std.proofs.Common.{◌≡◌, ℕ, zero, suc, ◌+◌, ◌*◌, ◌-◌, ◌/◌, ◌%◌, ◌^◌, ◌<◌, ◌≤◌, List, [], ◌∷◌, ◌++◌, length, get_or, take, drop, length-drop, refl, ap, sym, ◌∙◌, arith}
+use Rattle.std.proofs.Common.{◌≡◌, ℕ, zero, suc, ◌+◌, ◌*◌, ◌-◌, ◌/◌, ◌%◌, ◌^◌, ◌<◌, ◌≤◌, List, [], ◌∷◌, ◌++◌, length}
+use Rattle.std.proofs.Common.{get_or, take, drop, length-drop, refl, ap, sym, ◌∙◌, arith}
 use Rattle.std.proofs.lemmas.List.{drop-drop, drop_all, take_more, length-take}
 use Rattle.std.proofs.lemmas.Slice.{take-put_mid}
 use Rattle.std.proofs.lemmas.Option.{get_or_from_slice_get, slice_get_within}
@@ -35,7 +36,8 @@ sixteen bs h = words_of-drop 16 0 bs h
 
 words_of-append : (n : ℕ) (xs ys : List ℕ) → length xs ≡ 4 * n → words_of (xs ++ ys) ≡ words_of xs ++ words_of ys
 words_of-append zero [] ys h = refl
-words_of-append (suc n) (a ∷ b ∷ c ∷ d ∷ xs) ys h = ap (λ ws. little_number 4 (a ∷ b ∷ c ∷ d ∷ []) ∷ ws) (words_of-append n xs ys (omega arith))
+words_of-append (suc n) (a ∷ b ∷ c ∷ d ∷ xs) ys h =
+    ap (λ ws. little_number 4 (a ∷ b ∷ c ∷ d ∷ []) ∷ ws) (words_of-append n xs ys (omega arith))
 words_of-append n xs ys h = absurd (omega arith)
 
 words_of-little_bytes : (w : ℕ) → w < 2 ^ 32 → words_of (little_bytes 4 w) ≡ w ∷ []
@@ -67,7 +69,9 @@ same_from_words_of zero [] [] p q f g same = refl
 same_from_words_of (suc n) (a ∷ b ∷ c ∷ d ∷ xs) (e ∷ f ∷ g ∷ h ∷ ys) p q fits fits' same =
     let head : little_number 4 (a ∷ b ∷ c ∷ d ∷ []) ≡ little_number 4 (e ∷ f ∷ g ∷ h ∷ []) = cc in
     let rest : words_of xs ≡ words_of ys = cc in
-    let bytes : (a ≡ e) × (b ≡ f) × (c ≡ g) × (d ≡ h) = four_bytes a b c d e f g h (fits 0) (fits 1) (fits 2) (fits 3) (fits' 0) (fits' 1) (fits' 2) (fits' 3) head in
-    let tail : xs ≡ ys = same_from_words_of n xs ys (omega arith) (omega arith) (λ i. fits (suc (suc (suc (suc i))))) (λ i. fits' (suc (suc (suc (suc i))))) rest in
+    let bytes : (a ≡ e) × (b ≡ f) × (c ≡ g) × (d ≡ h) =
+    four_bytes a b c d e f g h (fits 0) (fits 1) (fits 2) (fits 3) (fits' 0) (fits' 1) (fits' 2) (fits' 3) head in
+    let tail : xs ≡ ys = same_from_words_of n xs ys (omega arith) (omega arith) (λ i. fits (suc (suc (suc (suc i)))))
+    (λ i. fits' (suc (suc (suc (suc i))))) rest in
     cc
 same_from_words_of n xs ys p q f g same = absurd (omega arith)

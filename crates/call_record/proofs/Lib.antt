@@ -1,5 +1,5 @@
 pub mod RecordLemmas
 pub mod BytesLemmas
 pub mod StrictestLemmas
-pub mod LeastLemmas
+pub mod BitLemmas
 pub mod TextLemmas

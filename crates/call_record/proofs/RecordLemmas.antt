@@ -1,5 +1,6 @@
 -- The words of a record.
-use Rattle.std.proofs.Common.{sym, subst, ◌≡◌, ℕ, zero, suc, ◌+◌, ◌*◌, ◌/◌, ◌%◌, ◌^◌, List, [], ◌∷◌, ◌<◌, length, get_or, refl, ◌∙◌, ap, arith}
+use Rattle.std.proofs.Common.{sym, subst, ◌≡◌, ℕ, zero, suc, ◌+◌, ◌*◌, ◌/◌, ◌%◌, ◌^◌, List, [], ◌∷◌, ◌<◌, length}
+use Rattle.std.proofs.Common.{get_or, refl, ◌∙◌, ap, arith}
 use Rattle.std.specs.Prelude.{Some, slice_get, All}
 use Rattle.std.proofs.Props.{props}
 use Rattle.std.proofs.lemmas.List.Elements.{All-head, All-tail}
@@ -33,9 +34,12 @@ five k = omega arith
 -- an argument of the words is the argument of the fields
 pub argument-words_from : (nr arch ip : ℕ) (us : List ℕ) (j : ℕ) → argument (words_from nr arch ip us) j ≡ get_or us j 0
 argument-words_from nr arch ip us j =
-    let low : get_or (words_from nr arch ip us) (4 + 2 * j) 0 ≡ get_or us j 0 % 2 ^ 32 = ap (λ k. get_or (words_from nr arch ip us) k 0) (four (2 * j)) ∙ low_half us j in
-    let high : get_or (words_from nr arch ip us) (5 + 2 * j) 0 ≡ get_or us j 0 / 2 ^ 32 = ap (λ k. get_or (words_from nr arch ip us) k 0) (five (2 * j)) ∙ high_half us j in
-    ap (λ x. x + 2 ^ 32 * get_or (words_from nr arch ip us) (5 + 2 * j) 0) low ∙ ap (λ x. get_or us j 0 % 2 ^ 32 + 2 ^ 32 * x) high ∙ whole (get_or us j 0)
+    let low : get_or (words_from nr arch ip us) (4 + 2 * j) 0 ≡ get_or us j 0 % 2 ^ 32 =
+    ap (λ k. get_or (words_from nr arch ip us) k 0) (four (2 * j)) ∙ low_half us j in
+    let high : get_or (words_from nr arch ip us) (5 + 2 * j) 0 ≡ get_or us j 0 / 2 ^ 32 =
+    ap (λ k. get_or (words_from nr arch ip us) k 0) (five (2 * j)) ∙ high_half us j in
+    ap (λ x. x + 2 ^ 32 * get_or (words_from nr arch ip us) (5 + 2 * j) 0) low ∙ ap (λ x. get_or us j 0 % 2 ^ 32 + 2 ^ 32 * x) high
+    ∙ whole (get_or us j 0)
 
 -- each number of 64 bits is two words
 pub length-halves : (us : List ℕ) → length (halves us) ≡ 2 * length us
@@ -48,7 +52,8 @@ half_below (u ∷ us) fits zero = omega arith
 half_below (u ∷ us) fits (suc zero) = let a : u < 2 ^ 64 = fits 0 in omega arith
 half_below (u ∷ us) fits (suc (suc i)) = half_below us (λ k. fits (suc k)) i
 
-word_below : (nr arch ip : ℕ) (us : List ℕ) → nr < 2 ^ 32 → arch < 2 ^ 32 → ip < 2 ^ 64 → ((i : ℕ) → get_or us i 0 < 2 ^ 64) → (i : ℕ) → get_or (words_from nr arch ip us) i 0 < 2 ^ 32
+word_below : (nr arch ip : ℕ) (us : List ℕ) → nr < 2 ^ 32 → arch < 2 ^ 32 → ip < 2 ^ 64 → ((i : ℕ) → get_or us i 0 < 2 ^ 64) → (i : ℕ)
+    → get_or (words_from nr arch ip us) i 0 < 2 ^ 32
 word_below nr arch ip us a b d fits zero = a
 word_below nr arch ip us a b d fits (suc zero) = b
 word_below nr arch ip us a b d fits (suc (suc zero)) = omega arith
@@ -56,7 +61,8 @@ word_below nr arch ip us a b d fits (suc (suc (suc zero))) = omega arith
 word_below nr arch ip us a b d fits (suc (suc (suc (suc i)))) = half_below us fits i
 
 -- six numbers of 64 bits, and the other fields in their ranges, are a record
-pub words_from-is_record : (nr arch ip : ℕ) (us : List ℕ) → nr < 2 ^ 32 → arch < 2 ^ 32 → ip < 2 ^ 64 → length us ≡ 6 → ((i : ℕ) → get_or us i 0 < 2 ^ 64) → IsRecord (words_from nr arch ip us)
+pub words_from-is_record : (nr arch ip : ℕ) (us : List ℕ) → nr < 2 ^ 32 → arch < 2 ^ 32 → ip < 2 ^ 64 → length us ≡ 6
+    → ((i : ℕ) → get_or us i 0 < 2 ^ 64) → IsRecord (words_from nr arch ip us)
 words_from-is_record nr arch ip us a b d six fits = record {
   length_is = let e : length (halves us) ≡ 2 * length us = length-halves us in omega arith;
   words = word_below nr arch ip us a b d fits;
@@ -70,7 +76,8 @@ all_below (u ∷ us) h (suc i) = all_below us (All-tail (λ v. v < 2 ^ 64) u us 
 -- the words of a record are a record
 pub words-is_record : (r : Record) → IsRecord (words r)
 words-is_record r =
-    words_from-is_record r.nr r.arch r.ip r.args r.in_range.nr_fits r.in_range.arch_fits r.in_range.ip_fits r.in_range.six_args (all_below r.args r.in_range.args_fit)
+    words_from-is_record r.nr r.arch r.ip r.args r.in_range.nr_fits r.in_range.arch_fits r.in_range.ip_fits r.in_range.six_args
+    (all_below r.args r.in_range.args_fit)
 
 -- the words at even and at odd places
 even : (xs : List ℕ) (j : ℕ) → j < length xs → slice_get (halves xs) (2 * j) ≡ Some (get_or xs j 0 % 2 ^ 32)

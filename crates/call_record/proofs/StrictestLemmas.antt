@@ -1,10 +1,12 @@
 -- Which word is strictest, by the ranks of the actions.
-use Rattle.std.proofs.Common.{◌≡◌, ℕ, ◌+◌, ◌*◌, ◌/◌, ◌%◌, ◌^◌, ◌<◌, ◌≤◌, Bool, true, false, cond, List, [], ◌∷◌, Some, refl, ap, sym, ◌∙◌, arith, inl, inr, min, reverse}
+use Rattle.std.proofs.Common.{◌≡◌, ℕ, ◌+◌, ◌*◌, ◌/◌, ◌%◌, ◌^◌, ◌<◌, ◌≤◌, Bool, true, false, cond, List, [], ◌∷◌, Some}
+use Rattle.std.proofs.Common.{refl, ap, sym, ◌∙◌, arith, inl, inr, min, reverse}
 use Rattle.std.specs.Prelude.{◌==◌, ◌&&◌, not, find, unwrap_or, int_lt, nat_le, nat_lt, fold}
 use Rattle.std.specs.List.{All, Contains, list_all}
 use Rattle.std.proofs.lemmas.List.Elements.{All-nil, All-cons, All-weaker, All-contains}
 use Rattle.std.specs.Int.{w32, cast_signed}
-use Rattle.std.proofs.lemmas.Bool.{cases_lt, cond-true, cond-false, le-leb, lt-leb, leb-true, leb-false, ltb-true, ltb-false, le-ltb, eqb-true, or_cases}
+use Rattle.std.proofs.lemmas.Bool.{cases_lt, cond-true, cond-false, le-leb, lt-leb, leb-true, leb-false, ltb-true}
+use Rattle.std.proofs.lemmas.Bool.{ltb-false, le-ltb, eqb-true, or_cases}
 use Rattle.std.proofs.lemmas.List.Sums.{fold-append}
 use Rattle.std.proofs.lemmas.Grind.{reverse_onto}
 use Rattle.std.proofs.lemmas.Bool.Decides.{nat_tests}
@@ -90,7 +92,8 @@ strictest_of-rank : (ws : List ℕ) → strictest_of ws ≡ cond (nat_le top (le
 unfolding strictest_of
 strictest_of-rank ws =
     ap (λ b. cond b allow (unwrap_or (find (is_least ws) ws) allow)) (all_allow-rank ws)
-    ∙ ap (λ o. cond (nat_le top (least_rank ws)) allow (unwrap_or o allow)) (find_same (is_least ws) (λ v. nat_le (rank v) (least_rank ws)) (is_least-rank ws) ws)
+    ∙ ap (λ o. cond (nat_le top (least_rank ws)) allow (unwrap_or o allow))
+    (find_same (is_least ws) (λ v. nat_le (rank v) (least_rank ws)) (is_least-rank ws) ws)
 
 strictest_of-first : (ws : List ℕ) → least_rank ws < top → strictest_of ws ≡ first_at (least_rank ws) ws
 strictest_of-first ws low = strictest_of-rank ws ∙ cond-false _ allow (first_at (least_rank ws) ws) (lt-leb top (least_rank ws) low)
@@ -149,7 +152,8 @@ strictest_of-cons v ws =
       | inr high ↦ strictest_of-allow (v ∷ ws) high ∙ sym (strictest_of-allow (v ∷ s ∷ []) (omega arith))
       | inl low ↦
           let a : strictest_of (v ∷ ws) ≡ first_at t (v ∷ ws) = strictest_of-first (v ∷ ws) low in
-          let b : strictest_of (v ∷ s ∷ []) ≡ first_at t (v ∷ s ∷ []) = strictest_of-first (v ∷ s ∷ []) (omega arith) ∙ ap (λ u. first_at u (v ∷ s ∷ [])) two in
+          let b : strictest_of (v ∷ s ∷ []) ≡ first_at t (v ∷ s ∷ []) = strictest_of-first (v ∷ s ∷ []) (omega arith)
+          ∙ ap (λ u. first_at u (v ∷ s ∷ [])) two in
           elim (cases_lt t (rank v)) [
             | inr here ↦ a ∙ first_at-here t v ws here ∙ sym (b ∙ first_at-here t v (s ∷ []) here)
             | inl past ↦
@@ -169,14 +173,16 @@ older_is_stricter newer older h =
     ∙ first_at-past _ newer (older ∷ []) (omega arith)
     ∙ first_at-here _ older [] (omega arith)
 
-pub newer_allows : (newer older : ℕ) → is_stricter older newer ≡ false → (action newer == allow) ≡ true → strictest_of (newer ∷ older ∷ []) ≡ allow
+pub newer_allows : (newer older : ℕ) → is_stricter older newer ≡ false → (action newer == allow) ≡ true
+    → strictest_of (newer ∷ older ∷ []) ≡ allow
 unfolding least_rank
 newer_allows newer older h a =
     let more : rank newer ≤ rank older = ltb-false _ _ (sym (is_stricter-rank older newer) ∙ h) in
     let high : top ≤ rank newer = leb-true _ _ (sym (is_allow-rank newer) ∙ a) in
     strictest_of-allow (newer ∷ older ∷ []) (omega arith)
 
-pub newer_stays : (newer older : ℕ) → is_stricter older newer ≡ false → (action newer == allow) ≡ false → strictest_of (newer ∷ older ∷ []) ≡ newer
+pub newer_stays : (newer older : ℕ) → is_stricter older newer ≡ false → (action newer == allow) ≡ false
+    → strictest_of (newer ∷ older ∷ []) ≡ newer
 unfolding least_rank
 newer_stays newer older h a =
     let more : rank newer ≤ rank older = ltb-false _ _ (sym (is_stricter-rank older newer) ∙ h) in

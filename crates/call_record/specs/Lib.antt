@@ -1,5 +1,6 @@
 pub mod Words
 pub mod Record
 pub mod Verdict
-pub mod Least
+pub mod Ends
+pub mod Bits
 pub mod Text

@@ -1,5 +1,6 @@
 -- What a verdict word says, and which of several is strictest (seccomp(2), the return values of a filter).
-use Rattle.std.specs.Prelude.{ℕ, ◌==◌, min, Bool, not, ◌||◌, ◌&&◌, IsTrue, if◌then◌else◌, List, Option, Some, None, is_none, bit_and, unwrap_or, int_lt, find}
+use Rattle.std.specs.Prelude.{ℕ, ◌==◌, min, Bool, not, ◌||◌, IsTrue, if◌then◌else◌, List, Option, Some, None}
+use Rattle.std.specs.Prelude.{bit_and, unwrap_or, int_lt, find}
 use Rattle.std.specs.List.{list_all}
 use Rattle.std.specs.Int.{w32, cast_signed}
 
@@ -49,10 +50,6 @@ errno_of v =
     else if action v == trace then Some 38
     else if action v == user_notif then Some 38
     else None
-
--- the call is not carried out and answers nothing: its task ends
-abbrev pub ends_task : ℕ → Bool
-ends_task v = not (is_through v) && is_none (errno_of v)
 
 -- an action is read as a signed number of 32 bits, and the least is strictest
 abbrev pub is_stricter : ℕ → ℕ → Bool

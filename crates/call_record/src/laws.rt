@@ -1,11 +1,16 @@
 //! Laws of records and of verdicts that are promised to users.
 ghost use Rattle.std.specs.Prelude.{◌≡◌, Contains, length};
-ghost use Rattle.call_record.specs.Words.{words_of};
+ghost use Rattle.call_record.specs.Words.{IsRecord, words_of};
 ghost use Rattle.call_record.specs.Record.{words};
 ghost use Rattle.call_record.specs.Verdict.{IsRefusal, Through, strictest_of};
 
 use crate::layout::Record;
 use crate::verdict::Word;
+
+/// A record is sixteen words of 32 bits.
+pub fn words_are_a_record(call: &Record)
+    ensures { IsRecord (words call.now) }
+{}
 
 /// Records with the same words are the same record, so `from_bytes` gives back what `to_bytes`
 /// wrote.

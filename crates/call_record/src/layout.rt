@@ -2,6 +2,7 @@
 ghost use Rattle.call_record.specs.Words.{FieldsFit};
 
 use crate::little::{narrow_at, wide_at};
+use crate::offset;
 
 /// A call that a task presents to its filters (seccomp(2), `struct seccomp_data`).
 #[derive(Clone, Copy, Debug, PartialEq, Eq)]
@@ -27,22 +28,21 @@ impl Record {
         ensures { words result ≡ words_of bytes.now }
     {
         Record {
-            nr: narrow_at(bytes, 0),
-            arch: narrow_at(bytes, 4),
-            ip: wide_at(bytes, 8),
+            nr: narrow_at(bytes, offset::NUMBER),
+            arch: narrow_at(bytes, offset::MACHINE),
+            ip: wide_at(bytes, offset::POINTER),
             args: [
-                wide_at(bytes, 16),
-                wide_at(bytes, 24),
-                wide_at(bytes, 32),
-                wide_at(bytes, 40),
-                wide_at(bytes, 48),
-                wide_at(bytes, 56),
+                wide_at(bytes, offset::ARGUMENTS),
+                wide_at(bytes, offset::ARGUMENTS + 8),
+                wide_at(bytes, offset::ARGUMENTS + 16),
+                wide_at(bytes, offset::ARGUMENTS + 24),
+                wide_at(bytes, offset::ARGUMENTS + 32),
+                wide_at(bytes, offset::ARGUMENTS + 40),
             ],
         }
     }
 
-    /// The bytes that spell this record: `nr` at offset 0, `arch` at 4, `ip` at 8 and the arguments
-    /// from 16 on, each number with its lowest byte first.
+    /// The bytes that spell this record: each field at its [`offset`], with its lowest byte first.
     pub fn to_bytes(&self) -> [u8; 64]
         ensures { words_of result ≡ words self.now }
     {

@@ -1,5 +1,5 @@
 //! Values from outside: the layout of `struct seccomp_data`, and rows of verdicts.
-use crate::{Record, Word, least_below, least_from, lets_through, stricter, strictest};
+use crate::{Ends, Record, Word, least_below, least_from, lets_through, stricter, strictest};
 use std::test::Fail;
 
 #[test]
@@ -27,25 +27,25 @@ fn strictest_of_a_list(rt: HostRuntime) {
 
 #[test]
 fn effects_of_words(rt: HostRuntime) {
-    // the word, whether the call is carried out, the error that it answers, whether the task ends
+    // the word, whether the call is carried out, the error that it answers, what ends
     let rows = [
-        (Word(0x8000_0000), false, None, true),
-        (Word(0x0000_0000), false, None, true),
-        (Word(0x0003_0000), false, None, true),
-        (Word(0x0005_0026), false, Some(38), false),
-        (Word(0x0005_0000), false, Some(0), false),
-        (Word(0x0005_ffff), false, Some(4095), false),
-        (Word(0x7fc0_0003), false, Some(38), false),
-        (Word(0x7ff0_0001), false, Some(38), false),
-        (Word(0x7ffc_0001), true, None, false),
-        (Word(0x7fff_0001), true, None, false),
-        (Word(0x7ffd_0000), false, None, true),
-        (Word(0xffff_ffff), false, None, true),
+        (Word(0x8000_0000), false, None, Ends::Group),
+        (Word(0x0000_0000), false, None, Ends::Task),
+        (Word(0x0003_0000), false, None, Ends::Group),
+        (Word(0x0005_0026), false, Some(38), Ends::Nothing),
+        (Word(0x0005_0000), false, Some(0), Ends::Nothing),
+        (Word(0x0005_ffff), false, Some(4095), Ends::Nothing),
+        (Word(0x7fc0_0003), false, Some(38), Ends::Nothing),
+        (Word(0x7ff0_0001), false, Some(38), Ends::Nothing),
+        (Word(0x7ffc_0001), true, None, Ends::Nothing),
+        (Word(0x7fff_0001), true, None, Ends::Nothing),
+        (Word(0x7ffd_0000), false, None, Ends::Group),
+        (Word(0xffff_ffff), false, None, Ends::Group),
     ];
-    for (word, carried_out, errno, ends_task) in rows {
+    for (word, carried_out, errno, ends) in rows {
         assert_eq!(rt; lets_through(word), carried_out);
         assert_eq!(rt; word.errno(), errno);
-        assert_eq!(rt; word.ends_task(), ends_task);
+        assert_eq!(rt; word.ends(), ends);
     }
     assert_eq!(rt; Word::ERRNO.with_data(38), Word(0x0005_0026));
     assert_eq!(rt; Word(0x7ff0_0005).action(), Word::TRACE);

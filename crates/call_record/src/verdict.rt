@@ -1,6 +1,6 @@
 //! The word that a filter answers, and its effect on the call.
 ghost use Rattle.std.specs.Prelude.{◌≡◌, ◌+◌};
-ghost use Rattle.call_record.specs.Verdict.{action, datum, errno_of, ends_task, is_through};
+ghost use Rattle.call_record.specs.Verdict.{action, datum, errno_of, is_through};
 
 use std::marker::Model;
 
@@ -78,13 +78,6 @@ impl Word {
             Word::TRACE | Word::USER_NOTIF => Some(ENOSYS),
             _ => None,
         }
-    }
-
-    /// Whether the task ends: the call is not carried out, and answers no error.
-    pub fn ends_task(self) -> bool
-        ensures { result ≡ ends_task self }
-    {
-        !lets_through(self) && self.errno().is_none()
     }
 }
 

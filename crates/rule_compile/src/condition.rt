@@ -8,8 +8,8 @@ ghost use Rattle.rule_compile.specs.Code.{Grows, HasExits, IsIn, IsStart};
 use crate::assembler::Assembler;
 use crate::fault::CompileError;
 use crate::label::{Exits, Label};
-use crate::record::ARGUMENTS;
 use bpf_insn::Test;
+use call_record::offset::ARGUMENTS;
 use profile::{Cond, Op};
 
 /// A number of 64 bits as two words.

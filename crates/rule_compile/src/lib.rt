@@ -9,7 +9,6 @@ mod condition;
 mod fault;
 mod filter;
 mod label;
-mod record;
 mod search;
 
 pub use fault::CompileError;

@@ -6,5 +6,6 @@ use Rattle.call_record.proofs.strictness.strictest.Goals as goal
 
 pub returns : goal.returns
 returns c =
-    let folded : c.fold.result ≡ fold (λ older newer. strictest_of (newer ∷ older ∷ [])) allow (reverse c.args.newest_first.now) = search rules in
+    let folded : c.fold.result ≡ fold (λ older newer. strictest_of (newer ∷ older ∷ [])) allow (reverse c.args.newest_first.now) =
+    search rules in
     folded ∙ fold-strictest_of c.args.newest_first.now

@@ -11,11 +11,13 @@ pub loop-i-preserved : goal.loop-i-preserved
 loop-i-preserved c = record {
   long = grind (arith, common_steps);
   written =
-      written_more (words c.args.self.now) c.loop-i.bytes c.copy_from_slice.new.self c.loop-i.i c.word.result (omega arith) (omega arith) (omega arith)
+      written_more (words c.args.self.now) c.loop-i.bytes c.copy_from_slice.new.self c.loop-i.i c.word.result (omega arith) (omega arith)
+      (omega arith)
       c.loop-i.invariant.written c.word.ensures (c.copy_from_slice.ensures.after ∙ c.to_le_bytes.ensures);
 }
 
 pub returns : goal.returns
 returns c =
     sym (ap words_of (take_all _ c.loop-i.bytes (omega arith)))
-    ∙ (c.loop-i.invariant.written ∙ take_all c.loop-i.i (words c.args.self.now) (omega (arith, length-halves (c.args.self.now.ip ∷ c.args.self.now.args))))
+    ∙ (c.loop-i.invariant.written
+    ∙ take_all c.loop-i.i (words c.args.self.now) (omega (arith, length-halves (c.args.self.now.ip ∷ c.args.self.now.args))))

@@ -1,4 +1,5 @@
--- The least number from a start on that has given bits under a mask.
+-- Numbers that have given bits under a mask. Conditions on an argument and the facts of a certificate both
+-- name such bits, and this is the lowest crate below both.
 use Rattle.std.specs.Prelude.{◌≡◌, ℕ, ◌≤◌, bit_and}
 
 -- u is the least number from `from` on whose bits under the mask are the datum

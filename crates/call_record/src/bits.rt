@@ -1,6 +1,9 @@
-//! The least number from a start on that has given bits under a mask.
+//! Numbers that have given bits under a mask.
+//!
+//! Conditions on an argument and the facts of a certificate both name bits under a mask. This is the
+//! lowest crate below both.
 ghost use Rattle.std.specs.Prelude.{◌≡◌, ◌<◌, ◌≤◌, ◌^◌, ℕ, IfSome, IfNone, bit_and};
-ghost use Rattle.call_record.specs.Least.{IsLeastFrom};
+ghost use Rattle.call_record.specs.Bits.{IsLeastFrom};
 
 /// The least number `u` from `from` on with `u & mask == datum`. There is none where the datum has
 /// bits outside the mask, or where no such number of 64 bits is as great as `from`.

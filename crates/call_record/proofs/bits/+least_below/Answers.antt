@@ -1,6 +1,6 @@
 use Rattle.std.proofs.Common.{None, rules, ◌≡◌, ◌<◌, ◌^◌, ◌*◌, ◌-◌, arith}
-use Rattle.call_record.proofs.LeastLemmas.{least_up, none_up, pow_up, none_at_zero, bit_missing}
-use Rattle.call_record.proofs.least.+least_below.Goals as goal
+use Rattle.call_record.proofs.BitLemmas.{least_up, none_up, pow_up, none_at_zero, bit_missing}
+use Rattle.call_record.proofs.bits.+least_below.Goals as goal
 
 pub returns-then-bits-eq0-clause-none : goal.returns-then-bits-eq0-clause-none
 returns-then-bits-eq0-clause-none t c = λ v lt le e.

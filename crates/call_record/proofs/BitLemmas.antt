@@ -1,9 +1,10 @@
 -- Bits of a number by its half and its lowest bit.
-use Rattle.std.proofs.Common.{◌≡◌, ◌≢◌, ℕ, zero, suc, ◌+◌, ◌-◌, ◌*◌, ◌/◌, ◌%◌, ◌^◌, ◌<◌, ◌≤◌, bit_and, refl, sym, ◌∙◌, ap, arith, min, inl, inr}
+use Rattle.std.proofs.Common.{◌≡◌, ◌≢◌, ℕ, zero, suc, ◌+◌, ◌-◌, ◌*◌, ◌/◌, ◌%◌, ◌^◌, ◌<◌, ◌≤◌, bit_and, refl, sym, ◌∙◌}
+use Rattle.std.proofs.Common.{ap, arith, min, inl, inr}
 use Rattle.std.proofs.lemmas.Nat.{and_block, pow_pos, mod_below, pow-add, shr_split}
 use Rattle.std.proofs.lemmas.Bool.{cases_lt}
 use Rattle.std.proofs.Math.Nat.{div-eq_of_lt}
-use Rattle.call_record.specs.Least.{IsLeastFrom}
+use Rattle.call_record.specs.Bits.{IsLeastFrom}
 
 -- bits one by one
 pub and_bit : (x y : ℕ) → x < 2 → y < 2 → bit_and x y ≡ min x y
@@ -21,7 +22,8 @@ and_halves v m =
     let em : m ≡ m / 2 * 2 ^ 1 + m % 2 = omega arith in
     let lv : v % 2 < 2 ^ 1 = omega arith in
     let lm : m % 2 < 2 ^ 1 = omega arith in
-    let block : bit_and (v / 2 * 2 ^ 1 + v % 2) (m / 2 * 2 ^ 1 + m % 2) ≡ bit_and (v / 2) (m / 2) * 2 ^ 1 + bit_and (v % 2) (m % 2) = and_block 1 (v / 2) (m / 2) (v % 2) (m % 2) lv lm in
+    let block : bit_and (v / 2 * 2 ^ 1 + v % 2) (m / 2 * 2 ^ 1 + m % 2) ≡ bit_and (v / 2) (m / 2) * 2 ^ 1 + bit_and (v % 2) (m % 2) =
+    and_block 1 (v / 2) (m / 2) (v % 2) (m % 2) lv lm in
     let left : bit_and v m ≡ bit_and (v / 2 * 2 ^ 1 + v % 2) (m / 2 * 2 ^ 1 + m % 2) = cc in
     let bit : bit_and (v % 2) (m % 2) ≡ min (v % 2) (m % 2) = and_bit (v % 2) (m % 2) (omega arith) (omega arith) in
     left ∙ block ∙ ap (λ x. bit_and (v / 2) (m / 2) * 2 + x) bit
@@ -57,7 +59,8 @@ next_le from m d v ne le h =
           ]
     ]
 
-pub least_up : (from m d h : ℕ) → bit_and from m ≢ d → d % 2 ≤ m % 2 → IsLeastFrom (next_of from d) (m / 2) (d / 2) h → IsLeastFrom from m d (h * 2 + d % 2)
+pub least_up : (from m d h : ℕ) → bit_and from m ≢ d → d % 2 ≤ m % 2 → IsLeastFrom (next_of from d) (m / 2) (d / 2) h
+    → IsLeastFrom from m d (h * 2 + d % 2)
 least_up from m d h ne fits l = record {
   above = let a : next_of from d ≤ h = l.above in omega arith;
   bits =
@@ -71,7 +74,8 @@ least_up from m d h ne fits l = record {
       omega arith;
 }
 
-pub none_up : (from m d b v : ℕ) → bit_and from m ≢ d → ((w : ℕ) → w < 2 ^ b → next_of from d ≤ w → bit_and w (m / 2) ≡ d / 2 → ⊥) → v < 2 * 2 ^ b → from ≤ v → bit_and v m ≡ d → ⊥
+pub none_up : (from m d b v : ℕ) → bit_and from m ≢ d → ((w : ℕ) → w < 2 ^ b → next_of from d ≤ w → bit_and w (m / 2) ≡ d / 2 → ⊥)
+    → v < 2 * 2 ^ b → from ≤ v → bit_and v m ≡ d → ⊥
 none_up from m d b v ne none lt le e = none (v / 2) (omega arith) (next_le from m d v ne le e) (halves_down v m d e).0
 
 pub pow_up : (b : ℕ) → 0 < b → 2 ^ b ≡ 2 * 2 ^ (b - 1)
