@@ -9,7 +9,7 @@ use Rattle.profile.specs.declared.conditions.Op.{Op}
 use Rattle.profile.specs.declared.conditions.Op.TheVariants.{Ne, Lt, Le, Eq, Ge, Gt, MaskedEq}
 use Rattle.profile.specs.Operator.{mask_of, Compares}
 use Rattle.profile.specs.Condition.{Holds}
-use Rattle.call_record.specs.Least.{IsLeastFrom}
+use Rattle.call_record.specs.Bits.{IsLeastFrom}
 use Rattle.profile.specs.Meet.{IsOnePiece}
 
 spread : (a b c : ℕ) → min a (max b c) ≡ max (min a b) (min a c)
