@@ -2,12 +2,13 @@
 use Rattle.std.proofs.Common.{◌≡◌, ℕ, zero, suc, ◌+◌, ◌*◌, ◌/◌, ◌%◌, ◌<◌, ◌≤◌, ◌^◌, List, [], ◌∷◌, ◌++◌, length, drop, take, get_or, slice_index, ◌-◌, refl, ap, sym, ◌∙◌, arith}
 use Rattle.std.proofs.lemmas.Grind.{flat_map-append}
 use Rattle.std.proofs.lemmas.List.{take_more}
+use Rattle.std.proofs.lemmas.List.Elements.{All-from_recursion}
 use Rattle.std.proofs.lemmas.Slice.{take-put_mid}
 use borrow.Rule.Slice.PartMut.{put_mid}
 use Rattle.std.specs.Prelude.{Some, slice_get}
 use Rattle.std.specs.List.{AllByRecursion}
 use Rattle.bpf_insn.specs.declared.instruction.Insn.{Insn}
-use Rattle.bpf_insn.specs.Bytes.{insn_at, insn_bytes, insns_of, spelling}
+use Rattle.bpf_insn.specs.Bytes.{AreInsns, IsInsn, insn_at, insn_bytes, insns_of, spelling}
 
 -- eight bytes are one instruction
 pub length-insns_of : (bs : List ℕ) → length (insns_of bs) ≡ length bs / 8
@@ -72,3 +73,19 @@ spelled_more p d i out new h room e f =
 pub insns_of-spelling : (p : List Insn) → AllByRecursion (λ i. insn_at (insn_bytes i) ≡ i) p → insns_of (spelling p) ≡ p
 insns_of-spelling [] h = refl
 insns_of-spelling (i ∷ p) h = ap (λ first. first ∷ insns_of (spelling p)) h.0 ∙ ap (λ rest. i ∷ rest) (insns_of-spelling p h.1)
+
+-- what bytes spell has each field within its width
+ranged : (bs : List ℕ) → ((i : ℕ) → slice_index bs i < 256) → AllByRecursion IsInsn (insns_of bs)
+ranged (b0 ∷ b1 ∷ b2 ∷ b3 ∷ b4 ∷ b5 ∷ b6 ∷ b7 ∷ rest) h = (
+  in_widths b0 b1 b2 b3 b4 b5 b6 b7 rest (h 0) (h 1) (h 2) (h 3) (h 4) (h 5) (h 6) (h 7),
+  ranged rest (λ i. h (suc (suc (suc (suc (suc (suc (suc (suc i))))))))),
+) where
+  in_widths : (b0 b1 b2 b3 b4 b5 b6 b7 : ℕ) (rest : List ℕ)
+      → b0 < 256 → b1 < 256 → b2 < 256 → b3 < 256 → b4 < 256 → b5 < 256 → b6 < 256 → b7 < 256
+      → IsInsn (insn_at (b0 ∷ b1 ∷ b2 ∷ b3 ∷ b4 ∷ b5 ∷ b6 ∷ b7 ∷ rest))
+  in_widths b0 b1 b2 b3 b4 b5 b6 b7 rest h0 h1 h2 h3 h4 h5 h6 h7 =
+      record { code = omega arith; jt = h2; jf = h3; k = omega arith }
+ranged bs h = tt
+
+pub are_insns-insns_of : (bs : List ℕ) → ((i : ℕ) → slice_index bs i < 256) → AreInsns (insns_of bs)
+are_insns-insns_of bs h = All-from_recursion IsInsn (insns_of bs) (ranged bs h)

@@ -1,3 +1,4 @@
 pub mod BytesLemmas
 pub mod CodeLaws
+pub mod PlainLaws
 pub mod RunLaws

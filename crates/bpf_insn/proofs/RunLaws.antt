@@ -4,7 +4,7 @@ use Rattle.std.specs.Prelude.{Some, None, slice_get, Option}
 use Rattle.std.specs.Option.{option_map}
 use Rattle.bpf_insn.specs.declared.instruction.Insn.{Insn}
 use Rattle.bpf_insn.specs.declared.code.Operation.{Operation}
-use Rattle.bpf_insn.specs.declared.code.Operation.TheVariants.{LoadWord, SetA, SetX, ReturnK, ReturnA, Jump, Branch, Compute, ShiftLeft, ShiftRight, Negate, CopyToX, CopyToA}
+use Rattle.bpf_insn.specs.declared.code.Operation.TheVariants.{LoadWord, LoadScratch, LoadScratchX, Store, StoreX, SetA, SetX, ReturnK, ReturnA, Jump, Branch, Compute, ShiftLeft, ShiftRight, Negate, CopyToX, CopyToA}
 use Rattle.bpf_insn.specs.Code.{operation_of}
 use Rattle.bpf_insn.specs.Machine.{Registers, Step, Ends, Goes, Stuck, Ending, after_one, follow, ending, loaded, perform_if, step}
 
@@ -41,6 +41,16 @@ ending_goes (x ∷ p) (suc pc) i s r skip t next found e n =
     let there : next ≡ suc (pc + 1 + skip) = omega arith in
     ending_goes p pc i s r skip t (pc + 1 + skip) found e refl ∙ ap (λ k. after_one (ending (x ∷ p) k t r)) (sym there)
 
+-- a run whose first instruction is stuck gives nothing
+pub ending_stuck : (p : List Insn) (pc : ℕ) (i : Insn) (s : Registers) (r : List ℕ)
+    → slice_get p pc ≡ Some i → step r i s ≡ Stuck → ending p pc s r ≡ None
+ending_stuck [] pc i s r found e = cc
+ending_stuck (x ∷ p) zero i s r found e =
+    let same : x ≡ i = cc in
+    let here : step r x s ≡ Stuck = ap (λ y. step r y s) same ∙ e in
+    ap (λ done. follow done (λ skip t. ending p skip t r)) here
+ending_stuck (x ∷ p) (suc pc) i s r found e = ending_stuck p pc i s r found e
+
 -- a word that is known stays known where more words are
 slice_get-more : (r more : List ℕ) (j w : ℕ) → slice_get r j ≡ Some w → slice_get (r ++ more) j ≡ Some w
 slice_get-more [] more j w h = cc
@@ -61,6 +71,10 @@ perform_if-more : (op : Option Operation) (r more : List ℕ) (i : Insn) (s : Re
     → perform_if op r i s ≡ does → perform_if op (r ++ more) i s ≡ does
 perform_if-more None r more i s does goes h = h
 perform_if-more (Some LoadWord) r more i s does goes h = loaded-more (eqb (i.k % 4) 0) r more (i.k / 4) s does goes h
+perform_if-more (Some LoadScratch) r more i s does goes h = h
+perform_if-more (Some LoadScratchX) r more i s does goes h = h
+perform_if-more (Some Store) r more i s does goes h = h
+perform_if-more (Some StoreX) r more i s does goes h = h
 perform_if-more (Some SetA) r more i s does goes h = h
 perform_if-more (Some SetX) r more i s does goes h = h
 perform_if-more (Some ReturnK) r more i s does goes h = h
@@ -73,6 +87,9 @@ perform_if-more (Some ShiftRight) r more i s does goes h = h
 perform_if-more (Some Negate) r more i s does goes h = h
 perform_if-more (Some CopyToX) r more i s does goes h = h
 perform_if-more (Some CopyToA) r more i s does goes h = h
+
+pub step-more : (r more : List ℕ) (i : Insn) (s : Registers) (does : Step) → (does ≡ Stuck → ⊥) → step r i s ≡ does → step (r ++ more) i s ≡ does
+step-more r more i s does goes h = perform_if-more (operation_of i.code) r more i s does goes h
 
 -- what is known of a run on fewer words stays so where more words are
 pub ending-more : (p : List Insn) (pc : ℕ) (s : Registers) (r more : List ℕ) (end : ℕ × ℕ)

@@ -2,5 +2,5 @@ pub mod Code
 pub mod Machine
 pub mod Causes
 pub mod Bytes
-pub mod ViewError
+pub mod Fault
 pub mod Program

@@ -1,6 +1,6 @@
 //! Instructions and the eight bytes of each.
 ghost use Rattle.std.specs.Prelude.{◌≡◌, ◌≤◌, ◌*◌, ◌+◌, None, length, drop};
-ghost use Rattle.bpf_insn.specs.Bytes.{insn_at, insn_bytes, insns_of, spelling, view_fault};
+ghost use Rattle.bpf_insn.specs.Bytes.{insn_at, insn_bytes, insns_of, max_insns, spelling, view_fault};
 
 use crate::instruction::Insn;
 use byteorder::{ByteOrder, LittleEndian};
@@ -37,7 +37,7 @@ pub fn encode_into(insns: &[Insn], out: &mut [u8])
     requires { length out.old ≡ 8 * length insns.now }
     ensures spelled { out.new ≡ spelling insns.now }
     ensures read { insns_of out.new ≡ insns.now }
-    ensures program { 1 ≤ length insns.now → length insns.now ≤ 4096 → view_fault out.new ≡ None }
+    ensures program { 1 ≤ length insns.now → length insns.now ≤ max_insns → view_fault out.new ≡ None }
 {
     for (i, insn) in insns.iter().enumerate() {
         out[8 * i..8 * i + 8].copy_from_slice(&bytes_of(insn));

@@ -39,6 +39,14 @@ pub enum Arithmetic {
 pub enum Operation {
     /// `LD W ABS`: A becomes the word of the record at byte k.
     LoadWord,
+    /// `LD MEM`: A becomes the scratch word k.
+    LoadScratch,
+    /// `LDX MEM`: X becomes the scratch word k.
+    LoadScratchX,
+    /// `ST`: the scratch word k becomes A.
+    Store,
+    /// `STX`: the scratch word k becomes X.
+    StoreX,
     /// `LD IMM`: A becomes k.
     SetA,
     /// `LDX IMM`: X becomes k.
@@ -65,6 +73,52 @@ pub enum Operation {
     CopyToA,
 }
 
+// The parts of a code that say the operand, the test and the computation (`BPF_SRC` and `BPF_OP`).
+
+impl Operand {
+    ghost use Rattle.bpf_insn.specs.Code.{source_bits};
+
+    fn bits(self) -> u16
+        ensures { result ≡ source_bits self }
+    {
+        match self {
+            Operand::K => 0x00,
+            Operand::X => 0x08,
+        }
+    }
+}
+
+impl Test {
+    ghost use Rattle.bpf_insn.specs.Code.{test_bits};
+
+    fn bits(self) -> u16
+        ensures { result ≡ test_bits self }
+    {
+        match self {
+            Test::Equal => 0x10,
+            Test::Greater => 0x20,
+            Test::AtLeast => 0x30,
+            Test::AnyBit => 0x40,
+        }
+    }
+}
+
+impl Arithmetic {
+    ghost use Rattle.bpf_insn.specs.Code.{arithmetic_bits};
+
+    fn bits(self) -> u16
+        ensures { result ≡ arithmetic_bits self }
+    {
+        match self {
+            Arithmetic::Add => 0x00,
+            Arithmetic::Sub => 0x10,
+            Arithmetic::Or => 0x40,
+            Arithmetic::And => 0x50,
+            Arithmetic::Xor => 0xa0,
+        }
+    }
+}
+
 impl Operation {
     /// The code that stands for the operation, and no other does.
     #[tactic(auto, using(crate::proofs::CodeLaws::one_to_one))]
@@ -77,35 +131,22 @@ impl Operation {
     }
 }
 
-// The table of the codes.
 fn listed_code(operation: Operation) -> u16
     ensures { result ≡ code_of operation }
 {
     match operation {
         Operation::LoadWord => 0x20,
+        Operation::LoadScratch => 0x60,
+        Operation::LoadScratchX => 0x61,
+        Operation::Store => 0x02,
+        Operation::StoreX => 0x03,
         Operation::SetA => 0x00,
         Operation::SetX => 0x01,
         Operation::ReturnK => 0x06,
         Operation::ReturnA => 0x16,
         Operation::Jump => 0x05,
-        Operation::Branch(Test::Equal, Operand::K) => 0x15,
-        Operation::Branch(Test::Equal, Operand::X) => 0x1d,
-        Operation::Branch(Test::Greater, Operand::K) => 0x25,
-        Operation::Branch(Test::Greater, Operand::X) => 0x2d,
-        Operation::Branch(Test::AtLeast, Operand::K) => 0x35,
-        Operation::Branch(Test::AtLeast, Operand::X) => 0x3d,
-        Operation::Branch(Test::AnyBit, Operand::K) => 0x45,
-        Operation::Branch(Test::AnyBit, Operand::X) => 0x4d,
-        Operation::Compute(Arithmetic::Add, Operand::K) => 0x04,
-        Operation::Compute(Arithmetic::Add, Operand::X) => 0x0c,
-        Operation::Compute(Arithmetic::Sub, Operand::K) => 0x14,
-        Operation::Compute(Arithmetic::Sub, Operand::X) => 0x1c,
-        Operation::Compute(Arithmetic::Or, Operand::K) => 0x44,
-        Operation::Compute(Arithmetic::Or, Operand::X) => 0x4c,
-        Operation::Compute(Arithmetic::And, Operand::K) => 0x54,
-        Operation::Compute(Arithmetic::And, Operand::X) => 0x5c,
-        Operation::Compute(Arithmetic::Xor, Operand::K) => 0xa4,
-        Operation::Compute(Arithmetic::Xor, Operand::X) => 0xac,
+        Operation::Branch(test, operand) => 0x05 + test.bits() + operand.bits(),
+        Operation::Compute(arithmetic, operand) => 0x04 + arithmetic.bits() + operand.bits(),
         Operation::ShiftLeft => 0x64,
         Operation::ShiftRight => 0x74,
         Operation::Negate => 0x84,

@@ -8,12 +8,12 @@
 
 mod bytes;
 mod code;
+mod fault;
 mod instruction;
-#[cfg(test)]
-mod tests;
 mod view;
 
 pub use bytes::encode_into;
 pub use code::{Arithmetic, Operand, Operation, Test};
+pub use fault::ViewError;
 pub use instruction::Insn;
-pub use view::{Program, ViewError};
+pub use view::{MAX_INSNS, Program};

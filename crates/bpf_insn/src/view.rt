@@ -1,62 +1,13 @@
 //! A program in the bytes that spell it.
 ghost use Rattle.std.specs.Prelude.{◌≡◌, None};
-ghost use Rattle.bpf_insn.specs.Bytes.{insns_of, spelling, view_fault};
+ghost use Rattle.bpf_insn.specs.Bytes.{AreInsns, insns_of, spelling, view_fault};
 
 use crate::bytes::read_at;
+use crate::fault::ViewError;
 use crate::instruction::Insn;
-use std::fmt;
-
-/// Why bytes are no program. The causes are looked for in this order.
-#[derive(Clone, Copy, Debug, PartialEq, Eq)]
-pub enum ViewError {
-    /// The length is no multiple of 8.
-    NotMultipleOf8,
-    /// There is no byte.
-    Empty,
-    /// There are more than 4096 instructions.
-    TooLong,
-}
-
-impl ViewError {
-    ghost use Rattle.std.specs.Prelude.{◌≡◌};
-    ghost use Rattle.bpf_insn.specs.ViewError.{name_of, number_of};
-
-    /// The number by which the error is told, from 1.
-    pub fn number(self) -> u32
-        ensures { result ≡ number_of self }
-    {
-        match self {
-            ViewError::NotMultipleOf8 => 1,
-            ViewError::Empty => 2,
-            ViewError::TooLong => 3,
-        }
-    }
-
-    /// The name of the error, which it is printed by.
-    pub fn name(self) -> &'static str
-        ensures { result.now ≡ name_of self }
-    {
-        match self {
-            ViewError::NotMultipleOf8 => "NotMultipleOf8",
-            ViewError::Empty => "Empty",
-            ViewError::TooLong => "TooLong",
-        }
-    }
-}
-
-impl fmt::Display for ViewError {
-    ghost use Rattle.std.specs.Prelude.{Some};
-    ghost use Rattle.bpf_insn.specs.ViewError.{name_of};
-
-    ghost output = { λ e. Some (name_of e) };
-
-    fn fmt<W: fmt::Write>(&self, f: &mut fmt::Formatter<W>) -> fmt::Result {
-        f.write_str(self.name())
-    }
-}
 
 /// The most instructions that a program has (`BPF_MAXINSNS`).
-const LIMIT: usize = 4096;
+pub const MAX_INSNS: usize = 4096;
 
 /// A program of 1 to 4096 instructions, lent in the bytes that it was read from.
 #[derive(Clone, Copy, Debug)]
@@ -64,12 +15,13 @@ pub struct Program<'a> {
     bytes: &'a [u8],
     ghost whole: { view_fault bytes.now ≡ None },
     ghost spelled: { spelling (insns_of bytes.now) ≡ bytes.now },
+    ghost fields: { AreInsns (insns_of bytes.now) },
 }
 
 #[tactic(auto, unfolding(crate::specs::Program::insns))]
 impl<'a> Program<'a> {
     ghost use Rattle.std.specs.Prelude.{◌≡◌, ◌≤◌, ◌<◌, Some, None, MatchResult, IfOk, length, slice_get};
-    ghost use Rattle.bpf_insn.specs.Bytes.{insns_of, spelling, view_fault};
+    ghost use Rattle.bpf_insn.specs.Bytes.{AreInsns, max_insns, insns_of, spelling, view_fault};
     ghost use Rattle.bpf_insn.specs.Program.{insns};
 
     /// The program that the bytes spell, eight bytes an instruction.
@@ -79,6 +31,7 @@ impl<'a> Program<'a> {
             (λ e. view_fault bytes.now ≡ Some e) }
         ensures read { IfOk result (λ program. insns program ≡ insns_of bytes.now) }
         ensures spelled { IfOk result (λ program. spelling (insns program) ≡ bytes.now) }
+        ensures fields { IfOk result (λ program. AreInsns (insns program)) }
     {
         if bytes.len() % 8 != 0 {
             return Err(ViewError::NotMultipleOf8);
@@ -86,7 +39,7 @@ impl<'a> Program<'a> {
         if bytes.is_empty() {
             return Err(ViewError::Empty);
         }
-        if bytes.len() > 8 * LIMIT {
+        if bytes.len() > 8 * MAX_INSNS {
             return Err(ViewError::TooLong);
         }
         Ok(Program { bytes })
@@ -96,7 +49,7 @@ impl<'a> Program<'a> {
     pub fn len(&self) -> usize
         ensures count { result ≡ length (insns self.now) }
         ensures some { 1 ≤ result }
-        ensures limit { result ≤ 4096 }
+        ensures limit { result ≤ max_insns }
     {
         self.bytes.len() / 8
     }
@@ -114,6 +67,7 @@ impl<'a> Program<'a> {
         ensures spelled { result.now ≡ spelling (insns self.now) }
         ensures read { insns_of result.now ≡ insns self.now }
         ensures whole { view_fault result.now ≡ None }
+        ensures fields { AreInsns (insns self.now) }
     {
         self.bytes
     }
