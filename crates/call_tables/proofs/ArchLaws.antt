@@ -4,7 +4,7 @@ use Rattle.call_tables.specs.declared.arch.Arch.{Arch}
 use Rattle.call_tables.specs.declared.arch.Arch.TheVariants.{X86_64, Aarch64}
 use Rattle.call_tables.specs.Table.{IsInverse}
 use Rattle.call_tables.specs.Arch.{token_of, table_of}
-use Rattle.call_tables.specs.Inverse.{x86_64-inverse, aarch64-inverse}
+use Rattle.call_tables.proofs.TableLaws.{x86_64-inverse, aarch64-inverse}
 
 pub table_of-inverse : (arch : Arch) → IsInverse (table_of arch)
 table_of-inverse X86_64 = x86_64-inverse

@@ -1,4 +1,3 @@
 pub mod Table
 pub mod Machines
 pub mod Arch
-pub mod Inverse

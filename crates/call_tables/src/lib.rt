@@ -6,10 +6,11 @@
 #![tactic(auto)]
 
 mod arch;
+mod calls;
 mod machines;
 mod table;
 #[cfg(test)]
 mod tests;
 
 pub use arch::{Arch, look_ups_are_inverse};
-pub use machines::{Aarch64, Machine, X86_64};
+pub use machines::{Aarch64, Machine, X86_64, machine_look_ups_are_inverse};

@@ -1,9 +1,9 @@
-ghost use Rattle.std.specs.Prelude.{◌≡◌, ℕ, List, option_copied};
-ghost use Rattle.call_tables.specs.Table.{Table, number_in, name_in, IsInverse};
+ghost use Rattle.std.specs.Prelude.{◌≡◌, ℕ, option_copied, IsTrue, refl};
+ghost use Rattle.call_tables.specs.Table.{Table, number_in, name_in, is_one_to_one, IsInverse};
 ghost use Rattle.call_tables.specs.Machines as spec;
-ghost use Rattle.call_tables.specs.Inverse.{x86_64-inverse, aarch64-inverse};
 
-use crate::table::{AARCH64_CALLS, X86_64_CALLS, find_name, find_number};
+use crate::calls::{AARCH64_CALLS, X86_64_CALLS};
+use crate::table::{find_name, find_number};
 
 /// A machine, with the table of its calls.
 pub trait Machine {
@@ -27,8 +27,13 @@ pub trait Machine {
     fn name(number: u32) -> Option<&'static str>
         ensures { option_copied result ≡ name_in table number };
 
-    ghost inverse: { IsInverse table };
+    ghost one_to_one: { IsTrue (is_one_to_one table) };
 }
+
+/// On each machine the look-up of a name and the look-up of a number undo each other.
+pub fn machine_look_ups_are_inverse<M: Machine>()
+    ensures { IsInverse M.table }
+{}
 
 /// x86-64, with the calls of its 64-bit interface.
 #[derive(Clone, Copy, Debug)]
@@ -43,7 +48,7 @@ impl Machine for X86_64 {
 
     ghost table = { spec.x86_64_table };
 
-    ghost inverse = { x86_64-inverse };
+    ghost one_to_one = { unfold spec.x86_64_table in refl };
 
     const TOKEN: u32 = 0xc000_003e;
 
@@ -51,12 +56,12 @@ impl Machine for X86_64 {
 
     #[tactic(auto, unfolding(crate::specs::Machines::x86_64_table))]
     fn number(name: &str) -> Option<u32> {
-        find_number(&X86_64_CALLS, name)
+        find_number(X86_64_CALLS, name)
     }
 
     #[tactic(auto, unfolding(crate::specs::Machines::x86_64_table))]
     fn name(number: u32) -> Option<&'static str> {
-        find_name(&X86_64_CALLS, number)
+        find_name(X86_64_CALLS, number)
     }
 }
 
@@ -65,7 +70,7 @@ impl Machine for Aarch64 {
 
     ghost table = { spec.aarch64_table };
 
-    ghost inverse = { aarch64-inverse };
+    ghost one_to_one = { unfold spec.aarch64_table in refl };
 
     const TOKEN: u32 = 0xc000_00b7;
 
@@ -73,11 +78,11 @@ impl Machine for Aarch64 {
 
     #[tactic(auto, unfolding(crate::specs::Machines::aarch64_table))]
     fn number(name: &str) -> Option<u32> {
-        find_number(&AARCH64_CALLS, name)
+        find_number(AARCH64_CALLS, name)
     }
 
     #[tactic(auto, unfolding(crate::specs::Machines::aarch64_table))]
     fn name(number: u32) -> Option<&'static str> {
-        find_name(&AARCH64_CALLS, number)
+        find_name(AARCH64_CALLS, number)
     }
 }

@@ -1,19 +1,13 @@
 -- A table where nothing stands twice is looked up both ways alike.
-use Rattle.std.proofs.Common.{◌≡◌, ℕ, ◌==◌, ◌&&◌, Bool, true, false, List, [], ◌∷◌, Option, Some, None, is_none, refl, sym, ◌∙◌, ap, ◌⊎◌, inl, inr}
+use Rattle.std.proofs.Common.{◌≡◌, ℕ, ◌==◌, ◌&&◌, true, false, List, [], ◌∷◌, Option, Some, None, is_none}
+use Rattle.std.proofs.Common.{refl, sym, ◌∙◌, ap, inl, inr}
 use Rattle.std.specs.Str.{bytes_eq}
-use Rattle.std.proofs.lemmas.Slice.Eq.{bytes_eq-Decides}
+use Rattle.std.proofs.lemmas.Bool.{and_parts, cases_Bool}
 use Rattle.std.proofs.lemmas.Bool.Decides.{Decides-eqb}
+use Rattle.std.proofs.lemmas.Option.{same_Some}
+use Rattle.std.proofs.lemmas.Slice.Eq.{bytes_eq-Decides}
 use Rattle.call_tables.specs.Machines.{x86_64_table, aarch64_table}
 use Rattle.call_tables.specs.Table.{Table, number_in, name_in, IsInverse, is_one_to_one}
-
--- both parts of a test
-both : (a b : Bool) → (a && b) ≡ true → (a ≡ true) × (b ≡ true)
-both true b h = (refl, h)
-both false b h = (cc, cc)
-
-bool_cases : (b : Bool) → (b ≡ true) ⊎ (b ≡ false)
-bool_cases true = inl refl
-bool_cases false = inr refl
 
 not_some : {X : Type 0} (o : Option X) (x : X) → is_none o ≡ true → o ≡ Some x → ⊥
 not_some None x h e = cc
@@ -32,22 +26,19 @@ name_here n k es nr h = rw h refl
 name_past : (n : List ℕ) (k : ℕ) (es : Table) (nr : ℕ) → (k == nr) ≡ false → name_in ((n, k) ∷ es) nr ≡ name_in es nr
 name_past n k es nr h = rw h refl
 
-some_same : {X : Type 0} (x y : X) → Some x ≡ Some y → x ≡ y
-some_same x y h = cc
-
 pub named : (t : Table) → is_one_to_one t ≡ true → (name : List ℕ) (nr : ℕ) → number_in t name ≡ Some nr → name_in t nr ≡ Some name
 named [] h name nr e = cc
 named ((n, k) ∷ es) h name nr e =
-    let outer = both (is_none (number_in es n) && is_none (name_in es k)) (is_one_to_one es) h in
-    let inner = both (is_none (number_in es n)) (is_none (name_in es k)) outer.0 in
-    elim (bool_cases (bytes_eq n name)) [
+    let outer = and_parts (is_none (number_in es n) && is_none (name_in es k)) (is_one_to_one es) h in
+    let inner = and_parts (is_none (number_in es n)) (is_none (name_in es k)) outer.0 in
+    elim (cases_Bool (bytes_eq n name)) [
       | inl hit ↦
-          let same : k ≡ nr = some_same k nr (sym (number_here n k es name hit) ∙ e) in
+          let same : k ≡ nr = same_Some k nr (sym (number_here n k es name hit) ∙ e) in
           let alike : n ≡ name = (bytes_eq-Decides n name).0 hit in
           name_here n k es nr ((Decides-eqb k nr).1 same) ∙ ap Some alike
       | inr miss ↦
           let rest : name_in es nr ≡ Some name = named es outer.1 name nr (sym (number_past n k es name miss) ∙ e) in
-          elim (bool_cases (k == nr)) [
+          elim (cases_Bool (k == nr)) [
             | inl here ↦
                 let same : k ≡ nr = (Decides-eqb k nr).0 here in
                 absurd (not_some (name_in es k) name inner.1 (ap (name_in es) same ∙ rest))
@@ -58,16 +49,16 @@ named ((n, k) ∷ es) h name nr e =
 pub numbered : (t : Table) → is_one_to_one t ≡ true → (name : List ℕ) (nr : ℕ) → name_in t nr ≡ Some name → number_in t name ≡ Some nr
 numbered [] h name nr e = cc
 numbered ((n, k) ∷ es) h name nr e =
-    let outer = both (is_none (number_in es n) && is_none (name_in es k)) (is_one_to_one es) h in
-    let inner = both (is_none (number_in es n)) (is_none (name_in es k)) outer.0 in
-    elim (bool_cases (k == nr)) [
+    let outer = and_parts (is_none (number_in es n) && is_none (name_in es k)) (is_one_to_one es) h in
+    let inner = and_parts (is_none (number_in es n)) (is_none (name_in es k)) outer.0 in
+    elim (cases_Bool (k == nr)) [
       | inl hit ↦
-          let same : n ≡ name = some_same n name (sym (name_here n k es nr hit) ∙ e) in
+          let same : n ≡ name = same_Some n name (sym (name_here n k es nr hit) ∙ e) in
           let alike : k ≡ nr = (Decides-eqb k nr).0 hit in
           number_here n k es name ((bytes_eq-Decides n name).1 same) ∙ ap Some alike
       | inr miss ↦
           let rest : number_in es name ≡ Some nr = numbered es outer.1 name nr (sym (name_past n k es nr miss) ∙ e) in
-          elim (bool_cases (bytes_eq n name)) [
+          elim (cases_Bool (bytes_eq n name)) [
             | inl here ↦
                 let same : n ≡ name = (bytes_eq-Decides n name).0 here in
                 absurd (not_some (number_in es n) nr inner.0 (ap (number_in es) same ∙ rest))
