@@ -4,14 +4,13 @@ use Rattle.std.specs.Option.{ok_or}
 use Rattle.std.proofs.lemmas.Bool.Decides.{nat_tests}
 use Rattle.serde_json.specs.Data.{Data}
 use Rattle.profile_json.specs.declared.action.Action.{Action}
-use Rattle.profile_json.specs.declared.key.TheConstants as key
 use Rattle.profile_json.specs.Fault.{Fault, wrong_type, missing_key, unknown_action, errno_not_taken, errno_range}
 use Rattle.profile_json.specs.Lookup.{Member, missing, other_type, holds, member, text, whole}
 use Rattle.profile_json.specs.Names.{action_named, takes_data, word_of}
 use Rattle.profile_json.specs.Outcome.{◌>>=◌}
-use Rattle.profile_json.specs.Reading.{needed, action_at, default_of, errno_in, word_at}
-use Rattle.profile_json.specs.Meaning.{NamesAction, DefaultMeans, ErrnoMeans, none, given}
-use Rattle.profile_json.specs.Breaks.{ActionBreaks, action_text, action_unknown, ErrnoBreaks, errno_other, not_taken, large}
+use Rattle.profile_json.specs.Reading.{needed, action_at, errno_in, word_at}
+use Rattle.profile_json.specs.Meaning.{NamesAction, ErrnoMeans, none, given, WordMeans}
+use Rattle.profile_json.specs.Breaks.{ActionBreaks, action_text, action_unknown, WordBreaks, action, errno_other, not_taken, large}
 use Rattle.profile_json.proofs.Steps.{bind_ok, bind_err, ok_or_ok, ok_or_err, needed_ok, needed_breaks, needed_unbroken, holds_same, some_same, ok_same, not_ok, true_false}
 
 pub action_means : (k : List ℕ) (d : Data) (a : Action) → action_at k d ≡ Ok a → NamesAction k d a
@@ -41,21 +40,7 @@ one_action k d a b x y =
     let same : x.0 ≡ y.0 = holds_same x.0 y.0 (sym x.1 ∙ y.1) in
     some_same a b (sym x.2 ∙ ap action_named same ∙ y.2)
 
-pub default_means : (s : Data) (w : ℕ) → default_of s ≡ Ok w → DefaultMeans s w
-unfolding default_of
-default_means s w h =
-    let step = bind_ok (action_at key.DEFAULT_ACTION.now s) (λ a. Ok (word_of a 1)) w h in
-    (step.0, action_means key.DEFAULT_ACTION.now s step.0 step.1, sym (ok_same (word_of step.0 1) w step.2))
-
-pub default_breaks : (s : Data) (f : Fault) → default_of s ≡ Err f → ActionBreaks key.DEFAULT_ACTION.now s f
-unfolding default_of
-default_breaks s f h =
-    elim (bind_err (action_at key.DEFAULT_ACTION.now s) (λ a. Ok (word_of a 1)) f h) [
-      | inl bad ↦ action_breaks key.DEFAULT_ACTION.now s f bad
-      | inr step ↦ absurd (not_ok (word_of step.0 1) f step.2)
-    ]
-
--- ---- errnoRet
+-- ---- the data of an action
 
 -- the data that an action gets, by the member
 data Errno (a : Action) (m : Member ℕ) : ℕ → Type 0 where
@@ -94,59 +79,70 @@ errno_err a (holds n) e h =
       | inr at ↦ inr (n, refl, inr (not_small n at.0, at.1))
     ]
 
-errno_of_member : (d : Data) (a : Action) (n : ℕ) → Errno a (member whole key.ERRNO_RET.now d) n → ErrnoMeans d a n
-errno_of_member d a _ (no_member e) = none e
-errno_of_member d a _ (member_is n e t l) = given n e t l
+errno_of_member : (k : List ℕ) (d : Data) (a : Action) (n : ℕ) → Errno a (member whole k d) n → ErrnoMeans k d a n
+errno_of_member k d a _ (no_member e) = none e
+errno_of_member k d a _ (member_is n e t l) = given n e t l
 
--- what the word of an entry is made of
-pub record WordMeans (d : Data) (w : ℕ) : Type 0 where
-  pub action : Action
-  pub action_is : NamesAction key.ACTION.now d action
-  pub errno : ℕ
-  pub errno_is : ErrnoMeans d action errno
-  pub word_is : w ≡ word_of action errno
-
-pub word_means : (d : Data) (w : ℕ) → word_at d ≡ Ok w → WordMeans d w
+pub word_means : (ak ek : List ℕ) (d : Data) (w : ℕ) → word_at ak ek d ≡ Ok w → WordMeans ak ek d w
 unfolding word_at
-word_means d w h =
-    let at_a = bind_ok (action_at key.ACTION.now d) (λ a. errno_in a (member whole key.ERRNO_RET.now d) >>= (λ n. Ok (word_of a n))) w h in
-    let at_n = bind_ok (errno_in at_a.0 (member whole key.ERRNO_RET.now d)) (λ n. Ok (word_of at_a.0 n)) w at_a.2 in
+word_means ak ek d w h =
+    let m = member whole ek d in
+    let at_a = bind_ok (action_at ak d) (λ a. errno_in a m >>= (λ n. Ok (word_of a n))) w h in
+    let at_n = bind_ok (errno_in at_a.0 m) (λ n. Ok (word_of at_a.0 n)) w at_a.2 in
     record {
       action = at_a.0;
-      action_is = action_means key.ACTION.now d at_a.0 at_a.1;
+      action_is = action_means ak d at_a.0 at_a.1;
       errno = at_n.0;
-      errno_is = errno_of_member d at_a.0 at_n.0 (errno_ok at_a.0 (member whole key.ERRNO_RET.now d) at_n.0 at_n.1);
+      errno_is = errno_of_member ek d at_a.0 at_n.0 (errno_ok at_a.0 m at_n.0 at_n.1);
       word_is = sym (ok_same (word_of at_a.0 at_n.0) w at_n.2);
     }
 
-pub word_breaks : (d : Data) (f : Fault) → word_at d ≡ Err f → ActionBreaks key.ACTION.now d f ⊎ ErrnoBreaks d f
+pub word_breaks : (ak ek : List ℕ) (d : Data) (f : Fault) → word_at ak ek d ≡ Err f → WordBreaks ak ek d f
 unfolding word_at
-word_breaks d f h =
-    elim (bind_err (action_at key.ACTION.now d) (λ a. errno_in a (member whole key.ERRNO_RET.now d) >>= (λ n. Ok (word_of a n))) f h) [
-      | inl bad ↦ inl (action_breaks key.ACTION.now d f bad)
-      | inr at_a ↦ elim (bind_err (errno_in at_a.0 (member whole key.ERRNO_RET.now d)) (λ n. Ok (word_of at_a.0 n)) f at_a.2) [
+word_breaks ak ek d f h =
+    let m = member whole ek d in
+    elim (bind_err (action_at ak d) (λ a. errno_in a m >>= (λ n. Ok (word_of a n))) f h) [
+      | inl bad ↦ action f (action_breaks ak d f bad)
+      | inr at_a ↦ elim (bind_err (errno_in at_a.0 m) (λ n. Ok (word_of at_a.0 n)) f at_a.2) [
         | inr at_n ↦ absurd (not_ok (word_of at_a.0 at_n.0) f at_n.2)
-        | inl bad ↦ elim (errno_err at_a.0 (member whole key.ERRNO_RET.now d) f bad) [
-          | inl at ↦ inr (subst (ErrnoBreaks d) at.1 (errno_other at.0))
+        | inl bad ↦ elim (errno_err at_a.0 m f bad) [
+          | inl at ↦ subst (WordBreaks ak ek d) at.1 (errno_other at.0)
           | inr at ↦ elim at.2 [
-            | inl without ↦ inr (subst (ErrnoBreaks d) without.1 (not_taken at_a.0 at.0 (action_means key.ACTION.now d at_a.0 at_a.1) without.0 at.1))
-            | inr big ↦ inr (subst (ErrnoBreaks d) big.1 (large at.0 at.1 big.0))
+            | inl without ↦ subst (WordBreaks ak ek d) without.1 (not_taken at_a.0 at.0 (action_means ak d at_a.0 at_a.1) without.0 at.1)
+            | inr big ↦ subst (WordBreaks ak ek d) big.1 (large at.0 at.1 big.0)
           ]
         ]
       ]
     ]
 
-other_no : (d : Data) (a : Action) (n : ℕ) → ErrnoMeans d a n → member whole key.ERRNO_RET.now d ≡ other_type → ⊥
-other_no d a _ (none e) h = let both : ◌≡◌ {A = Member ℕ} missing other_type = sym e ∙ h in cc
-other_no d a _ (given n e t l) h = let both : holds n ≡ other_type = sym e ∙ h in cc
+other_no : (k : List ℕ) (d : Data) (a : Action) (n : ℕ) → ErrnoMeans k d a n → member whole k d ≡ other_type → ⊥
+other_no k d a _ (none e) h = let both : ◌≡◌ {A = Member ℕ} missing other_type = sym e ∙ h in cc
+other_no k d a _ (given n e t l) h = let both : holds n ≡ other_type = sym e ∙ h in cc
 
-given_is : (d : Data) (a : Action) (n k : ℕ) → ErrnoMeans d a n → member whole key.ERRNO_RET.now d ≡ holds k → (takes_data a ≡ true) × (k ≤ 4095)
-given_is d a _ k (none e) h = let both : ◌≡◌ {A = Member ℕ} missing (holds k) = sym e ∙ h in cc
-given_is d a _ k (given n e t l) h = let same : n ≡ k = holds_same n k (sym e ∙ h) in (t, subst (λ x. x ≤ 4095) same l)
+given_is : (k : List ℕ) (d : Data) (a : Action) (n x : ℕ) → ErrnoMeans k d a n → member whole k d ≡ holds x → (takes_data a ≡ true) × (x ≤ 4095) × (n ≡ x)
+given_is k d a _ x (none e) h = let both : ◌≡◌ {A = Member ℕ} missing (holds x) = sym e ∙ h in cc
+given_is k d a _ x (given n e t l) h = let same : n ≡ x = holds_same n x (sym e ∙ h) in (t, subst (λ y. y ≤ 4095) same l, same)
 
-pub errno_unbroken : (d : Data) (a : Action) (n : ℕ) (f : Fault) → NamesAction key.ACTION.now d a → ErrnoMeans d a n → ErrnoBreaks d f → ⊥
-errno_unbroken d a n _ x m (errno_other e) = other_no d a n m e
-errno_unbroken d a n _ x m (not_taken b k y t e) =
-    let same : a ≡ b = one_action key.ACTION.now d a b x y in
-    true_false (takes_data a) (given_is d a n k m e).0 (ap takes_data same ∙ t)
-errno_unbroken d a n _ x m (large k e l) = let le = (given_is d a n k m e).1 in omega (arith, le, l)
+pub word_unbroken : (ak ek : List ℕ) (d : Data) (w : ℕ) (f : Fault) → WordMeans ak ek d w → WordBreaks ak ek d f → ⊥
+word_unbroken ak ek d w f m (action _ bad) = action_unbroken ak d m.action f m.action_is bad
+word_unbroken ak ek d w _ m (errno_other e) = other_no ek d m.action m.errno m.errno_is e
+word_unbroken ak ek d w _ m (not_taken b x y t e) =
+    let same : m.action ≡ b = one_action ak d m.action b m.action_is y in
+    true_false (takes_data m.action) (given_is ek d m.action m.errno x m.errno_is e).0 (ap takes_data same ∙ t)
+word_unbroken ak ek d w _ m (large x e l) = let le = (given_is ek d m.action m.errno x m.errno_is e).1 in omega (arith, le, l)
+
+-- ---- one word
+
+errno_missing : (k : List ℕ) (d : Data) (a : Action) (n : ℕ) → ErrnoMeans k d a n → member whole k d ≡ missing → n ≡ 1
+errno_missing k d a _ (none e) h = refl
+errno_missing k d a _ (given n e t l) h = let both : holds n ≡ missing = sym e ∙ h in cc
+
+one_errno : (k : List ℕ) (d : Data) (a b : Action) (n x : ℕ) → ErrnoMeans k d a n → ErrnoMeans k d b x → n ≡ x
+one_errno k d a b n _ m (none e) = errno_missing k d a n m e
+one_errno k d a b n _ m (given x e t l) = (given_is k d a n x m e).2
+
+pub one_word : (ak ek : List ℕ) (d : Data) (v w : ℕ) → WordMeans ak ek d v → WordMeans ak ek d w → v ≡ w
+one_word ak ek d v w m n =
+    let actions : m.action ≡ n.action = one_action ak d m.action n.action m.action_is n.action_is in
+    let data_same : m.errno ≡ n.errno = one_errno ek d m.action n.action m.errno n.errno m.errno_is n.errno_is in
+    m.word_is ∙ ap (λ a. word_of a m.errno) actions ∙ ap (word_of n.action) data_same ∙ sym n.word_is

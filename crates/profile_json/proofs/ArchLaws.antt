@@ -5,7 +5,7 @@ use Rattle.std.specs.List.{AllZip, Contains, list_any}
 use Rattle.serde_json.specs.Data.{Data}
 use Rattle.call_tables.specs.declared.arch.Arch.{Arch}
 use Rattle.call_tables.specs.declared.arch.Arch.TheVariants.{X86_64, Aarch64}
-use Rattle.profile_json.specs.declared.key.TheConstants as key
+use Rattle.profile_json.specs.Keys as key
 use Rattle.profile_json.specs.Fault.{Fault, wrong_type, unknown_arch, native_missing}
 use Rattle.profile_json.specs.Lookup.{member, or_default, text, list}
 use Rattle.profile_json.specs.Names.{arch_named}
@@ -54,7 +54,7 @@ archs_break (d ∷ ds) f h =
       ]
     ]
 
-value_breaks : (s : Data) (native : Arch) (ds : List Data) (d : Data) (f : Fault) → or_default [] (member list key.ARCHITECTURES.now s) ≡ Some ds → Contains ds d → ArchBreaks d f → ArchsBreak s native f
+value_breaks : (s : Data) (native : Arch) (ds : List Data) (d : Data) (f : Fault) → or_default [] (member list key.architectures s) ≡ Some ds → Contains ds d → ArchBreaks d f → ArchsBreak s native f
 value_breaks s native ds d _ at in_ds (has_no_text e) = no_text ds d at in_ds e
 value_breaks s native ds d _ at in_ds (is_unknown name e u) = unknown ds d name at in_ds e u
 
@@ -96,7 +96,7 @@ native_lists a (b ∷ bs) h =
       | inr later ↦ or_true (same_arch a b) (list_any (same_arch a) bs) (native_lists a bs later)
     ]
 
-lists_of : (s : Data) (native : Arch) (ds : List Data) (archs : List Arch) → or_default [] (member list key.ARCHITECTURES.now s) ≡ Some ds → archs_or_native native ds ≡ Ok archs → ListsArchs s native archs
+lists_of : (s : Data) (native : Arch) (ds : List Data) (archs : List Arch) → or_default [] (member list key.architectures s) ≡ Some ds → archs_or_native native ds ≡ Ok archs → ListsArchs s native archs
 lists_of s native ds archs at h =
     let step = bind_ok (archs_in ds) (λ xs0. Ok (or_native native xs0)) archs h in
     record { values = ds; values_are = at; named = step.0; names = archs_mean ds step.0 step.1; archs_are = sym (ok_same (or_native native step.0) archs step.2) }
@@ -104,19 +104,19 @@ lists_of s native ds archs at h =
 pub lists_archs : (s : Data) (native : Arch) (archs : List Arch) → archs_of native s ≡ Ok archs → ListsArchs s native archs × Contains archs native
 unfolding archs_of
 lists_archs s native archs h =
-    let at_d = bind_ok (typed (or_default [] (member list key.ARCHITECTURES.now s))) (λ ds. archs_or_native native ds >>= (λ xs0. cond (list_any (same_arch native) xs0) (Ok xs0) (Err native_missing))) archs h in
+    let at_d = bind_ok (typed (or_default [] (member list key.architectures s))) (λ ds. archs_or_native native ds >>= (λ xs0. cond (list_any (same_arch native) xs0) (Ok xs0) (Err native_missing))) archs h in
     let at_a = bind_ok (archs_or_native native at_d.0) (λ xs0. cond (list_any (same_arch native) xs0) (Ok xs0) (Err native_missing)) archs at_d.2 in
     let found = cond_ok (list_any (same_arch native) at_a.0) native_missing at_a.0 archs at_a.2 in
-    let lists = lists_of s native at_d.0 at_a.0 (ok_or_ok (or_default [] (member list key.ARCHITECTURES.now s)) wrong_type at_d.0 at_d.1) at_a.1 in
+    let lists = lists_of s native at_d.0 at_a.0 (ok_or_ok (or_default [] (member list key.architectures s)) wrong_type at_d.0 at_d.1) at_a.1 in
     (subst (ListsArchs s native) found.1 lists, subst (λ (xs0 : List Arch). Contains xs0 native) found.1 (lists_native native at_a.0 found.0))
 
 pub archs_refused : (s : Data) (native : Arch) (f : Fault) → archs_of native s ≡ Err f → ArchsBreak s native f
 unfolding archs_of
 archs_refused s native f h =
-    elim (bind_err (typed (or_default [] (member list key.ARCHITECTURES.now s))) (λ ds. archs_or_native native ds >>= (λ xs0. cond (list_any (same_arch native) xs0) (Ok xs0) (Err native_missing))) f h) [
-      | inl bad ↦ (let at = ok_or_err (or_default [] (member list key.ARCHITECTURES.now s)) wrong_type f bad in subst (ArchsBreak s native) at.1 (no_list at.0))
+    elim (bind_err (typed (or_default [] (member list key.architectures s))) (λ ds. archs_or_native native ds >>= (λ xs0. cond (list_any (same_arch native) xs0) (Ok xs0) (Err native_missing))) f h) [
+      | inl bad ↦ (let at = ok_or_err (or_default [] (member list key.architectures s)) wrong_type f bad in subst (ArchsBreak s native) at.1 (no_list at.0))
       | inr at_d ↦
-          let values = ok_or_ok (or_default [] (member list key.ARCHITECTURES.now s)) wrong_type at_d.0 at_d.1 in
+          let values = ok_or_ok (or_default [] (member list key.architectures s)) wrong_type at_d.0 at_d.1 in
           elim (bind_err (archs_or_native native at_d.0) (λ xs0. cond (list_any (same_arch native) xs0) (Ok xs0) (Err native_missing)) f at_d.2) [
             | inl bad ↦ elim (bind_err (archs_in at_d.0) (λ xs0. Ok (or_native native xs0)) f bad) [
               | inl worse ↦ (let at = archs_break at_d.0 f worse in value_breaks s native at_d.0 at.0 f values at.1 at.2)
@@ -164,7 +164,7 @@ named_at (e ∷ ds) (a ∷ archs) d p h =
     ]
 
 pub archs_unbroken : (s : Data) (native : Arch) (archs : List Arch) (f : Fault) → ListsArchs s native archs → Contains archs native → ArchsBreak s native f → ⊥
-archs_unbroken s native archs _ m has (no_list e) = none_some (or_default [] (member list key.ARCHITECTURES.now s)) m.values e m.values_are
+archs_unbroken s native archs _ m has (no_list e) = none_some (or_default [] (member list key.architectures s)) m.values e m.values_are
 archs_unbroken s native archs _ m has (no_text ds d at in_ds e) =
     let same : m.values ≡ ds = some_same m.values ds (sym m.values_are ∙ at) in
     let name = named_at m.values m.named d m.names (subst (λ xs. Contains xs d) (sym same) in_ds) in

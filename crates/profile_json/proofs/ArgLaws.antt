@@ -6,7 +6,7 @@ use Rattle.std.proofs.lemmas.Bool.Decides.{nat_tests, Decides-eqb}
 use Rattle.serde_json.specs.Data.{Data}
 use Rattle.profile.specs.declared.conditions.Op.{Op}
 use Rattle.profile.specs.Operator.{mask_of}
-use Rattle.profile_json.specs.declared.key.TheConstants as key
+use Rattle.profile_json.specs.Keys as key
 use Rattle.profile_json.specs.Fault.{Fault, wrong_type, missing_key, unknown_op, bad_index, repeated_index, stray_datum}
 use Rattle.profile_json.specs.Parts.{CondParts}
 use Rattle.profile_json.specs.Lookup.{Member, missing, other_type, holds, member, or_default, object, text, whole}
@@ -37,30 +37,30 @@ not_lower i h = grind (arith, nat_tests)
 
 -- a small index that no condition in front has
 record IsIndex (front : List CondParts) (d : Data) (i : ℕ) : Type 0 where
-  is : member whole key.INDEX.now d ≡ holds i
+  is : member whole key.index d ≡ holds i
   small : i < 6
   fresh : list_any (λ c. c.index == i) front ≡ false
 
 index_ok : (front : List CondParts) (d : Data) (x : ℕ) → index_at front d ≡ Ok x → IsIndex front d x
 unfolding index_at
 index_ok front d x h =
-    let step = bind_ok (needed missing_key (member whole key.INDEX.now d)) (λ i. cond (nat_lt i 6) (cond (list_any (λ c. c.index == i) front) (Err repeated_index) (Ok i)) (Err bad_index)) x h in
+    let step = bind_ok (needed missing_key (member whole key.index d)) (λ i. cond (nat_lt i 6) (cond (list_any (λ c. c.index == i) front) (Err repeated_index) (Ok i)) (Err bad_index)) x h in
     let at = index_test (nat_lt step.0 6) (list_any (λ c. c.index == step.0) front) step.0 x step.2 in
-    let found : IsIndex front d step.0 = record { is = needed_ok missing_key (member whole key.INDEX.now d) step.0 step.1; small = lower step.0 at.0; fresh = at.1 } in
+    let found : IsIndex front d step.0 = record { is = needed_ok missing_key (member whole key.index d) step.0 step.1; small = lower step.0 at.0; fresh = at.1 } in
     subst (IsIndex front d) at.2 found
 
 -- why a member is refused: it breaks a rule, or its index stands in front
 pub data Refused (front : List CondParts) (d : Data) : Fault → Type 0 where
   alone : (f : Fault) → ArgBreaks d f → Refused front d f
-  repeated : (i : ℕ) → member whole key.INDEX.now d ≡ holds i → list_any (λ c. c.index == i) front ≡ true → Refused front d repeated_index
+  repeated : (i : ℕ) → member whole key.index d ≡ holds i → list_any (λ c. c.index == i) front ≡ true → Refused front d repeated_index
 
-index_err : (front : List CondParts) (d : Data) (f : Fault) → index_at front d ≡ Err f → Refused front d f
+index_err : (front : List CondParts) (d : Data) (f : Fault) → IsSome (object d) → index_at front d ≡ Err f → Refused front d f
 unfolding index_at
-index_err front d f h =
-    elim (bind_err (needed missing_key (member whole key.INDEX.now d)) (λ i. cond (nat_lt i 6) (cond (list_any (λ c. c.index == i) front) (Err repeated_index) (Ok i)) (Err bad_index)) f h) [
-      | inl bad ↦ alone f (index_whole f (needed_breaks (member whole key.INDEX.now d) f bad))
+index_err front d f is_object h =
+    elim (bind_err (needed missing_key (member whole key.index d)) (λ i. cond (nat_lt i 6) (cond (list_any (λ c. c.index == i) front) (Err repeated_index) (Ok i)) (Err bad_index)) f h) [
+      | inl bad ↦ alone f (index_whole f is_object (needed_breaks (member whole key.index d) f bad))
       | inr step ↦
-          let is = needed_ok missing_key (member whole key.INDEX.now d) step.0 step.1 in
+          let is = needed_ok missing_key (member whole key.index d) step.0 step.1 in
           elim (index_fault (nat_lt step.0 6) (list_any (λ c. c.index == step.0) front) step.0 f step.2) [
             | inl big ↦ subst (Refused front d) big.1 (alone bad_index (index_large step.0 is (not_lower step.0 big.0)))
             | inr seen ↦ subst (Refused front d) seen.1 (repeated step.0 is seen.0)
@@ -71,21 +71,21 @@ index_err front d f h =
 
 record IsOp (d : Data) (o : Op) : Type 0 where
   name : List ℕ
-  is : member text key.OP.now d ≡ holds name
+  is : member text key.op d ≡ holds name
   named : op_named name ≡ Some o
 
 op_ok : (d : Data) (o : Op) → op_at d ≡ Ok o → IsOp d o
 unfolding op_at
 op_ok d o h =
-    let step = bind_ok (needed missing_key (member text key.OP.now d)) (λ name. ok_or (op_named name) unknown_op) o h in
-    record { name = step.0; is = needed_ok missing_key (member text key.OP.now d) step.0 step.1; named = ok_or_ok (op_named step.0) unknown_op o step.2 }
+    let step = bind_ok (needed missing_key (member text key.op d)) (λ name. ok_or (op_named name) unknown_op) o h in
+    record { name = step.0; is = needed_ok missing_key (member text key.op d) step.0 step.1; named = ok_or_ok (op_named step.0) unknown_op o step.2 }
 
-op_err : (d : Data) (f : Fault) → op_at d ≡ Err f → ArgBreaks d f
+op_err : (d : Data) (f : Fault) → IsSome (object d) → op_at d ≡ Err f → ArgBreaks d f
 unfolding op_at
-op_err d f h =
-    elim (bind_err (needed missing_key (member text key.OP.now d)) (λ name. ok_or (op_named name) unknown_op) f h) [
-      | inl bad ↦ op_text f (needed_breaks (member text key.OP.now d) f bad)
-      | inr step ↦ (let at = ok_or_err (op_named step.0) unknown_op f step.2 in subst (ArgBreaks d) at.1 (op_unknown step.0 (needed_ok missing_key (member text key.OP.now d) step.0 step.1) at.0))
+op_err d f is_object h =
+    elim (bind_err (needed missing_key (member text key.op d)) (λ name. ok_or (op_named name) unknown_op) f h) [
+      | inl bad ↦ op_text f is_object (needed_breaks (member text key.op d) f bad)
+      | inr step ↦ (let at = ok_or_err (op_named step.0) unknown_op f step.2 in subst (ArgBreaks d) at.1 (op_unknown step.0 (needed_ok missing_key (member text key.op d) step.0 step.1) at.0))
     ]
 
 -- ---- a member of `args`
@@ -100,13 +100,13 @@ parts_of index op value datum = record { index = index; op = op; value = value; 
 
 -- the condition that an object says, where its index is not in front
 arg_ok_in : (front : List CondParts) (d : Data) (c : CondParts) → IsSome (object d)
-    → (index_at front d >>= (λ index. needed missing_key (member whole key.VALUE.now d) >>= (λ value. typed (or_default 0 (member whole key.VALUE_TWO.now d)) >>= (λ two. op_at d >>= (λ op. cond_of index op value two))))) ≡ Ok c
+    → (index_at front d >>= (λ index. needed missing_key (member whole key.value d) >>= (λ value. typed (or_default 0 (member whole key.value_two d)) >>= (λ two. op_at d >>= (λ op. cond_of index op value two))))) ≡ Ok c
     → ArgMeans d c × (list_any (λ x. x.index == c.index) front ≡ false)
 unfolding cond_of
 arg_ok_in front d c is_object h =
-    let at_i = bind_ok (index_at front d) (λ index. needed missing_key (member whole key.VALUE.now d) >>= (λ value. typed (or_default 0 (member whole key.VALUE_TWO.now d)) >>= (λ two. op_at d >>= (λ op. cond_of index op value two)))) c h in
-    let at_v = bind_ok (needed missing_key (member whole key.VALUE.now d)) (λ value. typed (or_default 0 (member whole key.VALUE_TWO.now d)) >>= (λ two. op_at d >>= (λ op. cond_of at_i.0 op value two))) c at_i.2 in
-    let at_t = bind_ok (typed (or_default 0 (member whole key.VALUE_TWO.now d))) (λ two. op_at d >>= (λ op. cond_of at_i.0 op at_v.0 two)) c at_v.2 in
+    let at_i = bind_ok (index_at front d) (λ index. needed missing_key (member whole key.value d) >>= (λ value. typed (or_default 0 (member whole key.value_two d)) >>= (λ two. op_at d >>= (λ op. cond_of index op value two)))) c h in
+    let at_v = bind_ok (needed missing_key (member whole key.value d)) (λ value. typed (or_default 0 (member whole key.value_two d)) >>= (λ two. op_at d >>= (λ op. cond_of at_i.0 op value two))) c at_i.2 in
+    let at_t = bind_ok (typed (or_default 0 (member whole key.value_two d))) (λ two. op_at d >>= (λ op. cond_of at_i.0 op at_v.0 two)) c at_v.2 in
     let at_o = bind_ok (op_at d) (λ op. cond_of at_i.0 op at_v.0 at_t.0) c at_t.2 in
     let datum : ℕ = mask_of at_o.0 at_t.0 in
     let made : CondParts = record { index = at_i.0; op = at_o.0; value = at_v.0; datum = datum } in
@@ -117,9 +117,9 @@ arg_ok_in front d c is_object h =
       is_object = is_object;
       index_is = index.is;
       index_small = index.small;
-      value_is = needed_ok missing_key (member whole key.VALUE.now d) at_v.0 at_v.1;
+      value_is = needed_ok missing_key (member whole key.value d) at_v.0 at_v.1;
       second = at_t.0;
-      second_is = ok_or_ok (or_default 0 (member whole key.VALUE_TWO.now d)) wrong_type at_t.0 at_t.1;
+      second_is = ok_or_ok (or_default 0 (member whole key.value_two d)) wrong_type at_t.0 at_t.1;
       op_name = op.name;
       op_text = op.is;
       op_is = op.named;
@@ -131,31 +131,31 @@ arg_ok_in front d c is_object h =
 pub arg_ok : (front : List CondParts) (d : Data) (c : CondParts) → arg_of front d ≡ Ok c → ArgMeans d c × (list_any (λ x. x.index == c.index) front ≡ false)
 unfolding arg_of
 arg_ok front d c h =
-    let at = bind_ok (typed (object d)) (λ o. index_at front o >>= (λ index. needed missing_key (member whole key.VALUE.now o) >>= (λ value. typed (or_default 0 (member whole key.VALUE_TWO.now o)) >>= (λ two. op_at o >>= (λ op. cond_of index op value two))))) c h in
+    let at = bind_ok (typed (object d)) (λ o. index_at front o >>= (λ index. needed missing_key (member whole key.value o) >>= (λ value. typed (or_default 0 (member whole key.value_two o)) >>= (λ two. op_at o >>= (λ op. cond_of index op value two))))) c h in
     let o = object_is d at.0 at.1 in
     let some : IsSome (object at.0) = subst (λ (x : Data). IsSome (object x)) o.1 o.0 in
     subst (λ (x : Data). ArgMeans x c × (list_any (λ y. y.index == c.index) front ≡ false)) (sym o.1) (arg_ok_in front at.0 c some at.2)
 
-arg_err_in : (front : List CondParts) (d : Data) (f : Fault)
-    → (index_at front d >>= (λ index. needed missing_key (member whole key.VALUE.now d) >>= (λ value. typed (or_default 0 (member whole key.VALUE_TWO.now d)) >>= (λ two. op_at d >>= (λ op. cond_of index op value two))))) ≡ Err f
+arg_err_in : (front : List CondParts) (d : Data) (f : Fault) → IsSome (object d)
+    → (index_at front d >>= (λ index. needed missing_key (member whole key.value d) >>= (λ value. typed (or_default 0 (member whole key.value_two d)) >>= (λ two. op_at d >>= (λ op. cond_of index op value two))))) ≡ Err f
     → Refused front d f
 unfolding cond_of
-arg_err_in front d f h =
-    elim (bind_err (index_at front d) (λ index. needed missing_key (member whole key.VALUE.now d) >>= (λ value. typed (or_default 0 (member whole key.VALUE_TWO.now d)) >>= (λ two. op_at d >>= (λ op. cond_of index op value two)))) f h) [
-      | inl bad ↦ index_err front d f bad
-      | inr at_i ↦ elim (bind_err (needed missing_key (member whole key.VALUE.now d)) (λ value. typed (or_default 0 (member whole key.VALUE_TWO.now d)) >>= (λ two. op_at d >>= (λ op. cond_of at_i.0 op value two))) f at_i.2) [
-        | inl bad ↦ alone f (value_whole f (needed_breaks (member whole key.VALUE.now d) f bad))
-        | inr at_v ↦ elim (bind_err (typed (or_default 0 (member whole key.VALUE_TWO.now d))) (λ two. op_at d >>= (λ op. cond_of at_i.0 op at_v.0 two)) f at_v.2) [
-          | inl bad ↦ (let at = ok_or_err (or_default 0 (member whole key.VALUE_TWO.now d)) wrong_type f bad in subst (Refused front d) at.1 (alone wrong_type (second_other (second_none d (member whole key.VALUE_TWO.now d) at.0))))
+arg_err_in front d f is_object h =
+    elim (bind_err (index_at front d) (λ index. needed missing_key (member whole key.value d) >>= (λ value. typed (or_default 0 (member whole key.value_two d)) >>= (λ two. op_at d >>= (λ op. cond_of index op value two)))) f h) [
+      | inl bad ↦ index_err front d f is_object bad
+      | inr at_i ↦ elim (bind_err (needed missing_key (member whole key.value d)) (λ value. typed (or_default 0 (member whole key.value_two d)) >>= (λ two. op_at d >>= (λ op. cond_of at_i.0 op value two))) f at_i.2) [
+        | inl bad ↦ alone f (value_whole f is_object (needed_breaks (member whole key.value d) f bad))
+        | inr at_v ↦ elim (bind_err (typed (or_default 0 (member whole key.value_two d))) (λ two. op_at d >>= (λ op. cond_of at_i.0 op at_v.0 two)) f at_v.2) [
+          | inl bad ↦ (let at = ok_or_err (or_default 0 (member whole key.value_two d)) wrong_type f bad in subst (Refused front d) at.1 (alone wrong_type (second_other (second_none d (member whole key.value_two d) at.0))))
           | inr at_t ↦ elim (bind_err (op_at d) (λ op. cond_of at_i.0 op at_v.0 at_t.0) f at_t.2) [
-            | inl bad ↦ alone f (op_err d f bad)
+            | inl bad ↦ alone f (op_err d f is_object bad)
             | inr at_o ↦
                 let datum : ℕ = mask_of at_o.0 at_t.0 in
                 let op = op_ok d at_o.0 at_o.1 in
                 let last = cond_err (bit_and datum (mask_of at_o.0 at_v.0) == datum) stray_datum f (record { index = at_i.0; op = at_o.0; value = at_v.0; datum = datum }) at_o.2 in
                 let apart : bit_and datum (mask_of at_o.0 at_v.0) ≢ datum = λ (same : bit_and datum (mask_of at_o.0 at_v.0) ≡ datum). true_false (bit_and datum (mask_of at_o.0 at_v.0) == datum) ((Decides-eqb (bit_and datum (mask_of at_o.0 at_v.0)) datum).1 same) last.0 in
-                let value = needed_ok missing_key (member whole key.VALUE.now d) at_v.0 at_v.1 in
-                let second = ok_or_ok (or_default 0 (member whole key.VALUE_TWO.now d)) wrong_type at_t.0 at_t.1 in
+                let value = needed_ok missing_key (member whole key.value d) at_v.0 at_v.1 in
+                let second = ok_or_ok (or_default 0 (member whole key.value_two d)) wrong_type at_t.0 at_t.1 in
                 subst (Refused front d) last.1 (alone stray_datum (stray op.name at_o.0 at_v.0 at_t.0 op.is op.named value second apart))
           ]
         ]
@@ -165,21 +165,24 @@ arg_err_in front d f h =
 pub arg_err : (front : List CondParts) (d : Data) (f : Fault) → arg_of front d ≡ Err f → Refused front d f
 unfolding arg_of
 arg_err front d f h =
-    elim (bind_err (typed (object d)) (λ o. index_at front o >>= (λ index. needed missing_key (member whole key.VALUE.now o) >>= (λ value. typed (or_default 0 (member whole key.VALUE_TWO.now o)) >>= (λ two. op_at o >>= (λ op. cond_of index op value two))))) f h) [
+    elim (bind_err (typed (object d)) (λ o. index_at front o >>= (λ index. needed missing_key (member whole key.value o) >>= (λ value. typed (or_default 0 (member whole key.value_two o)) >>= (λ two. op_at o >>= (λ op. cond_of index op value two))))) f h) [
       | inl bad ↦ (let at = object_not d f bad in subst (Refused front d) at.1 (alone wrong_type (no_object at.0)))
-      | inr at ↦ (let o = object_is d at.0 at.1 in subst (λ (x : Data). Refused front x f) (sym o.1) (arg_err_in front at.0 f at.2))
+      | inr at ↦
+          let o = object_is d at.0 at.1 in
+          let is_object : IsSome (object at.0) = subst (λ (x : Data). IsSome (object x)) o.1 o.0 in
+          subst (λ (x : Data). Refused front x f) (sym o.1) (arg_err_in front at.0 f is_object at.2)
     ]
 
 pub arg_unbroken : (d : Data) (c : CondParts) (f : Fault) → ArgMeans d c → ArgBreaks d f → ⊥
 arg_unbroken d c _ m (no_object e) = is_some_not_none (object d) m.is_object e
-arg_unbroken d c f m (index_whole _ e) = needed_unbroken (member whole key.INDEX.now d) c.index f m.index_is e
+arg_unbroken d c f m (index_whole _ is_object e) = needed_unbroken (member whole key.index d) c.index f m.index_is e
 arg_unbroken d c _ m (index_large n at big) =
     let same : c.index ≡ n = holds_same c.index n (sym m.index_is ∙ at) in
     let small = m.index_small in
     omega (arith, same, small, big)
-arg_unbroken d c f m (value_whole _ e) = needed_unbroken (member whole key.VALUE.now d) c.value f m.value_is e
+arg_unbroken d c f m (value_whole _ is_object e) = needed_unbroken (member whole key.value d) c.value f m.value_is e
 arg_unbroken d c _ m (second_other e) = let both : None ≡ Some m.second = sym (ap (or_default 0) e) ∙ m.second_is in cc
-arg_unbroken d c f m (op_text _ e) = needed_unbroken (member text key.OP.now d) m.op_name f m.op_text e
+arg_unbroken d c f m (op_text _ is_object e) = needed_unbroken (member text key.op d) m.op_name f m.op_text e
 arg_unbroken d c _ m (op_unknown name at e) =
     let same : m.op_name ≡ name = holds_same m.op_name name (sym m.op_text ∙ at) in
     none_some (op_named name) c.op e (ap op_named (sym same) ∙ m.op_is)

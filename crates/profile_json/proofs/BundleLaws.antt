@@ -7,30 +7,39 @@ use Rattle.call_tables.specs.declared.arch.Arch.{Arch}
 use Rattle.call_tables.specs.declared.arch.Arch.TheVariants.{X86_64, Aarch64}
 use Rattle.profile.specs.Policy.{Policy}
 use Rattle.profile.specs.Build.{InOrder}
+use Rattle.profile_json.specs.Keys as key
 use Rattle.profile_json.specs.Fault.{Fault, overlap}
 use Rattle.profile_json.specs.Parts.{EntryParts}
 use Rattle.profile_json.specs.Refusal.{short_name}
 use Rattle.profile_json.specs.Rules.{same_arch, in_order, rules_of}
 use Rattle.profile_json.specs.Outcome.{◌>>=◌, IsFault}
 use Rattle.profile_json.specs.Reading.{Said, default_of, refused_of, archs_of, entries_of, root_of, said_of}
-use Rattle.profile_json.specs.Meaning.{IsText, RootMeans, DefaultMeans, KeysMean, ListsArchs, EntryMeans, EntriesMean, Means}
-use Rattle.profile_json.specs.Breaks.{Breaks, EntriesBreak, SeccompBreaks, ValueBreaks}
+use Rattle.profile_json.specs.Meaning.{IsText, RootMeans, WordMeans, KeysMean, ListsArchs, EntryMeans, EntriesMean, Means}
+use Rattle.profile_json.specs.Breaks.{Breaks, WordBreaks, EntriesBreak, SeccompBreaks, ValueBreaks}
 use Rattle.profile_json.specs.Breaks as broken
 use Rattle.profile_json.specs.Making.{IsMade, IsNotMade, many, clash}
 use Rattle.profile_json.proofs.Steps.{bind_ok, bind_err, ok_same, not_ok, some_same}
 use Rattle.profile_json.proofs.RootLaws.{root_breaks}
-use Rattle.profile_json.proofs.ActionLaws.{default_means, default_breaks}
+use Rattle.profile_json.proofs.ActionLaws.{word_means, word_breaks}
 use Rattle.profile_json.proofs.KeyLaws.{keys_mean, keys_break}
 use Rattle.profile_json.proofs.ArchLaws.{lists_archs, archs_refused, lists_native, native_lists}
 use Rattle.profile_json.proofs.EntryLaws.{entries_mean, EntriesRefused, is_no_list, are_many, in_one_entry, entries_refused}
 
 -- what is read of the object under linux.seccomp
 pub record SaidMeans (s : Data) (native : Arch) (said : Said) : Type 0 where
-  pub default_is : DefaultMeans s said.default_word
+  pub default_is : WordMeans key.default_action key.default_errno_ret s said.default_word
   pub keys : KeysMean s
   pub archs : ListsArchs s native said.archs
   pub native_listed : Contains said.archs native
   pub entries : EntriesMean s said.entries
+
+default_means : (s : Data) (w : ℕ) → default_of s ≡ Ok w → WordMeans key.default_action key.default_errno_ret s w
+unfolding default_of
+default_means s w h = word_means key.default_action key.default_errno_ret s w h
+
+default_breaks : (s : Data) (f : Fault) → default_of s ≡ Err f → WordBreaks key.default_action key.default_errno_ret s f
+unfolding default_of
+default_breaks s f h = word_breaks key.default_action key.default_errno_ret s f h
 
 said : ℕ → List Arch → List EntryParts → Said
 said word archs entries = record { default_word = word; archs = archs; entries = entries }
@@ -61,7 +70,7 @@ pub said_breaks : (s : Data) (native : Arch) (f : Fault) → said_of native s �
 unfolding said_of said
 said_breaks s native f h =
     elim (bind_err (default_of s) (λ word. refused_of s >>= (λ r. archs_of native s >>= (λ archs. entries_of s >>= (λ entries. Ok (said word archs entries))))) f h) [
-      | inl bad ↦ broken.SeccompBreaks.default_action f (default_breaks s f bad)
+      | inl bad ↦ broken.SeccompBreaks.default_word f (default_breaks s f bad)
       | inr w ↦ elim (bind_err (refused_of s) (λ r. archs_of native s >>= (λ archs. entries_of s >>= (λ entries. Ok (said w.0 archs entries)))) f w.2) [
         | inl bad ↦ broken.SeccompBreaks.keys f (keys_break s f bad)
         | inr r ↦ elim (bind_err (archs_of native s) (λ archs. entries_of s >>= (λ entries. Ok (said w.0 archs entries))) f r.2) [
@@ -119,20 +128,22 @@ bundle_means t s native x p root said made =
     record {
       seccomp = s;
       root = root;
-      default_is = subst (DefaultMeans s) (sym built.default_is) said.default_is;
-      keys = said.keys;
-      archs = x.archs;
-      lists_archs = said.archs;
-      native_is = built.native_is;
-      native_listed = said.native_listed;
-      machines_are = machines;
-      entries = x.entries;
-      entries_are = said.entries;
-      said = made.rules;
-      said_is = made.rules_are ∙ ap (λ ms. rules_of ms x.entries) (sym machines);
-      kept = built.rules_kept;
-      few = built.few;
-      clear = built.clear;
+      default_is = subst (WordMeans key.default_action key.default_errno_ret s) (sym built.default_is) said.default_is;
+      calls = record {
+        keys = said.keys;
+        archs = x.archs;
+        lists_archs = said.archs;
+        native_is = built.native_is;
+        native_listed = said.native_listed;
+        machines_are = machines;
+        entries = x.entries;
+        entries_are = said.entries;
+        said = made.rules;
+        said_is = made.rules_are ∙ ap (λ ms. rules_of ms x.entries) (sym machines);
+        kept = built.rules_kept;
+        few = built.few;
+        clear = built.clear;
+      };
     }
 
 entry_at : (ds : List Data) (es : List EntryParts) (i : ℕ) (e : EntryParts) → AllZip EntryMeans ds es → slice_get es i ≡ Some e → (d : Data) × (slice_get ds i ≡ Some d) × EntryMeans d e

@@ -5,20 +5,20 @@ use Rattle.std.proofs.lemmas.Bool.Decides.{nat_tests}
 use Rattle.std.proofs.lemmas.List.{append_assoc, append-nil, map-append}
 use Rattle.serde_json.specs.Data.{Data}
 use Rattle.profile.specs.Operator.{are_distinct}
-use Rattle.profile_json.specs.declared.key.TheConstants as key
+use Rattle.profile_json.specs.Keys as key
 use Rattle.profile_json.specs.Fault.{Fault, wrong_type, missing_key, unknown_call, empty_names, repeated_index, too_many}
 use Rattle.profile_json.specs.Parts.{CondParts, EntryParts}
 use Rattle.profile_json.specs.Lookup.{holds, member, or_default, object, text, whole, list}
 use Rattle.profile_json.specs.Names.{is_known}
 use Rattle.profile_json.specs.Refusal.{short_name}
 use Rattle.profile_json.specs.Outcome.{◌>>=◌}
-use Rattle.profile_json.specs.Reading.{typed, needed, is_empty, with_front, arg_of, args_after, args_of, name_of, names_in, names_of, word_at, entry_of, entries_in, entries_of}
-use Rattle.profile_json.specs.Meaning.{ArgMeans, ArgsMean, NamesMean, EntryMeans, EntriesMean}
-use Rattle.profile_json.specs.Breaks.{ArgBreaks, ArgsBreak, NamesBreak, EntryBreaks}
+use Rattle.profile_json.specs.Reading.{typed, needed, is_empty, with_front, arg_of, args_after, args_of, name_of, names_in, names_of, entry_word, entry_of, entries_in, entries_of}
+use Rattle.profile_json.specs.Meaning.{WordMeans, ArgMeans, ArgsMean, NamesMean, EntryMeans, EntriesMean}
+use Rattle.profile_json.specs.Breaks.{WordBreaks, ArgBreaks, ArgsBreak, NamesBreak, EntryBreaks}
 use Rattle.profile_json.specs.Breaks as broken
 use Rattle.profile_json.proofs.Lists.{contains_head, contains_tail}
 use Rattle.profile_json.proofs.Conditions.{distinct_push}
-use Rattle.profile_json.proofs.ActionLaws.{WordMeans, word_means, word_breaks}
+use Rattle.profile_json.proofs.ActionLaws.{word_means, word_breaks}
 use Rattle.profile_json.proofs.ArgLaws.{Refused, alone, repeated, arg_ok, arg_err}
 use Rattle.profile_json.proofs.Steps.{bind_ok, bind_err, ok_or_ok, ok_or_err, cond_ok, cond_err, guard_ok, guard_err, needed_ok, needed_breaks, object_is, object_not, ok_same, not_ok}
 
@@ -56,8 +56,8 @@ args_ok front (d ∷ ds) conds h =
 -- why the members are refused
 data ArgsRefused (front : List CondParts) (ds : List Data) : Fault → Type 0 where
   in_one : (d : Data) (f : Fault) → Contains ds d → ArgBreaks d f → ArgsRefused front ds f
-  of_two : (i j : ℕ) (x y : Data) (n : ℕ) → i < j → slice_get ds i ≡ Some x → slice_get ds j ≡ Some y → member whole key.INDEX.now x ≡ holds n → member whole key.INDEX.now y ≡ holds n → ArgsRefused front ds repeated_index
-  with_earlier : (j : ℕ) (y : Data) (n : ℕ) → slice_get ds j ≡ Some y → member whole key.INDEX.now y ≡ holds n → list_any (λ c. c.index == n) front ≡ true → ArgsRefused front ds repeated_index
+  of_two : (i j : ℕ) (x y : Data) (n : ℕ) → i < j → slice_get ds i ≡ Some x → slice_get ds j ≡ Some y → member whole key.index x ≡ holds n → member whole key.index y ≡ holds n → ArgsRefused front ds repeated_index
+  with_earlier : (j : ℕ) (y : Data) (n : ℕ) → slice_get ds j ≡ Some y → member whole key.index y ≡ holds n → list_any (λ c. c.index == n) front ≡ true → ArgsRefused front ds repeated_index
 
 first_refused : (front : List CondParts) (d : Data) (ds : List Data) (f : Fault) → Refused front d f → ArgsRefused front (d ∷ ds) f
 first_refused front d ds f (alone _ e) = in_one d f (contains_head d ds) e
@@ -95,16 +95,16 @@ args_err front (d ∷ ds) f h =
 args_mean : (d : Data) (conds : List CondParts) → args_of d ≡ Ok conds → ArgsMean d conds
 unfolding args_of
 args_mean d conds h =
-    let step = bind_ok (typed (or_default [] (member list key.ARGS.now d))) (λ ds. args_after [] ds) conds h in
+    let step = bind_ok (typed (or_default [] (member list key.args d))) (λ ds. args_after [] ds) conds h in
     let after : After [] step.0 conds = args_ok [] step.0 conds step.2 in
     record {
       values = step.0;
-      values_are = ok_or_ok (or_default [] (member list key.ARGS.now d)) wrong_type step.0 step.1;
+      values_are = ok_or_ok (or_default [] (member list key.args d)) wrong_type step.0 step.1;
       each = subst (AllZip ArgMeans step.0) (sym after.all) after.each;
       apart = after.apart refl;
     }
 
-list_refused : (d : Data) (ds : List Data) (f : Fault) → or_default [] (member list key.ARGS.now d) ≡ Some ds → ArgsRefused [] ds f → ArgsBreak d f
+list_refused : (d : Data) (ds : List Data) (f : Fault) → or_default [] (member list key.args d) ≡ Some ds → ArgsRefused [] ds f → ArgsBreak d f
 list_refused d ds f at (in_one x _ in_ds e) = broken.in_arg ds x f at in_ds e
 list_refused d ds _ at (of_two i j x y n lt at_i at_j is_x is_y) = broken.twice ds i j x y n at lt at_i at_j is_x is_y
 list_refused d ds _ at (with_earlier j y n at_j is seen) = cc
@@ -112,9 +112,9 @@ list_refused d ds _ at (with_earlier j y n at_j is seen) = cc
 args_break : (d : Data) (f : Fault) → args_of d ≡ Err f → ArgsBreak d f
 unfolding args_of
 args_break d f h =
-    elim (bind_err (typed (or_default [] (member list key.ARGS.now d))) (λ ds. args_after [] ds) f h) [
-      | inl bad ↦ (let at = ok_or_err (or_default [] (member list key.ARGS.now d)) wrong_type f bad in subst (ArgsBreak d) at.1 (broken.ArgsBreak.no_list at.0))
-      | inr step ↦ list_refused d step.0 f (ok_or_ok (or_default [] (member list key.ARGS.now d)) wrong_type step.0 step.1) (args_err [] step.0 f step.2)
+    elim (bind_err (typed (or_default [] (member list key.args d))) (λ ds. args_after [] ds) f h) [
+      | inl bad ↦ (let at = ok_or_err (or_default [] (member list key.args d)) wrong_type f bad in subst (ArgsBreak d) at.1 (broken.ArgsBreak.no_list at.0))
+      | inr step ↦ list_refused d step.0 f (ok_or_ok (or_default [] (member list key.args d)) wrong_type step.0 step.1) (args_err [] step.0 f step.2)
     ]
 
 -- ---- names
@@ -173,28 +173,28 @@ nil_is (x ∷ xs) h = absurd (let no : (length (x ∷ xs) == 0) ≡ false = grin
 names_mean : (d : Data) (names : List (List ℕ)) → names_of d ≡ Ok names → NamesMean d names
 unfolding names_of
 names_mean d names h =
-    let step = bind_ok (needed missing_key (member list key.NAMES.now d)) (λ ds. cond (is_empty ds) (Err empty_names) (cond (nat_lt 128 (length ds)) (Err too_many) (names_in ds))) names h in
+    let step = bind_ok (needed missing_key (member list key.names d)) (λ ds. cond (is_empty ds) (Err empty_names) (cond (nat_lt 128 (length ds)) (Err too_many) (names_in ds))) names h in
     let some = guard_ok (is_empty step.0) empty_names (cond (nat_lt 128 (length step.0)) (Err too_many) (names_in step.0)) names step.2 in
     let few = guard_ok (nat_lt 128 (length step.0)) too_many (names_in step.0) names some.1 in
     record {
       values = step.0;
-      values_are = needed_ok missing_key (member list key.NAMES.now d) step.0 step.1;
+      values_are = needed_ok missing_key (member list key.names d) step.0 step.1;
       some = not_zero (length step.0) some.0;
       few = no_more 128 (length step.0) few.0;
       each = names_ok step.0 names few.1;
     }
 
-name_refused : (d : Data) (ds : List Data) (x : Data) (f : Fault) → member list key.NAMES.now d ≡ holds ds → Contains ds x → NameBreaks x f → NamesBreak d f
+name_refused : (d : Data) (ds : List Data) (x : Data) (f : Fault) → member list key.names d ≡ holds ds → Contains ds x → NameBreaks x f → NamesBreak d f
 name_refused d ds x _ at in_ds (has_no_text e) = broken.NamesBreak.no_text ds x at in_ds e
 name_refused d ds x _ at in_ds (is_unknown name e u) = broken.NamesBreak.unknown ds x name at in_ds e u
 
 names_break : (d : Data) (f : Fault) → names_of d ≡ Err f → NamesBreak d f
 unfolding names_of
 names_break d f h =
-    elim (bind_err (needed missing_key (member list key.NAMES.now d)) (λ ds. cond (is_empty ds) (Err empty_names) (cond (nat_lt 128 (length ds)) (Err too_many) (names_in ds))) f h) [
-      | inl bad ↦ broken.NamesBreak.no_list f (needed_breaks (member list key.NAMES.now d) f bad)
+    elim (bind_err (needed missing_key (member list key.names d)) (λ ds. cond (is_empty ds) (Err empty_names) (cond (nat_lt 128 (length ds)) (Err too_many) (names_in ds))) f h) [
+      | inl bad ↦ broken.NamesBreak.no_list f (needed_breaks (member list key.names d) f bad)
       | inr step ↦
-          let at = needed_ok missing_key (member list key.NAMES.now d) step.0 step.1 in
+          let at = needed_ok missing_key (member list key.names d) step.0 step.1 in
           elim (guard_err (is_empty step.0) empty_names f (cond (nat_lt 128 (length step.0)) (Err too_many) (names_in step.0)) step.2) [
             | inl none ↦ subst (NamesBreak d) none.1 (broken.NamesBreak.none (at ∙ ap holds (nil_is step.0 none.0)))
             | inr some ↦ elim (guard_err (nat_lt 128 (length step.0)) too_many f (names_in step.0) some.1) [
@@ -206,23 +206,26 @@ names_break d f h =
 
 -- ---- an entry
 
+entry_word_means : (d : Data) (w : ℕ) → entry_word d ≡ Ok w → WordMeans key.action key.errno_ret d w
+unfolding entry_word
+entry_word_means d w h = word_means key.action key.errno_ret d w h
+
+entry_word_breaks : (d : Data) (f : Fault) → entry_word d ≡ Err f → WordBreaks key.action key.errno_ret d f
+unfolding entry_word
+entry_word_breaks d f h = word_breaks key.action key.errno_ret d f h
+
 entry_ok_in : (d : Data) (e : EntryParts) → IsSome (object d)
-    → (names_of d >>= (λ names. word_at d >>= (λ word. args_of d >>= (λ conds. Ok (record { names = names; conds = conds; word = word }))))) ≡ Ok e
+    → (names_of d >>= (λ names. entry_word d >>= (λ word. args_of d >>= (λ conds. Ok (record { names = names; conds = conds; word = word }))))) ≡ Ok e
     → EntryMeans d e
 entry_ok_in d e is_object h =
     let make : List (List ℕ) → ℕ → List CondParts → EntryParts = λ names word conds. record { names = names; conds = conds; word = word } in
-    let at_n = bind_ok (names_of d) (λ names. word_at d >>= (λ word. args_of d >>= (λ conds. Ok (make names word conds)))) e h in
-    let at_w = bind_ok (word_at d) (λ word. args_of d >>= (λ conds. Ok (make at_n.0 word conds))) e at_n.2 in
+    let at_n = bind_ok (names_of d) (λ names. entry_word d >>= (λ word. args_of d >>= (λ conds. Ok (make names word conds)))) e h in
+    let at_w = bind_ok (entry_word d) (λ word. args_of d >>= (λ conds. Ok (make at_n.0 word conds))) e at_n.2 in
     let at_c = bind_ok (args_of d) (λ conds. Ok (make at_n.0 at_w.0 conds)) e at_w.2 in
-    let word : WordMeans d at_w.0 = word_means d at_w.0 at_w.1 in
     let means : EntryMeans d (make at_n.0 at_w.0 at_c.0) = record {
       is_object = is_object;
       names = names_mean d at_n.0 at_n.1;
-      action = word.action;
-      action_is = word.action_is;
-      errno = word.errno;
-      errno_is = word.errno_is;
-      word_is = word.word_is;
+      word_is = entry_word_means d at_w.0 at_w.1;
       args = args_mean d at_c.0 at_c.1;
     } in
     subst (EntryMeans d) (ok_same (make at_n.0 at_w.0 at_c.0) e at_c.2) means
@@ -230,23 +233,20 @@ entry_ok_in d e is_object h =
 entry_means : (d : Data) (e : EntryParts) → entry_of d ≡ Ok e → EntryMeans d e
 unfolding entry_of
 entry_means d e h =
-    let at = bind_ok (typed (object d)) (λ o. names_of o >>= (λ names. word_at o >>= (λ word. args_of o >>= (λ conds. Ok (record { names = names; conds = conds; word = word }))))) e h in
+    let at = bind_ok (typed (object d)) (λ o. names_of o >>= (λ names. entry_word o >>= (λ word. args_of o >>= (λ conds. Ok (record { names = names; conds = conds; word = word }))))) e h in
     let o = object_is d at.0 at.1 in
     let some : IsSome (object at.0) = subst (λ (x : Data). IsSome (object x)) o.1 o.0 in
     subst (λ (x : Data). EntryMeans x e) (sym o.1) (entry_ok_in at.0 e some at.2)
 
-entry_err_in : (d : Data) (f : Fault) → (names_of d >>= (λ names. word_at d >>= (λ word. args_of d >>= (λ conds. Ok (let e : EntryParts = record { names = names; conds = conds; word = word } in e))))) ≡ Err f → EntryBreaks d f
-entry_err_in d f h =
+entry_err_in : (d : Data) (f : Fault) → IsSome (object d) → (names_of d >>= (λ names. entry_word d >>= (λ word. args_of d >>= (λ conds. Ok (let e : EntryParts = record { names = names; conds = conds; word = word } in e))))) ≡ Err f → EntryBreaks d f
+entry_err_in d f is_object h =
     let make : List (List ℕ) → ℕ → List CondParts → EntryParts = λ names word conds. record { names = names; conds = conds; word = word } in
-    elim (bind_err (names_of d) (λ names. word_at d >>= (λ word. args_of d >>= (λ conds. Ok (make names word conds)))) f h) [
-      | inl bad ↦ broken.names f (names_break d f bad)
-      | inr at_n ↦ elim (bind_err (word_at d) (λ word. args_of d >>= (λ conds. Ok (make at_n.0 word conds))) f at_n.2) [
-        | inl bad ↦ elim (word_breaks d f bad) [
-          | inl a ↦ broken.action f a
-          | inr n ↦ broken.errno f n
-        ]
+    elim (bind_err (names_of d) (λ names. entry_word d >>= (λ word. args_of d >>= (λ conds. Ok (make names word conds)))) f h) [
+      | inl bad ↦ broken.names f is_object (names_break d f bad)
+      | inr at_n ↦ elim (bind_err (entry_word d) (λ word. args_of d >>= (λ conds. Ok (make at_n.0 word conds))) f at_n.2) [
+        | inl bad ↦ broken.word f is_object (entry_word_breaks d f bad)
         | inr at_w ↦ elim (bind_err (args_of d) (λ conds. Ok (make at_n.0 at_w.0 conds)) f at_w.2) [
-          | inl bad ↦ broken.args f (args_break d f bad)
+          | inl bad ↦ broken.args f is_object (args_break d f bad)
           | inr at_c ↦ absurd (not_ok (make at_n.0 at_w.0 at_c.0) f at_c.2)
         ]
       ]
@@ -255,9 +255,12 @@ entry_err_in d f h =
 entry_breaks : (d : Data) (f : Fault) → entry_of d ≡ Err f → EntryBreaks d f
 unfolding entry_of
 entry_breaks d f h =
-    elim (bind_err (typed (object d)) (λ o. names_of o >>= (λ names. word_at o >>= (λ word. args_of o >>= (λ conds. Ok (let e : EntryParts = record { names = names; conds = conds; word = word } in e))))) f h) [
+    elim (bind_err (typed (object d)) (λ o. names_of o >>= (λ names. entry_word o >>= (λ word. args_of o >>= (λ conds. Ok (let e : EntryParts = record { names = names; conds = conds; word = word } in e))))) f h) [
       | inl bad ↦ (let at = object_not d f bad in subst (EntryBreaks d) at.1 (broken.EntryBreaks.no_object at.0))
-      | inr at ↦ (let o = object_is d at.0 at.1 in subst (λ (x : Data). EntryBreaks x f) (sym o.1) (entry_err_in at.0 f at.2))
+      | inr at ↦
+          let o = object_is d at.0 at.1 in
+          let is_object : IsSome (object at.0) = subst (λ (x : Data). IsSome (object x)) o.1 o.0 in
+          subst (λ (x : Data). EntryBreaks x f) (sym o.1) (entry_err_in at.0 f is_object at.2)
     ]
 
 entries_ok : (ds : List Data) (es : List EntryParts) → entries_in ds ≡ Ok es → AllZip EntryMeans ds es
@@ -281,28 +284,28 @@ entries_err (d ∷ ds) f h =
 pub entries_mean : (s : Data) (es : List EntryParts) → entries_of s ≡ Ok es → EntriesMean s es
 unfolding entries_of
 entries_mean s es h =
-    let step = bind_ok (typed (or_default [] (member list key.SYSCALLS.now s))) (λ ds. cond (nat_lt 256 (length ds)) (Err too_many) (entries_in ds)) es h in
+    let step = bind_ok (typed (or_default [] (member list key.syscalls s))) (λ ds. cond (nat_lt 256 (length ds)) (Err too_many) (entries_in ds)) es h in
     let few = guard_ok (nat_lt 256 (length step.0)) too_many (entries_in step.0) es step.2 in
     record {
       values = step.0;
-      values_are = ok_or_ok (or_default [] (member list key.SYSCALLS.now s)) wrong_type step.0 step.1;
+      values_are = ok_or_ok (or_default [] (member list key.syscalls s)) wrong_type step.0 step.1;
       few = no_more 256 (length step.0) few.0;
       each = entries_ok step.0 es few.1;
     }
 
 -- why entries are refused, each by itself
 pub data EntriesRefused (s : Data) : Fault → Type 0 where
-  is_no_list : or_default [] (member list key.SYSCALLS.now s) ≡ None → EntriesRefused s wrong_type
-  are_many : (ds : List Data) → or_default [] (member list key.SYSCALLS.now s) ≡ Some ds → 256 < length ds → EntriesRefused s too_many
-  in_one_entry : (ds : List Data) (d : Data) (f : Fault) → or_default [] (member list key.SYSCALLS.now s) ≡ Some ds → Contains ds d → EntryBreaks d f → EntriesRefused s f
+  is_no_list : or_default [] (member list key.syscalls s) ≡ None → EntriesRefused s wrong_type
+  are_many : (ds : List Data) → or_default [] (member list key.syscalls s) ≡ Some ds → 256 < length ds → EntriesRefused s too_many
+  in_one_entry : (ds : List Data) (d : Data) (f : Fault) → or_default [] (member list key.syscalls s) ≡ Some ds → Contains ds d → EntryBreaks d f → EntriesRefused s f
 
 pub entries_refused : (s : Data) (f : Fault) → entries_of s ≡ Err f → EntriesRefused s f
 unfolding entries_of
 entries_refused s f h =
-    elim (bind_err (typed (or_default [] (member list key.SYSCALLS.now s))) (λ ds. cond (nat_lt 256 (length ds)) (Err too_many) (entries_in ds)) f h) [
-      | inl bad ↦ (let at = ok_or_err (or_default [] (member list key.SYSCALLS.now s)) wrong_type f bad in subst (EntriesRefused s) at.1 (is_no_list at.0))
+    elim (bind_err (typed (or_default [] (member list key.syscalls s))) (λ ds. cond (nat_lt 256 (length ds)) (Err too_many) (entries_in ds)) f h) [
+      | inl bad ↦ (let at = ok_or_err (or_default [] (member list key.syscalls s)) wrong_type f bad in subst (EntriesRefused s) at.1 (is_no_list at.0))
       | inr step ↦
-          let at = ok_or_ok (or_default [] (member list key.SYSCALLS.now s)) wrong_type step.0 step.1 in
+          let at = ok_or_ok (or_default [] (member list key.syscalls s)) wrong_type step.0 step.1 in
           elim (guard_err (nat_lt 256 (length step.0)) too_many f (entries_in step.0) step.2) [
             | inl many ↦ subst (EntriesRefused s) many.1 (are_many step.0 at (more 256 (length step.0) many.0))
             | inr few ↦ (let bad = entries_err step.0 f few.1 in in_one_entry step.0 bad.0 f at bad.1 bad.2)

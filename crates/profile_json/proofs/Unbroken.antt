@@ -1,28 +1,28 @@
 -- A bundle that means a profile breaks no rule.
-use Rattle.std.proofs.Common.{◌≡◌, ℕ, ◌≤◌, List, [], ◌∷◌, ◌++◌, length, map, Some, inl, inr, refl, sym, ◌∙◌, ap, subst, arith}
+use Rattle.std.proofs.Common.{◌≡◌, ℕ, List, [], ◌∷◌, ◌++◌, length, map, Some, inl, inr, refl, sym, ◌∙◌, ap, subst, arith}
+use Rattle.std.specs.Prelude.{codes}
 use Rattle.std.specs.List.{AllZip, Contains, slice_get}
 use Rattle.std.proofs.lemmas.List.Elements.{Contains-append_left, Contains-push, Contains-push_cases}
 use Rattle.serde_json.specs.Read.{read}
 use Rattle.serde_json.specs.Data.{Data}
 use Rattle.call_tables.specs.declared.arch.Arch.{Arch}
 use Rattle.profile.specs.declared.rules.Rule.{Rule}
-use Rattle.profile.specs.declared.build.TheConstants.{MAX_RULES}
-use Rattle.profile.specs.Policy.{Policy, IsClear}
+use Rattle.profile.specs.Policy.{Policy}
 use Rattle.profile.specs.Build.{KeepsOnce}
 use Rattle.profile.specs.Build as build
-use Rattle.profile_json.specs.declared.key.TheConstants as key
+use Rattle.profile_json.specs.Keys as key
 use Rattle.profile_json.specs.Fault.{Fault}
 use Rattle.profile_json.specs.Parts.{EntryParts, rule_parts}
 use Rattle.profile_json.specs.Lookup.{member, or_default, list}
 use Rattle.profile_json.specs.Rules.{in_order, rules_under, rules_of_entry, rules_of}
-use Rattle.profile_json.specs.Meaning.{ListsArchs, EntryMeans, EntriesMean, Means}
-use Rattle.profile_json.specs.Breaks.{ClashUnder, EntriesBreak, no_list, many, in_entry, many_rules, overlapping, SeccompBreaks, default_action, keys, archs, entries, ValueBreaks, root, seccomp, no_value, in_value}
-use Rattle.profile_json.specs.Unbroken.{MeaningIsUnbroken}
-use Rattle.profile_json.proofs.Lists.{contains_at, contains_map_back, contains_flat}
+use Rattle.profile_json.specs.Meaning.{none, WordMeans, EntryMeans, EntriesMean, CallsMean, Means}
+use Rattle.profile_json.specs.Breaks.{ClashUnder, EntriesBreak, no_list, many, in_entry, many_rules, overlapping, SeccompBreaks, default_word, keys, archs, entries, ValueBreaks, root, seccomp, no_value, in_value}
+use Rattle.profile_json.specs.Unbroken.{MeaningIsUnbroken, MeaningIsOne, MeaningIsKept}
+use Rattle.profile_json.proofs.Lists.{contains_head, contains_at, contains_map_back, contains_flat}
 use Rattle.profile_json.proofs.PartsLemmas.{rule_same, rules_same}
 use Rattle.profile_json.proofs.Steps.{some_same, none_some}
 use Rattle.profile_json.proofs.RootLaws.{one_seccomp, root_unbroken}
-use Rattle.profile_json.proofs.ActionLaws.{action_unbroken}
+use Rattle.profile_json.proofs.ActionLaws.{word_unbroken, one_word}
 use Rattle.profile_json.proofs.KeyLaws.{keys_unbroken}
 use Rattle.profile_json.proofs.ArchLaws.{one_archs, archs_unbroken}
 use Rattle.profile_json.proofs.UnbrokenArgs.{related, related_at, one_related}
@@ -80,19 +80,7 @@ one_kept_of _ _ _ _ (build.again xs ks x p has) (build.again ys ls y q has_y) h 
 
 -- ---- entries
 
--- what the entries and their rules are, where they are meant
-record RulesMean (s : Data) (native : Arch) (rules : List Rule) : Type 0 where
-  archs : List Arch
-  lists : ListsArchs s native archs
-  entries : List EntryParts
-  means : EntriesMean s entries
-  said : List Rule
-  said_is : map rule_parts said ≡ rules_of (in_order archs) entries
-  kept : KeepsOnce said rules
-  few : length rules ≤ MAX_RULES
-  clear : IsClear rules
-
-one_values : (s : Data) (xs ys : List Data) → or_default [] (member list key.SYSCALLS.now s) ≡ Some xs → or_default [] (member list key.SYSCALLS.now s) ≡ Some ys → xs ≡ ys
+one_values : (s : Data) (xs ys : List Data) → or_default [] (member list key.syscalls s) ≡ Some xs → or_default [] (member list key.syscalls s) ≡ Some ys → xs ≡ ys
 one_values s xs ys p q = some_same xs ys (sym p ∙ q)
 
 one_entries : (s : Data) (xs ys : List EntryParts) → EntriesMean s xs → EntriesMean s ys → xs ≡ ys
@@ -100,74 +88,68 @@ one_entries s xs ys m n =
     let same : m.values ≡ n.values = one_values s m.values n.values m.values_are n.values_are in
     one_related EntryMeans one_entry n.values xs ys (subst (λ ds. AllZip EntryMeans ds xs) same m.each) n.each
 
--- the meaning of a value in the list is among the entries
-among : (s : Data) (native : Arch) (rules : List Rule) (m : RulesMean s native rules) (ds : List Data) (i : ℕ) (d : Data) (x : EntryParts) → or_default [] (member list key.SYSCALLS.now s) ≡ Some ds → slice_get ds i ≡ Some d → EntryMeans d x → Contains m.entries x
-among s native rules m ds i d x at at_i is =
-    let same : ds ≡ m.means.values = one_values s ds m.means.values at m.means.values_are in
-    let in_d : slice_get m.means.values i ≡ Some d = ap (λ xs. slice_get xs i) (sym same) ∙ at_i in
-    let e = related_at EntryMeans m.means.values m.entries i d m.means.each in_d in
-    subst (Contains m.entries) (one_entry d e.0 x e.2 is) (contains_at m.entries i e.0 e.1)
+module _ (s : Data) (native : Arch) (p : Policy) (m : CallsMean s native p) where
+  -- the meaning of a value in the list is among the entries
+  among : (ds : List Data) (i : ℕ) (d : Data) (x : EntryParts) → or_default [] (member list key.syscalls s) ≡ Some ds → slice_get ds i ≡ Some d
+      → EntryMeans d x → Contains m.entries x
+  among ds i d x at at_i is =
+      let means = m.entries_are in
+      let same : ds ≡ means.values = one_values s ds means.values at means.values_are in
+      let in_d : slice_get means.values i ≡ Some d = ap (λ xs. slice_get xs i) (sym same) ∙ at_i in
+      let e = related_at EntryMeans means.values m.entries i d means.each in_d in
+      subst (Contains m.entries) (one_entry d e.0 x e.2 is) (contains_at m.entries i e.0 e.1)
 
--- a rule of an entry is kept
-rule_kept : (s : Data) (native : Arch) (rules : List Rule) (m : RulesMean s native rules) (x : EntryParts) (name : List ℕ) (r : Rule) → Contains m.entries x → Contains x.names name → Contains (rules_under (in_order m.archs) x name) (rule_parts r) → Contains rules r
-rule_kept s native rules m x name r in_x in_name is =
-    let machines : List Arch = in_order m.archs in
-    let of_entry = contains_flat (rules_under machines x) x.names name (rule_parts r) in_name is in
-    let of_all = contains_flat (rules_of_entry machines) m.entries x (rule_parts r) in_x of_entry in
-    let back = contains_map_back rule_parts m.said (rule_parts r) (subst (λ rs. Contains rs (rule_parts r)) (sym m.said_is) of_all) in
-    in_kept m.said rules m.kept r (subst (Contains m.said) (rule_same back.0 r back.2) back.1)
+  said_is : map rule_parts m.said ≡ rules_of (in_order m.archs) m.entries
+  said_is = m.said_is ∙ ap (λ machines. rules_of machines m.entries) m.machines_are
 
-clash_unbroken : (s : Data) (native : Arch) (rules : List Rule) (m : RulesMean s native rules) (x y : EntryParts) (name : List ℕ) → Contains m.entries x → Contains m.entries y → ClashUnder (in_order m.archs) x y name → ⊥
-clash_unbroken s native rules m x y name in_x in_y c =
-    let a = rule_kept s native rules m x name c.first in_x c.in_first c.first_is in
-    let b = rule_kept s native rules m y name c.second in_y c.in_second c.second_is in
-    let o = c.clash.1 in
-    c.clash.0 (m.clear o.0 o.1 c.first c.second a b o.2 o.3)
+  -- a rule of an entry is kept
+  rule_kept : (x : EntryParts) (name : List ℕ) (r : Rule) → Contains m.entries x → Contains x.names name
+      → Contains (rules_under (in_order m.archs) x name) (rule_parts r) → Contains p.rules r
+  rule_kept x name r in_x in_name is =
+      let machines : List Arch = in_order m.archs in
+      let of_entry = contains_flat (rules_under machines x) x.names name (rule_parts r) in_name is in
+      let of_all = contains_flat (rules_of_entry machines) m.entries x (rule_parts r) in_x of_entry in
+      let back = contains_map_back rule_parts m.said (rule_parts r) (subst (λ rs. Contains rs (rule_parts r)) (sym said_is) of_all) in
+      in_kept m.said p.rules m.kept r (subst (Contains m.said) (rule_same back.0 r back.2) back.1)
 
-entries_unbroken : (s : Data) (native : Arch) (rules : List Rule) (f : Fault) → RulesMean s native rules → EntriesBreak s native f → ⊥
-entries_unbroken s native rules _ m (no_list e) = none_some (or_default [] (member list key.SYSCALLS.now s)) m.means.values e m.means.values_are
-entries_unbroken s native rules _ m (many ds at e) =
-    let long : length ds ≡ length m.means.values = ap length (one_values s ds m.means.values at m.means.values_are) in
-    let few = m.means.few in
-    omega (arith, few, long, e)
-entries_unbroken s native rules f m (in_entry ds d _ at in_ds bad) =
-    let same : ds ≡ m.means.values = one_values s ds m.means.values at m.means.values_are in
-    let e = related EntryMeans m.means.values m.entries d m.means.each (subst (λ xs. Contains xs d) same in_ds) in
-    entry_unbroken d e.0 f e.1 bad
-entries_unbroken s native rules _ m (many_rules machines es said kept lists means is keeps long) =
-    let archs_same : machines ≡ m.archs = one_archs s native machines m.archs lists m.lists in
-    let entries_same : es ≡ m.entries = one_entries s es m.entries means m.means in
-    let parts : map rule_parts said ≡ map rule_parts m.said = is ∙ ap (λ listed. rules_of (in_order listed) es) archs_same ∙ ap (rules_of (in_order m.archs)) entries_same ∙ sym m.said_is in
-    let kept_same : kept ≡ rules = one_kept_of said m.said kept rules keeps m.kept (rules_same said m.said parts) in
-    let as_many : length kept ≡ length rules = ap length kept_same in
-    let few = m.few in
-    omega (arith, as_many, few, long)
-entries_unbroken s native rules _ m (overlapping machines ds i j d e x y name lists at lt at_i at_j is_x is_y clash) =
-    let archs_same : machines ≡ m.archs = one_archs s native machines m.archs lists m.lists in
-    let there : ClashUnder (in_order m.archs) x y name = subst (λ listed. ClashUnder (in_order listed) x y name) archs_same clash in
-    clash_unbroken s native rules m x y name (among s native rules m ds i d x at at_i is_x) (among s native rules m ds j e y at at_j is_y) there
+  clash_unbroken : (x y : EntryParts) (name : List ℕ) → Contains m.entries x → Contains m.entries y → ClashUnder (in_order m.archs) x y name → ⊥
+  clash_unbroken x y name in_x in_y c =
+      let a = rule_kept x name c.first in_x c.in_first c.first_is in
+      let b = rule_kept y name c.second in_y c.in_second c.second_is in
+      let o = c.clash.1 in
+      c.clash.0 (m.clear o.0 o.1 c.first c.second a b o.2 o.3)
+
+  entries_unbroken : (f : Fault) → EntriesBreak s native f → ⊥
+  entries_unbroken _ (no_list e) = none_some (or_default [] (member list key.syscalls s)) m.entries_are.values e m.entries_are.values_are
+  entries_unbroken _ (many ds at e) =
+      let long : length ds ≡ length m.entries_are.values = ap length (one_values s ds m.entries_are.values at m.entries_are.values_are) in
+      let few = m.entries_are.few in
+      omega (arith, few, long, e)
+  entries_unbroken f (in_entry ds d _ at in_ds bad) =
+      let means = m.entries_are in
+      let same : ds ≡ means.values = one_values s ds means.values at means.values_are in
+      let e = related EntryMeans means.values m.entries d means.each (subst (λ xs. Contains xs d) same in_ds) in
+      entry_unbroken d e.0 f e.1 bad
+  entries_unbroken _ (many_rules machines es said kept lists means is keeps long) =
+      let archs_same : machines ≡ m.archs = one_archs s native machines m.archs lists m.lists_archs in
+      let entries_same : es ≡ m.entries = one_entries s es m.entries means m.entries_are in
+      let rules_are : rules_of (in_order machines) es ≡ rules_of (in_order m.archs) m.entries = ap (λ listed. rules_of (in_order listed) es) archs_same ∙ ap (rules_of (in_order m.archs)) entries_same in
+      let kept_same : kept ≡ p.rules = one_kept_of said m.said kept p.rules keeps m.kept (rules_same said m.said (is ∙ rules_are ∙ sym said_is)) in
+      let as_many : length kept ≡ length p.rules = ap length kept_same in
+      let few = m.few in
+      omega (arith, as_many, few, long)
+  entries_unbroken _ (overlapping machines ds i j d e x y name lists at lt at_i at_j is_x is_y clash) =
+      let archs_same : machines ≡ m.archs = one_archs s native machines m.archs lists m.lists_archs in
+      let there : ClashUnder (in_order m.archs) x y name = subst (λ listed. ClashUnder (in_order listed) x y name) archs_same clash in
+      clash_unbroken x y name (among ds i d x at at_i is_x) (among ds j e y at at_j is_y) there
 
 -- ---- the whole
 
-rules_mean : (t : Data) (native : Arch) (p : Policy) (m : Means t native p) → RulesMean m.seccomp native p.rules
-rules_mean t native p m =
-    record {
-      archs = m.archs;
-      lists = m.lists_archs;
-      entries = m.entries;
-      means = m.entries_are;
-      said = m.said;
-      said_is = m.said_is ∙ ap (λ listed. rules_of listed m.entries) m.machines_are;
-      kept = m.kept;
-      few = m.few;
-      clear = m.clear;
-    }
-
 seccomp_unbroken : (t : Data) (native : Arch) (p : Policy) (f : Fault) (m : Means t native p) → SeccompBreaks m.seccomp native f → ⊥
-seccomp_unbroken t native p f m (default_action _ bad) = action_unbroken key.DEFAULT_ACTION.now m.seccomp m.default_is.0 f m.default_is.1 bad
-seccomp_unbroken t native p f m (keys _ bad) = keys_unbroken m.seccomp f m.keys bad
-seccomp_unbroken t native p f m (archs _ bad) = archs_unbroken m.seccomp native m.archs f m.lists_archs m.native_listed bad
-seccomp_unbroken t native p f m (entries _ bad) = entries_unbroken m.seccomp native p.rules f (rules_mean t native p m) bad
+seccomp_unbroken t native p f m (default_word _ bad) = word_unbroken key.default_action key.default_errno_ret m.seccomp p.default_word f m.default_is bad
+seccomp_unbroken t native p f m (keys _ bad) = keys_unbroken m.seccomp f m.calls.keys bad
+seccomp_unbroken t native p f m (archs _ bad) = archs_unbroken m.seccomp native m.calls.archs f m.calls.lists_archs m.calls.native_listed bad
+seccomp_unbroken t native p f m (entries _ bad) = entries_unbroken m.seccomp native p m.calls f bad
 
 value_unbroken : (t : Data) (native : Arch) (p : Policy) (f : Fault) → Means t native p → ValueBreaks t native f → ⊥
 value_unbroken t native p f m (root _ bad) = root_unbroken t m.seccomp f m.root bad
@@ -178,3 +160,47 @@ pub meaning_is_unbroken : MeaningIsUnbroken
 meaning_is_unbroken bytes t native p _ is m (no_value unread) = none_some (read bytes) t (unread is.0) is.1
 meaning_is_unbroken bytes t native p f is m (in_value u _ is_u bad) =
     value_unbroken t native p f m (subst (λ d. ValueBreaks d native f) (some_same u t (sym is_u.1 ∙ is.1)) bad)
+
+-- ---- one meaning
+
+policy_of : Arch → List Arch → ℕ → List Rule → Policy
+policy_of native machines word rules = record { native = native; machines = machines; default_word = word; rules = rules }
+
+same_policy : (p q : Policy) → p.native ≡ q.native → p.machines ≡ q.machines → p.default_word ≡ q.default_word → p.rules ≡ q.rules → p ≡ q
+unfolding policy_of
+same_policy p q natives machines words rules =
+    ap (λ n. policy_of n p.machines p.default_word p.rules) natives ∙ ap (λ ms. policy_of q.native ms p.default_word p.rules) machines
+    ∙ ap (λ w. policy_of q.native q.machines w p.rules) words ∙ ap (policy_of q.native q.machines q.default_word) rules
+
+one_policy : (s : Data) (native : Arch) (p q : Policy) → p.default_word ≡ q.default_word → CallsMean s native p → CallsMean s native q → p ≡ q
+one_policy s native p q words m n =
+    let archs : m.archs ≡ n.archs = one_archs s native m.archs n.archs m.lists_archs n.lists_archs in
+    let machines : p.machines ≡ q.machines = m.machines_are ∙ ap in_order archs ∙ sym n.machines_are in
+    let entries : m.entries ≡ n.entries = one_entries s m.entries n.entries m.entries_are n.entries_are in
+    let parts : map rule_parts m.said ≡ map rule_parts n.said = m.said_is ∙ ap (λ ms. rules_of ms m.entries) machines ∙ ap (rules_of q.machines) entries ∙ sym n.said_is in
+    let rules : p.rules ≡ q.rules = one_kept_of m.said n.said p.rules q.rules m.kept n.kept (rules_same m.said n.said parts) in
+    same_policy p q (m.native_is ∙ sym n.native_is) machines words rules
+
+pub meaning_is_one : MeaningIsOne
+meaning_is_one t native p q m n =
+    let same : m.seccomp ≡ n.seccomp = one_seccomp t m.seccomp n.seccomp m.root.seccomp n.root.seccomp in
+    let word : WordMeans key.default_action key.default_errno_ret n.seccomp p.default_word = subst (λ d. WordMeans key.default_action key.default_errno_ret d p.default_word) same m.default_is in
+    let words = one_word key.default_action key.default_errno_ret n.seccomp p.default_word q.default_word word n.default_is in
+    one_policy n.seccomp native p q words (subst (λ d. CallsMean d native p) same m.calls) n.calls
+
+-- ---- what was meant before
+
+pub meaning_is_kept : MeaningIsKept
+meaning_is_kept t native p m =
+    record {
+      seccomp = m.seccomp;
+      root = record {
+        root = m.root;
+        version = codes "1.0.2";
+        version_is = m.version_is;
+        edition = contains_head (codes "1.0.2") (codes "1.1.0" ∷ []);
+        seccomp = m.seccomp_is;
+      };
+      default_is = record { action = m.action; action_is = m.action_is; errno = 1; errno_is = none m.no_errno; word_is = m.default_is };
+      calls = m.calls;
+    }

@@ -6,7 +6,7 @@ use Rattle.std.proofs.lemmas.Option.{slice_get-map}
 use Rattle.serde_json.specs.Data.{Data}
 use Rattle.profile.specs.declared.conditions.Op.{Op}
 use Rattle.profile.specs.Operator.{are_distinct, mask_of}
-use Rattle.profile_json.specs.declared.key.TheConstants as key
+use Rattle.profile_json.specs.Keys as key
 use Rattle.profile_json.specs.Fault.{Fault}
 use Rattle.profile_json.specs.Parts.{CondParts}
 use Rattle.profile_json.specs.Lookup.{holds, member, or_default, whole, list}
@@ -99,13 +99,13 @@ distinct_twice (x ∷ xs) (suc i) (suc j) n h lt at_i at_j =
     let parts = both (not (list_any (λ z. z == x) xs)) (are_distinct xs) h in
     distinct_twice xs i j n parts.1 (omega arith) at_i at_j
 
-index_at : (ds : List Data) (cs : List CondParts) (i : ℕ) (x : Data) (n : ℕ) → AllZip ArgMeans ds cs → slice_get ds i ≡ Some x → member whole key.INDEX.now x ≡ holds n → slice_get (map (λ c. c.index) cs) i ≡ Some n
+index_at : (ds : List Data) (cs : List CondParts) (i : ℕ) (x : Data) (n : ℕ) → AllZip ArgMeans ds cs → slice_get ds i ≡ Some x → member whole key.index x ≡ holds n → slice_get (map (λ c. c.index) cs) i ≡ Some n
 index_at ds cs i x n each at is =
     let c = related_at ArgMeans ds cs i x each at in
     slice_get-map (λ e. e.index) cs i ∙ ap (option_map (λ (e : CondParts). e.index)) c.1 ∙ ap Some (holds_same c.0.index n (sym c.2.index_is ∙ is))
 
 pub args_unbroken : (d : Data) (cs : List CondParts) (f : Fault) → ArgsMean d cs → ArgsBreak d f → ⊥
-args_unbroken d cs _ m (no_list e) = none_some (or_default [] (member list key.ARGS.now d)) m.values e m.values_are
+args_unbroken d cs _ m (no_list e) = none_some (or_default [] (member list key.args d)) m.values e m.values_are
 args_unbroken d cs f m (in_arg ds x _ at in_ds bad) =
     let same : ds ≡ m.values = some_same ds m.values (sym at ∙ m.values_are) in
     let c = related ArgMeans m.values cs x m.each (subst (λ xs. Contains xs x) same in_ds) in

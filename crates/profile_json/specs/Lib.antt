@@ -1,6 +1,7 @@
 pub mod Fault
 pub mod Parts
 pub mod Lookup
+pub mod Keys
 pub mod Names
 pub mod Rules
 pub mod Refusal

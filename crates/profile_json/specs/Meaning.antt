@@ -11,10 +11,10 @@ use Rattle.profile.specs.Policy.{Policy, IsClear}
 use Rattle.profile.specs.declared.build.TheConstants.{MAX_RULES}
 use Rattle.profile.specs.Build.{KeepsOnce}
 use Rattle.profile_json.specs.declared.action.Action.{Action}
-use Rattle.profile_json.specs.declared.key.TheConstants as key
+use Rattle.profile_json.specs.Keys as key
 use Rattle.profile_json.specs.Parts.{CondParts, EntryParts, rule_parts}
 use Rattle.profile_json.specs.Lookup.{missing, holds, member, or_default, object, text, whole, list}
-use Rattle.profile_json.specs.Names.{action_named, takes_data, word_of, op_named, arch_named, is_known}
+use Rattle.profile_json.specs.Names.{editions, action_named, takes_data, word_of, op_named, arch_named, is_known}
 use Rattle.profile_json.specs.Rules.{or_native, in_order, rules_of}
 
 -- the text of these bytes is the value t
@@ -23,28 +23,38 @@ IsText bytes t = IsUtf8 bytes × (read bytes ≡ Some t)
 
 -- the object s stands under linux.seccomp of t
 abbrev pub IsSeccomp : Data → Data → Type 0
-IsSeccomp t s = (l : Data) × (member object key.LINUX.now t ≡ holds l) × (member object key.SECCOMP.now l ≡ holds s)
+IsSeccomp t s = (l : Data) × (member object key.linux t ≡ holds l) × (member object key.seccomp l ≡ holds s)
 
--- t is a bundle of the edition that is read, with the object s under linux.seccomp
+-- t is a bundle of an edition that is read, with the object s under linux.seccomp
 pub record RootMeans (t s : Data) : Type 0 where
   pub root : IsSome (object t)
-  pub version_is : member text key.OCI_VERSION.now t ≡ holds key.VERSION.now
+  pub version : List ℕ
+  pub version_is : member text key.oci_version t ≡ holds version
+  pub edition : Contains editions version
   pub seccomp : IsSeccomp t s
 
 -- the member under a key names the action a
 abbrev pub NamesAction : List ℕ → Data → Action → Type 0
 NamesAction k d a = (name : List ℕ) × (member text k d ≡ holds name) × (action_named name ≡ Some a)
 
--- the default word: ERRNO and TRACE have data 1
-abbrev pub DefaultMeans : Data → ℕ → Type 0
-DefaultMeans s word = (a : Action) × NamesAction key.DEFAULT_ACTION.now s a × (word ≡ word_of a 1)
+-- the data that an action gets: the number under a key, which ERRNO and TRACE alone take, or 1
+pub data ErrnoMeans (k : List ℕ) (d : Data) (a : Action) : ℕ → Type 0 where
+  none : member whole k d ≡ missing → ErrnoMeans k d a 1
+  given : (n : ℕ) → member whole k d ≡ holds n → takes_data a ≡ true → n ≤ 4095 → ErrnoMeans k d a n
+
+-- the word of the action under one key, with the data under another
+pub record WordMeans (action_key errno_key : List ℕ) (d : Data) (word : ℕ) : Type 0 where
+  pub action : Action
+  pub action_is : NamesAction action_key d action
+  pub errno : ℕ
+  pub errno_is : ErrnoMeans errno_key d action errno
+  pub word_is : word ≡ word_of action errno
 
 -- no key is used that is refused
 pub record KeysMean (s : Data) : Type 0 where
-  pub no_errno : member whole key.DEFAULT_ERRNO_RET.now s ≡ missing
-  pub no_flags : or_default [] (member list key.FLAGS.now s) ≡ Some []
-  pub no_path : or_default [] (member text key.LISTENER_PATH.now s) ≡ Some []
-  pub no_metadata : or_default [] (member text key.LISTENER_METADATA.now s) ≡ Some []
+  pub no_flags : or_default [] (member list key.flags s) ≡ Some []
+  pub no_path : or_default [] (member text key.listener_path s) ≡ Some []
+  pub no_metadata : or_default [] (member text key.listener_metadata s) ≡ Some []
 
 -- a text that names the machine a
 abbrev pub NamesArch : Data → Arch → Type 0
@@ -53,7 +63,7 @@ NamesArch d a = (name : List ℕ) × (text d ≡ Some name) × (arch_named name 
 -- the machines that are listed, in the order of the text: the native one alone where there is none
 pub record ListsArchs (s : Data) (native : Arch) (archs : List Arch) : Type 0 where
   pub values : List Data
-  pub values_are : or_default [] (member list key.ARCHITECTURES.now s) ≡ Some values
+  pub values_are : or_default [] (member list key.architectures s) ≡ Some values
   pub named : List Arch
   pub names : AllZip NamesArch values named
   pub archs_are : archs ≡ or_native native named
@@ -61,13 +71,13 @@ pub record ListsArchs (s : Data) (native : Arch) (archs : List Arch) : Type 0 wh
 -- the condition that a member of `args` says. The second value counts under MASKED_EQ alone.
 pub record ArgMeans (d : Data) (c : CondParts) : Type 0 where
   pub is_object : IsSome (object d)
-  pub index_is : member whole key.INDEX.now d ≡ holds c.index
+  pub index_is : member whole key.index d ≡ holds c.index
   pub index_small : c.index < 6
-  pub value_is : member whole key.VALUE.now d ≡ holds c.value
+  pub value_is : member whole key.value d ≡ holds c.value
   pub second : ℕ
-  pub second_is : or_default 0 (member whole key.VALUE_TWO.now d) ≡ Some second
+  pub second_is : or_default 0 (member whole key.value_two d) ≡ Some second
   pub op_name : List ℕ
-  pub op_text : member text key.OP.now d ≡ holds op_name
+  pub op_text : member text key.op d ≡ holds op_name
   pub op_is : op_named op_name ≡ Some c.op
   pub datum_is : c.datum ≡ mask_of c.op second
   pub no_stray : bit_and c.datum (mask_of c.op c.value) ≡ c.datum
@@ -75,53 +85,41 @@ pub record ArgMeans (d : Data) (c : CondParts) : Type 0 where
 -- the conditions of an entry, each on an argument of its own
 pub record ArgsMean (d : Data) (conds : List CondParts) : Type 0 where
   pub values : List Data
-  pub values_are : or_default [] (member list key.ARGS.now d) ≡ Some values
+  pub values_are : or_default [] (member list key.args d) ≡ Some values
   pub each : AllZip ArgMeans values conds
   pub apart : are_distinct (map (λ c. c.index) conds) ≡ true
 
 -- the call names of an entry: at least one and at most 128, each in the table of some machine
 pub record NamesMean (d : Data) (names : List (List ℕ)) : Type 0 where
   pub values : List Data
-  pub values_are : member list key.NAMES.now d ≡ holds values
+  pub values_are : member list key.names d ≡ holds values
   pub some : 0 < length values
   pub few : length values ≤ 128
   pub each : AllZip (λ value name. (text value ≡ Some name) × (is_known name ≡ true)) values names
 
--- the data that an action gets: `errnoRet`, which ERRNO and TRACE alone take, or 1
-pub data ErrnoMeans (d : Data) (a : Action) : ℕ → Type 0 where
-  none : member whole key.ERRNO_RET.now d ≡ missing → ErrnoMeans d a 1
-  given : (n : ℕ) → member whole key.ERRNO_RET.now d ≡ holds n → takes_data a ≡ true → n ≤ 4095 → ErrnoMeans d a n
-
 pub record EntryMeans (d : Data) (e : EntryParts) : Type 0 where
   pub is_object : IsSome (object d)
   pub names : NamesMean d e.names
-  pub action : Action
-  pub action_is : NamesAction key.ACTION.now d action
-  pub errno : ℕ
-  pub errno_is : ErrnoMeans d action errno
-  pub word_is : e.word ≡ word_of action errno
+  pub word_is : WordMeans key.action key.errno_ret d e.word
   pub args : ArgsMean d e.conds
 
 -- the entries, at most 256
 pub record EntriesMean (s : Data) (entries : List EntryParts) : Type 0 where
   pub values : List Data
-  pub values_are : or_default [] (member list key.SYSCALLS.now s) ≡ Some values
+  pub values_are : or_default [] (member list key.syscalls s) ≡ Some values
   pub few : length values ≤ 256
   pub each : AllZip EntryMeans values entries
 
--- The bundle t, read for a native machine, means the profile p.
-pub record Means (t : Data) (native : Arch) (p : Policy) : Type 0 where
-  pub seccomp : Data
-  pub root : RootMeans t seccomp
-  pub default_is : DefaultMeans seccomp p.default_word
-  pub keys : KeysMean seccomp
+-- what the object under linux.seccomp says of machines and calls
+pub record CallsMean (s : Data) (native : Arch) (p : Policy) : Type 0 where
+  pub keys : KeysMean s
   pub archs : List Arch
-  pub lists_archs : ListsArchs seccomp native archs
+  pub lists_archs : ListsArchs s native archs
   pub native_is : p.native ≡ native
   pub native_listed : Contains archs native
   pub machines_are : p.machines ≡ in_order archs
   pub entries : List EntryParts
-  pub entries_are : EntriesMean seccomp entries
+  pub entries_are : EntriesMean s entries
   -- one rule for each entry, name and listed machine that has the name
   pub said : List Rule
   pub said_is : map rule_parts said ≡ rules_of p.machines entries
@@ -130,3 +128,10 @@ pub record Means (t : Data) (native : Arch) (p : Policy) : Type 0 where
   pub few : length p.rules ≤ MAX_RULES
   -- no record is given unlike words
   pub clear : IsClear p.rules
+
+-- The bundle t, read for a native machine, means the profile p.
+pub record Means (t : Data) (native : Arch) (p : Policy) : Type 0 where
+  pub seccomp : Data
+  pub root : RootMeans t seccomp
+  pub default_is : WordMeans key.default_action key.default_errno_ret seccomp p.default_word
+  pub calls : CallsMean seccomp native p

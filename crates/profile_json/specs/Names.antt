@@ -1,5 +1,5 @@
--- What the names of actions, operators, machines and calls stand for.
-use Rattle.std.specs.Prelude.{ℕ, ◌+◌, List, [], ◌∷◌, Bool, true, false, ◌||◌, Option, Some, None, is_some, if◌then◌else◌}
+-- What the names of actions, operators, machines and calls stand for (OCI Runtime Specification 1.0.2, config-linux, Seccomp).
+use Rattle.std.specs.Prelude.{codes, ℕ, ◌+◌, List, [], ◌∷◌, Bool, true, false, ◌||◌, Option, Some, None, is_some, if◌then◌else◌}
 use Rattle.std.specs.Str.{bytes_eq}
 use Rattle.call_record.specs.Verdict as verdict
 use Rattle.call_tables.specs.declared.arch.Arch.{Arch}
@@ -10,7 +10,10 @@ use Rattle.profile.specs.declared.conditions.Op.{Op}
 use Rattle.profile.specs.declared.conditions.Op.TheVariants as op
 use Rattle.profile_json.specs.declared.action.Action.{Action}
 use Rattle.profile_json.specs.declared.action.Action.TheVariants as action
-use Rattle.profile_json.specs.declared.key.TheConstants as key
+
+-- the editions of the specification that are read
+abbrev pub editions : List (List ℕ)
+editions = codes "1.0.2" ∷ codes "1.1.0" ∷ []
 
 -- the value beside the first such name
 abbrev pub named : {A : Type 0} → List (List ℕ × A) → List ℕ → Option A
@@ -19,8 +22,13 @@ named (e ∷ es) name = if bytes_eq name e.0 then Some e.1 else named es name
 
 unfoldable pub action_named : List ℕ → Option Action
 action_named = named (
-    (key.KILL.now, action.KillThread) ∷ (key.KILL_PROCESS.now, action.KillProcess) ∷ (key.TRAP.now, action.Trap) ∷
-    (key.ERRNO.now, action.Errno) ∷ (key.TRACE.now, action.Trace) ∷ (key.LOG.now, action.Log) ∷ (key.ALLOW.now, action.Allow) ∷ [])
+    (codes "SCMP_ACT_KILL", action.KillThread) ∷
+    (codes "SCMP_ACT_KILL_PROCESS", action.KillProcess) ∷
+    (codes "SCMP_ACT_TRAP", action.Trap) ∷
+    (codes "SCMP_ACT_ERRNO", action.Errno) ∷
+    (codes "SCMP_ACT_TRACE", action.Trace) ∷
+    (codes "SCMP_ACT_LOG", action.Log) ∷
+    (codes "SCMP_ACT_ALLOW", action.Allow) ∷ [])
 
 -- an action's word without data
 abbrev pub action_bits : Action → ℕ
@@ -48,8 +56,13 @@ word_of a errno = if takes_data a then action_bits a + errno else action_bits a
 
 unfoldable pub op_named : List ℕ → Option Op
 op_named = named (
-    (key.NE.now, op.Ne) ∷ (key.LT.now, op.Lt) ∷ (key.LE.now, op.Le) ∷ (key.EQ.now, op.Eq) ∷
-    (key.GE.now, op.Ge) ∷ (key.GT.now, op.Gt) ∷ (key.MASKED_EQ.now, op.MaskedEq) ∷ [])
+    (codes "SCMP_CMP_NE", op.Ne) ∷
+    (codes "SCMP_CMP_LT", op.Lt) ∷
+    (codes "SCMP_CMP_LE", op.Le) ∷
+    (codes "SCMP_CMP_EQ", op.Eq) ∷
+    (codes "SCMP_CMP_GE", op.Ge) ∷
+    (codes "SCMP_CMP_GT", op.Gt) ∷
+    (codes "SCMP_CMP_MASKED_EQ", op.MaskedEq) ∷ [])
 
 unfoldable pub arch_named : List ℕ → Option Arch
 arch_named = named ((scmp_of X86_64, X86_64) ∷ (scmp_of Aarch64, Aarch64) ∷ [])

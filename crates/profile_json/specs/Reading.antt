@@ -8,11 +8,11 @@ use Rattle.call_tables.specs.declared.arch.Arch.{Arch}
 use Rattle.profile.specs.declared.conditions.Op.{Op}
 use Rattle.profile.specs.Operator.{mask_of}
 use Rattle.profile_json.specs.declared.action.Action.{Action}
-use Rattle.profile_json.specs.declared.key.TheConstants as key
+use Rattle.profile_json.specs.Keys as key
 use Rattle.profile_json.specs.Fault.{Fault, version, no_seccomp, wrong_type, missing_key, unknown_action, unknown_arch, native_missing, unknown_call, empty_names, errno_not_taken, errno_range, unknown_op, bad_index, repeated_index, stray_datum, unsupported_key, too_many}
 use Rattle.profile_json.specs.Parts.{CondParts, EntryParts}
 use Rattle.profile_json.specs.Lookup.{Member, missing, other_type, holds, member, or_default, object, text, whole, list}
-use Rattle.profile_json.specs.Names.{action_named, takes_data, word_of, op_named, arch_named, is_known}
+use Rattle.profile_json.specs.Names.{editions, action_named, takes_data, word_of, op_named, arch_named, is_known}
 use Rattle.profile_json.specs.Rules.{or_native, same_arch}
 use Rattle.profile_json.specs.Refusal.{short_name}
 use Rattle.profile_json.specs.Outcome.{◌>>=◌}
@@ -44,13 +44,13 @@ with_front front reading = reading >>= (λ xs. Ok (front ++ xs))
 
 unfoldable pub version_of : Data → Result (Unit {0}) Fault
 version_of t = do
-  v ← needed missing_key (member text key.OCI_VERSION.now t)
-  if bytes_eq v key.VERSION.now then Ok tt else Err version
+  v ← needed missing_key (member text key.oci_version t)
+  if list_any (λ e. bytes_eq e v) editions then Ok tt else Err version
 
 unfoldable pub seccomp_of : Data → Result Data Fault
 seccomp_of t = do
-  l ← needed no_seccomp (member object key.LINUX.now t)
-  needed no_seccomp (member object key.SECCOMP.now l)
+  l ← needed no_seccomp (member object key.linux t)
+  needed no_seccomp (member object key.seccomp l)
 
 unfoldable pub root_of : Data → Result Data Fault
 root_of t = do
@@ -65,27 +65,33 @@ action_at k d = do
   name ← needed missing_key (member text k d)
   ok_or (action_named name) unknown_action
 
+abbrev pub errno_in : Action → Member ℕ → Result ℕ Fault
+errno_in a missing = Ok 1
+errno_in a other_type = Err wrong_type
+errno_in a (holds n) = if takes_data a then (if nat_le n 4095 then Ok n else Err errno_range) else Err errno_not_taken
+
+unfoldable pub word_at : List ℕ → List ℕ → Data → Result ℕ Fault
+word_at action_key errno_key d = do
+  a ← action_at action_key d
+  n ← errno_in a (member whole errno_key d)
+  Ok (word_of a n)
+
 unfoldable pub default_of : Data → Result ℕ Fault
-default_of s = do
-  a ← action_at key.DEFAULT_ACTION.now s
-  Ok (word_of a 1)
+default_of s = word_at key.default_action key.default_errno_ret s
+
+unfoldable pub entry_word : Data → Result ℕ Fault
+entry_word d = word_at key.action key.errno_ret d
 
 -- ---- keys that are refused
-
-abbrev pub absent : {A : Type 0} → Member A → Result (Unit {0}) Fault
-absent missing = Ok tt
-absent other_type = Err wrong_type
-absent (holds x) = Err unsupported_key
 
 abbrev pub empty : {A : Type 0} → Member (List A) → Result (Unit {0}) Fault
 empty m = typed (or_default [] m) >>= (λ xs. if is_empty xs then Ok tt else Err unsupported_key)
 
 unfoldable pub refused_of : Data → Result (Unit {0}) Fault
 refused_of s = do
-  a ← absent (member whole key.DEFAULT_ERRNO_RET.now s)
-  b ← empty (member list key.FLAGS.now s)
-  c ← empty (member text key.LISTENER_PATH.now s)
-  empty (member text key.LISTENER_METADATA.now s)
+  b ← empty (member list key.flags s)
+  c ← empty (member text key.listener_path s)
+  empty (member text key.listener_metadata s)
 
 -- ---- machines
 
@@ -103,7 +109,7 @@ archs_or_native native ds = archs_in ds >>= (λ archs. Ok (or_native native arch
 
 unfoldable pub archs_of : Arch → Data → Result (List Arch) Fault
 archs_of native s = do
-  ds ← typed (or_default [] (member list key.ARCHITECTURES.now s))
+  ds ← typed (or_default [] (member list key.architectures s))
   archs ← archs_or_native native ds
   if list_any (same_arch native) archs then Ok archs else Err native_missing
 
@@ -112,12 +118,12 @@ archs_of native s = do
 -- the datum of a condition: the second value counts under MASKED_EQ alone
 unfoldable pub index_at : List CondParts → Data → Result ℕ Fault
 index_at front d = do
-  i ← needed missing_key (member whole key.INDEX.now d)
+  i ← needed missing_key (member whole key.index d)
   if nat_lt i 6 then (if list_any (λ c. c.index == i) front then Err repeated_index else Ok i) else Err bad_index
 
 unfoldable pub op_at : Data → Result Op Fault
 op_at d = do
-  name ← needed missing_key (member text key.OP.now d)
+  name ← needed missing_key (member text key.op d)
   ok_or (op_named name) unknown_op
 
 unfoldable pub cond_of : ℕ → Op → ℕ → ℕ → Result CondParts Fault
@@ -131,8 +137,8 @@ unfoldable pub arg_of : List CondParts → Data → Result CondParts Fault
 arg_of front d = do
   o ← typed (object d)
   index ← index_at front o
-  value ← needed missing_key (member whole key.VALUE.now o)
-  two ← typed (or_default 0 (member whole key.VALUE_TWO.now o))
+  value ← needed missing_key (member whole key.value o)
+  two ← typed (or_default 0 (member whole key.value_two o))
   op ← op_at o
   cond_of index op value two
 
@@ -142,7 +148,7 @@ args_after front (d ∷ ds) = arg_of front d >>= (λ c. args_after (front ++ c �
 
 unfoldable pub args_of : Data → Result (List CondParts) Fault
 args_of d = do
-  ds ← typed (or_default [] (member list key.ARGS.now d))
+  ds ← typed (or_default [] (member list key.args d))
   args_after [] ds
 
 -- ---- entries
@@ -158,25 +164,14 @@ names_in (d ∷ ds) = name_of d >>= (λ n. with_front (n ∷ []) (names_in ds))
 
 unfoldable pub names_of : Data → Result (List (List ℕ)) Fault
 names_of d = do
-  ds ← needed missing_key (member list key.NAMES.now d)
+  ds ← needed missing_key (member list key.names d)
   if is_empty ds then Err empty_names else (if nat_lt 128 (length ds) then Err too_many else names_in ds)
-
-abbrev pub errno_in : Action → Member ℕ → Result ℕ Fault
-errno_in a missing = Ok 1
-errno_in a other_type = Err wrong_type
-errno_in a (holds n) = if takes_data a then (if nat_le n 4095 then Ok n else Err errno_range) else Err errno_not_taken
-
-unfoldable pub word_at : Data → Result ℕ Fault
-word_at d = do
-  a ← action_at key.ACTION.now d
-  n ← errno_in a (member whole key.ERRNO_RET.now d)
-  Ok (word_of a n)
 
 unfoldable pub entry_of : Data → Result EntryParts Fault
 entry_of d = do
   o ← typed (object d)
   names ← names_of o
-  word ← word_at o
+  word ← entry_word o
   conds ← args_of o
   Ok (record { names = names; conds = conds; word = word })
 
@@ -186,7 +181,7 @@ entries_in (d ∷ ds) = entry_of d >>= (λ e. with_front (e ∷ []) (entries_in 
 
 unfoldable pub entries_of : Data → Result (List EntryParts) Fault
 entries_of s = do
-  ds ← typed (or_default [] (member list key.SYSCALLS.now s))
+  ds ← typed (or_default [] (member list key.syscalls s))
   if nat_lt 256 (length ds) then Err too_many else entries_in ds
 
 -- ---- the whole

@@ -7,7 +7,7 @@ ghost use Rattle.profile_json.specs.Outcome.{Gives};
 ghost use Rattle.profile_json.specs.Reading as read;
 
 use crate::error::ProfileError;
-use crate::key::{self, ACTION, DEFAULT_ACTION, ERRNO_RET};
+use crate::key::{self, ACTION, DEFAULT_ACTION, DEFAULT_ERRNO_RET, ERRNO_RET};
 use crate::lookup::{text_at, whole_if_there};
 use call_record::Word;
 use serde_json::Value;
@@ -80,21 +80,12 @@ fn action_at(value: &Value, key: &str) -> Result<Action, ProfileError>
     action_named(name).ok_or(ProfileError::UnknownAction)
 }
 
-/// The word of `defaultAction`.
-#[tactic(auto, unfolding(crate::specs::Reading::default_of))]
-pub(crate) fn default_of(seccomp: &Value) -> Result<Word, ProfileError>
-    ensures { Gives (λ w. w) result (read.default_of (view seccomp.now)) }
-{
-    let action = action_at(seccomp, DEFAULT_ACTION)?;
-    Ok(action.word(1))
-}
-
-/// The data of `errnoRet`, 1 where it is missing.
-fn errno_of(action: Action, entry: &Value) -> Result<u16, ProfileError>
-    ensures reading { Gives (λ n. n) result (read.errno_in action (member whole ERRNO_RET.now (view entry.now))) }
+/// The data under a key, 1 where it is missing.
+fn errno_at(value: &Value, key: &str, action: Action) -> Result<u16, ProfileError>
+    ensures reading { Gives (λ n. n) result (read.errno_in action (member whole key.now (view value.now))) }
     ensures small { IfOk result (λ n. n ≤ 4095) }
 {
-    match whole_if_there(entry, ERRNO_RET)? {
+    match whole_if_there(value, key)? {
         None => Ok(1),
         Some(_) if !action.takes_data() => Err(ProfileError::ErrnoNotTaken),
         Some(number) if number <= 4095 => Ok(number as u16),
@@ -102,12 +93,28 @@ fn errno_of(action: Action, entry: &Value) -> Result<u16, ProfileError>
     }
 }
 
-/// The word of an entry.
+/// The word of the action under one key, with the data under another.
 #[tactic(auto, unfolding(crate::specs::Reading::word_at))]
-pub(crate) fn word_of(entry: &Value) -> Result<Word, ProfileError>
-    ensures { Gives (λ w. w) result (read.word_at (view entry.now)) }
+fn word_at(value: &Value, action_key: &str, errno_key: &str) -> Result<Word, ProfileError>
+    ensures { Gives (λ w. w) result (read.word_at action_key.now errno_key.now (view value.now)) }
 {
-    let action = action_at(entry, ACTION)?;
-    let errno = errno_of(action, entry)?;
+    let action = action_at(value, action_key)?;
+    let errno = errno_at(value, errno_key, action)?;
     Ok(action.word(errno))
+}
+
+/// The word of calls that no rule matches.
+#[tactic(auto, unfolding(crate::specs::Reading::default_of))]
+pub(crate) fn default_of(seccomp: &Value) -> Result<Word, ProfileError>
+    ensures { Gives (λ w. w) result (read.default_of (view seccomp.now)) }
+{
+    word_at(seccomp, DEFAULT_ACTION, DEFAULT_ERRNO_RET)
+}
+
+/// The word of an entry.
+#[tactic(auto, unfolding(crate::specs::Reading::entry_word))]
+pub(crate) fn word_of(entry: &Value) -> Result<Word, ProfileError>
+    ensures { Gives (λ w. w) result (read.entry_word (view entry.now)) }
+{
+    word_at(entry, ACTION, ERRNO_RET)
 }

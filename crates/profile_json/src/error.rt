@@ -12,7 +12,7 @@ use std::fmt;
 pub enum ProfileError {
     /// The text is no JSON.
     Syntax,
-    /// `ociVersion` is another edition.
+    /// `ociVersion` is no edition that is read.
     Version,
     /// There is no `linux.seccomp`.
     NoSeccomp,
@@ -30,9 +30,9 @@ pub enum ProfileError {
     UnknownCall(ArrayString<64>),
     /// An entry names no call.
     EmptyNames,
-    /// `errnoRet` stands beside an action that takes no data.
+    /// `errnoRet` or `defaultErrnoRet` stands beside an action that takes no data.
     ErrnoNotTaken,
-    /// `errnoRet` is above 4095.
+    /// `errnoRet` or `defaultErrnoRet` is above 4095.
     ErrnoRange,
     /// An operator has no known name.
     UnknownOp,

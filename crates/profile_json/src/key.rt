@@ -36,8 +36,10 @@ pub const VALUE_TWO: &str = "valueTwo";
 
 pub const OP: &str = "op";
 
-/// The edition of the specification that is read.
-pub const VERSION: &str = "1.0.2";
+/// The editions of the specification that are read.
+pub const VERSION_1_0_2: &str = "1.0.2";
+
+pub const VERSION_1_1_0: &str = "1.1.0";
 
 pub const KILL: &str = "SCMP_ACT_KILL";
 

@@ -23,4 +23,4 @@ mod tests;
 
 pub use bundle::{Bundle, read_bundle};
 pub use error::ProfileError;
-pub use law::meaning_is_unbroken;
+pub use law::{meaning_is_kept, meaning_is_one, meaning_is_unbroken};

@@ -1,22 +1,13 @@
 //! Keys of the standard that are not supported: they may be missing, or empty.
 ghost use Rattle.serde_json.specs.View.{view};
-ghost use Rattle.profile_json.specs.Lookup.{member, text, whole, list};
+ghost use Rattle.profile_json.specs.Lookup.{member, text, list};
 ghost use Rattle.profile_json.specs.Outcome.{Gives};
-ghost use Rattle.profile_json.specs.Reading.{absent, empty, refused_of};
+ghost use Rattle.profile_json.specs.Reading.{empty, refused_of};
 
 use crate::error::ProfileError;
-use crate::key::{DEFAULT_ERRNO_RET, FLAGS, LISTENER_METADATA, LISTENER_PATH};
-use crate::lookup::{list_or_empty, text_or_empty, whole_if_there};
+use crate::key::{FLAGS, LISTENER_METADATA, LISTENER_PATH};
+use crate::lookup::{list_or_empty, text_or_empty};
 use serde_json::Value;
-
-fn no_number(value: &Value, key: &str) -> Result<(), ProfileError>
-    ensures { Gives (λ u. u) result (absent (member whole key.now (view value.now))) }
-{
-    match whole_if_there(value, key)? {
-        None => Ok(()),
-        Some(_) => Err(ProfileError::UnsupportedKey),
-    }
-}
 
 fn no_list(value: &Value, key: &str) -> Result<(), ProfileError>
     ensures { Gives (λ u. u) result (empty (member list key.now (view value.now))) }
@@ -45,7 +36,6 @@ fn no_text(value: &Value, key: &str) -> Result<(), ProfileError>
 pub(crate) fn refuse_keys(seccomp: &Value) -> Result<(), ProfileError>
     ensures { Gives (λ u. u) result (refused_of (view seccomp.now)) }
 {
-    no_number(seccomp, DEFAULT_ERRNO_RET)?;
     no_list(seccomp, FLAGS)?;
     no_text(seccomp, LISTENER_PATH)?;
     no_text(seccomp, LISTENER_METADATA)

@@ -6,7 +6,7 @@ ghost use Rattle.profile_json.specs.Outcome.{Gives};
 ghost use Rattle.profile_json.specs.Reading as spec;
 
 use crate::error::ProfileError;
-use crate::key::{LINUX, OCI_VERSION, SECCOMP, VERSION};
+use crate::key::{LINUX, OCI_VERSION, SECCOMP, VERSION_1_0_2, VERSION_1_1_0};
 use crate::lookup::{object_of, text_at};
 use serde_json::Value;
 
@@ -15,7 +15,7 @@ fn check_version(root: &Value) -> Result<(), ProfileError>
     ensures { Gives (λ u. u) result (spec.version_of (view root.now)) }
 {
     let version = text_at(root, OCI_VERSION)?;
-    if version == VERSION {
+    if version == VERSION_1_0_2 || version == VERSION_1_1_0 {
         Ok(())
     } else {
         Err(ProfileError::Version)
@@ -40,7 +40,7 @@ fn seccomp_of(root: &Value) -> Result<&Value, ProfileError>
     object_at(linux, SECCOMP)
 }
 
-/// The object under `linux.seccomp` of a bundle of the edition that is read.
+/// The object under `linux.seccomp` of a bundle of an edition that is read.
 #[tactic(auto, unfolding(crate::specs::Reading::root_of))]
 pub(crate) fn root_of(value: &Value) -> Result<&Value, ProfileError>
     ensures { Gives (λ v. view v.now) result (spec.root_of (view value.now)) }

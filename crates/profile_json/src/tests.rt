@@ -74,9 +74,10 @@ fn root(rt: HostRuntime) -> Result<(), Fail> {
         ("{}", "5 MissingKey"),
         (r#"{"ociVersion":null}"#, "4 WrongType"),
         (r#"{"ociVersion":102,"linux":3}"#, "4 WrongType"),
-        (r#"{"ociVersion":"1.1.0"}"#, "2 Version"),
+        (r#"{"ociVersion":"1.0.1"}"#, "2 Version"),
+        (r#"{"ociVersion":"1.1.0"}"#, "3 NoSeccomp"),
         (
-            r#"{"ociVersion":"1.1.0","ociVersion":"1.0.2"}"#,
+            r#"{"ociVersion":"1.0.1","ociVersion":"1.0.2"}"#,
             "3 NoSeccomp",
         ),
         (r#"{"ociVersion":"1.0.2"}"#, "3 NoSeccomp"),
@@ -116,8 +117,16 @@ fn default_action_and_refused_keys(rt: HostRuntime) -> Result<(), Fail> {
             "4 WrongType",
         ),
         (
+            r#"{"defaultAction":"SCMP_ACT_ALLOW","defaultErrnoRet":5000,"flags":1}"#,
+            "11 ErrnoNotTaken",
+        ),
+        (
+            r#"{"defaultAction":"SCMP_ACT_ERRNO","defaultErrnoRet":4096,"flags":1}"#,
+            "12 ErrnoRange",
+        ),
+        (
             r#"{"defaultAction":"SCMP_ACT_ERRNO","defaultErrnoRet":1,"flags":1}"#,
-            "18 UnsupportedKey",
+            "4 WrongType",
         ),
         (
             r#"{"defaultAction":"SCMP_ACT_LOG","flags":"","listenerPath":"x"}"#,

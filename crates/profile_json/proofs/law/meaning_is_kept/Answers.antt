@@ -1,0 +1,5 @@
+use Rattle.profile_json.proofs.Unbroken as laws
+use Rattle.profile_json.proofs.law.meaning_is_kept.Goals as goal
+
+pub returns : goal.returns
+returns c = laws.meaning_is_kept
