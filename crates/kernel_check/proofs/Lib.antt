@@ -1,2 +1,5 @@
 pub mod AcceptLemmas
-pub mod AcceptedRuns
+pub mod MaskLemmas
+pub mod PathLemmas
+pub mod RefusalLaws
+pub mod RunLaws

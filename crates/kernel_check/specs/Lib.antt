@@ -1,3 +1,5 @@
-pub mod Cause
+pub mod Fault
+pub mod Paths
 pub mod Accepted
 pub mod Lent
+pub mod inner

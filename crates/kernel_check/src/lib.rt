@@ -1,19 +1,20 @@
 //! The kernel's check of a filter, before it is loaded.
 //!
-//! [`accept`] takes a program just where the kernel would, and else tells the first position where
-//! something is wrong. An [`Accepted`] program is lent in the bytes that it was read from, and an
-//! [`AcceptedBuf`] owns a copy of them.
+//! [`accept`] takes a program just where the kernel would, and else tells what is wrong and where. An
+//! [`Accepted`] program is lent in the bytes that it was read from, and an [`AcceptedBuf`] owns a
+//! copy of them.
 #![tactic(auto)]
 
 mod causes;
 mod check;
+mod fault;
+mod law;
 mod lent;
 mod owned;
-mod refusal;
-#[cfg(test)]
-mod tests;
+mod scratch;
 
 pub use check::accept;
+pub use fault::{Cause, Refused};
+pub use law::{accepted_programs_give_words, one_refusal};
 pub use lent::Accepted;
 pub use owned::AcceptedBuf;
-pub use refusal::{Cause, Refused};
