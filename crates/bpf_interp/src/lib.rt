@@ -1,13 +1,11 @@
 //! Runs an accepted filter on the record of a call.
 //!
 //! [`verdict`] answers the filter's word, and [`verdict_counted`] also how many instructions were run.
-//! The kernel's check has shown that every load is of a word of the record and that every step leads
-//! on to a later instruction, so each run ends.
+//! The kernel's check has shown that every load is of a word of the record, or of a scratch word that is
+//! written by then, and that every step leads on to a later instruction, so each run ends.
 #![tactic(auto)]
 
 mod run;
 mod step;
-#[cfg(test)]
-mod tests;
 
 pub use run::{verdict, verdict_counted};

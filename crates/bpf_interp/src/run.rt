@@ -22,17 +22,14 @@ pub fn verdict_counted(accepted: &Accepted<'_>, call: &Record) -> (Word, u32)
     ensures bound { result.1 ≤ length (accepted_insns accepted.now) }
 {
     let program = accepted.program();
-    let mut registers = Registers { a: 0, x: 0 };
+    let mut registers = Registers::at_start();
     let mut pc = 0;
     let mut count = 0;
     'run: loop {
         count += 1;
-        match advance(&program.get(pc), call, registers) {
+        match advance(&program.get(pc), call, &mut registers) {
             Next::Returns(word) => return (Word(word), count),
-            Next::Continues(skip, after) => {
-                registers = after;
-                pc += 1 + skip as usize;
-            }
+            Next::Continues(skip) => pc += 1 + skip as usize,
         }
     }
 }
