@@ -16,14 +16,15 @@ use Rattle.bpf_insn.specs.declared.instruction.Insn.{Insn}
 use Rattle.bpf_insn.specs.Code.{code_of, operation_of}
 use Rattle.bpf_insn.proofs.CodeLaws.{code_of-operation_of}
 use Rattle.bpf_asm.specs.declared.word.Word.{Word}
-use Rattle.bpf_asm.specs.declared.word.Word.TheVariants.{Ld, Ldx, Ret, Ja, Branch, Compute, Lsh, Rsh, Neg, Tax, Txa, Raw}
+use Rattle.bpf_asm.specs.declared.word.Word.TheVariants.{Ld, Ldx, St, Stx, Ret, Ja, Branch, Compute, Lsh, Rsh, Neg, Tax, Txa, Raw}
 use Rattle.bpf_asm.specs.declared.line.Fields.{Fields}
 use Rattle.bpf_asm.specs.declared.fault.LineFault.{LineFault}
 use Rattle.bpf_asm.specs.declared.fault.LineFault.TheVariants.{UnknownWord, BadNumber, BadLine}
 use Rattle.bpf_asm.specs.declared.arguments.Arguments.{Arguments}
 use Rattle.bpf_asm.specs.declared.arguments.Arguments.TheVariants.{Nothing, One, Three, Four}
 use Rattle.bpf_asm.specs.Words.{is_raw, word_at, word_of, word_text, words}
-use Rattle.bpf_asm.specs.Listing.{IsInsn, Piece, RegisterA, RegisterX, Address, Constant, Decimal, Hexadecimal, form_of, hexadecimal, is_plain, line_of, line_text, piece_text, pieces_of, raw_pieces, text_by, uses_k, uses_targets}
+use Rattle.bpf_insn.specs.Bytes.{IsInsn}
+use Rattle.bpf_asm.specs.Listing.{Piece, RegisterA, RegisterX, Address, Scratch, Constant, Decimal, Hexadecimal, form_of, hexadecimal, is_plain, line_of, line_text, piece_text, pieces_of, raw_pieces, text_by, uses_k, uses_targets}
 use Rattle.bpf_asm.specs.Faults.{HasBadNumber, IsNeedlesslyRaw, IsPiece, IsShaped, IsShapeless, IsUnknown, first_word, has_shape}
 use Rattle.bpf_asm.specs.Reading.{arguments_at, branch_fields, checked, fields_of, first_part, insn_of, line_at, named, number_of, part_of, plain_fields, read_rest, shaped, split_at}
 use Rattle.bpf_asm.proofs.Numerals.{are_digits-decimal, are_digits-hexadecimal, number_of-decimal, number_of-hexadecimal, within_some}
@@ -36,6 +37,8 @@ use Rattle.bpf_asm.proofs.Outcomes.{Outcome, Faulty, Written, OfForm, OfRaw, Sha
 word_letters : (w : Word) → list_all (λ b. nat_le 97 b) (word_text w) ≡ true
 word_letters Ld = refl
 word_letters Ldx = refl
+word_letters St = refl
+word_letters Stx = refl
 word_letters Ret = refl
 word_letters Ja = refl
 word_letters (Branch Equal) = refl
@@ -64,6 +67,8 @@ word_at-word_text : (w : Word) → word_at (word_text w) ≡ Some w
 unfolding word_at
 word_at-word_text Ld = refl
 word_at-word_text Ldx = refl
+word_at-word_text St = refl
+word_at-word_text Stx = refl
 word_at-word_text Ret = refl
 word_at-word_text Ja = refl
 word_at-word_text (Branch Equal) = refl
@@ -194,6 +199,10 @@ read_four w p q r s f dp dq dr ds h =
 -- each shape is read
 pub read_shape : (w : Word) (ps : List Piece) → AllByRecursion IsPiece ps → has_shape w ps ≡ true → Read w ps
 read_shape Ld (Address n ∷ []) d h = read_one Ld (Address n) _ d.0 refl
+read_shape Ld (Scratch n ∷ []) d h = read_one Ld (Scratch n) _ d.0 refl
+read_shape Ldx (Scratch n ∷ []) d h = read_one Ldx (Scratch n) _ d.0 refl
+read_shape St (Scratch n ∷ []) d h = read_one St (Scratch n) _ d.0 refl
+read_shape Stx (Scratch n ∷ []) d h = read_one Stx (Scratch n) _ d.0 refl
 read_shape Ld (Constant n ∷ []) d h = read_one Ld (Constant n) _ d.0 refl
 read_shape Ldx (Constant n ∷ []) d h = read_one Ldx (Constant n) _ d.0 refl
 read_shape Ret (Constant n ∷ []) d h = read_one Ret (Constant n) _ d.0 refl
@@ -326,6 +335,10 @@ no_constant i op plain without = by_tests (uses_targets op) (uses_k op) plain wi
 
 pub form_pieces : (op : Operation) (i : Insn) → IsInsn i → AllByRecursion IsPiece (pieces_of op i) × (has_shape (word_of op) (pieces_of op i) ≡ true)
 form_pieces operations.LoadWord i fits = ((are_digits-decimal i.k fits.k, tt), refl)
+form_pieces operations.LoadScratch i fits = ((are_digits-decimal i.k fits.k, tt), refl)
+form_pieces operations.LoadScratchX i fits = ((are_digits-decimal i.k fits.k, tt), refl)
+form_pieces operations.Store i fits = ((are_digits-decimal i.k fits.k, tt), refl)
+form_pieces operations.StoreX i fits = ((are_digits-decimal i.k fits.k, tt), refl)
 form_pieces operations.SetA i fits = ((are_digits-hexadecimal i.k fits.k, tt), refl)
 form_pieces operations.SetX i fits = ((are_digits-hexadecimal i.k fits.k, tt), refl)
 form_pieces operations.ReturnK i fits = ((are_digits-hexadecimal i.k fits.k, tt), refl)
@@ -370,11 +383,23 @@ constant_fields op w i fits plain without found =
     found_one w (Constant (hexadecimal i.k)) (own_fields op i) (are_digits-hexadecimal i.k fits.k)
     (found None ∙ rw (number_of-hexadecimal i.k fits.k, targets.0, targets.1) refl)
 
+scratch_fields : (op : Operation) (w : Word) (i : Insn) → IsInsn i → is_plain i op ≡ true → uses_targets op ≡ false
+    → ((k : Option ℕ) → fields_of w (One (part_of (Scratch (decimal i.k)))) ≡ Some (plain_fields op (number_of 10 (decimal i.k))))
+    → fields_at (line_text w (Scratch (decimal i.k) ∷ [])) ≡ Some (own_fields op i)
+scratch_fields op w i fits plain without found =
+    let targets = no_targets i op plain without in
+    found_one w (Scratch (decimal i.k)) (own_fields op i) (are_digits-decimal i.k fits.k)
+    (found None ∙ rw (number_of-decimal i.k fits.k, targets.0, targets.1) refl)
+
 fields_written : (op : Operation) (i : Insn) → IsInsn i → is_plain i op ≡ true → fields_at (line_text (word_of op) (pieces_of op i)) ≡ Some (own_fields op i)
 fields_written operations.LoadWord i fits plain =
     let targets = no_targets i operations.LoadWord plain refl in
     found_one Ld (Address (decimal i.k)) (own_fields operations.LoadWord i) (are_digits-decimal i.k fits.k)
     (rw (number_of-decimal i.k fits.k, targets.0, targets.1) refl)
+fields_written operations.LoadScratch i fits plain = scratch_fields operations.LoadScratch Ld i fits plain refl (λ k. refl)
+fields_written operations.LoadScratchX i fits plain = scratch_fields operations.LoadScratchX Ldx i fits plain refl (λ k. refl)
+fields_written operations.Store i fits plain = scratch_fields operations.Store St i fits plain refl (λ k. refl)
+fields_written operations.StoreX i fits plain = scratch_fields operations.StoreX Stx i fits plain refl (λ k. refl)
 fields_written operations.SetA i fits plain = constant_fields operations.SetA Ld i fits plain refl (λ k. refl)
 fields_written operations.SetX i fits plain = constant_fields operations.SetX Ldx i fits plain refl (λ k. refl)
 fields_written operations.ReturnK i fits plain = constant_fields operations.ReturnK Ret i fits plain refl (λ k. refl)
@@ -434,6 +459,10 @@ read_as w ps i f read found made =
 
 word_of-not_raw : (op : Operation) → is_raw (word_of op) ≡ false
 word_of-not_raw operations.LoadWord = refl
+word_of-not_raw operations.LoadScratch = refl
+word_of-not_raw operations.LoadScratchX = refl
+word_of-not_raw operations.Store = refl
+word_of-not_raw operations.StoreX = refl
 word_of-not_raw operations.SetA = refl
 word_of-not_raw operations.SetX = refl
 word_of-not_raw operations.ReturnK = refl

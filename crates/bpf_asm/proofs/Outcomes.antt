@@ -12,12 +12,13 @@ use Rattle.bpf_insn.specs.declared.instruction.Insn.{Insn}
 use Rattle.bpf_insn.specs.Code.{code_of}
 use Rattle.bpf_insn.proofs.CodeLaws.{operation_of-code_of}
 use Rattle.bpf_asm.specs.declared.word.Word.{Word}
-use Rattle.bpf_asm.specs.declared.word.Word.TheVariants.{Ld, Ldx, Ret, Ja, Branch, Compute, Lsh, Rsh, Neg, Tax, Txa, Raw}
+use Rattle.bpf_asm.specs.declared.word.Word.TheVariants.{Ld, Ldx, St, Stx, Ret, Ja, Branch, Compute, Lsh, Rsh, Neg, Tax, Txa, Raw}
 use Rattle.bpf_asm.specs.declared.line.Fields.{Fields}
 use Rattle.bpf_asm.specs.declared.arguments.Arguments.TheVariants.{Nothing, One, Three, Four}
 use Rattle.bpf_asm.specs.Words.{is_raw, word_of}
 use Rattle.bpf_asm.specs.Digits.{IsBadNumber}
-use Rattle.bpf_asm.specs.Listing.{IsInsn, Piece, RegisterA, RegisterX, Address, Constant, Decimal, Hexadecimal, form_of, hexadecimal, is_plain, pieces_of, raw_pieces}
+use Rattle.bpf_insn.specs.Bytes.{IsInsn}
+use Rattle.bpf_asm.specs.Listing.{Piece, RegisterA, RegisterX, Address, Scratch, Constant, Decimal, Hexadecimal, form_of, hexadecimal, is_plain, pieces_of, raw_pieces}
 use Rattle.bpf_asm.specs.Faults.{HasBadPiece, IsBadPiece, IsPiece, has_shape}
 use Rattle.bpf_asm.specs.Reading.{branch_fields, fields_of, insn_of, insn_with, number_of, part_of, plain_fields, within}
 use Rattle.bpf_asm.proofs.Numerals.{Judged, Bad, Good, judged_decimal, judged_hexadecimal, number_of-within, within_some}
@@ -33,6 +34,10 @@ pub data Outcome (w : Word) (ps : List Piece) (f : Fields) : Type 0 where
 
 pub code_small : (op : Operation) → code_of op < 2 ^ 16
 code_small operations.LoadWord = lit< tt
+code_small operations.LoadScratch = lit< tt
+code_small operations.LoadScratchX = lit< tt
+code_small operations.Store = lit< tt
+code_small operations.StoreX = lit< tt
 code_small operations.SetA = lit< tt
 code_small operations.SetX = lit< tt
 code_small operations.ReturnK = lit< tt
@@ -194,6 +199,13 @@ constant op w ds f d h plain other word pieces =
     at_fields w (Constant ds ∷ []) (plain_fields op (number_of 16 ds)) f h
     (one_number op w 16 hexadecimal ds Constant plain other word pieces (λ b. b) (λ b. b) (judged_hexadecimal 32 ds (lit≤ tt) d))
 
+scratch : (op : Operation) (w : Word) (ds : List ℕ) (f : Fields) → IsPiece (Scratch ds) → Some (plain_fields op (number_of 10 ds)) ≡ Some f
+    → ((n : ℕ) → is_plain (built op 0 0 n) op ≡ true) → is_raw w ≡ false → word_of op ≡ w
+    → ((i : Insn) → pieces_of op i ≡ Scratch (decimal i.k) ∷ []) → Outcome w (Scratch ds ∷ []) f
+scratch op w ds f d h plain other word pieces =
+    at_fields w (Scratch ds ∷ []) (plain_fields op (number_of 10 ds)) f h
+    (one_number op w 10 decimal ds Scratch plain other word pieces (λ b. b) (λ b. b) (judged_decimal 32 ds (lit≤ tt) d))
+
 pub outcome_nothing : (w : Word) (f : Fields) → fields_of w Nothing ≡ Some f → Shaped w [] f
 outcome_nothing Neg f h = (refl, at_fields Neg [] (plain_fields operations.Negate (Some 0)) f h (fixed operations.Negate Neg [] refl refl refl refl (λ b. b)))
 outcome_nothing Tax f h = (refl, at_fields Tax [] (plain_fields operations.CopyToX (Some 0)) f h (fixed operations.CopyToX Tax [] refl refl refl refl (λ b. b)))
@@ -206,6 +218,10 @@ outcome_one Ld (Address ds) f d h = (
   at_fields Ld (Address ds ∷ []) (plain_fields operations.LoadWord (number_of 10 ds)) f h
       (one_number operations.LoadWord Ld 10 decimal ds Address (λ n. refl) refl refl (λ i. refl) (λ b. b) (λ b. b) (judged_decimal 32 ds (lit≤ tt) d)),
 )
+outcome_one Ld (Scratch ds) f d h = (refl, scratch operations.LoadScratch Ld ds f d h (λ n. refl) refl refl (λ i. refl))
+outcome_one Ldx (Scratch ds) f d h = (refl, scratch operations.LoadScratchX Ldx ds f d h (λ n. refl) refl refl (λ i. refl))
+outcome_one St (Scratch ds) f d h = (refl, scratch operations.Store St ds f d h (λ n. refl) refl refl (λ i. refl))
+outcome_one Stx (Scratch ds) f d h = (refl, scratch operations.StoreX Stx ds f d h (λ n. refl) refl refl (λ i. refl))
 outcome_one Ld (Constant ds) f d h = (refl, constant operations.SetA Ld ds f d h (λ n. refl) refl refl (λ i. refl))
 outcome_one Ldx (Constant ds) f d h = (refl, constant operations.SetX Ldx ds f d h (λ n. refl) refl refl (λ i. refl))
 outcome_one Ret (Constant ds) f d h = (refl, constant operations.ReturnK Ret ds f d h (λ n. refl) refl refl (λ i. refl))

@@ -13,12 +13,12 @@ use Rattle.bpf_asm.specs.declared.arguments.Part.TheVariants as parts
 use Rattle.bpf_asm.specs.declared.arguments.Arguments.{Arguments}
 use Rattle.bpf_asm.specs.declared.arguments.Arguments.TheVariants.{One, Three, Four}
 use Rattle.bpf_asm.specs.Digits.{are_digits, is_hexadecimal_digit}
-use Rattle.bpf_asm.specs.Listing.{Piece, RegisterA, RegisterX, Address, Constant, Decimal, Hexadecimal, piece_text}
+use Rattle.bpf_asm.specs.Listing.{Piece, RegisterA, RegisterX, Address, Scratch, Constant, Decimal, Hexadecimal, piece_text}
 use Rattle.bpf_asm.specs.Faults.{IsPiece}
-use Rattle.bpf_asm.specs.Reading.{ahead_of, arguments_at, behind, decimal_at, hexadecimal_at, last_parts, marked_part, number_of, number_part, part_at, part_of, parts_of, split_at}
+use Rattle.bpf_asm.specs.Reading.{ahead_of, arguments_at, behind, bracketed_at, decimal_at, hexadecimal_at, last_parts, marked_part, number_of, number_part, part_at, part_of, parts_of, split_at}
 use Rattle.bpf_asm.proofs.Numerals.{both}
 use Rattle.bpf_asm.proofs.Splits.{Lacks, ahead_of_sound, behind_sound, lacks_append, split_at_first, split_at_none, split_at_sound}
-use Rattle.bpf_asm.proofs.Parts.{part_at-address, part_at-number}
+use Rattle.bpf_asm.proofs.Parts.{bracketed_at-closed, part_at-address, part_at-number, part_at-scratch}
 
 pub and_then_some : {A B : Type 0} (f : A → Option B) (o : Option A) (y : B) → option_and_then f o ≡ Some y → (x : A) × (o ≡ Some x) × (f x ≡ Some y)
 and_then_some f None y h = absurd (cc)
@@ -69,7 +69,8 @@ part_at-decimal (a ∷ ds) d =
     let first = both (is_ascii_digit a) (list_all is_ascii_digit ds) d in
     let not_a : (a == 97) ≡ false = ne_eqb a 97 (is_not 97 a refl first.0) in
     let not_x : (a == 120) ≡ false = ne_eqb a 120 (is_not 120 a refl first.0) in
-    part_at-number (a ∷ ds) (rw not_a refl) (rw not_x refl) (λ rest e. is_not 35 a refl first.0 cc) (λ rest e. is_not 91 a refl first.0 cc)
+    let not_m : (a == 77) ≡ false = ne_eqb a 77 (is_not 77 a refl first.0) in
+    part_at-number (a ∷ ds) (rw not_a refl) (rw not_x refl) (λ rest e. is_not 35 a refl first.0 cc) (λ rest e. is_not 91 a refl first.0 cc) (rw not_m refl)
     ∙ rw (hexadecimal_at-decimal (a ∷ ds) d, decimal_at-digits (a ∷ ds) d) refl
 
 -- what is written is read
@@ -77,7 +78,10 @@ pub part_at-piece_text : (p : Piece) → IsPiece p → part_at (piece_text p) �
 unfolding part_at
 part_at-piece_text RegisterA h = refl
 part_at-piece_text RegisterX h = refl
-part_at-piece_text (Address ds) h = part_at-address (91 ∷ (ds ++ 93 ∷ [])) ds refl ∙ ap (option_map parts.Address) (decimal_at-digits ds h)
+part_at-piece_text (Address ds) h =
+    part_at-address (91 ∷ (ds ++ 93 ∷ [])) (ds ++ 93 ∷ []) refl ∙ ap (option_map parts.Address) (bracketed_at-closed (ds ++ 93 ∷ []) ds refl ∙ decimal_at-digits ds h)
+part_at-piece_text (Scratch ds) h =
+    part_at-scratch (77 ∷ 91 ∷ (ds ++ 93 ∷ [])) (ds ++ 93 ∷ []) refl ∙ ap (option_map parts.Scratch) (bracketed_at-closed (ds ++ 93 ∷ []) ds refl ∙ decimal_at-digits ds h)
 part_at-piece_text (Constant ds) h = ap (option_map parts.Constant) (hexadecimal_at-digits ds h)
 part_at-piece_text (Decimal ds) h = part_at-decimal ds h
 part_at-piece_text (Hexadecimal ds) h = ap (λ o. number_part o (48 ∷ 120 ∷ ds)) (hexadecimal_at-digits ds h)
@@ -94,6 +98,14 @@ hexadecimal_at_sound text n h =
     let digits = cond_some (are_digits is_hexadecimal_digit found.0) (number_of 16 found.0) n found.2 in
     (found.0, behind_sound (48 ∷ 120 ∷ []) text found.0 found.1, digits.0, digits.1)
 
+bracketed_at_sound : (text : List ℕ) (n : Option ℕ) → bracketed_at text ≡ Some n
+    → (ds : List ℕ) × (text ≡ ds ++ 93 ∷ []) × (are_digits is_ascii_digit ds ≡ true) × (number_of 10 ds ≡ n)
+unfolding bracketed_at
+bracketed_at_sound text n h =
+    let ended = and_then_some decimal_at (ahead_of 93 text) n h in
+    let read = decimal_at_sound ended.0 n ended.2 in
+    (ended.0, ahead_of_sound 93 text ended.0 ended.1, read.0, read.1)
+
 -- a piece that a text is, and that is read as this part
 abbrev pub Shows : List ℕ → Part → Type 0
 Shows text x = (p : Piece) × IsPiece p × (text ≡ piece_text p) × (part_of p ≡ x)
@@ -108,30 +120,33 @@ number_part_sound text x None found h =
     let read = decimal_at_sound text taken.0 taken.1 in
     (Decimal text, read.0, refl, ap parts.Decimal read.1 ∙ taken.2)
 
-marked_part_sound : (text : List ℕ) (x : Part) (mark bracket : Option (List ℕ)) → behind (35 ∷ []) text ≡ mark → behind (91 ∷ []) text ≡ bracket
-    → marked_part mark bracket text ≡ Some x → Shows text x
-marked_part_sound text x (Some rest) bracket m b h =
+marked_part_sound : (text : List ℕ) (x : Part) (mark bracket word : Option (List ℕ)) → behind (35 ∷ []) text ≡ mark → behind (91 ∷ []) text ≡ bracket
+    → behind (77 ∷ 91 ∷ []) text ≡ word → marked_part mark bracket word text ≡ Some x → Shows text x
+marked_part_sound text x (Some rest) bracket word m b s h =
     let taken = map_some parts.Constant (hexadecimal_at rest) x h in
     let read = hexadecimal_at_sound rest taken.0 taken.1 in
     (Constant read.0, read.2, behind_sound (35 ∷ []) text rest m ∙ ap (λ t. 35 ∷ t) read.1, ap parts.Constant read.3 ∙ taken.2)
-marked_part_sound text x None (Some rest) m b h =
-    let ended = and_then_some (λ ds. option_map parts.Address (decimal_at ds)) (ahead_of 93 rest) x h in
-    let taken = map_some parts.Address (decimal_at ended.0) x ended.2 in
-    let read = decimal_at_sound ended.0 taken.0 taken.1 in
-    (Address ended.0, read.0, behind_sound (91 ∷ []) text rest b ∙ ap (λ t. 91 ∷ t) (ahead_of_sound 93 rest ended.0 ended.1), ap parts.Address read.1 ∙ taken.2)
-marked_part_sound text x None None m b h = number_part_sound text x (hexadecimal_at text) refl h
+marked_part_sound text x None (Some rest) word m b s h =
+    let taken = map_some parts.Address (bracketed_at rest) x h in
+    let read = bracketed_at_sound rest taken.0 taken.1 in
+    (Address read.0, read.2, behind_sound (91 ∷ []) text rest b ∙ ap (λ t. 91 ∷ t) read.1, ap parts.Address read.3 ∙ taken.2)
+marked_part_sound text x None None (Some rest) m b s h =
+    let taken = map_some parts.Scratch (bracketed_at rest) x h in
+    let read = bracketed_at_sound rest taken.0 taken.1 in
+    (Scratch read.0, read.2, behind_sound (77 ∷ 91 ∷ []) text rest s ∙ ap (λ t. 77 ∷ 91 ∷ t) read.1, ap parts.Scratch read.3 ∙ taken.2)
+marked_part_sound text x None None None m b s h = number_part_sound text x (hexadecimal_at text) refl h
 
 -- what is read is written so
 pub part_at_sound : (text : List ℕ) (x : Part) → part_at text ≡ Some x → Shows text x
 unfolding part_at
 part_at_sound text x h = by_a (bytes_eq text (codes "a")) refl h where
   by_x : (b : Bool) → bytes_eq text (codes "x") ≡ b
-      → cond b (Some parts.RegisterX) (marked_part (behind (35 ∷ []) text) (behind (91 ∷ []) text) text) ≡ Some x → Shows text x
+      → cond b (Some parts.RegisterX) (marked_part (behind (35 ∷ []) text) (behind (91 ∷ []) text) (behind (77 ∷ 91 ∷ []) text) text) ≡ Some x → Shows text x
   by_x true e g = (RegisterX, tt, (bytes_eq-Decides text (codes "x")).0 e, cc)
-  by_x false e g = marked_part_sound text x (behind (35 ∷ []) text) (behind (91 ∷ []) text) refl refl g
+  by_x false e g = marked_part_sound text x (behind (35 ∷ []) text) (behind (91 ∷ []) text) (behind (77 ∷ 91 ∷ []) text) refl refl refl g
 
   by_a : (b : Bool) → bytes_eq text (codes "a") ≡ b
-      → cond b (Some parts.RegisterA) (cond (bytes_eq text (codes "x")) (Some parts.RegisterX) (marked_part (behind (35 ∷ []) text) (behind (91 ∷ []) text) text)) ≡ Some x
+      → cond b (Some parts.RegisterA) (cond (bytes_eq text (codes "x")) (Some parts.RegisterX) (marked_part (behind (35 ∷ []) text) (behind (91 ∷ []) text) (behind (77 ∷ 91 ∷ []) text) text)) ≡ Some x
       → Shows text x
   by_a true e g = (RegisterA, tt, (bytes_eq-Decides text (codes "a")).0 e, cc)
   by_a false e g = by_x (bytes_eq text (codes "x")) refl g
@@ -156,6 +171,11 @@ lacks-piece_text c low other RegisterA h = (omega arith, tt)
 lacks-piece_text c low other RegisterX h = (omega arith, tt)
 lacks-piece_text c low other (Address ds) h =
     (omega arith, lacks_append c ds (93 ∷ []) (lacks_some is_ascii_digit c (no_decimal c low) ds h) (omega arith, tt))
+  where
+    no_decimal : (x : ℕ) → x < 48 → is_ascii_digit x ≡ false
+    no_decimal x l = grind (arith, nat_tests)
+lacks-piece_text c low other (Scratch ds) h =
+    (omega arith, (omega arith, lacks_append c ds (93 ∷ []) (lacks_some is_ascii_digit c (no_decimal c low) ds h) (omega arith, tt)))
   where
     no_decimal : (x : ℕ) → x < 48 → is_ascii_digit x ≡ false
     no_decimal x l = grind (arith, nat_tests)

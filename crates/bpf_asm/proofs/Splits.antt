@@ -79,6 +79,15 @@ behind_none c (b ∷ text) h =
     let other : (b == c) ≡ false = ne_eqb b c (λ e. h text (ap (λ x. x ∷ text) e)) in
     rw other refl
 
+-- the same of a front of more bytes
+pub behind_absent : (front text : List ℕ) → ((rest : List ℕ) → text ≢ front ++ rest) → behind front text ≡ None
+behind_absent [] text h = absurd (h text refl)
+behind_absent (c ∷ front) [] h = refl
+behind_absent (c ∷ front) (b ∷ text) h = by_test (b == c) refl (behind_absent front text) where
+  by_test : (t : Bool) → (b == c) ≡ t → (((rest : List ℕ) → text ≢ front ++ rest) → behind front text ≡ None) → cond t (behind front text) None ≡ None
+  by_test true e shorter = shorter (λ rest more. h rest (λ i. eqb-true b c e i ∷ more i))
+  by_test false e shorter = refl
+
 pub ahead_of-push : (c : ℕ) (front : List ℕ) → ahead_of c (front ++ c ∷ []) ≡ Some front
 ahead_of-push c [] = let same : (c == c) ≡ true = eq-eqb c c refl in rw same refl
 ahead_of-push c (b ∷ []) = let same : (c == c) ≡ true = eq-eqb c c refl in rw same refl

@@ -1,18 +1,19 @@
 -- A text, line by line.
-use Rattle.std.proofs.Common.{◌≡◌, ℕ, zero, suc, ◌+◌, ◌/◌, ◌%◌, ◌<◌, ◌≤◌, List, [], ◌∷◌, ◌++◌, length, refl, ap, sym, ◌∙◌, subst, arith, inl, inr}
+use Rattle.std.proofs.Common.{◌≡◌, ℕ, zero, suc, ◌+◌, ◌/◌, ◌%◌, ◌<◌, ◌≤◌, ◌^◌, List, [], ◌∷◌, ◌++◌, length, refl, ap, sym, ◌∙◌, subst, arith, inl, inr}
 use Rattle.std.specs.Prelude.{◌⊎◌, Option, Some, None, Result, Ok, Err, slice_index, unwrap_or}
 use Rattle.std.specs.Result.{result_err}
 use Rattle.std.proofs.lemmas.List.{append_assoc, append-nil, length-append}
 use Rattle.std.proofs.lemmas.Grind.{flat_map-append}
+use Rattle.std.proofs.lemmas.List.Elements.{All-append, All-cons, All-head, All-nil, All-tail}
 use Rattle.std.proofs.lemmas.Bool.Decides.{nat_tests}
 use Rattle.bpf_insn.specs.declared.instruction.Insn.{Insn}
-use Rattle.bpf_insn.specs.Bytes.{insns_of, spelling, view_fault}
-use Rattle.bpf_insn.proofs.BytesLemmas.{length-insns_of, spelling-insns_of}
+use Rattle.bpf_insn.specs.Bytes.{AreBytes, AreInsns, IsInsn, insns_of, spelling, view_fault}
+use Rattle.bpf_insn.proofs.BytesLemmas.{are_insns-insns_of, length-insns_of, spelling-insns_of}
 use Rattle.bpf_asm.specs.declared.fault.AsmError.{AsmError}
 use Rattle.bpf_asm.specs.declared.fault.AsmError.TheVariants.{Line, OutOfMemory}
 use Rattle.bpf_asm.specs.declared.fault.LineFault.{LineFault}
 use Rattle.bpf_asm.specs.declared.fault.LineFault.TheVariants.{UnknownWord, BadNumber, TooLong, BadLine}
-use Rattle.bpf_asm.specs.Listing.{AreBytes, AreInsns, IsInsn, line_of, listing}
+use Rattle.bpf_asm.specs.Listing.{line_of, listing}
 use Rattle.bpf_asm.specs.Faults.{Explains, FaultAt, HasBadNumber, IsNeedlesslyRaw, IsShapeless, IsUnknown, Stands, first_line}
 use Rattle.bpf_asm.specs.Reading.{first_part, line_at, split_at}
 use Rattle.bpf_asm.proofs.Splits.{Lacks, split_at_first, split_at_lacks, split_at_sound}
@@ -81,9 +82,9 @@ some_cut (b ∷ rest) parts h = omega arith
 -- Where a fault is told.
 
 pub at_line : (text : List ℕ) (before : List Insn) (rest own after : List ℕ) (n : ℕ) (f : LineFault)
-    → AreInsns before → text ≡ listing before ++ rest → n ≡ length before + 1 → split_at 10 rest ≡ Some (own, after) → line_at own ≡ Err f
+    → length before ≤ 4096 → AreInsns before → text ≡ listing before ++ rest → n ≡ length before + 1 → split_at 10 rest ≡ Some (own, after) → line_at own ≡ Err f
     → FaultAt text n f
-at_line text before rest own after n f each split count cut fault =
+at_line text before rest own after n f few each split count cut fault =
     let P : List ℕ → Type 0 = Has f in
     record {
       before = before;
@@ -91,14 +92,15 @@ at_line text before rest own after n f each split count cut fault =
       rest = rest;
       split = split;
       count = count;
+      few = few;
       stands = stands_first f n rest (some_cut rest (own, after) cut) (subst P (sym (first_line-cut rest (own, after) cut)) (line_err own f fault));
     }
 
 -- the fault of the last line, which lacks its line feed
 pub at_last : (text : List ℕ) (before : List Insn) (rest : List ℕ) (n : ℕ) (f : LineFault)
-    → AreInsns before → text ≡ listing before ++ rest → n ≡ length before + 1 → 0 < length rest → split_at 10 rest ≡ None
+    → length before ≤ 4096 → AreInsns before → text ≡ listing before ++ rest → n ≡ length before + 1 → 0 < length rest → split_at 10 rest ≡ None
     → (line_at rest ≡ Err f) ⊎ (f ≡ BadLine) → FaultAt text n f
-at_last text before rest n f each split count some cut (inl fault) =
+at_last text before rest n f few each split count some cut (inl fault) =
     let P : List ℕ → Type 0 = Has f in
     record {
       before = before;
@@ -106,9 +108,10 @@ at_last text before rest n f each split count some cut (inl fault) =
       rest = rest;
       split = split;
       count = count;
+      few = few;
       stands = stands_first f n rest some (subst P (sym (first_line-unended rest cut)) (line_err rest f fault));
     }
-at_last text before rest n f each split count some cut (inr bad) =
+at_last text before rest n f few each split count some cut (inr bad) =
     let P : LineFault → Type 0 = λ x. Stands x n rest in
     record {
       before = before;
@@ -116,16 +119,17 @@ at_last text before rest n f each split count some cut (inr bad) =
       rest = rest;
       split = split;
       count = count;
+      few = few;
       stands = subst P (sym bad) (inr (some, inr (inr (split_at_lacks 10 rest cut))));
     }
 
 pub at_limit : (text : List ℕ) (before : List Insn) (rest : List ℕ) (n : ℕ)
-    → AreInsns before → text ≡ listing before ++ rest → n ≡ length before + 1 → 0 < length rest → n ≡ 4097 → FaultAt text n TooLong
-at_limit text before rest n each split count some limit =
-    record { before = before; each = each; rest = rest; split = split; count = count; stands = (some, limit) }
+    → length before ≤ 4096 → AreInsns before → text ≡ listing before ++ rest → n ≡ length before + 1 → 0 < length rest → n ≡ 4097 → FaultAt text n TooLong
+at_limit text before rest n few each split count some limit =
+    record { before = before; each = each; rest = rest; split = split; count = count; few = few; stands = (some, limit) }
 
 pub at_nothing : (text : List ℕ) → text ≡ [] → FaultAt text 1 BadLine
-at_nothing text none = record { before = []; each = tt; rest = []; split = none; count = refl; stands = inl (refl, refl) }
+at_nothing text none = record { before = []; each = All-nil IsInsn; rest = []; split = none; count = refl; few = omega arith; stands = inl (refl, refl) }
 
 -- one line more
 pub one_more : (text : List ℕ) (before : List Insn) (i : Insn) (rest own after : List ℕ)
@@ -137,8 +141,7 @@ one_more text before i rest own after split cut line =
     ∙ ap (λ t. t ++ after) (sym (flat_map-append (λ j. line_of j ++ 10 ∷ []) before (i ∷ []) ∙ ap (λ t. front ++ t) (append-nil (line_of i ++ 10 ∷ []))))
 
 pub more_insns : (before : List Insn) (i : Insn) → AreInsns before → IsInsn i → AreInsns (before ++ i ∷ [])
-more_insns [] i each fits = (fits, tt)
-more_insns (j ∷ before) i each fits = (each.0, more_insns before i each.1 fits)
+more_insns before i each fits = All-append IsInsn before (i ∷ []) each (All-cons IsInsn i [] fits (All-nil IsInsn))
 
 -- Listings are one to one.
 
@@ -159,9 +162,9 @@ begins [] (b ∷ before) rest each own e =
 begins (i ∷ p) (b ∷ before) rest each own e =
     let lines : line_of i ++ 10 ∷ listing p ≡ line_of b ++ 10 ∷ (listing before ++ rest) =
     sym (append_assoc (line_of i) (10 ∷ []) (listing p)) ∙ e ∙ append_assoc (line_of b ++ 10 ∷ []) (listing before) rest ∙ append_assoc (line_of b) (10 ∷ []) (listing before ++ rest) in
-    let same = same_front (line_of i) (line_of b) (listing p) (listing before ++ rest) (lacks-line_of i each.0) (lacks-line_of b own.0) lines in
-    let first = line_of_injective i b each.0 own.0 same.0 in
-    let more = begins p before rest each.1 own.1 same.1 in
+    let same = same_front (line_of i) (line_of b) (listing p) (listing before ++ rest) (lacks-line_of i (All-head IsInsn i p each)) (lacks-line_of b (All-head IsInsn b before own)) lines in
+    let first = line_of_injective i b (All-head IsInsn i p each) (All-head IsInsn b before own) same.0 in
+    let more = begins p before rest (All-tail IsInsn i p each) (All-tail IsInsn b before own) same.1 in
     (more.0, (λ t. first t ∷ more.1 t), more.2, more.3)
 
 some_listing : (i : Insn) (p : List Insn) → 0 < length (listing (i ∷ p))
@@ -224,7 +227,7 @@ no_program text n f h p each some limit e =
         let l : length p ≡ length (h.before ++ []) = ap length same in
         omega (arith, simp length-append at l)
     by_rest (i ∷ q) same own text_is =
-        let last = at_insn f n h.rest i q own.0 text_is h.stands in
+        let last = at_insn f n h.rest i q (All-head IsInsn i q own) text_is h.stands in
         let counted = h.count in
         let l : length p ≡ length (h.before ++ i ∷ q) = ap length same in
         omega (arith, simp length-append at l)
@@ -233,13 +236,8 @@ no_program text n f h p each some limit e =
 
 each_byte : (bytes : List ℕ) → AreBytes bytes → (i : ℕ) → slice_index bytes i < 256
 each_byte [] h i = omega arith
-each_byte (b ∷ bytes) h zero = h.0
-each_byte (b ∷ bytes) h (suc i) = each_byte bytes h.1 i
-
-are_insns-insns_of : (bytes : List ℕ) → AreBytes bytes → AreInsns (insns_of bytes)
-are_insns-insns_of (b0 ∷ b1 ∷ b2 ∷ b3 ∷ b4 ∷ b5 ∷ b6 ∷ b7 ∷ rest) (h0, (h1, (h2, (h3, (h4, (h5, (h6, (h7, more)))))))) =
-    (record { code = omega arith; jt = h2; jf = h3; k = omega arith }, are_insns-insns_of rest more)
-are_insns-insns_of bytes h = tt
+each_byte (b ∷ bytes) h zero = All-head (λ x. x < 2 ^ 8) b bytes h
+each_byte (b ∷ bytes) h (suc i) = each_byte bytes (All-tail (λ x. x < 2 ^ 8) b bytes h) i
 
 whole : (bytes : List ℕ) → view_fault bytes ≡ None → length bytes % 8 ≡ 0
 whole bytes h = grind (arith, nat_tests)
@@ -253,7 +251,7 @@ program_size bytes h = let whole_insns = whole bytes h in sized (length (insns_o
 pub only_bytes : (text : List ℕ) (insns : List Insn) (given bytes : List ℕ) → AreInsns insns → listing insns ≡ text → given ≡ spelling insns
     → AreBytes bytes → view_fault bytes ≡ None → listing (insns_of bytes) ≡ text → given ≡ bytes
 only_bytes text insns given bytes each own spelled are whole_bytes e =
-    let same = listing_injective insns (insns_of bytes) each (are_insns-insns_of bytes are) (own ∙ sym e) in
+    let same = listing_injective insns (insns_of bytes) each (are_insns-insns_of bytes (each_byte bytes are)) (own ∙ sym e) in
     spelled ∙ ap spelling same ∙ spelling-insns_of bytes (each_byte bytes are) (whole bytes whole_bytes)
 
 -- no error but want of memory comes where the text is a listing
@@ -261,7 +259,7 @@ pub only_memory : (text : List ℕ) (e : AsmError) (bytes : List ℕ) → Explai
     → listing (insns_of bytes) ≡ text → e ≡ OutOfMemory
 only_memory text (Line line fault) bytes h are whole_bytes t =
     let size = program_size bytes whole_bytes in
-    absurd (no_program text line fault h (insns_of bytes) (are_insns-insns_of bytes are) size.0 size.1 t)
+    absurd (no_program text line fault h (insns_of bytes) (are_insns-insns_of bytes (each_byte bytes are)) size.0 size.1 t)
 only_memory text OutOfMemory bytes h are whole_bytes t = refl
 
 -- the fault of a last line, which is read as a line with a line feed would be

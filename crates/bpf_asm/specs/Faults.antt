@@ -1,5 +1,5 @@
 -- What is wrong with a text.
-use Rattle.std.specs.Prelude.{ℕ, ◌≡◌, ◌≢◌, ◌<◌, ◌+◌, ◌⊎◌, ◌==◌, Bool, true, false, List, [], ◌∷◌, ◌++◌, length, codes, None, ⊤}
+use Rattle.std.specs.Prelude.{ℕ, ◌≡◌, ◌≢◌, ◌<◌, ◌≤◌, ◌+◌, ◌⊎◌, ◌==◌, Bool, true, false, List, [], ◌∷◌, ◌++◌, length, codes, None, ⊤}
 use Rattle.std.specs.List.{AllByRecursion, before_first}
 use Rattle.std.specs.Char.{is_ascii_digit}
 use Rattle.bpf_insn.specs.declared.instruction.Insn.{Insn}
@@ -8,16 +8,18 @@ use Rattle.bpf_asm.specs.declared.fault.AsmError.TheVariants.{Line, OutOfMemory}
 use Rattle.bpf_asm.specs.declared.fault.LineFault.{LineFault}
 use Rattle.bpf_asm.specs.declared.fault.LineFault.TheVariants.{UnknownWord, BadNumber, TooLong, BadLine}
 use Rattle.bpf_asm.specs.declared.word.Word.{Word}
-use Rattle.bpf_asm.specs.declared.word.Word.TheVariants.{Ld, Ldx, Ret, Ja, Branch, Compute, Lsh, Rsh, Neg, Tax, Txa, Raw}
+use Rattle.bpf_asm.specs.declared.word.Word.TheVariants.{Ld, Ldx, St, Stx, Ret, Ja, Branch, Compute, Lsh, Rsh, Neg, Tax, Txa, Raw}
 use Rattle.bpf_asm.specs.Words.{word_text}
 use Rattle.bpf_asm.specs.Digits.{IsBadNumber, are_digits, is_hexadecimal_digit}
-use Rattle.bpf_asm.specs.Listing.{AreInsns, IsInsn, Piece, RegisterA, RegisterX, Address, Constant, Decimal, Hexadecimal, form_of, line_text, listing, raw_pieces}
+use Rattle.bpf_insn.specs.Bytes.{AreInsns, IsInsn}
+use Rattle.bpf_asm.specs.Listing.{Piece, RegisterA, RegisterX, Address, Scratch, Constant, Decimal, Hexadecimal, form_of, line_text, listing, raw_pieces}
 
 -- a piece whose number is digits, of the kind that it asks for
 abbrev pub IsPiece : Piece → Type 0
 IsPiece RegisterA = ⊤
 IsPiece RegisterX = ⊤
 IsPiece (Address ds) = are_digits is_ascii_digit ds ≡ true
+IsPiece (Scratch ds) = are_digits is_ascii_digit ds ≡ true
 IsPiece (Constant ds) = are_digits is_hexadecimal_digit ds ≡ true
 IsPiece (Decimal ds) = are_digits is_ascii_digit ds ≡ true
 IsPiece (Hexadecimal ds) = are_digits is_hexadecimal_digit ds ≡ true
@@ -25,8 +27,12 @@ IsPiece (Hexadecimal ds) = are_digits is_hexadecimal_digit ds ≡ true
 -- the shapes of what stands after each word
 abbrev pub has_shape : Word → List Piece → Bool
 has_shape Ld (Address n ∷ []) = true
+has_shape Ld (Scratch n ∷ []) = true
 has_shape Ld (Constant n ∷ []) = true
+has_shape Ldx (Scratch n ∷ []) = true
 has_shape Ldx (Constant n ∷ []) = true
+has_shape St (Scratch n ∷ []) = true
+has_shape Stx (Scratch n ∷ []) = true
 has_shape Ret (Constant n ∷ []) = true
 has_shape Ret (RegisterA ∷ []) = true
 has_shape Ja (Decimal n ∷ []) = true
@@ -74,6 +80,7 @@ abbrev pub IsBadPiece : ℕ → Piece → Type 0
 IsBadPiece bits RegisterA = ⊥
 IsBadPiece bits RegisterX = ⊥
 IsBadPiece bits (Address ds) = IsBadNumber 10 bits ds
+IsBadPiece bits (Scratch ds) = IsBadNumber 10 bits ds
 IsBadPiece bits (Constant ds) = IsBadNumber 16 bits ds
 IsBadPiece bits (Decimal ds) = IsBadNumber 10 bits ds
 IsBadPiece bits (Hexadecimal ds) = IsBadNumber 16 bits ds
@@ -109,13 +116,14 @@ Stands BadLine line rest =
     ((rest ≡ []) × (line ≡ 1))
     ⊎ ((0 < length rest) × (IsShapeless (first_line rest) ⊎ (IsNeedlesslyRaw (first_line rest) ⊎ IsUnended rest)))
 
--- the lines before this one are the lines of instructions, and the fault stands in this one
+-- the lines before this one are the lines of instructions, at most 4096, and the fault stands in this one
 pub record FaultAt (text : List ℕ) (line : ℕ) (fault : LineFault) : Type 0 where
   pub before : List Insn
   pub each : AreInsns before
   pub rest : List ℕ
   pub split : text ≡ listing before ++ rest
   pub count : line ≡ length before + 1
+  pub few : length before ≤ 4096
   pub stands : Stands fault line rest
 
 -- what an error says of the text

@@ -1,12 +1,12 @@
 -- The text of a program: a line for each instruction, ended by a line feed (the mnemonics are those of the
 -- kernel's bpf_asm, Documentation/networking/filter.rst).
-use Rattle.std.specs.Prelude.{ℕ, ◌<◌, ◌^◌, ◌==◌, Bool, true, false, ◌&&◌, ◌||◌, if◌then◌else◌, List, [], ◌∷◌, ◌++◌, map, codes, Option, Some, None, option_and_then}
-use Rattle.std.specs.List.{AllByRecursion, flat_map, join_with_byte}
+use Rattle.std.specs.Prelude.{ℕ, ◌==◌, Bool, true, false, ◌&&◌, ◌||◌, if◌then◌else◌, List, [], ◌∷◌, ◌++◌, map, codes, Option, Some, None, option_and_then}
+use Rattle.std.specs.List.{flat_map, join_with_byte}
 use Rattle.std.specs.Fmt.{decimal, digits}
 use Rattle.bpf_insn.specs.declared.code.Operand.{Operand}
 use Rattle.bpf_insn.specs.declared.code.Operand.TheVariants.{K, X}
 use Rattle.bpf_insn.specs.declared.code.Operation.{Operation}
-use Rattle.bpf_insn.specs.declared.code.Operation.TheVariants.{LoadWord, SetA, SetX, ReturnK, ReturnA, Jump, Branch, Compute, ShiftLeft, ShiftRight, Negate, CopyToX, CopyToA}
+use Rattle.bpf_insn.specs.declared.code.Operation.TheVariants.{LoadWord, LoadScratch, LoadScratchX, Store, StoreX, SetA, SetX, ReturnK, ReturnA, Jump, Branch, Compute, ShiftLeft, ShiftRight, Negate, CopyToX, CopyToA}
 use Rattle.bpf_insn.specs.declared.instruction.Insn.{Insn}
 use Rattle.bpf_insn.specs.Code.{operation_of}
 use Rattle.bpf_asm.specs.declared.word.Word.{Word}
@@ -18,6 +18,7 @@ pub data Piece : Type 0 where
   RegisterA : Piece
   RegisterX : Piece
   Address : (digits : List ℕ) → Piece
+  Scratch : (digits : List ℕ) → Piece
   Constant : (digits : List ℕ) → Piece
   Decimal : (digits : List ℕ) → Piece
   Hexadecimal : (digits : List ℕ) → Piece
@@ -27,6 +28,7 @@ abbrev pub piece_text : Piece → List ℕ
 piece_text RegisterA = codes "a"
 piece_text RegisterX = codes "x"
 piece_text (Address ds) = codes "[" ++ ds ++ codes "]"
+piece_text (Scratch ds) = codes "M[" ++ ds ++ codes "]"
 piece_text (Constant ds) = codes "#0x" ++ ds
 piece_text (Decimal ds) = ds
 piece_text (Hexadecimal ds) = codes "0x" ++ ds
@@ -43,6 +45,10 @@ hexadecimal n = digits 16 false n
 -- what stands after the word for an operation
 abbrev pub pieces_of : Operation → Insn → List Piece
 pieces_of LoadWord i = Address (decimal i.k) ∷ []
+pieces_of LoadScratch i = Scratch (decimal i.k) ∷ []
+pieces_of LoadScratchX i = Scratch (decimal i.k) ∷ []
+pieces_of Store i = Scratch (decimal i.k) ∷ []
+pieces_of StoreX i = Scratch (decimal i.k) ∷ []
 pieces_of SetA i = Constant (hexadecimal i.k) ∷ []
 pieces_of SetX i = Constant (hexadecimal i.k) ∷ []
 pieces_of ReturnK i = Constant (hexadecimal i.k) ∷ []
@@ -100,18 +106,3 @@ line_of i = text_by (form_of i) i
 -- the listing of a program
 abbrev pub listing : List Insn → List ℕ
 listing p = flat_map (λ i. line_of i ++ codes "\n") p
-
--- each field is within its width
-pub record IsInsn (i : Insn) : Type 0 where
-  pub code : i.code < 2 ^ 16
-  pub jt : i.jt < 2 ^ 8
-  pub jf : i.jf < 2 ^ 8
-  pub k : i.k < 2 ^ 32
-
--- each is such an instruction
-abbrev pub AreInsns : List Insn → Type 0
-AreInsns p = AllByRecursion IsInsn p
-
--- each number is a byte
-abbrev pub AreBytes : List ℕ → Type 0
-AreBytes bytes = AllByRecursion (λ b. b < 2 ^ 8) bytes

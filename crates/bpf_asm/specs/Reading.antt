@@ -16,9 +16,9 @@ use Rattle.bpf_asm.specs.Listing.{Piece, form_of}
 use Rattle.bpf_asm.specs.Listing as pieces
 use Rattle.bpf_asm.specs.Words.{is_raw, word_at}
 use Rattle.bpf_asm.specs.declared.word.Word.{Word}
-use Rattle.bpf_asm.specs.declared.word.Word.TheVariants.{Ld, Ldx, Ret, Ja, Branch, Compute, Lsh, Rsh, Neg, Tax, Txa, Raw}
+use Rattle.bpf_asm.specs.declared.word.Word.TheVariants.{Ld, Ldx, St, Stx, Ret, Ja, Branch, Compute, Lsh, Rsh, Neg, Tax, Txa, Raw}
 use Rattle.bpf_asm.specs.declared.arguments.Part.{Part}
-use Rattle.bpf_asm.specs.declared.arguments.Part.TheVariants.{RegisterA, RegisterX, Address, Constant, Decimal, Hexadecimal}
+use Rattle.bpf_asm.specs.declared.arguments.Part.TheVariants.{RegisterA, RegisterX, Address, Scratch, Constant, Decimal, Hexadecimal}
 use Rattle.bpf_asm.specs.declared.arguments.Arguments.{Arguments}
 use Rattle.bpf_asm.specs.declared.arguments.Arguments.TheVariants.{Nothing, One, Three, Four}
 use Rattle.bpf_asm.specs.Digits.{are_digits, has_leading_zero, is_hexadecimal_digit}
@@ -62,19 +62,23 @@ abbrev pub number_part : Option (Option ℕ) → List ℕ → Option Part
 number_part (Some n) text = Some (Hexadecimal n)
 number_part None text = option_map Decimal (decimal_at text)
 
--- the two options are what follows `#` and `[` at the front
-abbrev pub marked_part : Option (List ℕ) → Option (List ℕ) → List ℕ → Option Part
-marked_part (Some rest) bracket text = option_map Constant (hexadecimal_at rest)
-marked_part None (Some rest) text = do
+unfoldable pub bracketed_at : List ℕ → Option (Option ℕ)
+bracketed_at rest = do
   ds ← ahead_of 93 rest
-  option_map Address (decimal_at ds)
-marked_part None None text = number_part (hexadecimal_at text) text
+  decimal_at ds
+
+-- the three options are what follows `#`, `[` and `M[` at the front
+abbrev pub marked_part : Option (List ℕ) → Option (List ℕ) → Option (List ℕ) → List ℕ → Option Part
+marked_part (Some rest) bracket scratch text = option_map Constant (hexadecimal_at rest)
+marked_part None (Some rest) scratch text = option_map Address (bracketed_at rest)
+marked_part None None (Some rest) text = option_map Scratch (bracketed_at rest)
+marked_part None None None text = number_part (hexadecimal_at text) text
 
 unfoldable pub part_at : List ℕ → Option Part
 part_at text =
     if bytes_eq text (codes "a") then Some RegisterA
     else if bytes_eq text (codes "x") then Some RegisterX
-    else marked_part (behind (codes "#") text) (behind (codes "[") text) text
+    else marked_part (behind (codes "#") text) (behind (codes "[") text) (behind (codes "M[") text) text
 
 abbrev pub last_parts : Part → Part → List ℕ → Option (List ℕ × List ℕ) → Option Arguments
 last_parts first second rest None = do
@@ -107,7 +111,11 @@ plain_fields operation k = branch_fields operation k (Some 0) (Some 0)
 -- the fields that a line gives, where what stands after its word has a shape of the word
 abbrev pub fields_of : Word → Arguments → Option Fields
 fields_of Ld (One (Address k)) = Some (plain_fields operations.LoadWord k)
+fields_of Ld (One (Scratch k)) = Some (plain_fields operations.LoadScratch k)
 fields_of Ld (One (Constant k)) = Some (plain_fields operations.SetA k)
+fields_of Ldx (One (Scratch k)) = Some (plain_fields operations.LoadScratchX k)
+fields_of St (One (Scratch k)) = Some (plain_fields operations.Store k)
+fields_of Stx (One (Scratch k)) = Some (plain_fields operations.StoreX k)
 fields_of Ldx (One (Constant k)) = Some (plain_fields operations.SetX k)
 fields_of Ret (One (Constant k)) = Some (plain_fields operations.ReturnK k)
 fields_of Ret (One RegisterA) = Some (plain_fields operations.ReturnA (Some 0))
@@ -166,6 +174,7 @@ abbrev pub part_of : Piece → Part
 part_of pieces.RegisterA = RegisterA
 part_of pieces.RegisterX = RegisterX
 part_of (pieces.Address ds) = Address (number_of 10 ds)
+part_of (pieces.Scratch ds) = Scratch (number_of 10 ds)
 part_of (pieces.Constant ds) = Constant (number_of 16 ds)
 part_of (pieces.Decimal ds) = Decimal (number_of 10 ds)
 part_of (pieces.Hexadecimal ds) = Hexadecimal (number_of 16 ds)

@@ -6,12 +6,14 @@ use Rattle.bpf_insn.specs.declared.code.Arithmetic.TheVariants.{Add, Sub, Or, An
 use Rattle.bpf_insn.specs.declared.code.Operation.{Operation}
 use Rattle.bpf_insn.specs.declared.code.Operation.TheVariants as operations
 use Rattle.bpf_asm.specs.declared.word.Word.{Word}
-use Rattle.bpf_asm.specs.declared.word.Word.TheVariants.{Ld, Ldx, Ret, Ja, Branch, Compute, Lsh, Rsh, Neg, Tax, Txa, Raw}
+use Rattle.bpf_asm.specs.declared.word.Word.TheVariants.{Ld, Ldx, St, Stx, Ret, Ja, Branch, Compute, Lsh, Rsh, Neg, Tax, Txa, Raw}
 
 -- how a word is written
 abbrev pub word_text : Word → List ℕ
 word_text Ld = codes "ld"
 word_text Ldx = codes "ldx"
+word_text St = codes "st"
+word_text Stx = codes "stx"
 word_text Ret = codes "ret"
 word_text Ja = codes "ja"
 word_text (Branch Equal) = codes "jeq"
@@ -33,6 +35,10 @@ word_text Raw = codes "raw"
 -- the word of an operation's lines
 abbrev pub word_of : Operation → Word
 word_of operations.LoadWord = Ld
+word_of operations.LoadScratch = Ld
+word_of operations.LoadScratchX = Ldx
+word_of operations.Store = St
+word_of operations.StoreX = Stx
 word_of operations.SetA = Ld
 word_of operations.SetX = Ldx
 word_of operations.ReturnK = Ret
@@ -48,7 +54,7 @@ word_of operations.CopyToA = Txa
 
 abbrev pub words : List Word
 words =
-    Ld ∷ Ldx ∷ Ret ∷ Ja ∷ Branch Equal ∷ Branch Greater ∷ Branch AtLeast ∷ Branch AnyBit
+    Ld ∷ Ldx ∷ St ∷ Stx ∷ Ret ∷ Ja ∷ Branch Equal ∷ Branch Greater ∷ Branch AtLeast ∷ Branch AnyBit
     ∷ Compute Add ∷ Compute Sub ∷ Compute Or ∷ Compute And ∷ Compute Xor
     ∷ Lsh ∷ Rsh ∷ Neg ∷ Tax ∷ Txa ∷ Raw ∷ []
 

@@ -4,7 +4,7 @@ ghost use Rattle.std.specs.Option.{option_map};
 ghost use Rattle.std.specs.Char.{is_ascii_digit};
 ghost use Rattle.std.specs.Str.Parse.{IsNumeral};
 ghost use Rattle.bpf_asm.specs.Digits.{are_digits, is_hexadecimal_digit};
-ghost use Rattle.bpf_asm.specs.Reading.{arguments_at, decimal_at, hexadecimal_at, number_of, part_at, split_at};
+ghost use Rattle.bpf_asm.specs.Reading.{arguments_at, bracketed_at, decimal_at, hexadecimal_at, number_of, part_at, split_at};
 
 /// What stands after the word of a line, between two commas.
 ///
@@ -17,6 +17,8 @@ pub(crate) enum Part {
     RegisterX,
     /// `[4]`
     Address(Option<u32>),
+    /// `M[4]`
+    Scratch(Option<u32>),
     /// `#0x4`
     Constant(Option<u32>),
     /// `4`
@@ -96,6 +98,14 @@ fn hexadecimal(text: &str) -> Option<Option<u32>>
     }
 }
 
+// The number that a text is in decimal, up to a bracket at its end.
+#[tactic(auto, unfolding(crate::specs::Reading::bracketed_at))]
+fn bracketed(rest: &str) -> Option<Option<u32>>
+    ensures { result ≡ bracketed_at rest.now }
+{
+    decimal(rest.strip_suffix(']')?)
+}
+
 // The part that a text is, if it is one.
 #[tactic(auto, unfolding(crate::specs::Reading::part_at))]
 fn read_part(text: &str) -> Option<Part>
@@ -111,8 +121,10 @@ fn read_part(text: &str) -> Option<Part>
         return hexadecimal(constant).map(Part::Constant);
     }
     if let Some(rest) = text.strip_prefix('[') {
-        let address = rest.strip_suffix(']')?;
-        return decimal(address).map(Part::Address);
+        return bracketed(rest).map(Part::Address);
+    }
+    if let Some(rest) = text.strip_prefix("M[") {
+        return bracketed(rest).map(Part::Scratch);
     }
     match hexadecimal(text) {
         Some(number) => Some(Part::Hexadecimal(number)),

@@ -1,8 +1,8 @@
 //! From a text to its program.
 ghost use Rattle.std.specs.Prelude.{◌≡◌, ◌≤◌, List, ℕ, None, IfErr, IfOk, MatchResult, vec_len};
-ghost use Rattle.bpf_insn.specs.Bytes.{insns_of, view_fault};
+ghost use Rattle.bpf_insn.specs.Bytes.{AreBytes, AreInsns, insns_of, view_fault};
 ghost use Rattle.bpf_asm.specs.Faults.{Explains};
-ghost use Rattle.bpf_asm.specs.Listing.{AreBytes, AreInsns, listing};
+ghost use Rattle.bpf_asm.specs.Listing.{listing};
 
 use crate::arguments::split;
 use crate::fault::{AsmError, LineFault};

@@ -3,7 +3,8 @@ ghost use Rattle.std.specs.Prelude.{◌≡◌, ◌≤◌, List, ℕ, length};
 ghost use Rattle.bpf_insn.specs.declared.instruction.Insn.{Insn};
 ghost use Rattle.bpf_asm.specs.declared.fault.LineFault.{LineFault};
 ghost use Rattle.bpf_asm.specs.Faults.{FaultAt};
-ghost use Rattle.bpf_asm.specs.Listing.{AreInsns, listing};
+ghost use Rattle.bpf_insn.specs.Bytes.{AreInsns};
+ghost use Rattle.bpf_asm.specs.Listing.{listing};
 
 /// No two programs have one listing.
 pub fn listings_differ()

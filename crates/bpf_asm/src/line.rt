@@ -41,6 +41,14 @@ impl Fields {
     {
         let fields = match (word, arguments) {
             (Word::Ld, Arguments::One(Part::Address(k))) => Fields::plain(Operation::LoadWord, k),
+            (Word::Ld, Arguments::One(Part::Scratch(k))) => {
+                Fields::plain(Operation::LoadScratch, k)
+            }
+            (Word::Ldx, Arguments::One(Part::Scratch(k))) => {
+                Fields::plain(Operation::LoadScratchX, k)
+            }
+            (Word::St, Arguments::One(Part::Scratch(k))) => Fields::plain(Operation::Store, k),
+            (Word::Stx, Arguments::One(Part::Scratch(k))) => Fields::plain(Operation::StoreX, k),
             (Word::Ld, Arguments::One(Part::Constant(k))) => Fields::plain(Operation::SetA, k),
             (Word::Ldx, Arguments::One(Part::Constant(k))) => Fields::plain(Operation::SetX, k),
             (Word::Ret, Arguments::One(Part::Constant(k))) => Fields::plain(Operation::ReturnK, k),

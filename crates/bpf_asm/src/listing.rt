@@ -47,6 +47,10 @@ impl fmt::Display for Line {
         let word = Word::of(operation);
         match operation {
             Operation::LoadWord => write!(f, "{word} [{k}]"),
+            Operation::LoadScratch
+            | Operation::LoadScratchX
+            | Operation::Store
+            | Operation::StoreX => write!(f, "{word} M[{k}]"),
             Operation::SetA
             | Operation::SetX
             | Operation::ReturnK

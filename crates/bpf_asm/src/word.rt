@@ -7,6 +7,8 @@ use std::fmt;
 pub(crate) enum Word {
     Ld,
     Ldx,
+    St,
+    Stx,
     Ret,
     Ja,
     Branch(Test),
@@ -29,8 +31,10 @@ impl Word {
         ensures { result ≡ word_of operation }
     {
         match operation {
-            Operation::LoadWord | Operation::SetA => Word::Ld,
-            Operation::SetX => Word::Ldx,
+            Operation::LoadWord | Operation::LoadScratch | Operation::SetA => Word::Ld,
+            Operation::LoadScratchX | Operation::SetX => Word::Ldx,
+            Operation::Store => Word::St,
+            Operation::StoreX => Word::Stx,
             Operation::ReturnK | Operation::ReturnA => Word::Ret,
             Operation::Jump => Word::Ja,
             Operation::Branch(test, _) => Word::Branch(test),
@@ -57,6 +61,8 @@ impl Word {
         match self {
             Word::Ld => "ld",
             Word::Ldx => "ldx",
+            Word::St => "st",
+            Word::Stx => "stx",
             Word::Ret => "ret",
             Word::Ja => "ja",
             Word::Branch(Test::Equal) => "jeq",
@@ -85,6 +91,8 @@ impl Word {
         match text.as_bytes() {
             b"ld" => Some(Word::Ld),
             b"ldx" => Some(Word::Ldx),
+            b"st" => Some(Word::St),
+            b"stx" => Some(Word::Stx),
             b"ret" => Some(Word::Ret),
             b"ja" => Some(Word::Ja),
             b"jeq" => Some(Word::Branch(Test::Equal)),

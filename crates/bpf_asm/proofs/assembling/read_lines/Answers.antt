@@ -10,14 +10,14 @@ returns-in_default-clause-fault c =
     let some : 0 < length c.loop-rest.rest.now = grind (arith, nat_tests) in
     let cause = last_cause c.read_line.result c.err.result c.unwrap_or-fault.result c.err.ensures.value c.unwrap_or-fault.ensures in
     at_last c.args.text.now before.items c.loop-rest.rest.now (c.len-line.result + 1) c.unwrap_or-fault.result
-    c.loop-rest.invariant.each c.loop-rest.invariant.split count some (sym c.in_default.ensures) (rw (← c.read_line.ensures) cause)
+    (omega (arith, before.ok.0, c.loop-rest.invariant.limit)) c.loop-rest.invariant.each c.loop-rest.invariant.split count some (sym c.in_default.ensures) (rw (← c.read_line.ensures) cause)
 
 pub returns-in-Err-clause-fault : goal.returns-in-Err-clause-fault
 returns-in-Err-clause-fault c =
     let before = c.loop-rest.insns in
     let count : c.len-line.result + 1 ≡ length before.items + 1 = omega (arith, before.ok.0) in
     at_line c.args.text.now before.items c.loop-rest.rest.now c.in-Some.own.now c.in-Some.after.now (c.len-line.result + 1) c.in-Err.fault
-    c.loop-rest.invariant.each c.loop-rest.invariant.split count (sym c.in-Some.ensures) (sym c.in-Err.ensures)
+    (omega (arith, before.ok.0, c.loop-rest.invariant.limit)) c.loop-rest.invariant.each c.loop-rest.invariant.split count (sym c.in-Some.ensures) (sym c.in-Err.ensures)
 
 pub loop-rest-smaller : goal.loop-rest-smaller
 loop-rest-smaller c = shorter c.loop-rest.rest.now c.in-Some.own.now c.in-Some.after.now (sym c.in-Some.ensures)

@@ -1,6 +1,7 @@
 use Rattle.std.proofs.Common.{◌≡◌, ◌≤◌, ◌++◌, length, vec_len}
 use Rattle.std.specs.Str.{IsUtf8}
-use Rattle.bpf_asm.specs.Listing.{AreInsns, listing}
+use Rattle.bpf_insn.specs.Bytes.{AreInsns}
+use Rattle.bpf_asm.specs.Listing.{listing}
 use Rattle.bpf_asm.proofs.assembling.read_lines.Given as goal
 
 abbrev pub invariant-loop-rest : goal.invariant-loop-rest
