@@ -1,0 +1,4 @@
+pub mod BitLaws
+pub mod KnownLaws
+pub mod StepLaws
+pub mod EdgeLaws

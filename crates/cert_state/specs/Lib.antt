@@ -1,1 +1,6 @@
 pub mod Literals
+pub mod States
+pub mod Points
+pub mod Entailment
+pub mod Transfer
+pub mod Soundness

@@ -4,8 +4,10 @@
 //! word of the record. Nothing here takes memory.
 #![tactic(auto)]
 
+mod laws;
 mod literal;
 mod state;
 
+pub use laws::{dead_is_sound, edge_fact_is_sound, entails_is_sound, transfer_is_sound};
 pub use literal::{AVal, Lit, Regs};
 pub use state::{Listed, State, With};

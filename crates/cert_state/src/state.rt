@@ -1,5 +1,5 @@
 //! States, which lend their literals one at a time.
-ghost use Rattle.std.specs.Prelude.{◌≡◌, ◌==◌, ◌≤◌, ◌<◌, ◌+◌, ◌++◌, ◌∷◌, [], ℕ, if◌then◌else◌, List, MatchOption, drop, length, option_to_list};
+ghost use Rattle.std.specs.Prelude.{◌≡◌, ◌==◌, ◌≤◌, ◌<◌, ◌+◌, ◌++◌, ◌∷◌, [], ℕ, if◌then◌else◌, List, IfSome, MatchOption, drop, length, option_to_list};
 ghost use Rattle.cert_state.specs.declared.literal.Lit.{Lit as TheLit};
 ghost use Rattle.cert_state.specs.declared.literal.Regs.{Regs as TheRegs};
 
@@ -30,7 +30,8 @@ pub trait State {
 
     /// The literal at a place, with the place of the next one.
     fn next(&self, at: usize) -> Option<(Lit, usize)>
-        ensures { MatchOption result (rest self.now at ≡ []) (λ p. (rest self.now at ≡ p.0 ∷ rest self.now p.1) × (p.1 ≤ last self.now)) };
+        ensures more { MatchOption result (rest self.now at ≡ []) (λ p. rest self.now at ≡ p.0 ∷ rest self.now p.1) }
+        ensures bound { IfSome result (λ p. p.1 ≤ last self.now) };
 }
 
 /// A state over a list of literals, with at most one more.
