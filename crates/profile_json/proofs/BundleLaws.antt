@@ -1,5 +1,5 @@
 -- A bundle as a whole: what is read and made is meant, and what is refused is broken.
-use Rattle.std.proofs.Common.{◌≡◌, ℕ, zero, suc, List, [], ◌∷◌, cond, Bool, Ok, Err, Option, Some, None, IfSome, true, false, inl, inr, refl, sym, ◌∙◌, ap, subst}
+use Rattle.std.proofs.Common.{◌≡◌, ℕ, zero, suc, List, [], ◌∷◌, cond, Bool, Ok, Err, Option, Some, None, IfSome, IsSomeAnd, true, false, inl, inr, refl, sym, ◌∙◌, ap, subst}
 use Rattle.std.specs.List.{All, AllZip, Contains, list_any, slice_get}
 use Rattle.std.proofs.lemmas.List.Elements.{All-contains}
 use Rattle.serde_json.specs.Data.{Data}
@@ -12,7 +12,7 @@ use Rattle.profile_json.specs.Fault.{Fault, overlap}
 use Rattle.profile_json.specs.Parts.{EntryParts}
 use Rattle.profile_json.specs.Refusal.{short_name}
 use Rattle.profile_json.specs.Rules.{same_arch, in_order, rules_of}
-use Rattle.profile_json.specs.Outcome.{◌>>=◌, IsFault}
+use Rattle.profile_json.specs.Outcome.{◌>>=◌}
 use Rattle.profile_json.specs.Reading.{Said, default_of, refused_of, archs_of, entries_of, root_of, said_of}
 use Rattle.profile_json.specs.Meaning.{IsText, RootMeans, WordMeans, KeysMean, ListsArchs, EntryMeans, EntriesMean, Means}
 use Rattle.profile_json.specs.Breaks.{Breaks, WordBreaks, EntriesBreak, SeccompBreaks, ValueBreaks}
@@ -163,11 +163,11 @@ not_made_breaks s native x f said (clash _ o) =
     broken.SeccompBreaks.entries f (subst (EntriesBreak s native) (sym o.fault_is) break)
 
 -- what each refusal of the reader says of the bytes
-pub root_fault : (bytes : List ℕ) (native : Arch) (t : Data) (o : Option Fault) → IsText bytes t → IsFault o (root_of t) → IfSome o (Breaks bytes native)
-root_fault bytes native t None text h = tt
+pub root_fault : (bytes : List ℕ) (native : Arch) (t : Data) (o : Option Fault) → IsText bytes t → IsSomeAnd o (λ f. root_of t ≡ Err f) → IfSome o (Breaks bytes native)
+root_fault bytes native t None text h = absurd h
 root_fault bytes native t (Some f) text h = broken.in_value t f text (broken.ValueBreaks.root f (root_breaks t f h))
 
-pub said_fault : (bytes : List ℕ) (native : Arch) (t s : Data) (o : Option Fault) → IsText bytes t → RootMeans t s → IsFault o (said_of native s) → IfSome o (Breaks bytes native)
+pub said_fault : (bytes : List ℕ) (native : Arch) (t s : Data) (o : Option Fault) → IsText bytes t → RootMeans t s → IfSome o (λ f. said_of native s ≡ Err f) → IfSome o (Breaks bytes native)
 said_fault bytes native t s None text root h = tt
 said_fault bytes native t s (Some f) text root h = broken.in_value t f text (broken.ValueBreaks.seccomp s f root.seccomp (said_breaks s native f h))
 

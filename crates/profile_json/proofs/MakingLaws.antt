@@ -1,5 +1,5 @@
 -- What the answer of building a profile says of the entries.
-use Rattle.std.proofs.Common.{◌≡◌, ℕ, List, map, Some, option_map, sym, ◌∙◌, ap, subst}
+use Rattle.std.proofs.Common.{◌≡◌, ℕ, List, map, Option, Some, None, IsSomeAnd, IfSome, option_map, sym, ◌∙◌, ap, subst}
 use Rattle.std.specs.List.{Contains, slice_get}
 use Rattle.std.proofs.lemmas.Option.{slice_get-map}
 use Rattle.call_tables.specs.declared.arch.Arch.{Arch}
@@ -15,6 +15,10 @@ use Rattle.profile_json.specs.Clashes.{HasClash, IsOverlap}
 use Rattle.profile_json.specs.Making.{IsNotMade, many, clash}
 use Rattle.profile_json.proofs.Lists.{contains_at, contains_flat_back}
 use Rattle.profile_json.proofs.Clashing.{IsUnder, under_back}
+
+pub if_is_some_and : {X : Type 0} (o : Option X) {P Q : X → Type 0} → IsSomeAnd o P → ((x : X) → P x → Q x) → IfSome o Q
+if_is_some_and None h then = absurd h
+if_is_some_and (Some x) h then = then x h
 
 pub has_clash : (native : Arch) (machines : List Arch) (es : List EntryParts) (rules : List Rule) (e : BuildError) (i j : ℕ) → map rule_parts rules ≡ rules_of machines es → e ≡ Overlap i j → Stands native machines rules e → HasClash machines es j
 has_clash native machines es rules e i j said is stands =

@@ -1,5 +1,5 @@
 -- What a reader answers, beside what reading gives.
-use Rattle.std.specs.Prelude.{◌≡◌, Result, Ok, Err, Option, Some, None}
+use Rattle.std.specs.Prelude.{◌≡◌, Result, Ok, Err, Option, Some, None, IsSomeAnd, IfSome}
 use Rattle.profile_json.specs.declared.error.ProfileError.{ProfileError}
 use Rattle.profile_json.specs.declared.error.ProfileError.TheVariants as e
 use Rattle.profile_json.specs.Fault.{Fault, syntax, version, no_seccomp, wrong_type, missing_key, unknown_action, unknown_arch, native_missing, unknown_call, empty_names, errno_not_taken, errno_range, unknown_op, bad_index, repeated_index, stray_datum, overlap, unsupported_key, too_many}
@@ -27,14 +27,15 @@ fault_of e.UnsupportedKey = Some unsupported_key
 fault_of e.TooMany = Some too_many
 fault_of e.OutOfMemory = None
 
-abbrev pub IsFault : {Y : Type 0} → Option Fault → Result Y Fault → Type 0
-IsFault None reading = Unit {0}
-IsFault (Some f) reading = reading ≡ Err f
-
--- What a function returned, seen by view, is what reading gives, unless memory ran out.
+-- What a function returned, seen by view, is what reading gives.
 abbrev pub Gives : {X Y : Type 0} → (X → Y) → Result X ProfileError → Result Y Fault → Type 0
 Gives view (Ok x) reading = reading ≡ Ok (view x)
-Gives view (Err e) reading = IsFault (fault_of e) reading
+Gives view (Err e) reading = IsSomeAnd (fault_of e) (λ f. reading ≡ Err f)
+
+-- The same of a function that takes memory, unless memory ran out.
+abbrev pub GivesWithMemory : {X Y : Type 0} → (X → Y) → Result X ProfileError → Result Y Fault → Type 0
+GivesWithMemory view (Ok x) reading = reading ≡ Ok (view x)
+GivesWithMemory view (Err e) reading = IfSome (fault_of e) (λ f. reading ≡ Err f)
 
 infixl 10 ◌>>=◌
 abbrev pub ◌>>=◌ : {A B : Type 0} → Result A Fault → (A → Result B Fault) → Result B Fault

@@ -6,7 +6,7 @@ ghost use Rattle.serde_json.specs.View.{view};
 ghost use Rattle.profile_json.specs.Breaks.{Breaks};
 ghost use Rattle.profile_json.specs.Making.{IsMade, IsNotMade};
 ghost use Rattle.profile_json.specs.Meaning.{IsText, Means};
-ghost use Rattle.profile_json.specs.Outcome.{Gives, fault_of};
+ghost use Rattle.profile_json.specs.Outcome.{GivesWithMemory, fault_of};
 ghost use Rattle.profile_json.specs.Reading as spec;
 ghost use Rattle.profile_json.specs.Rules.{same_arch};
 ghost use Rattle.profile_json.specs.Saying.{said_parts};
@@ -49,7 +49,7 @@ fn value_of(alloc: Global, text: &[u8], native: Arch) -> Result<Value, ProfileEr
 
 #[tactic(auto, unfolding(crate::specs::Reading::said_of))]
 fn said_of<'a>(alloc: Global, seccomp: &'a Value, native: Arch) -> Result<Said<'a>, ProfileError>
-    ensures reading { Gives said_parts result (spec.said_of native (view seccomp.now)) }
+    ensures reading { GivesWithMemory said_parts result (spec.said_of native (view seccomp.now)) }
     ensures native_listed { IfOk result (λ s. list_any (same_arch native) s.archs.items ≡ true) }
 {
     let default_word = default_of(seccomp)?;

@@ -4,7 +4,7 @@ ghost use Rattle.std.specs.List.{list_any};
 ghost use Rattle.serde_json.specs.View.{view};
 ghost use Rattle.profile_json.specs.Names as names;
 ghost use Rattle.profile_json.specs.Rules.{same_arch, in_order};
-ghost use Rattle.profile_json.specs.Outcome.{Gives};
+ghost use Rattle.profile_json.specs.Outcome.{Gives, GivesWithMemory};
 ghost use Rattle.profile_json.specs.Reading as spec;
 
 use crate::error::ProfileError;
@@ -37,7 +37,7 @@ fn arch_of(value: &Value) -> Result<Arch, ProfileError>
 }
 
 fn archs_in(alloc: Global, mut values: &[Value]) -> Result<Vec<Arch>, ProfileError>
-    ensures { Gives (λ v. v.items) result (spec.archs_in (map view values.entry.now)) }
+    ensures { GivesWithMemory (λ v. v.items) result (spec.archs_in (map view values.entry.now)) }
 {
     let mut found = Vec::new(alloc);
     while let [first, rest @ ..] = values {
@@ -50,7 +50,7 @@ fn archs_in(alloc: Global, mut values: &[Value]) -> Result<Vec<Arch>, ProfileErr
 
 /// The machines of a list, and the native one where the list is empty.
 fn archs_or_native(alloc: Global, values: &[Value], native: Arch) -> Result<Vec<Arch>, ProfileError>
-    ensures { Gives (λ v. v.items) result (spec.archs_or_native native (map view values.now)) }
+    ensures { GivesWithMemory (λ v. v.items) result (spec.archs_or_native native (map view values.now)) }
 {
     let mut archs = archs_in(alloc, values)?;
     if archs.is_empty() {
@@ -78,7 +78,7 @@ pub(crate) fn archs_of(
     seccomp: &Value,
     native: Arch,
 ) -> Result<Vec<Arch>, ProfileError>
-    ensures reading { Gives (λ v. v.items) result (spec.archs_of native (view seccomp.now)) }
+    ensures reading { GivesWithMemory (λ v. v.items) result (spec.archs_of native (view seccomp.now)) }
     ensures listed { IfOk result (λ v. list_any (same_arch native) v.items ≡ true) }
 {
     let values = list_or_empty(seccomp, ARCHITECTURES)?;

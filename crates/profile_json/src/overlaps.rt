@@ -1,5 +1,5 @@
 //! Entries that give unlike words to one record.
-ghost use Rattle.std.specs.Prelude.{◌≡◌, ◌↔◌, map, nat_lt, position, IsTrue, IfSome, IfNone, Any, Contains};
+ghost use Rattle.std.specs.Prelude.{◌≡◌, ◌↔◌, map, nat_lt, position, IsTrue, IsSomeAnd, IfSome, IfNone, Any, Contains};
 ghost use Rattle.std.specs.List.{list_any};
 ghost use Rattle.std.specs.Str.{bytes_eq};
 ghost use Rattle.profile_json.specs.Breaks.{ClashUnder};
@@ -85,7 +85,7 @@ pub(crate) fn overlap_of(
 ) -> ProfileError
     requires ends_are { ends.now ≡ ends_after 0 machines.now (map entry_parts entries.now) }
     requires clash { HasClash machines.now (map entry_parts entries.now) place }
-    ensures { IfSome (fault_of result) (IsOverlap machines.now (map entry_parts entries.now)) }
+    ensures { IsSomeAnd (fault_of result) (IsOverlap machines.now (map entry_parts entries.now)) }
 {
     let Some(second) = entry_at(ends, place) else {
         unreachable!();

@@ -2,7 +2,7 @@
 ghost use Rattle.std.specs.Prelude.{◌≡◌, map};
 ghost use Rattle.serde_json.specs.View.{view};
 ghost use Rattle.profile_json.specs.Entries.{entry_parts};
-ghost use Rattle.profile_json.specs.Outcome.{Gives};
+ghost use Rattle.profile_json.specs.Outcome.{Gives, GivesWithMemory};
 ghost use Rattle.profile_json.specs.Reading as spec;
 
 use crate::action::word_of;
@@ -32,7 +32,7 @@ fn name_of(value: &Value) -> Result<&str, ProfileError>
 }
 
 fn names_in<'a>(alloc: Global, mut values: &'a [Value]) -> Result<Vec<&'a str>, ProfileError>
-    ensures { Gives (λ v. map (λ n. n.now) v.items) result (spec.names_in (map view values.entry.now)) }
+    ensures { GivesWithMemory (λ v. map (λ n. n.now) v.items) result (spec.names_in (map view values.entry.now)) }
 {
     let mut found = Vec::new(alloc);
     while let [first, rest @ ..] = values {
@@ -45,7 +45,7 @@ fn names_in<'a>(alloc: Global, mut values: &'a [Value]) -> Result<Vec<&'a str>, 
 
 #[tactic(auto, unfolding(crate::specs::Reading::names_of))]
 fn names_of<'a>(alloc: Global, entry: &'a Value) -> Result<Vec<&'a str>, ProfileError>
-    ensures { Gives (λ v. map (λ n. n.now) v.items) result (spec.names_of (view entry.now)) }
+    ensures { GivesWithMemory (λ v. map (λ n. n.now) v.items) result (spec.names_of (view entry.now)) }
 {
     let values = list_at(entry, NAMES)?;
     if values.is_empty() {
@@ -59,7 +59,7 @@ fn names_of<'a>(alloc: Global, entry: &'a Value) -> Result<Vec<&'a str>, Profile
 
 #[tactic(auto, unfolding(crate::specs::Reading::entry_of))]
 fn entry_of<'a>(alloc: Global, value: &'a Value) -> Result<Entry<'a>, ProfileError>
-    ensures { Gives entry_parts result (spec.entry_of (view value.now)) }
+    ensures { GivesWithMemory entry_parts result (spec.entry_of (view value.now)) }
 {
     let entry = object_of(value)?;
     let names = names_of(alloc, entry)?;
@@ -69,7 +69,7 @@ fn entry_of<'a>(alloc: Global, value: &'a Value) -> Result<Entry<'a>, ProfileErr
 }
 
 fn entries_in<'a>(alloc: Global, mut values: &'a [Value]) -> Result<Vec<Entry<'a>>, ProfileError>
-    ensures { Gives (λ v. map entry_parts v.items) result (spec.entries_in (map view values.entry.now)) }
+    ensures { GivesWithMemory (λ v. map entry_parts v.items) result (spec.entries_in (map view values.entry.now)) }
 {
     let mut found = Vec::new(alloc);
     while let [first, rest @ ..] = values {
@@ -85,7 +85,7 @@ pub(crate) fn entries_of<'a>(
     alloc: Global,
     seccomp: &'a Value,
 ) -> Result<Vec<Entry<'a>>, ProfileError>
-    ensures { Gives (λ v. map entry_parts v.items) result (spec.entries_of (view seccomp.now)) }
+    ensures { GivesWithMemory (λ v. map entry_parts v.items) result (spec.entries_of (view seccomp.now)) }
 {
     let values = list_or_empty(seccomp, SYSCALLS)?;
     if values.len() > MAX_ENTRIES {

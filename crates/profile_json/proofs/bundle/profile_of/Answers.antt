@@ -1,12 +1,11 @@
 use Rattle.std.proofs.Common.{List, map, sym, ◌∙◌, ap, subst}
-use Rattle.std.proofs.lemmas.Option.{IfSome_then}
 use Rattle.profile_json.specs.Parts.{EntryParts}
 use Rattle.profile_json.specs.Entries.{entry_parts}
 use Rattle.profile_json.specs.Outcome.{fault_of}
 use Rattle.profile_json.specs.Rules.{in_order, rules_of}
 use Rattle.profile_json.specs.Saying.{said_parts}
 use Rattle.profile_json.specs.Clashes.{IsOverlap}
-use Rattle.profile_json.proofs.MakingLaws.{has_clash, no_foreign, too_many_rules, clash_refused}
+use Rattle.profile_json.proofs.MakingLaws.{if_is_some_and, has_clash, no_foreign, too_many_rules, clash_refused}
 use Rattle.profile_json.proofs.bundle.profile_of.Goals as goal
 
 pub overlap_of-requires-clause-clash : goal.overlap_of-requires-clause-clash
@@ -19,7 +18,7 @@ pub returns-in-Err-Overlap-clause-err : goal.returns-in-Err-Overlap-clause-err
 returns-in-Err-Overlap-clause-err c =
     let order = c.in_order-machines.ensures ∙ ap in_order c.deref.ensures.value in
     let entries = ap (map entry_parts) c.deref-in-Err-Overlap.ensures.value in
-    IfSome_then (fault_of c.overlap_of.result) c.overlap_of.ensures (λ f is. clash_refused (said_parts c.args.said.now) c.in_order-machines.result.now f order (subst (λ (es : List EntryParts). IsOverlap c.in_order-machines.result.now es f) entries is))
+    if_is_some_and (fault_of c.overlap_of.result) c.overlap_of.ensures (λ f is. clash_refused (said_parts c.args.said.now) c.in_order-machines.result.now f order (subst (λ (es : List EntryParts). IsOverlap c.in_order-machines.result.now es f) entries is))
 
 pub returns-in-Err-TooMany-clause-err : goal.returns-in-Err-TooMany-clause-err
 returns-in-Err-TooMany-clause-err c =
