@@ -1,5 +1,5 @@
 -- What is wrong with a text.
-use Rattle.std.specs.Prelude.{ℕ, ◌≡◌, ◌≢◌, ◌<◌, ◌≤◌, ◌+◌, ◌⊎◌, ◌==◌, Bool, true, false, List, [], ◌∷◌, ◌++◌, length, codes, None, ⊤}
+use Rattle.std.specs.Prelude.{ℕ, ◌≡◌, ◌≢◌, ◌<◌, ◌≤◌, ◌+◌, ◌⊎◌, ◌==◌, Bool, true, false, List, [], ◌∷◌, ◌++◌, length, None, ⊤}
 use Rattle.std.specs.List.{AllByRecursion, before_first}
 use Rattle.std.specs.Char.{is_ascii_digit}
 use Rattle.bpf_insn.specs.declared.instruction.Insn.{Insn}
@@ -130,26 +130,3 @@ pub record FaultAt (text : List ℕ) (line : ℕ) (fault : LineFault) : Type 0 w
 abbrev pub Explains : List ℕ → AsmError → Type 0
 Explains text (Line line fault) = FaultAt text line fault
 Explains text OutOfMemory = ⊤
-
--- the number by which a fault is told
-abbrev pub fault_number : LineFault → ℕ
-fault_number UnknownWord = 1
-fault_number BadNumber = 2
-fault_number TooLong = 3
-fault_number BadLine = 4
-
--- the name by which it is printed
-abbrev pub fault_name : LineFault → List ℕ
-fault_name UnknownWord = codes "UnknownWord"
-fault_name BadNumber = codes "BadNumber"
-fault_name TooLong = codes "TooLong"
-fault_name BadLine = codes "BadLine"
-
--- the same of an error
-abbrev pub error_number : AsmError → ℕ
-error_number (Line line fault) = fault_number fault
-error_number OutOfMemory = 9
-
-abbrev pub error_name : AsmError → List ℕ
-error_name (Line line fault) = fault_name fault
-error_name OutOfMemory = codes "OutOfMemory"

@@ -5,102 +5,77 @@ use std::alloc::{AllocError, AllocFailed};
 use std::error::Error;
 use std::fmt;
 
-/// What is wrong with a line.
+/// What is wrong with a line. Of two faults of a line the one that comes first here is told; a line of
+/// which only `raw` or the missing line feed is wrong has good numbers.
 #[derive(Clone, Copy, Debug, PartialEq, Eq)]
 pub enum LineFault {
-    /// The line begins with no word of the listing.
-    UnknownWord,
-    /// A number has a leading zero, or is too large for its field.
-    BadNumber,
     /// It is line 4097.
     TooLong,
+    /// It begins with no word of the listing.
+    UnknownWord,
     /// What follows the word has none of its shapes, a `raw` line is of an instruction that has another
     /// form, the line feed is missing, or there is no line at all.
     BadLine,
+    /// A number has a leading zero, or is too large for its field.
+    BadNumber,
 }
 
 /// Why a text is not assembled.
 #[derive(Clone, Copy, Debug, PartialEq, Eq)]
 pub enum AsmError {
-    /// The first line with a fault, counted from 1, and a fault of that line.
+    /// The first line with a fault, counted from 1, and its fault.
     Line { line: usize, fault: LineFault },
     /// There is no memory for the bytes.
     OutOfMemory,
 }
 
-impl LineFault {
-    ghost use Rattle.std.specs.Prelude.{◌≡◌};
-    ghost use Rattle.bpf_asm.specs.Faults.{fault_name, fault_number};
-
-    /// The number by which the fault is told, from 1.
-    pub fn number(self) -> u32
-        ensures { result ≡ fault_number self }
-    {
-        match self {
-            LineFault::UnknownWord => 1,
-            LineFault::BadNumber => 2,
-            LineFault::TooLong => 3,
-            LineFault::BadLine => 4,
-        }
-    }
-
-    /// The name of the fault, which it is printed by.
-    pub fn name(self) -> &'static str
-        ensures { result.now ≡ fault_name self }
-    {
-        match self {
-            LineFault::UnknownWord => "UnknownWord",
-            LineFault::BadNumber => "BadNumber",
-            LineFault::TooLong => "TooLong",
-            LineFault::BadLine => "BadLine",
-        }
-    }
-}
-
 impl AsmError {
     ghost use Rattle.std.specs.Prelude.{◌≡◌};
-    ghost use Rattle.bpf_asm.specs.Faults.{error_name, error_number};
+    ghost use Rattle.bpf_asm.specs.Fault.{label_of};
 
-    /// The number by which the error is told: that of the line's fault, or 9 for want of memory.
+    // The number and the name by which it is told.
+    fn label(self) -> (u32, &'static str)
+        ensures number { result.0 ≡ (label_of self).0 }
+        ensures name { result.1.now ≡ (label_of self).1 }
+    {
+        match self {
+            AsmError::Line { line: _, fault } => match fault {
+                LineFault::UnknownWord => (1, "UnknownWord"),
+                LineFault::BadNumber => (2, "BadNumber"),
+                LineFault::TooLong => (3, "TooLong"),
+                LineFault::BadLine => (4, "BadLine"),
+            },
+            AsmError::OutOfMemory => (9, "OutOfMemory"),
+        }
+    }
+
+    /// The number by which the error is told.
     pub fn number(self) -> u32
-        ensures { result ≡ error_number self }
+        ensures { result ≡ (label_of self).0 }
     {
-        match self {
-            AsmError::Line { line: _, fault } => fault.number(),
-            AsmError::OutOfMemory => 9,
-        }
+        self.label().0
     }
 
-    /// The name of the error, which it is printed by.
+    /// The name of the error.
     pub fn name(self) -> &'static str
-        ensures { result.now ≡ error_name self }
+        ensures { result.now ≡ (label_of self).1 }
     {
-        match self {
-            AsmError::Line { line: _, fault } => fault.name(),
-            AsmError::OutOfMemory => "OutOfMemory",
-        }
-    }
-}
-
-impl fmt::Display for LineFault {
-    ghost use Rattle.std.specs.Prelude.{Some};
-    ghost use Rattle.bpf_asm.specs.Faults.{fault_name};
-
-    ghost output = { λ fault. Some (fault_name fault) };
-
-    fn fmt<W: fmt::Write>(&self, f: &mut fmt::Formatter<W>) -> fmt::Result {
-        f.write_str(self.name())
+        self.label().1
     }
 }
 
 impl fmt::Display for AsmError {
     ghost use Rattle.std.specs.Prelude.{Some};
-    ghost use Rattle.bpf_asm.specs.Faults.{error_name};
+    ghost use Rattle.bpf_asm.specs.Fault.{text_of};
 
-    ghost output = { λ e. Some (error_name e) };
+    ghost output = { λ error. Some (text_of error) };
 
     fn fmt<W: fmt::Write>(&self, f: &mut fmt::Formatter<W>) -> fmt::Result {
-        f.write_str(self.name())
+        let (number, name) = self.label();
+        match *self {
+            AsmError::Line { line, fault: _ } => write!(f, "{number} {name} line {line}"),
+            AsmError::OutOfMemory => write!(f, "{number} {name}"),
+        }
     }
 }
 

@@ -15,8 +15,5 @@ mod word;
 
 pub use assembling::assemble;
 pub use fault::{AsmError, LineFault};
-pub use laws::{faults_exclude_programs, listings_differ};
+pub use laws::{faults_exclude_programs, listings_differ, programs_differ};
 pub use listing::disassemble;
-
-#[cfg(test)]
-mod tests;
