@@ -73,7 +73,7 @@ pub enum Operation {
     CopyToA,
 }
 
-// The parts of a code that say the operand, the test and the computation (`BPF_SRC` and `BPF_OP`).
+// `bits` is the part of a code that says the operand, the test or the computation (`BPF_SRC` and `BPF_OP`).
 
 impl Operand {
     ghost use Rattle.bpf_insn.specs.Code.{source_bits};
@@ -90,6 +90,19 @@ impl Operand {
 
 impl Test {
     ghost use Rattle.bpf_insn.specs.Code.{test_bits};
+    ghost use Rattle.bpf_insn.specs.Machine.{holds as came_out};
+
+    /// Whether the comparison of A with its operand holds.
+    pub fn holds(self, a: u32, operand: u32) -> bool
+        ensures { result ≡ came_out self a operand }
+    {
+        match self {
+            Test::Equal => a == operand,
+            Test::Greater => a > operand,
+            Test::AtLeast => a >= operand,
+            Test::AnyBit => a & operand != 0,
+        }
+    }
 
     fn bits(self) -> u16
         ensures { result ≡ test_bits self }
@@ -105,6 +118,20 @@ impl Test {
 
 impl Arithmetic {
     ghost use Rattle.bpf_insn.specs.Code.{arithmetic_bits};
+    ghost use Rattle.bpf_insn.specs.Machine.{computed};
+
+    /// What is computed of A and its operand, in 32 bits.
+    pub fn compute(self, a: u32, operand: u32) -> u32
+        ensures { result ≡ computed self a operand }
+    {
+        match self {
+            Arithmetic::Add => a.wrapping_add(operand),
+            Arithmetic::Sub => a.wrapping_sub(operand),
+            Arithmetic::Or => a | operand,
+            Arithmetic::And => a & operand,
+            Arithmetic::Xor => a ^ operand,
+        }
+    }
 
     fn bits(self) -> u16
         ensures { result ≡ arithmetic_bits self }

@@ -2,10 +2,10 @@
 ghost use Rattle.std.specs.Prelude.{◌≡◌, ◌≢◌, ◌<◌, None};
 ghost use Rattle.call_record.specs.Record.{words};
 ghost use Rattle.bpf_insn.specs.Causes.{IsPlain, ReadsScratch};
-ghost use Rattle.bpf_insn.specs.Machine.{Goes, computed, holds, kept, step, stored};
+ghost use Rattle.bpf_insn.specs.Machine.{Goes, kept, step, stored};
 ghost use Rattle.bpf_interp.specs.inner.Step.{state_of, step_of};
 
-use bpf_insn::{Arithmetic, Insn, Operand, Operation, Test};
+use bpf_insn::{Insn, Operand, Operation};
 use call_record::Record;
 
 /// The registers of a filter while it runs, and its scratch words, each once it is written.
@@ -40,31 +40,6 @@ pub enum Next {
     Returns(u32),
     /// The run goes on past so many of the instructions after it.
     Continues(u32),
-}
-
-// Whether a comparison of A with its operand holds.
-fn test_holds(test: Test, a: u32, operand: u32) -> bool
-    ensures { result ≡ holds test a operand }
-{
-    match test {
-        Test::Equal => a == operand,
-        Test::Greater => a > operand,
-        Test::AtLeast => a >= operand,
-        Test::AnyBit => a & operand != 0,
-    }
-}
-
-// What is computed of A and its operand, in 32 bits.
-fn compute(arithmetic: Arithmetic, a: u32, operand: u32) -> u32
-    ensures { result ≡ computed arithmetic a operand }
-{
-    match arithmetic {
-        Arithmetic::Add => a.wrapping_add(operand),
-        Arithmetic::Sub => a.wrapping_sub(operand),
-        Arithmetic::Or => a | operand,
-        Arithmetic::And => a & operand,
-        Arithmetic::Xor => a ^ operand,
-    }
 }
 
 // The run goes on with the next instruction and this value in A.
@@ -127,11 +102,11 @@ pub fn advance(insn: &Insn, call: &Record, registers: &mut Registers) -> Next
         Some(Operation::ReturnA) => Next::Returns(a),
         Some(Operation::Jump) => Next::Continues(k),
         Some(Operation::Branch(test, operand)) => {
-            let holds = test_holds(test, a, value(operand));
+            let holds = test.holds(a, value(operand));
             let skip = if holds { jt } else { jf };
             Next::Continues(u32::from(skip))
         }
-        Some(Operation::Compute(f, operand)) => with_a(registers, compute(f, a, value(operand))),
+        Some(Operation::Compute(f, operand)) => with_a(registers, f.compute(a, value(operand))),
         Some(Operation::ShiftLeft) => with_a(registers, a.wrapping_shl(k)),
         Some(Operation::ShiftRight) => with_a(registers, a >> k),
         Some(Operation::Negate) => with_a(registers, 0u32.wrapping_sub(a)),
