@@ -1,14 +1,13 @@
 -- What is said of a filter and a record, both as bytes: the kernel's check (seccomp(2), and the seccomp_filter page of
 -- the kernel's documentation), and the word that the filter answers.
-use Rattle.std.specs.Prelude.{ℕ, ◌≡◌, ◌≢◌, Bool, true, false, List, [], ◌∷◌, ◌++◌, length, Option, Some, None, Result, IfOk, codes}
-use Rattle.std.specs.Fmt.{decimal}
+use Rattle.std.specs.Prelude.{ℕ, ◌≡◌, ◌≢◌, Bool, true, false, List, ◌++◌, length, Option, Some, None, Result, IfOk, codes}
 use Rattle.call_record.specs.Text.{text_of}
 use Rattle.call_record.specs.Words.{words_of}
 use Rattle.bpf_insn.specs.Bytes.{insns_of, view_fault}
 use Rattle.bpf_insn.specs.Machine.{verdict_of}
-use Rattle.bpf_insn.specs.ViewError as view_error
-use Rattle.kernel_check.specs.Accepted.{IsAccepted, IsFirstRefusal}
-use Rattle.kernel_check.specs.Cause as cause
+use Rattle.bpf_insn.specs.Fault as view
+use Rattle.kernel_check.specs.Accepted.{IsAccepted, IsRefusal}
+use Rattle.kernel_check.specs.Fault as kernel
 use Rattle.cli.specs.Sink.{Writes}
 use Rattle.cli.specs.declared.sink.ExportFault.{ExportFault}
 use Rattle.cli.specs.declared.answer.Answer.{Answer}
@@ -18,7 +17,7 @@ use Rattle.cli.specs.declared.answer.Answer.TheVariants.{Verdict, NoRecord, NoPr
 abbrev pub IsAnswer : List ℕ → List ℕ → Answer → Type 0
 IsAnswer filter rec NoRecord = length rec ≢ 64
 IsAnswer filter rec (NoProgram e) = (length rec ≡ 64) × (view_fault filter ≡ Some e)
-IsAnswer filter rec (Refusal e) = (length rec ≡ 64) × (view_fault filter ≡ None) × IsFirstRefusal (insns_of filter) e
+IsAnswer filter rec (Refusal e) = (length rec ≡ 64) × (view_fault filter ≡ None) × IsRefusal (insns_of filter) e
 IsAnswer filter rec (Verdict v) =
     (length rec ≡ 64) × (view_fault filter ≡ None) × IsAccepted (insns_of filter) × (verdict_of (insns_of filter) (words_of rec) ≡ Some v)
 
@@ -31,16 +30,12 @@ abbrev pub is_verdict : Answer → Bool
 is_verdict (Verdict v) = true
 is_verdict other = false
 
--- a fault, by its number and its name
-abbrev pub fault_text : ℕ → List ℕ → List ℕ
-fault_text number name = decimal number ++ codes " " ++ name
-
 -- the line that says it, which ends by a line feed
 abbrev pub line_of : Answer → List ℕ
-line_of (Verdict v) = text_of v ++ 10 ∷ []
-line_of NoRecord = codes "refused record" ++ 10 ∷ []
-line_of (NoProgram e) = codes "refused view " ++ fault_text (view_error.number_of e) (view_error.name_of e) ++ 10 ∷ []
-line_of (Refusal e) = codes "refused kernel " ++ fault_text (cause.number_of e.cause) (cause.name_of e.cause) ++ codes " pc " ++ decimal e.pc ++ 10 ∷ []
+line_of (Verdict v) = text_of v ++ codes "\n"
+line_of NoRecord = codes "refused record\n"
+line_of (NoProgram e) = codes "refused view " ++ view.text_of e ++ codes "\n"
+line_of (Refusal e) = codes "refused kernel " ++ kernel.text_of e ++ codes "\n"
 
 -- what was written is the line of the answer, and the call tells whether that is a word
 pub record WritesAnswer {S : Type 0} (held : S → Option (List ℕ)) (failures : S → ℕ) (old new : S) (filter rec : List ℕ) (result : Result Bool ExportFault) : Type 0 where
