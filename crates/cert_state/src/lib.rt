@@ -4,10 +4,12 @@
 //! word of the record. Nothing here takes memory.
 #![tactic(auto)]
 
+mod after;
 mod laws;
 mod literal;
 mod state;
 
+pub use after::{edge_fact, transfer};
 pub use laws::{dead_is_sound, edge_fact_is_sound, entails_is_sound, transfer_is_sound};
 pub use literal::{AVal, Lit, Regs};
 pub use state::{Listed, State, With};
