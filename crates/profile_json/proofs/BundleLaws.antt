@@ -10,7 +10,7 @@ use Rattle.profile.specs.Build.{InOrder}
 use Rattle.profile_json.specs.Keys as key
 use Rattle.profile_json.specs.Fault.{Fault, overlap}
 use Rattle.profile_json.specs.Parts.{EntryParts}
-use Rattle.profile_json.specs.Refusal.{short_name}
+use Rattle.profile_json.specs.CallName.{short_name}
 use Rattle.profile_json.specs.Rules.{same_arch, in_order, rules_of}
 use Rattle.profile_json.specs.Outcome.{◌>>=◌}
 use Rattle.profile_json.specs.Reading.{Said, default_of, refused_of, archs_of, entries_of, root_of, said_of}

@@ -10,7 +10,7 @@ use Rattle.profile_json.specs.Fault.{Fault, wrong_type, missing_key, unknown_cal
 use Rattle.profile_json.specs.Parts.{CondParts, EntryParts}
 use Rattle.profile_json.specs.Lookup.{holds, member, or_default, object, text, whole, list}
 use Rattle.profile_json.specs.Names.{is_known}
-use Rattle.profile_json.specs.Refusal.{short_name}
+use Rattle.profile_json.specs.CallName.{short_name}
 use Rattle.profile_json.specs.Outcome.{◌>>=◌}
 use Rattle.profile_json.specs.Reading.{typed, needed, is_empty, with_front, arg_of, args_after, args_of, name_of, names_in, names_of, entry_word, entry_of, entries_in, entries_of}
 use Rattle.profile_json.specs.Meaning.{WordMeans, ArgMeans, ArgsMean, NamesMean, EntryMeans, EntriesMean}

@@ -1,8 +1,11 @@
--- Where the beginning of a call name ends.
-use Rattle.std.proofs.Common.{◌≡◌, ◌≢◌, ℕ, zero, suc, ◌<◌, ◌≤◌, ◌==◌, List, length, Bool, true, false, cond, ◌||◌, nat_lt, nat_le, ◌⊎◌, inl, inr, refl, sym, ap, ◌∙◌, arith, slice_index, slice_range, ◌-◌, take}
-use Rattle.std.specs.Str.{IsCharBoundary}
+-- Where the beginning of a call name ends, and what is printed of it.
+use Rattle.std.proofs.Common.{◌≡◌, ◌≢◌, ℕ, zero, suc, ◌<◌, ◌≤◌, ◌==◌, List, [], ◌∷◌, ◌++◌, length, Bool, true, false, cond, ◌||◌, nat_lt, nat_le, ◌⊎◌, inl, inr, refl, sym, ap, ◌∙◌, arith, slice_index, slice_range, ◌-◌, take}
+use Rattle.std.specs.List.{flat_map}
+use Rattle.std.specs.Char.{encode_utf8}
+use Rattle.std.specs.Str.{IsCharBoundary, IsUtf8, chars}
+use Rattle.std.proofs.lemmas.Str.{chars_past_char}
 use Rattle.std.proofs.lemmas.Bool.Decides.{nat_tests}
-use Rattle.profile_json.specs.Refusal.{is_boundary, boundary_up_to, short_name}
+use Rattle.profile_json.specs.CallName.{is_boundary, boundary_up_to, short_name, printed_char, printed}
 
 tells : (i n b : ℕ) → cond (nat_lt i n) (nat_lt b 128 || nat_le 192 b) (i == n) ≡ true → (i ≤ n) × (i < n → 128 ≤ b → 192 ≤ b)
 tells i n b h = (grind (arith, nat_tests), grind (arith, nat_tests))
@@ -34,3 +37,13 @@ short_name-is name end h b near = ap (λ n. take n name) (boundary_found 64 name
 
 pub front : (xs : List ℕ) (n : ℕ) → slice_range xs 0 n ≡ take n xs
 front xs n = let same : n - 0 ≡ n = omega arith in ap (λ m. take m xs) same
+
+-- ---- printing
+
+pub printed_past_char : (name rest : List ℕ) (c : ℕ) → IsUtf8 name → name ≡ encode_utf8 c ++ rest → printed name ≡ printed_char c ++ printed rest
+printed_past_char name rest c utf8 split = ap (flat_map printed_char) (chars_past_char name rest c utf8 split)
+
+pub printed_none : (name : List ℕ) → length name ≡ 0 → printed name ≡ []
+unfolding chars
+printed_none [] none = refl
+printed_none (b ∷ bs) none = absurd (omega (arith, none))

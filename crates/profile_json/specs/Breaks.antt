@@ -18,7 +18,7 @@ use Rattle.profile_json.specs.Parts.{EntryParts, rule_parts}
 use Rattle.profile_json.specs.Lookup.{Member, missing, other_type, holds, member, or_default, object, text, whole, list}
 use Rattle.profile_json.specs.Names.{editions, action_named, takes_data, op_named, arch_named, is_known}
 use Rattle.profile_json.specs.Rules.{in_order, rules_under, rules_of}
-use Rattle.profile_json.specs.Refusal.{short_name}
+use Rattle.profile_json.specs.CallName.{short_name}
 use Rattle.profile_json.specs.Meaning.{IsText, IsSeccomp, NamesAction, ListsArchs, EntryMeans, EntriesMean}
 
 -- a member that has to be there is not, or is of another type

@@ -9,7 +9,7 @@ use Rattle.profile.specs.Rule.{Overlap, Clash}
 use Rattle.profile_json.specs.Fault.{Fault, overlap}
 use Rattle.profile_json.specs.Parts.{EntryParts, rule_parts}
 use Rattle.profile_json.specs.Rules.{rule_of, rules_of}
-use Rattle.profile_json.specs.Refusal.{short_name}
+use Rattle.profile_json.specs.CallName.{short_name}
 use Rattle.profile_json.specs.Breaks.{ClashUnder}
 
 -- one record matches rules of both entries for this name and machine

@@ -4,7 +4,7 @@ pub mod Lookup
 pub mod Keys
 pub mod Names
 pub mod Rules
-pub mod Refusal
+pub mod CallName
 pub mod Meaning
 pub mod Breaks
 pub mod Entries

@@ -1,31 +1,7 @@
 -- What a reader answers, beside what reading gives.
-use Rattle.std.specs.Prelude.{◌≡◌, Result, Ok, Err, Option, Some, None, IsSomeAnd, IfSome}
-use Rattle.profile_json.specs.declared.error.ProfileError.{ProfileError}
-use Rattle.profile_json.specs.declared.error.ProfileError.TheVariants as e
-use Rattle.profile_json.specs.Fault.{Fault, syntax, version, no_seccomp, wrong_type, missing_key, unknown_action, unknown_arch, native_missing, unknown_call, empty_names, errno_not_taken, errno_range, unknown_op, bad_index, repeated_index, stray_datum, overlap, unsupported_key, too_many}
-
--- the fault that an error names: none for want of memory
-abbrev pub fault_of : ProfileError → Option Fault
-fault_of e.Syntax = Some syntax
-fault_of e.Version = Some version
-fault_of e.NoSeccomp = Some no_seccomp
-fault_of e.WrongType = Some wrong_type
-fault_of e.MissingKey = Some missing_key
-fault_of e.UnknownAction = Some unknown_action
-fault_of e.UnknownArch = Some unknown_arch
-fault_of e.NativeMissing = Some native_missing
-fault_of (e.UnknownCall name) = Some (unknown_call name.bytes)
-fault_of e.EmptyNames = Some empty_names
-fault_of e.ErrnoNotTaken = Some errno_not_taken
-fault_of e.ErrnoRange = Some errno_range
-fault_of e.UnknownOp = Some unknown_op
-fault_of e.BadIndex = Some bad_index
-fault_of e.RepeatedIndex = Some repeated_index
-fault_of e.StrayDatum = Some stray_datum
-fault_of (e.Overlap name first second) = Some (overlap name.bytes first second)
-fault_of e.UnsupportedKey = Some unsupported_key
-fault_of e.TooMany = Some too_many
-fault_of e.OutOfMemory = None
+use Rattle.std.specs.Prelude.{◌≡◌, Result, Ok, Err, IsSomeAnd, IfSome}
+use Rattle.profile_json.specs.declared.fault.ProfileError.{ProfileError}
+use Rattle.profile_json.specs.Fault.{Fault, fault_of}
 
 -- What a function returned, seen by view, is what reading gives.
 abbrev pub Gives : {X Y : Type 0} → (X → Y) → Result X ProfileError → Result Y Fault → Type 0

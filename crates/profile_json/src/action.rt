@@ -6,7 +6,7 @@ ghost use Rattle.profile_json.specs.Names as spec;
 ghost use Rattle.profile_json.specs.Outcome.{Gives};
 ghost use Rattle.profile_json.specs.Reading as read;
 
-use crate::error::ProfileError;
+use crate::fault::ProfileError;
 use crate::key::{self, ACTION, DEFAULT_ACTION, DEFAULT_ERRNO_RET, ERRNO_RET};
 use crate::lookup::{text_at, whole_if_there};
 use call_record::Word;

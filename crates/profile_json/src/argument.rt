@@ -8,7 +8,7 @@ ghost use Rattle.profile_json.specs.Outcome.{Gives};
 ghost use Rattle.profile_json.specs.Parts.{cond_parts};
 ghost use Rattle.profile_json.specs.Reading as spec;
 
-use crate::error::ProfileError;
+use crate::fault::ProfileError;
 use crate::key::{self, ARGS, INDEX, OP, VALUE, VALUE_TWO};
 use crate::lookup::{list_or_empty, object_of, text_at, whole_at, whole_or_zero};
 use arrayvec::ArrayVec;

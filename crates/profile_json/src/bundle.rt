@@ -4,15 +4,16 @@ ghost use Rattle.std.specs.List.{list_any};
 ghost use Rattle.serde_json.specs.Data.{Data};
 ghost use Rattle.serde_json.specs.View.{view};
 ghost use Rattle.profile_json.specs.Breaks.{Breaks};
+ghost use Rattle.profile_json.specs.Fault.{fault_of};
 ghost use Rattle.profile_json.specs.Making.{IsMade, IsNotMade};
 ghost use Rattle.profile_json.specs.Meaning.{IsText, Means};
-ghost use Rattle.profile_json.specs.Outcome.{GivesWithMemory, fault_of};
+ghost use Rattle.profile_json.specs.Outcome.{GivesWithMemory};
 ghost use Rattle.profile_json.specs.Reading as spec;
 ghost use Rattle.profile_json.specs.Rules.{same_arch};
 ghost use Rattle.profile_json.specs.Saying.{said_parts};
 
 use crate::action::default_of;
-use crate::error::ProfileError;
+use crate::fault::ProfileError;
 use crate::machines::{archs_of, in_order};
 use crate::overlaps::overlap_of;
 use crate::refused::refuse_keys;

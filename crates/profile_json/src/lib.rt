@@ -6,7 +6,7 @@ mod action;
 mod argument;
 mod bundle;
 mod entry;
-mod error;
+mod fault;
 mod key;
 mod law;
 mod lookup;
@@ -22,5 +22,5 @@ mod syscalls;
 mod tests;
 
 pub use bundle::{Bundle, read_bundle};
-pub use error::ProfileError;
+pub use fault::ProfileError;
 pub use law::{meaning_is_kept, meaning_is_one, meaning_is_unbroken};

@@ -6,7 +6,7 @@ ghost use Rattle.profile_json.specs.Lookup.{member, or_default, object, text, wh
 ghost use Rattle.profile_json.specs.Outcome.{Gives};
 ghost use Rattle.profile_json.specs.Reading.{typed, needed, if_there};
 
-use crate::error::ProfileError;
+use crate::fault::ProfileError;
 use serde_json::Value;
 
 pub(crate) fn object_of(value: &Value) -> Result<&Value, ProfileError>

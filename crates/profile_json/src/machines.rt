@@ -7,7 +7,7 @@ ghost use Rattle.profile_json.specs.Rules.{same_arch, in_order};
 ghost use Rattle.profile_json.specs.Outcome.{Gives, GivesWithMemory};
 ghost use Rattle.profile_json.specs.Reading as spec;
 
-use crate::error::ProfileError;
+use crate::fault::ProfileError;
 use crate::key::ARCHITECTURES;
 use crate::lookup::{list_or_empty, text_of};
 use call_tables::Arch;

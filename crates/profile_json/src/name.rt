@@ -1,7 +1,7 @@
 //! Call names.
 ghost use Rattle.std.specs.Prelude.{◌≡◌};
 ghost use Rattle.profile_json.specs.Names as names;
-ghost use Rattle.profile_json.specs.Refusal as spec;
+ghost use Rattle.profile_json.specs.CallName as spec;
 
 use arrayvec::ArrayString;
 use call_tables::Arch;

@@ -5,11 +5,11 @@ ghost use Rattle.std.specs.Str.{bytes_eq};
 ghost use Rattle.profile_json.specs.Breaks.{ClashUnder};
 ghost use Rattle.profile_json.specs.Clashes.{OverlapOn, NoClash, IsOverlap, HasClash};
 ghost use Rattle.profile_json.specs.Entries.{entry_parts};
-ghost use Rattle.profile_json.specs.Outcome.{fault_of};
+ghost use Rattle.profile_json.specs.Fault.{fault_of};
 ghost use Rattle.profile_json.specs.Rules.{ends_after};
 
 use crate::entry::Entry;
-use crate::error::ProfileError;
+use crate::fault::ProfileError;
 use crate::name::short_name;
 use crate::rules::rule_of;
 use call_tables::Arch;

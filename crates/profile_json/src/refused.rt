@@ -4,7 +4,7 @@ ghost use Rattle.profile_json.specs.Lookup.{member, text, list};
 ghost use Rattle.profile_json.specs.Outcome.{Gives};
 ghost use Rattle.profile_json.specs.Reading.{empty, refused_of};
 
-use crate::error::ProfileError;
+use crate::fault::ProfileError;
 use crate::key::{FLAGS, LISTENER_METADATA, LISTENER_PATH};
 use crate::lookup::{list_or_empty, text_or_empty};
 use serde_json::Value;

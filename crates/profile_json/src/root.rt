@@ -5,7 +5,7 @@ ghost use Rattle.profile_json.specs.Lookup.{member, object};
 ghost use Rattle.profile_json.specs.Outcome.{Gives};
 ghost use Rattle.profile_json.specs.Reading as spec;
 
-use crate::error::ProfileError;
+use crate::fault::ProfileError;
 use crate::key::{LINUX, OCI_VERSION, SECCOMP, VERSION_1_0_2, VERSION_1_1_0};
 use crate::lookup::{object_of, text_at};
 use serde_json::Value;

@@ -8,7 +8,7 @@ ghost use Rattle.profile_json.specs.Reading as spec;
 use crate::action::word_of;
 use crate::argument::args_of;
 use crate::entry::Entry;
-use crate::error::ProfileError;
+use crate::fault::ProfileError;
 use crate::key::{NAMES, SYSCALLS};
 use crate::lookup::{list_at, list_or_empty, object_of, text_of};
 use crate::name::{is_known, short_name};

@@ -1,7 +1,7 @@
 use Rattle.std.proofs.Common.{List, map, sym, ◌∙◌, ap, subst}
 use Rattle.profile_json.specs.Parts.{EntryParts}
 use Rattle.profile_json.specs.Entries.{entry_parts}
-use Rattle.profile_json.specs.Outcome.{fault_of}
+use Rattle.profile_json.specs.Fault.{fault_of}
 use Rattle.profile_json.specs.Rules.{in_order, rules_of}
 use Rattle.profile_json.specs.Saying.{said_parts}
 use Rattle.profile_json.specs.Clashes.{IsOverlap}
