@@ -143,6 +143,7 @@ pub least_read : (p : List Insn) (i : ℕ) → ((j : ℕ) → j < i → HasCause
 least_read p i none j read = elim (cases_lt j i) [ inl lt ↦ absurd (none j lt read) | inr le ↦ le ]
 
 -- and none, where the positions are all
-pub no_read : (p : List Insn) (n i : ℕ) → n ≡ length p → n ≤ i → ((j : ℕ) → j < i → HasCause p j Scratch → ⊥) → (j : ℕ) → HasCause p j Scratch → ⊥
+pub no_read : (p : List Insn) (n i : ℕ) → n ≡ length p → n ≤ i → ((j : ℕ) → j < i → HasCause p j Scratch → ⊥)
+    → (j : ℕ) → HasCause p j Scratch → ⊥
 no_read p n i size past none j read =
     let lt : j < length p = slice_get_within p j read.0 read.1 in none j (omega arith) read

@@ -10,7 +10,9 @@ use Rattle.kernel_check.specs.Fault.{number_of}
 
 -- the cause of a number
 cause_of : ℕ → Cause
-cause_of n = if n == 1 then Code else if n == 2 then Load else if n == 3 then Shift else if n == 4 then Target else if n == 5 then End else Scratch
+cause_of n =
+    if n == 1 then Code else if n == 2 then Load else if n == 3 then Shift
+    else if n == 4 then Target else if n == 5 then End else Scratch
 
 cause_of-number_of : (k : Cause) → cause_of (number_of k) ≡ k
 unfolding cause_of
@@ -39,14 +41,20 @@ not_after p e f he hf = elim (is_scratch f.cause) [
   | inl is ↦ (he.scratch_last (hf.scratch_last is e.pc e.cause he.stands).0 f.pc f.cause hf.stands).1
 ]
 
+same_refusal : (e f : Refused) → e.cause ≡ f.cause → e.pc ≡ f.pc → e ≡ f
+same_refusal e f cause place =
+    let refused : Cause → ℕ → Refused = λ c i. record { cause = c; pc = i } in
+    ap (λ c. refused c e.pc) cause ∙ ap (refused f.cause) place
+
+-- nor has it a lesser cause
+not_above : (p : List Insn) (e f : Refused) → IsRefusal p e → IsRefusal p f → e.pc ≡ f.pc → number_of e.cause ≤ number_of f.cause
+not_above p e f he hf place = he.least_cause f.cause (subst (λ (i : ℕ). HasCause p i f.cause) (sym place) hf.stands)
+
 one_refusal : (p : List Insn) (e f : Refused) → IsRefusal p e → IsRefusal p f → e ≡ f
 one_refusal p e f he hf =
     let place : e.pc ≡ f.pc = omega (arith, not_after p e f he hf, not_after p f e hf he) in
-    let least : number_of e.cause ≤ number_of f.cause = he.least_cause f.cause (subst (λ (i : ℕ). HasCause p i f.cause) (sym place) hf.stands) in
-    let most : number_of f.cause ≤ number_of e.cause = hf.least_cause e.cause (subst (λ (i : ℕ). HasCause p i e.cause) place he.stands) in
-    let cause : e.cause ≡ f.cause = one_cause e.cause f.cause (omega arith) in
-    let refused : Cause → ℕ → Refused = λ c i. record { cause = c; pc = i } in
-    ap (λ c. refused c e.pc) cause ∙ ap (refused f.cause) place
+    let number : number_of e.cause ≡ number_of f.cause = omega (arith, not_above p e f he hf place, not_above p f e hf he (sym place)) in
+    same_refusal e f (one_cause e.cause f.cause number) place
 
 pub one : OneRefusal
 one = record {

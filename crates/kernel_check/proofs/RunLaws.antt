@@ -1,16 +1,19 @@
 -- An accepted program's instructions run and lead on to others, so on a whole record it ends.
-use Rattle.std.proofs.Common.{◌≡◌, ◌≢◌, ℕ, zero, suc, ◌+◌, ◌-◌, ◌/◌, ◌%◌, ◌<◌, ◌≤◌, ◌⊎◌, inl, inr, Bool, true, false, cond, eqb, List, [], ◌∷◌, length, slice_set, refl, ap, sym, subst, ◌∙◌, arith}
+use Rattle.std.proofs.Common.{◌≡◌, ◌≢◌, ℕ, zero, suc, ◌+◌, ◌-◌, ◌/◌, ◌%◌, ◌<◌, ◌≤◌, ◌⊎◌, inl, inr, Bool}
+use Rattle.std.proofs.Common.{true, false, cond, eqb, List, [], ◌∷◌, length, slice_set, refl, ap, sym, subst, ◌∙◌, arith}
 use Rattle.std.specs.Prelude.{Some, None, slice_get, Option, nat_lt, option_and_then}
 use Rattle.std.proofs.lemmas.Bool.{eq-eqb}
 use Rattle.std.proofs.lemmas.Bool.Decides.{nat_tests}
 use Rattle.std.proofs.lemmas.List.{length-set}
 use Rattle.std.proofs.lemmas.Option.{slice_get_cases}
 use Rattle.bpf_insn.specs.declared.code.Operation.{Operation}
-use Rattle.bpf_insn.specs.declared.code.Operation.TheVariants.{LoadWord, LoadScratch, LoadScratchX, Store, StoreX, ReturnK, ReturnA, Jump, Branch, ShiftLeft, ShiftRight}
+use Rattle.bpf_insn.specs.declared.code.Operation.TheVariants.{LoadWord, LoadScratch, LoadScratchX, Store, StoreX, ReturnK}
+use Rattle.bpf_insn.specs.declared.code.Operation.TheVariants.{ReturnA, Jump, Branch, ShiftLeft, ShiftRight}
 use Rattle.bpf_insn.specs.declared.instruction.Insn.{Insn}
 use Rattle.bpf_insn.specs.Code.{operation_of}
 use Rattle.bpf_insn.specs.Causes.{IsPlain, ReadsScratch}
-use Rattle.bpf_insn.specs.Machine.{Registers, Step, Ends, Goes, Stuck, Ending, after_one, ending, start, kept, loaded, loaded_x, with_a, word_at, perform_if, step}
+use Rattle.bpf_insn.specs.Machine.{Registers, Step, Ends, Goes, Stuck, Ending, after_one, ending}
+use Rattle.bpf_insn.specs.Machine.{start, kept, loaded, loaded_x, with_a, word_at, perform_if, step}
 use Rattle.bpf_insn.proofs.PlainLaws.{plain-loads, plain-reads, plain-shifts}
 use Rattle.bpf_insn.proofs.RunLaws.{ending_ends, ending_goes}
 use Rattle.kernel_check.specs.declared.fault.Cause.TheVariants.{Scratch}
@@ -80,7 +83,8 @@ goes_same : (skip other : ℕ) (s t : Registers) → Goes skip s ≡ Goes other 
 goes_same skip other s t e = cc
 
 -- where a list has None after a write, it had None there, at another place
-unwritten_after : (l : List (Option ℕ)) (k n w : ℕ) → slice_get (slice_set l k (Some n)) w ≡ Some None → (slice_get l w ≡ Some None) × (k ≢ w)
+unwritten_after : (l : List (Option ℕ)) (k n w : ℕ) → slice_get (slice_set l k (Some n)) w ≡ Some None
+    → (slice_get l w ≡ Some None) × (k ≢ w)
 unwritten_after [] k n w h = cc
 unwritten_after (x ∷ l) zero n zero h = cc
 unwritten_after (x ∷ l) zero n (suc w) h = (h, λ e. omega arith)
@@ -236,13 +240,17 @@ runs_from p r ok size (suc left) pc s fits within enough =
       | inr past ↦ absurd (omega (arith, past.0))
     ] where
       by_step : (i : Insn) (does : Step) → slice_get p pc ≡ Some i → step r i s ≡ does
-          → ((next : ℕ) (t : Registers) → FitsPath p next t → next < length p → length p - next ≤ left → EndsWithin (length p - next) (ending p next t r))
+          → ((next : ℕ) (t : Registers) → FitsPath p next t → next < length p → length p - next ≤ left
+          → EndsWithin (length p - next) (ending p next t r))
           → EndsWithin (length p - pc) (ending p pc s r)
       by_step i (Ends word) found e later = (word, 1, ending_ends p pc i s r word found e, omega arith)
       by_step i (Goes skip t) found e later =
-          let at : pc + 1 + skip < length p = lands p pc i r s t skip ok found e in
-          subst (EndsWithin (length p - pc)) (sym (ending_goes p pc i s r skip t (pc + 1 + skip) found e refl))
-          (EndsWithin-after_one (length p - (pc + 1 + skip)) (length p - pc) _ (omega arith) (later (pc + 1 + skip) t (fits_on p pc i r s t skip found e fits) at (omega arith)))
+          let next : ℕ = pc + 1 + skip in
+          let at : next < length p = lands p pc i r s t skip ok found e in
+          let rest : EndsWithin (length p - next) (ending p next t r) =
+          later next t (fits_on p pc i r s t skip found e fits) at (omega arith) in
+          subst (EndsWithin (length p - pc)) (sym (ending_goes p pc i s r skip t next found e refl))
+          (EndsWithin-after_one (length p - next) (length p - pc) _ (omega arith) rest)
       by_step i Stuck found e later =
           let own : IsPlain i = plain p pc i ok found in
           absurd (step-Stuck i r s own (known_whole i r own size) (reads_written p pc i s ok found fits) e)
