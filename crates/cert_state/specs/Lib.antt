@@ -4,3 +4,4 @@ pub mod Points
 pub mod Entailment
 pub mod Transfer
 pub mod Soundness
+pub mod inner

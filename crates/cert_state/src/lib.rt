@@ -7,9 +7,12 @@
 mod after;
 mod laws;
 mod literal;
+mod points;
 mod state;
+mod summary;
 
 pub use after::{edge_fact, transfer};
 pub use laws::{dead_is_sound, edge_fact_is_sound, entails_is_sound, transfer_is_sound};
 pub use literal::{AVal, Lit, Regs};
+pub use points::range;
 pub use state::{Listed, State, With};
