@@ -3,8 +3,8 @@ ghost use Rattle.std.specs.Prelude.{◌≡◌, ◌≤◌, IfOk};
 ghost use Rattle.serde_json.specs.View.{view};
 ghost use Rattle.profile_json.specs.Lookup.{member, whole};
 ghost use Rattle.profile_json.specs.Names as spec;
-ghost use Rattle.profile_json.specs.Outcome.{Gives};
-ghost use Rattle.profile_json.specs.Reading as read;
+ghost use Rattle.profile_json.specs.inner.Outcome.{Gives};
+ghost use Rattle.profile_json.specs.inner.Reading as read;
 
 use crate::fault::ProfileError;
 use crate::key::{self, ACTION, DEFAULT_ACTION, DEFAULT_ERRNO_RET, ERRNO_RET};
@@ -72,7 +72,7 @@ impl Action {
     }
 }
 
-#[tactic(auto, unfolding(crate::specs::Reading::action_at))]
+#[tactic(auto, unfolding(crate::specs::inner::Reading::action_at))]
 fn action_at(value: &Value, key: &str) -> Result<Action, ProfileError>
     ensures { Gives (λ a. a) result (read.action_at key.now (view value.now)) }
 {
@@ -94,7 +94,7 @@ fn errno_at(value: &Value, key: &str, action: Action) -> Result<u16, ProfileErro
 }
 
 /// The word of the action under one key, with the data under another.
-#[tactic(auto, unfolding(crate::specs::Reading::word_at))]
+#[tactic(auto, unfolding(crate::specs::inner::Reading::word_at))]
 fn word_at(value: &Value, action_key: &str, errno_key: &str) -> Result<Word, ProfileError>
     ensures { Gives (λ w. w) result (read.word_at action_key.now errno_key.now (view value.now)) }
 {
@@ -104,7 +104,7 @@ fn word_at(value: &Value, action_key: &str, errno_key: &str) -> Result<Word, Pro
 }
 
 /// The word of calls that no rule matches.
-#[tactic(auto, unfolding(crate::specs::Reading::default_of))]
+#[tactic(auto, unfolding(crate::specs::inner::Reading::default_of))]
 pub(crate) fn default_of(seccomp: &Value) -> Result<Word, ProfileError>
     ensures { Gives (λ w. w) result (read.default_of (view seccomp.now)) }
 {
@@ -112,7 +112,7 @@ pub(crate) fn default_of(seccomp: &Value) -> Result<Word, ProfileError>
 }
 
 /// The word of an entry.
-#[tactic(auto, unfolding(crate::specs::Reading::entry_word))]
+#[tactic(auto, unfolding(crate::specs::inner::Reading::entry_word))]
 pub(crate) fn word_of(entry: &Value) -> Result<Word, ProfileError>
     ensures { Gives (λ w. w) result (read.entry_word (view entry.now)) }
 {

@@ -4,9 +4,9 @@ ghost use Rattle.std.specs.List.{list_any};
 ghost use Rattle.serde_json.specs.View.{view};
 ghost use Rattle.profile.specs.Operator.{are_distinct, mask_of};
 ghost use Rattle.profile_json.specs.Names as names;
-ghost use Rattle.profile_json.specs.Outcome.{Gives};
+ghost use Rattle.profile_json.specs.inner.Outcome.{Gives};
 ghost use Rattle.profile_json.specs.Parts.{cond_parts};
-ghost use Rattle.profile_json.specs.Reading as spec;
+ghost use Rattle.profile_json.specs.inner.Reading as spec;
 
 use crate::fault::ProfileError;
 use crate::key::{self, ARGS, INDEX, OP, VALUE, VALUE_TWO};
@@ -32,7 +32,7 @@ fn op_named(name: &str) -> Option<Op>
     }
 }
 
-#[tactic(auto, unfolding(crate::specs::Reading::op_at))]
+#[tactic(auto, unfolding(crate::specs::inner::Reading::op_at))]
 fn op_at(member: &Value) -> Result<Op, ProfileError>
     ensures { Gives (λ o. o) result (spec.op_at (view member.now)) }
 {
@@ -48,7 +48,7 @@ fn has_index(conds: &ArrayVec<Cond, 6>, index: u64) -> bool
 }
 
 /// The argument that a member names, which no earlier condition names.
-#[tactic(auto, using(crate::proofs::Conditions::any_index), unfolding(crate::specs::Reading::index_at))]
+#[tactic(auto, using(crate::proofs::reading::Conditions::any_index), unfolding(crate::specs::inner::Reading::index_at))]
 fn index_at(member: &Value, earlier: &ArrayVec<Cond, 6>) -> Result<u8, ProfileError>
     ensures reading { Gives (λ i. i) result (spec.index_at (map cond_parts earlier.now.items) (view member.now)) }
     ensures small { IfOk result (λ i. i < 6) }
@@ -75,7 +75,7 @@ fn mask_of(op: Op, value: u64) -> u64
 }
 
 /// A condition. The second value counts under MASKED_EQ alone.
-#[tactic(auto, unfolding(crate::specs::Reading::cond_of))]
+#[tactic(auto, unfolding(crate::specs::inner::Reading::cond_of))]
 fn cond_of(index: u8, op: Op, value: u64, second: u64) -> Result<Cond, ProfileError>
     requires { index < 6 }
     ensures reading { Gives cond_parts result (spec.cond_of index op value second) }
@@ -95,7 +95,7 @@ fn cond_of(index: u8, op: Op, value: u64, second: u64) -> Result<Cond, ProfileEr
 }
 
 /// The condition of a member of `args`, after those of the earlier members.
-#[tactic(auto, unfolding(crate::specs::Reading::arg_of))]
+#[tactic(auto, unfolding(crate::specs::inner::Reading::arg_of))]
 fn arg_of(value: &Value, earlier: &ArrayVec<Cond, 6>) -> Result<Cond, ProfileError>
     ensures reading { Gives cond_parts result (spec.arg_of (map cond_parts earlier.now.items) (view value.now)) }
     ensures fresh { IfOk result (λ c. list_any (λ d. d.index == c.index) earlier.now.items ≡ false) }
@@ -122,7 +122,7 @@ fn args_in(mut values: &[Value]) -> Result<ArrayVec<Cond, 6>, ProfileError>
     Ok(found)
 }
 
-#[tactic(auto, unfolding(crate::specs::Reading::args_of))]
+#[tactic(auto, unfolding(crate::specs::inner::Reading::args_of))]
 pub(crate) fn args_of(entry: &Value) -> Result<ArrayVec<Cond, 6>, ProfileError>
     ensures reading { Gives (λ v. map cond_parts v.items) result (spec.args_of (view entry.now)) }
     ensures apart { IfOk result (λ v. are_distinct (map (λ c. c.index) v.items) ≡ true) }

@@ -5,12 +5,12 @@ ghost use Rattle.serde_json.specs.Data.{Data};
 ghost use Rattle.serde_json.specs.View.{view};
 ghost use Rattle.profile_json.specs.Breaks.{Breaks};
 ghost use Rattle.profile_json.specs.Fault.{fault_of};
-ghost use Rattle.profile_json.specs.Making.{IsMade, IsNotMade};
+ghost use Rattle.profile_json.specs.inner.Making.{IsMade, IsNotMade};
 ghost use Rattle.profile_json.specs.Meaning.{IsText, Means};
-ghost use Rattle.profile_json.specs.Outcome.{GivesWithMemory};
-ghost use Rattle.profile_json.specs.Reading as spec;
+ghost use Rattle.profile_json.specs.inner.Outcome.{GivesWithMemory};
+ghost use Rattle.profile_json.specs.inner.Reading as spec;
 ghost use Rattle.profile_json.specs.Rules.{same_arch};
-ghost use Rattle.profile_json.specs.Saying.{said_parts};
+ghost use Rattle.profile_json.specs.inner.View.{said_parts};
 
 use crate::action::default_of;
 use crate::fault::ProfileError;
@@ -48,7 +48,7 @@ fn value_of(alloc: Global, text: &[u8], native: Arch) -> Result<Value, ProfileEr
     }
 }
 
-#[tactic(auto, unfolding(crate::specs::Reading::said_of))]
+#[tactic(auto, unfolding(crate::specs::inner::Reading::said_of))]
 fn said_of<'a>(alloc: Global, seccomp: &'a Value, native: Arch) -> Result<Said<'a>, ProfileError>
     ensures reading { GivesWithMemory said_parts result (spec.said_of native (view seccomp.now)) }
     ensures native_listed { IfOk result (λ s. list_any (same_arch native) s.archs.items ≡ true) }

@@ -1,5 +1,5 @@
 //! Laws of bundles that are promised to users.
-ghost use Rattle.profile_json.specs.Unbroken.{MeaningIsUnbroken, MeaningIsOne, MeaningIsKept};
+ghost use Rattle.profile_json.specs.Laws.{MeaningIsUnbroken, MeaningIsOne, MeaningIsKept};
 
 /// A bundle that means a profile breaks no rule.
 pub fn meaning_is_unbroken()

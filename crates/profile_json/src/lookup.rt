@@ -3,8 +3,8 @@ ghost use Rattle.std.specs.Prelude.{◌≡◌, [], map, None};
 ghost use Rattle.serde_json.specs.View.{view};
 ghost use Rattle.profile_json.specs.Fault.{missing_key};
 ghost use Rattle.profile_json.specs.Lookup.{member, or_default, object, text, whole, list};
-ghost use Rattle.profile_json.specs.Outcome.{Gives};
-ghost use Rattle.profile_json.specs.Reading.{typed, needed, if_there};
+ghost use Rattle.profile_json.specs.inner.Outcome.{Gives};
+ghost use Rattle.profile_json.specs.inner.Reading.{typed, needed, if_there};
 
 use crate::fault::ProfileError;
 use serde_json::Value;

@@ -4,8 +4,8 @@ ghost use Rattle.std.specs.List.{list_any};
 ghost use Rattle.serde_json.specs.View.{view};
 ghost use Rattle.profile_json.specs.Names as names;
 ghost use Rattle.profile_json.specs.Rules.{same_arch, in_order};
-ghost use Rattle.profile_json.specs.Outcome.{Gives, GivesWithMemory};
-ghost use Rattle.profile_json.specs.Reading as spec;
+ghost use Rattle.profile_json.specs.inner.Outcome.{Gives, GivesWithMemory};
+ghost use Rattle.profile_json.specs.inner.Reading as spec;
 
 use crate::fault::ProfileError;
 use crate::key::ARCHITECTURES;
@@ -28,7 +28,7 @@ fn arch_named(name: &str) -> Option<Arch>
     }
 }
 
-#[tactic(auto, unfolding(crate::specs::Reading::arch_of))]
+#[tactic(auto, unfolding(crate::specs::inner::Reading::arch_of))]
 fn arch_of(value: &Value) -> Result<Arch, ProfileError>
     ensures { Gives (λ a. a) result (spec.arch_of (view value.now)) }
 {
@@ -72,7 +72,7 @@ fn is_listed(archs: &[Arch], native: Arch) -> bool
 }
 
 /// The listed machines as they stand in the text, or the native one where none is listed.
-#[tactic(auto, unfolding(crate::specs::Reading::archs_of))]
+#[tactic(auto, unfolding(crate::specs::inner::Reading::archs_of))]
 pub(crate) fn archs_of(
     alloc: Global,
     seccomp: &Value,

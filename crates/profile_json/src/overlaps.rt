@@ -3,10 +3,10 @@ ghost use Rattle.std.specs.Prelude.{◌≡◌, ◌↔◌, map, nat_lt, position,
 ghost use Rattle.std.specs.List.{list_any};
 ghost use Rattle.std.specs.Str.{bytes_eq};
 ghost use Rattle.profile_json.specs.Breaks.{ClashUnder};
-ghost use Rattle.profile_json.specs.Clashes.{OverlapOn, NoClash, IsOverlap, HasClash};
-ghost use Rattle.profile_json.specs.Entries.{entry_parts};
+ghost use Rattle.profile_json.specs.inner.Clashes.{OverlapOn, NoClash, IsOverlap, HasClash};
+ghost use Rattle.profile_json.specs.inner.View.{entry_parts};
 ghost use Rattle.profile_json.specs.Fault.{fault_of};
-ghost use Rattle.profile_json.specs.Rules.{ends_after};
+ghost use Rattle.profile_json.specs.inner.Clashes.{ends_after};
 
 use crate::entry::Entry;
 use crate::fault::ProfileError;

@@ -1,8 +1,8 @@
 //! Keys of the standard that are not supported: they may be missing, or empty.
 ghost use Rattle.serde_json.specs.View.{view};
 ghost use Rattle.profile_json.specs.Lookup.{member, text, list};
-ghost use Rattle.profile_json.specs.Outcome.{Gives};
-ghost use Rattle.profile_json.specs.Reading.{empty, refused_of};
+ghost use Rattle.profile_json.specs.inner.Outcome.{Gives};
+ghost use Rattle.profile_json.specs.inner.Reading.{empty, refused_of};
 
 use crate::fault::ProfileError;
 use crate::key::{FLAGS, LISTENER_METADATA, LISTENER_PATH};
@@ -32,7 +32,7 @@ fn no_text(value: &Value, key: &str) -> Result<(), ProfileError>
 }
 
 /// Refuses each key that is not supported.
-#[tactic(auto, unfolding(crate::specs::Reading::refused_of))]
+#[tactic(auto, unfolding(crate::specs::inner::Reading::refused_of))]
 pub(crate) fn refuse_keys(seccomp: &Value) -> Result<(), ProfileError>
     ensures { Gives (λ u. u) result (refused_of (view seccomp.now)) }
 {

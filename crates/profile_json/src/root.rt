@@ -2,15 +2,15 @@
 ghost use Rattle.serde_json.specs.View.{view};
 ghost use Rattle.profile_json.specs.Fault.{no_seccomp};
 ghost use Rattle.profile_json.specs.Lookup.{member, object};
-ghost use Rattle.profile_json.specs.Outcome.{Gives};
-ghost use Rattle.profile_json.specs.Reading as spec;
+ghost use Rattle.profile_json.specs.inner.Outcome.{Gives};
+ghost use Rattle.profile_json.specs.inner.Reading as spec;
 
 use crate::fault::ProfileError;
 use crate::key::{LINUX, OCI_VERSION, SECCOMP, VERSION_1_0_2, VERSION_1_1_0};
 use crate::lookup::{object_of, text_at};
 use serde_json::Value;
 
-#[tactic(auto, unfolding(crate::specs::Reading::version_of))]
+#[tactic(auto, unfolding(crate::specs::inner::Reading::version_of))]
 fn check_version(root: &Value) -> Result<(), ProfileError>
     ensures { Gives (λ u. u) result (spec.version_of (view root.now)) }
 {
@@ -32,7 +32,7 @@ fn object_at<'a>(value: &'a Value, key: &str) -> Result<&'a Value, ProfileError>
     }
 }
 
-#[tactic(auto, unfolding(crate::specs::Reading::seccomp_of))]
+#[tactic(auto, unfolding(crate::specs::inner::Reading::seccomp_of))]
 fn seccomp_of(root: &Value) -> Result<&Value, ProfileError>
     ensures { Gives (λ v. view v.now) result (spec.seccomp_of (view root.now)) }
 {
@@ -41,7 +41,7 @@ fn seccomp_of(root: &Value) -> Result<&Value, ProfileError>
 }
 
 /// The object under `linux.seccomp` of a bundle of an edition that is read.
-#[tactic(auto, unfolding(crate::specs::Reading::root_of))]
+#[tactic(auto, unfolding(crate::specs::inner::Reading::root_of))]
 pub(crate) fn root_of(value: &Value) -> Result<&Value, ProfileError>
     ensures { Gives (λ v. view v.now) result (spec.root_of (view value.now)) }
 {

@@ -2,9 +2,10 @@
 ghost use Rattle.std.specs.Prelude.{◌≡◌, ◌++◌, map, IfOk, option_map};
 ghost use Rattle.call_tables.specs.Arch.{table_of};
 ghost use Rattle.call_tables.specs.Table.{number_in};
-ghost use Rattle.profile_json.specs.Entries.{entry_parts};
+ghost use Rattle.profile_json.specs.inner.View.{entry_parts};
 ghost use Rattle.profile_json.specs.Parts.{rule_parts};
 ghost use Rattle.profile_json.specs.Rules as spec;
+ghost use Rattle.profile_json.specs.inner.Clashes.{ends_after};
 
 use crate::entry::Entry;
 use call_tables::Arch;
@@ -70,7 +71,7 @@ pub(crate) fn rules_of(
     machines: &[Arch],
 ) -> Result<Rules, AllocError>
     ensures said { IfOk result (λ r. map rule_parts r.list.items ≡ spec.rules_of machines.now (map entry_parts entries.now)) }
-    ensures ends { IfOk result (λ r. r.ends.items ≡ spec.ends_after 0 machines.now (map entry_parts entries.now)) }
+    ensures ends { IfOk result (λ r. r.ends.items ≡ ends_after 0 machines.now (map entry_parts entries.now)) }
 {
     let mut list = Vec::new(alloc);
     let mut ends = Vec::new(alloc);

@@ -1,9 +1,9 @@
 //! The entries of `syscalls`.
 ghost use Rattle.std.specs.Prelude.{◌≡◌, map};
 ghost use Rattle.serde_json.specs.View.{view};
-ghost use Rattle.profile_json.specs.Entries.{entry_parts};
-ghost use Rattle.profile_json.specs.Outcome.{Gives, GivesWithMemory};
-ghost use Rattle.profile_json.specs.Reading as spec;
+ghost use Rattle.profile_json.specs.inner.View.{entry_parts};
+ghost use Rattle.profile_json.specs.inner.Outcome.{Gives, GivesWithMemory};
+ghost use Rattle.profile_json.specs.inner.Reading as spec;
 
 use crate::action::word_of;
 use crate::argument::args_of;
@@ -19,7 +19,7 @@ const MAX_ENTRIES: usize = 256;
 
 const MAX_NAMES: usize = 128;
 
-#[tactic(auto, unfolding(crate::specs::Reading::name_of))]
+#[tactic(auto, unfolding(crate::specs::inner::Reading::name_of))]
 fn name_of(value: &Value) -> Result<&str, ProfileError>
     ensures { Gives (λ s. s.now) result (spec.name_of (view value.now)) }
 {
@@ -43,7 +43,7 @@ fn names_in<'a>(alloc: Global, mut values: &'a [Value]) -> Result<Vec<&'a str>, 
     Ok(found)
 }
 
-#[tactic(auto, unfolding(crate::specs::Reading::names_of))]
+#[tactic(auto, unfolding(crate::specs::inner::Reading::names_of))]
 fn names_of<'a>(alloc: Global, entry: &'a Value) -> Result<Vec<&'a str>, ProfileError>
     ensures { GivesWithMemory (λ v. map (λ n. n.now) v.items) result (spec.names_of (view entry.now)) }
 {
@@ -57,7 +57,7 @@ fn names_of<'a>(alloc: Global, entry: &'a Value) -> Result<Vec<&'a str>, Profile
     names_in(alloc, values)
 }
 
-#[tactic(auto, unfolding(crate::specs::Reading::entry_of))]
+#[tactic(auto, unfolding(crate::specs::inner::Reading::entry_of))]
 fn entry_of<'a>(alloc: Global, value: &'a Value) -> Result<Entry<'a>, ProfileError>
     ensures { GivesWithMemory entry_parts result (spec.entry_of (view value.now)) }
 {
@@ -80,7 +80,7 @@ fn entries_in<'a>(alloc: Global, mut values: &'a [Value]) -> Result<Vec<Entry<'a
     Ok(found)
 }
 
-#[tactic(auto, unfolding(crate::specs::Reading::entries_of))]
+#[tactic(auto, unfolding(crate::specs::inner::Reading::entries_of))]
 pub(crate) fn entries_of<'a>(
     alloc: Global,
     seccomp: &'a Value,

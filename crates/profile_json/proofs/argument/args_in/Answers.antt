@@ -1,5 +1,5 @@
 use Rattle.std.proofs.Common.{arith}
-use Rattle.profile_json.proofs.Conditions.{room, apart_push, args_step}
+use Rattle.profile_json.proofs.reading.Conditions.{room, apart_push, args_step}
 use Rattle.profile_json.proofs.argument.args_in.Goals as goal
 
 pub push-requires : goal.push-requires

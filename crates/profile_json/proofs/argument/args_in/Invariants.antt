@@ -2,7 +2,7 @@ use Rattle.std.proofs.Common.{◌≡◌, length, map, true, []}
 use Rattle.serde_json.specs.View.{view}
 use Rattle.profile.specs.Operator.{are_distinct}
 use Rattle.profile_json.specs.Parts.{cond_parts}
-use Rattle.profile_json.specs.Reading.{args_after}
+use Rattle.profile_json.specs.inner.Reading.{args_after}
 use Rattle.profile_json.proofs.argument.args_in.Given as goal
 
 abbrev pub invariant-loop-values : goal.invariant-loop-values

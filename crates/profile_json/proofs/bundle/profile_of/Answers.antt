@@ -1,11 +1,10 @@
 use Rattle.std.proofs.Common.{List, map, sym, ◌∙◌, ap, subst}
 use Rattle.profile_json.specs.Parts.{EntryParts}
-use Rattle.profile_json.specs.Entries.{entry_parts}
+use Rattle.profile_json.specs.inner.View.{entry_parts, said_parts}
 use Rattle.profile_json.specs.Fault.{fault_of}
 use Rattle.profile_json.specs.Rules.{in_order, rules_of}
-use Rattle.profile_json.specs.Saying.{said_parts}
-use Rattle.profile_json.specs.Clashes.{IsOverlap}
-use Rattle.profile_json.proofs.MakingLaws.{if_is_some_and, has_clash, no_foreign, too_many_rules, clash_refused}
+use Rattle.profile_json.specs.inner.Clashes.{IsOverlap}
+use Rattle.profile_json.proofs.clashing.MakingLaws.{if_is_some_and, has_clash, no_foreign, too_many_rules, clash_refused}
 use Rattle.profile_json.proofs.bundle.profile_of.Goals as goal
 
 pub overlap_of-requires-clause-clash : goal.overlap_of-requires-clause-clash

@@ -1,8 +1,8 @@
 use Rattle.std.proofs.lemmas.Result.{err_from_is_err_and}
 use Rattle.serde_json.specs.View.{view}
-use Rattle.profile_json.specs.Saying.{said_parts}
-use Rattle.profile_json.proofs.RootLaws.{root_means}
-use Rattle.profile_json.proofs.BundleLaws.{said_means, bundle_means, root_fault, said_fault, made_fault}
+use Rattle.profile_json.specs.inner.View.{said_parts}
+use Rattle.profile_json.proofs.reading.RootLaws.{root_means}
+use Rattle.profile_json.proofs.reading.BundleLaws.{said_means, bundle_means, root_fault, said_fault, made_fault}
 use Rattle.profile_json.proofs.bundle.read_bundle.Goals as goal
 
 pub returns-in_err-seccomp-clause-err : goal.returns-in_err-seccomp-clause-err

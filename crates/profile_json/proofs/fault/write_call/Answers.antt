@@ -4,7 +4,7 @@ use Rattle.std.proofs.lemmas.Str.{IsUtf8-past_char}
 use Rattle.std.specs.Char.{encode_utf8}
 use Rattle.std.specs.Str.Iter.{chars_rest}
 use Rattle.profile_json.specs.CallName.{printed}
-use Rattle.profile_json.proofs.NameLemmas.{printed_past_char, printed_none}
+use Rattle.profile_json.proofs.reading.NameLemmas.{printed_past_char, printed_none}
 use Rattle.profile_json.proofs.fault.write_call.Goals as goal
 
 pub loop-c-preserved : goal.loop-c-preserved

@@ -1,4 +1,4 @@
-use Rattle.profile_json.proofs.Unbroken as laws
+use Rattle.profile_json.proofs.unbroken.Unbroken as laws
 use Rattle.profile_json.proofs.law.meaning_is_one.Goals as goal
 
 pub returns : goal.returns

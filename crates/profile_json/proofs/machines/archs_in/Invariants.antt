@@ -1,6 +1,6 @@
 use Rattle.std.proofs.Common.{◌≡◌, length, map}
 use Rattle.serde_json.specs.View.{view}
-use Rattle.profile_json.specs.Reading.{archs_in, with_front}
+use Rattle.profile_json.specs.inner.Reading.{archs_in, with_front}
 use Rattle.profile_json.proofs.machines.archs_in.Given as goal
 
 abbrev pub invariant-loop-values : goal.invariant-loop-values

@@ -1,5 +1,5 @@
 use Rattle.std.proofs.Common.{sym, ◌∙◌, ap, ◌++◌}
-use Rattle.profile_json.proofs.NameLemmas.{short_name-is, front}
+use Rattle.profile_json.proofs.reading.NameLemmas.{short_name-is, front}
 use Rattle.profile_json.proofs.name.short_name.Goals as goal
 
 pub returns : goal.returns

@@ -1,8 +1,8 @@
 use Rattle.std.proofs.Common.{◌≡◌, ◌≢◌, ℕ, eqb, [], false, sym, arith}
 use Rattle.std.proofs.lemmas.Bool.Decides.{nat_tests}
-use Rattle.profile_json.specs.Entries.{entry_parts}
+use Rattle.profile_json.specs.inner.View.{entry_parts}
 use Rattle.profile_json.proofs.Lists.{now_first, now_rest, now_none}
-use Rattle.profile_json.proofs.Clashing.{clash_under, passed_step}
+use Rattle.profile_json.proofs.clashing.Clashing.{clash_under, passed_step}
 use Rattle.profile_json.proofs.overlaps.clash_of.Goals as goal
 
 -- what the first name of what is left is, and that the words are unlike

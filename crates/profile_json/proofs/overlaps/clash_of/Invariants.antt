@@ -1,7 +1,7 @@
 use Rattle.std.proofs.Common.{ℕ, List, length, map}
 use Rattle.std.specs.List.{Any, Contains}
-use Rattle.profile_json.specs.Entries.{entry_parts}
-use Rattle.profile_json.specs.Clashes.{OverlapOn}
+use Rattle.profile_json.specs.inner.View.{entry_parts}
+use Rattle.profile_json.specs.inner.Clashes.{OverlapOn}
 use Rattle.profile_json.proofs.overlaps.clash_of.Given as goal
 
 abbrev pub invariant-loop-left : goal.invariant-loop-left

@@ -1,7 +1,7 @@
 use Rattle.std.proofs.Common.{ℕ, ◌<◌, List, map, length, ap, arith}
 use Rattle.profile_json.specs.Fault.{overlap}
-use Rattle.profile_json.specs.Entries.{entry_parts}
-use Rattle.profile_json.proofs.Seconds.{chosen, none_chosen, within, entry_read, before_second, none_more, past_all}
+use Rattle.profile_json.specs.inner.View.{entry_parts}
+use Rattle.profile_json.proofs.clashing.Seconds.{chosen, none_chosen, within, entry_read, before_second, none_more, past_all}
 use Rattle.profile_json.proofs.overlaps.overlap_of.Goals as goal
 
 pub unreachable-requires : goal.unreachable-requires

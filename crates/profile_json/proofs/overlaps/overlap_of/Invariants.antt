@@ -1,8 +1,8 @@
 use Rattle.std.proofs.Common.{◌≡◌, ℕ, ◌<◌, map, Some}
 use Rattle.std.specs.List.{slice_get}
 use Rattle.profile_json.specs.Parts.{EntryParts}
-use Rattle.profile_json.specs.Entries.{entry_parts}
-use Rattle.profile_json.specs.Clashes.{NoClash}
+use Rattle.profile_json.specs.inner.View.{entry_parts}
+use Rattle.profile_json.specs.inner.Clashes.{NoClash}
 use Rattle.profile_json.proofs.overlaps.overlap_of.Given as goal
 
 abbrev pub invariant-loop-first : goal.invariant-loop-first

@@ -1,5 +1,5 @@
-use Rattle.profile_json.specs.Entries.{entry_parts}
-use Rattle.profile_json.proofs.Clashing.{on_some}
+use Rattle.profile_json.specs.inner.View.{entry_parts}
+use Rattle.profile_json.proofs.clashing.Clashing.{on_some}
 use Rattle.profile_json.proofs.overlaps.overlap_on.Goals as goal
 
 pub returns-in-Some : goal.returns-in-Some

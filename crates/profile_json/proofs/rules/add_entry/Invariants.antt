@@ -1,7 +1,7 @@
 use Rattle.std.proofs.Common.{◌≡◌, ◌++◌, length, map}
 use Rattle.std.specs.List.{flat_map}
 use Rattle.profile_json.specs.Parts.{rule_parts}
-use Rattle.profile_json.specs.Entries.{entry_parts}
+use Rattle.profile_json.specs.inner.View.{entry_parts}
 use Rattle.profile_json.specs.Rules.{rules_under}
 use Rattle.profile_json.proofs.rules.add_entry.Given as goal
 

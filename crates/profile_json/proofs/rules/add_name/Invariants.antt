@@ -1,6 +1,6 @@
 use Rattle.std.proofs.Common.{◌≡◌, ◌++◌, length, map}
 use Rattle.profile_json.specs.Parts.{rule_parts}
-use Rattle.profile_json.specs.Entries.{entry_parts}
+use Rattle.profile_json.specs.inner.View.{entry_parts}
 use Rattle.profile_json.specs.Rules.{rules_under}
 use Rattle.profile_json.proofs.rules.add_name.Given as goal
 

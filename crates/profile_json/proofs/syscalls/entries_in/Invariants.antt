@@ -1,7 +1,7 @@
 use Rattle.std.proofs.Common.{◌≡◌, length, map}
 use Rattle.serde_json.specs.View.{view}
-use Rattle.profile_json.specs.Entries.{entry_parts}
-use Rattle.profile_json.specs.Reading.{entries_in, with_front}
+use Rattle.profile_json.specs.inner.View.{entry_parts}
+use Rattle.profile_json.specs.inner.Reading.{entries_in, with_front}
 use Rattle.profile_json.proofs.syscalls.entries_in.Given as goal
 
 abbrev pub invariant-loop-values : goal.invariant-loop-values

@@ -1,6 +1,6 @@
 use Rattle.std.proofs.Common.{◌≡◌, length, map}
 use Rattle.serde_json.specs.View.{view}
-use Rattle.profile_json.specs.Reading.{names_in, with_front}
+use Rattle.profile_json.specs.inner.Reading.{names_in, with_front}
 use Rattle.profile_json.proofs.syscalls.names_in.Given as goal
 
 abbrev pub invariant-loop-values : goal.invariant-loop-values

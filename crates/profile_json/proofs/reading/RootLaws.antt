@@ -7,12 +7,12 @@ use Rattle.profile_json.specs.Keys as key
 use Rattle.profile_json.specs.Fault.{Fault, version, no_seccomp, missing_key}
 use Rattle.profile_json.specs.Names.{editions}
 use Rattle.profile_json.specs.Lookup.{missing, other_type, holds, member, object, text}
-use Rattle.profile_json.specs.Outcome.{◌>>=◌}
-use Rattle.profile_json.specs.Reading.{typed, needed, version_of, seccomp_of, root_of}
+use Rattle.profile_json.specs.inner.Outcome.{◌>>=◌}
+use Rattle.profile_json.specs.inner.Reading.{typed, needed, version_of, seccomp_of, root_of}
 use Rattle.profile_json.specs.Meaning.{IsSeccomp, RootMeans}
 use Rattle.profile_json.specs.Breaks.{RootBreaks, no_object, version_text, version_other, linux_missing, linux_other, seccomp_missing, seccomp_other}
 use Rattle.profile_json.proofs.Lists.{named, named_back}
-use Rattle.profile_json.proofs.Steps.{bind_ok, bind_err, cond_ok, cond_err, needed_ok, needed_err, needed_breaks, needed_unbroken, object_is, object_not, is_some_not_none, holds_same, true_false}
+use Rattle.profile_json.proofs.reading.Steps.{bind_ok, bind_err, cond_ok, cond_err, needed_ok, needed_err, needed_breaks, needed_unbroken, object_is, object_not, is_some_not_none, holds_same, true_false}
 
 record IsVersion (t : Data) : Type 0 where
   version : List ℕ

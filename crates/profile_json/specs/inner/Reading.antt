@@ -15,7 +15,7 @@ use Rattle.profile_json.specs.Lookup.{Member, missing, other_type, holds, member
 use Rattle.profile_json.specs.Names.{editions, action_named, takes_data, word_of, op_named, arch_named, is_known}
 use Rattle.profile_json.specs.Rules.{or_native, same_arch}
 use Rattle.profile_json.specs.CallName.{short_name}
-use Rattle.profile_json.specs.Outcome.{◌>>=◌}
+use Rattle.profile_json.specs.inner.Outcome.{◌>>=◌}
 
 -- ---- members
 

@@ -5,11 +5,11 @@ use Rattle.serde_json.specs.Data.{Data}
 use Rattle.profile_json.specs.Keys as key
 use Rattle.profile_json.specs.Fault.{Fault, wrong_type, unsupported_key}
 use Rattle.profile_json.specs.Lookup.{Member, member, or_default, text, list}
-use Rattle.profile_json.specs.Outcome.{◌>>=◌}
-use Rattle.profile_json.specs.Reading.{typed, empty, is_empty, refused_of}
+use Rattle.profile_json.specs.inner.Outcome.{◌>>=◌}
+use Rattle.profile_json.specs.inner.Reading.{typed, empty, is_empty, refused_of}
 use Rattle.profile_json.specs.Meaning.{KeysMean}
 use Rattle.profile_json.specs.Breaks.{EmptyBreaks, is_other, not_empty, KeysBreak, flags, path, metadata}
-use Rattle.profile_json.proofs.Steps.{bind_ok, bind_err, ok_or_ok, ok_or_err, cond_ok, cond_err, some_same, none_some}
+use Rattle.profile_json.proofs.reading.Steps.{bind_ok, bind_err, ok_or_ok, ok_or_err, cond_ok, cond_err, some_same, none_some}
 
 is_nil : {A : Type 0} (xs : List A) → is_empty xs ≡ true → xs ≡ []
 is_nil [] h = refl

@@ -10,7 +10,7 @@ use Rattle.profile.specs.Rule.{Overlap, Clash}
 use Rattle.profile_json.specs.Parts.{EntryParts, RuleParts, rule_parts}
 use Rattle.profile_json.specs.Rules.{rule_of, rules_under, rules_of_entry}
 use Rattle.profile_json.specs.Breaks.{ClashUnder}
-use Rattle.profile_json.specs.Clashes.{OverlapOn, NoClash}
+use Rattle.profile_json.specs.inner.Clashes.{OverlapOn, NoClash}
 use Rattle.profile_json.proofs.PartsLemmas.{rule_same}
 use Rattle.profile_json.proofs.Lists.{contains_filter_map, contains_filter_map_back, contains_flat_back, now_split}
 

@@ -11,16 +11,16 @@ use Rattle.profile_json.specs.Parts.{CondParts, EntryParts}
 use Rattle.profile_json.specs.Lookup.{holds, member, or_default, object, text, whole, list}
 use Rattle.profile_json.specs.Names.{is_known}
 use Rattle.profile_json.specs.CallName.{short_name}
-use Rattle.profile_json.specs.Outcome.{◌>>=◌}
-use Rattle.profile_json.specs.Reading.{typed, needed, is_empty, with_front, arg_of, args_after, args_of, name_of, names_in, names_of, entry_word, entry_of, entries_in, entries_of}
+use Rattle.profile_json.specs.inner.Outcome.{◌>>=◌}
+use Rattle.profile_json.specs.inner.Reading.{typed, needed, is_empty, with_front, arg_of, args_after, args_of, name_of, names_in, names_of, entry_word, entry_of, entries_in, entries_of}
 use Rattle.profile_json.specs.Meaning.{WordMeans, ArgMeans, ArgsMean, NamesMean, EntryMeans, EntriesMean}
 use Rattle.profile_json.specs.Breaks.{WordBreaks, ArgBreaks, ArgsBreak, NamesBreak, EntryBreaks}
 use Rattle.profile_json.specs.Breaks as broken
 use Rattle.profile_json.proofs.Lists.{contains_head, contains_tail}
-use Rattle.profile_json.proofs.Conditions.{distinct_push}
-use Rattle.profile_json.proofs.ActionLaws.{word_means, word_breaks}
-use Rattle.profile_json.proofs.ArgLaws.{Refused, alone, repeated, arg_ok, arg_err}
-use Rattle.profile_json.proofs.Steps.{bind_ok, bind_err, ok_or_ok, ok_or_err, cond_ok, cond_err, guard_ok, guard_err, needed_ok, needed_breaks, object_is, object_not, ok_same, not_ok}
+use Rattle.profile_json.proofs.reading.Conditions.{distinct_push}
+use Rattle.profile_json.proofs.reading.ActionLaws.{word_means, word_breaks}
+use Rattle.profile_json.proofs.reading.ArgLaws.{Refused, alone, repeated, arg_ok, arg_err}
+use Rattle.profile_json.proofs.reading.Steps.{bind_ok, bind_err, ok_or_ok, ok_or_err, cond_ok, cond_err, guard_ok, guard_err, needed_ok, needed_breaks, object_is, object_not, ok_same, not_ok}
 
 -- ---- the list of conditions
 

@@ -11,11 +11,11 @@ use Rattle.profile_json.specs.Fault.{Fault, wrong_type, missing_key, unknown_op,
 use Rattle.profile_json.specs.Parts.{CondParts}
 use Rattle.profile_json.specs.Lookup.{Member, missing, other_type, holds, member, or_default, object, text, whole}
 use Rattle.profile_json.specs.Names.{op_named}
-use Rattle.profile_json.specs.Outcome.{◌>>=◌}
-use Rattle.profile_json.specs.Reading.{typed, needed, index_at, op_at, cond_of, arg_of}
+use Rattle.profile_json.specs.inner.Outcome.{◌>>=◌}
+use Rattle.profile_json.specs.inner.Reading.{typed, needed, index_at, op_at, cond_of, arg_of}
 use Rattle.profile_json.specs.Meaning.{ArgMeans}
 use Rattle.profile_json.specs.Breaks.{ArgBreaks, no_object, index_whole, index_large, value_whole, second_other, op_text, op_unknown, stray}
-use Rattle.profile_json.proofs.Steps.{bind_ok, bind_err, ok_or_ok, ok_or_err, cond_ok, cond_err, needed_ok, needed_breaks, needed_unbroken, object_is, object_not, is_some_not_none, some_same, holds_same, none_some, true_false}
+use Rattle.profile_json.proofs.reading.Steps.{bind_ok, bind_err, ok_or_ok, ok_or_err, cond_ok, cond_err, needed_ok, needed_breaks, needed_unbroken, object_is, object_not, is_some_not_none, some_same, holds_same, none_some, true_false}
 
 -- ---- index
 

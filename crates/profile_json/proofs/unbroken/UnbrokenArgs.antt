@@ -14,8 +14,8 @@ use Rattle.profile_json.specs.Names.{op_named}
 use Rattle.profile_json.specs.Meaning.{ArgMeans, ArgsMean}
 use Rattle.profile_json.specs.Breaks.{ArgsBreak, no_list, in_arg, twice}
 use Rattle.profile_json.proofs.Lists.{contains_nil, contains_cases}
-use Rattle.profile_json.proofs.Steps.{some_same, holds_same, none_some, true_false}
-use Rattle.profile_json.proofs.ArgLaws.{arg_unbroken}
+use Rattle.profile_json.proofs.reading.Steps.{some_same, holds_same, none_some, true_false}
+use Rattle.profile_json.proofs.reading.ArgLaws.{arg_unbroken}
 
 -- ---- lists, place by place
 

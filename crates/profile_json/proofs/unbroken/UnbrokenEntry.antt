@@ -10,9 +10,9 @@ use Rattle.profile_json.specs.Names.{is_known}
 use Rattle.profile_json.specs.Meaning.{NamesMean, EntryMeans}
 use Rattle.profile_json.specs.Breaks.{NamesBreak, no_list, many, no_text, unknown, EntryBreaks, no_object, names, word, args}
 use Rattle.profile_json.specs.Breaks as breaks
-use Rattle.profile_json.proofs.Steps.{needed_unbroken, is_some_not_none, some_same, holds_same, none_some, true_false}
-use Rattle.profile_json.proofs.ActionLaws.{word_unbroken, one_word}
-use Rattle.profile_json.proofs.UnbrokenArgs.{related, one_related, args_unbroken, one_args}
+use Rattle.profile_json.proofs.reading.Steps.{needed_unbroken, is_some_not_none, some_same, holds_same, none_some, true_false}
+use Rattle.profile_json.proofs.reading.ActionLaws.{word_unbroken, one_word}
+use Rattle.profile_json.proofs.unbroken.UnbrokenArgs.{related, one_related, args_unbroken, one_args}
 
 -- ---- names
 

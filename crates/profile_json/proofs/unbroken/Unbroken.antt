@@ -17,16 +17,16 @@ use Rattle.profile_json.specs.Lookup.{member, or_default, list}
 use Rattle.profile_json.specs.Rules.{in_order, rules_under, rules_of_entry, rules_of}
 use Rattle.profile_json.specs.Meaning.{none, WordMeans, EntryMeans, EntriesMean, CallsMean, Means}
 use Rattle.profile_json.specs.Breaks.{ClashUnder, EntriesBreak, no_list, many, in_entry, many_rules, overlapping, SeccompBreaks, default_word, keys, archs, entries, ValueBreaks, root, seccomp, no_value, in_value}
-use Rattle.profile_json.specs.Unbroken.{MeaningIsUnbroken, MeaningIsOne, MeaningIsKept}
+use Rattle.profile_json.specs.Laws.{MeaningIsUnbroken, MeaningIsOne, MeaningIsKept}
 use Rattle.profile_json.proofs.Lists.{contains_head, contains_at, contains_map_back, contains_flat}
 use Rattle.profile_json.proofs.PartsLemmas.{rule_same, rules_same}
-use Rattle.profile_json.proofs.Steps.{some_same, none_some}
-use Rattle.profile_json.proofs.RootLaws.{one_seccomp, root_unbroken}
-use Rattle.profile_json.proofs.ActionLaws.{word_unbroken, one_word}
-use Rattle.profile_json.proofs.KeyLaws.{keys_unbroken}
-use Rattle.profile_json.proofs.ArchLaws.{one_archs, archs_unbroken}
-use Rattle.profile_json.proofs.UnbrokenArgs.{related, related_at, one_related}
-use Rattle.profile_json.proofs.UnbrokenEntry.{entry_unbroken, one_entry}
+use Rattle.profile_json.proofs.reading.Steps.{some_same, none_some}
+use Rattle.profile_json.proofs.reading.RootLaws.{one_seccomp, root_unbroken}
+use Rattle.profile_json.proofs.reading.ActionLaws.{word_unbroken, one_word}
+use Rattle.profile_json.proofs.reading.KeyLaws.{keys_unbroken}
+use Rattle.profile_json.proofs.reading.ArchLaws.{one_archs, archs_unbroken}
+use Rattle.profile_json.proofs.unbroken.UnbrokenArgs.{related, related_at, one_related}
+use Rattle.profile_json.proofs.unbroken.UnbrokenEntry.{entry_unbroken, one_entry}
 
 -- ---- rules that are kept
 

@@ -10,11 +10,11 @@ use Rattle.profile.specs.Build.{Stands, ClashAt, AreTooMany}
 use Rattle.profile_json.specs.Fault.{Fault, too_many}
 use Rattle.profile_json.specs.Parts.{EntryParts, RuleParts, rule_parts}
 use Rattle.profile_json.specs.Rules.{in_order, rules_of_entry, rules_of, rules_under}
-use Rattle.profile_json.specs.Reading.{Said}
-use Rattle.profile_json.specs.Clashes.{HasClash, IsOverlap}
-use Rattle.profile_json.specs.Making.{IsNotMade, many, clash}
+use Rattle.profile_json.specs.inner.Reading.{Said}
+use Rattle.profile_json.specs.inner.Clashes.{HasClash, IsOverlap}
+use Rattle.profile_json.specs.inner.Making.{IsNotMade, many, clash}
 use Rattle.profile_json.proofs.Lists.{contains_at, contains_flat_back}
-use Rattle.profile_json.proofs.Clashing.{IsUnder, under_back}
+use Rattle.profile_json.proofs.clashing.Clashing.{IsUnder, under_back}
 
 pub if_is_some_and : {X : Type 0} (o : Option X) {P Q : X → Type 0} → IsSomeAnd o P → ((x : X) → P x → Q x) → IfSome o Q
 if_is_some_and None h then = absurd h

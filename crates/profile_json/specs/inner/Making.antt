@@ -7,8 +7,8 @@ use Rattle.profile.specs.Build.{IsBuiltOf, AreTooMany}
 use Rattle.profile_json.specs.Fault.{Fault, too_many}
 use Rattle.profile_json.specs.Parts.{rule_parts}
 use Rattle.profile_json.specs.Rules.{in_order, rules_of}
-use Rattle.profile_json.specs.Reading.{Said}
-use Rattle.profile_json.specs.Clashes.{IsOverlap}
+use Rattle.profile_json.specs.inner.Reading.{Said}
+use Rattle.profile_json.specs.inner.Clashes.{IsOverlap}
 
 -- the profile of the rules that were said
 pub record IsMade (said : Said) (native : Arch) (p : Policy) : Type 0 where

@@ -9,8 +9,8 @@ use Rattle.serde_json.specs.declared.value.Value.{Value}
 use Rattle.serde_json.specs.View.{view}
 use Rattle.profile_json.specs.Fault.{Fault}
 use Rattle.profile_json.specs.Parts.{CondParts, cond_parts}
-use Rattle.profile_json.specs.Outcome.{◌>>=◌}
-use Rattle.profile_json.specs.Reading.{arg_of, args_after}
+use Rattle.profile_json.specs.inner.Outcome.{◌>>=◌}
+use Rattle.profile_json.specs.inner.Reading.{arg_of, args_after}
 
 -- a test of the index sees a condition and its parts alike
 pub any_index : (cs : List Cond) (i : ℕ) → list_any (λ c. c.index == i) (map cond_parts cs) ≡ list_any (λ c. c.index == i) cs

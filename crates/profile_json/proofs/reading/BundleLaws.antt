@@ -12,18 +12,18 @@ use Rattle.profile_json.specs.Fault.{Fault, overlap}
 use Rattle.profile_json.specs.Parts.{EntryParts}
 use Rattle.profile_json.specs.CallName.{short_name}
 use Rattle.profile_json.specs.Rules.{same_arch, in_order, rules_of}
-use Rattle.profile_json.specs.Outcome.{◌>>=◌}
-use Rattle.profile_json.specs.Reading.{Said, default_of, refused_of, archs_of, entries_of, root_of, said_of}
+use Rattle.profile_json.specs.inner.Outcome.{◌>>=◌}
+use Rattle.profile_json.specs.inner.Reading.{Said, default_of, refused_of, archs_of, entries_of, root_of, said_of}
 use Rattle.profile_json.specs.Meaning.{IsText, RootMeans, WordMeans, KeysMean, ListsArchs, EntryMeans, EntriesMean, Means}
 use Rattle.profile_json.specs.Breaks.{Breaks, WordBreaks, EntriesBreak, SeccompBreaks, ValueBreaks}
 use Rattle.profile_json.specs.Breaks as broken
-use Rattle.profile_json.specs.Making.{IsMade, IsNotMade, many, clash}
-use Rattle.profile_json.proofs.Steps.{bind_ok, bind_err, ok_same, not_ok, some_same}
-use Rattle.profile_json.proofs.RootLaws.{root_breaks}
-use Rattle.profile_json.proofs.ActionLaws.{word_means, word_breaks}
-use Rattle.profile_json.proofs.KeyLaws.{keys_mean, keys_break}
-use Rattle.profile_json.proofs.ArchLaws.{lists_archs, archs_refused, lists_native, native_lists}
-use Rattle.profile_json.proofs.EntryLaws.{entries_mean, EntriesRefused, is_no_list, are_many, in_one_entry, entries_refused}
+use Rattle.profile_json.specs.inner.Making.{IsMade, IsNotMade, many, clash}
+use Rattle.profile_json.proofs.reading.Steps.{bind_ok, bind_err, ok_same, not_ok, some_same}
+use Rattle.profile_json.proofs.reading.RootLaws.{root_breaks}
+use Rattle.profile_json.proofs.reading.ActionLaws.{word_means, word_breaks}
+use Rattle.profile_json.proofs.reading.KeyLaws.{keys_mean, keys_break}
+use Rattle.profile_json.proofs.reading.ArchLaws.{lists_archs, archs_refused, lists_native, native_lists}
+use Rattle.profile_json.proofs.reading.EntryLaws.{entries_mean, EntriesRefused, is_no_list, are_many, in_one_entry, entries_refused}
 
 -- what is read of the object under linux.seccomp
 pub record SaidMeans (s : Data) (native : Arch) (said : Said) : Type 0 where

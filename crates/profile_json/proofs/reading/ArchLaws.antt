@@ -10,12 +10,12 @@ use Rattle.profile_json.specs.Fault.{Fault, wrong_type, unknown_arch, native_mis
 use Rattle.profile_json.specs.Lookup.{member, or_default, text, list}
 use Rattle.profile_json.specs.Names.{arch_named}
 use Rattle.profile_json.specs.Rules.{same_arch, or_native}
-use Rattle.profile_json.specs.Outcome.{◌>>=◌}
-use Rattle.profile_json.specs.Reading.{typed, with_front, arch_of, archs_in, archs_or_native, archs_of}
+use Rattle.profile_json.specs.inner.Outcome.{◌>>=◌}
+use Rattle.profile_json.specs.inner.Reading.{typed, with_front, arch_of, archs_in, archs_or_native, archs_of}
 use Rattle.profile_json.specs.Meaning.{NamesArch, ListsArchs}
 use Rattle.profile_json.specs.Breaks.{ArchsBreak, no_list, no_text, unknown, not_native}
 use Rattle.profile_json.proofs.Lists.{contains_nil, contains_head, contains_tail, contains_cases}
-use Rattle.profile_json.proofs.Steps.{bind_ok, bind_err, ok_or_ok, ok_or_err, cond_ok, cond_err, some_same, none_some, ok_same, not_ok, true_false}
+use Rattle.profile_json.proofs.reading.Steps.{bind_ok, bind_err, ok_or_ok, ok_or_err, cond_ok, cond_err, some_same, none_some, ok_same, not_ok, true_false}
 
 arch_means : (d : Data) (a : Arch) → arch_of d ≡ Ok a → NamesArch d a
 unfolding arch_of

@@ -7,11 +7,11 @@ use Rattle.profile_json.specs.declared.action.Action.{Action}
 use Rattle.profile_json.specs.Fault.{Fault, wrong_type, missing_key, unknown_action, errno_not_taken, errno_range}
 use Rattle.profile_json.specs.Lookup.{Member, missing, other_type, holds, member, text, whole}
 use Rattle.profile_json.specs.Names.{action_named, takes_data, word_of}
-use Rattle.profile_json.specs.Outcome.{◌>>=◌}
-use Rattle.profile_json.specs.Reading.{needed, action_at, errno_in, word_at}
+use Rattle.profile_json.specs.inner.Outcome.{◌>>=◌}
+use Rattle.profile_json.specs.inner.Reading.{needed, action_at, errno_in, word_at}
 use Rattle.profile_json.specs.Meaning.{NamesAction, ErrnoMeans, none, given, WordMeans}
 use Rattle.profile_json.specs.Breaks.{ActionBreaks, action_text, action_unknown, WordBreaks, action, errno_other, not_taken, large}
-use Rattle.profile_json.proofs.Steps.{bind_ok, bind_err, ok_or_ok, ok_or_err, needed_ok, needed_breaks, needed_unbroken, holds_same, some_same, ok_same, not_ok, true_false}
+use Rattle.profile_json.proofs.reading.Steps.{bind_ok, bind_err, ok_or_ok, ok_or_err, needed_ok, needed_breaks, needed_unbroken, holds_same, some_same, ok_same, not_ok, true_false}
 
 pub action_means : (k : List ℕ) (d : Data) (a : Action) → action_at k d ≡ Ok a → NamesAction k d a
 unfolding action_at

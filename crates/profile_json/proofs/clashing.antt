@@ -1,0 +1,4 @@
+pub mod Clashing
+pub mod Places
+pub mod Seconds
+pub mod MakingLaws

@@ -1,0 +1,11 @@
+pub mod Steps
+pub mod RootLaws
+pub mod ActionLaws
+pub mod KeyLaws
+pub mod ArchLaws
+pub mod ArgLaws
+pub mod EntryLaws
+pub mod BundleLaws
+pub mod Looking
+pub mod Conditions
+pub mod NameLemmas

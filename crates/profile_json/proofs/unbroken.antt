@@ -1,0 +1,3 @@
+pub mod UnbrokenArgs
+pub mod UnbrokenEntry
+pub mod Unbroken
