@@ -5,10 +5,16 @@ use Rattle.std.proofs.lemmas.List.Elements.{All-weaker}
 use Rattle.call_record.specs.Words.{argument, words_from}
 use Rattle.call_record.proofs.RecordLemmas.{argument-words_from}
 use Rattle.profile.specs.declared.conditions.Cond.{Cond}
-use Rattle.profile.specs.Condition.{Holds}
+use Rattle.profile.specs.Condition.{Meets}
 
-pub All-argument : (cs : List Cond) (nr arch ip : ℕ) (us : List ℕ) → All (λ c. Holds c (get_or us c.index 0)) cs → All (λ c. Holds c (argument (words_from nr arch ip us) c.index)) cs
-All-argument cs nr arch ip us = All-weaker (λ c. Holds c (get_or us c.index 0)) (λ c. Holds c (argument (words_from nr arch ip us) c.index)) (λ c h. subst (Holds c) (sym (argument-words_from nr arch ip us c.index)) h) cs
+pub All-argument : (cs : List Cond) (nr arch ip : ℕ) (us : List ℕ) → All (λ c. Meets c (get_or us c.index 0)) cs
+    → All (λ c. Meets c (argument (words_from nr arch ip us) c.index)) cs
+All-argument cs nr arch ip us =
+    All-weaker (λ c. Meets c (get_or us c.index 0)) (λ c. Meets c (argument (words_from nr arch ip us) c.index))
+    (λ c h. subst (Meets c) (sym (argument-words_from nr arch ip us c.index)) h) cs
 
-pub All-field : (cs : List Cond) (nr arch ip : ℕ) (us : List ℕ) → All (λ c. Holds c (argument (words_from nr arch ip us) c.index)) cs → All (λ c. Holds c (get_or us c.index 0)) cs
-All-field cs nr arch ip us = All-weaker (λ c. Holds c (argument (words_from nr arch ip us) c.index)) (λ c. Holds c (get_or us c.index 0)) (λ c h. subst (Holds c) (argument-words_from nr arch ip us c.index) h) cs
+pub All-field : (cs : List Cond) (nr arch ip : ℕ) (us : List ℕ) → All (λ c. Meets c (argument (words_from nr arch ip us) c.index)) cs
+    → All (λ c. Meets c (get_or us c.index 0)) cs
+All-field cs nr arch ip us =
+    All-weaker (λ c. Meets c (argument (words_from nr arch ip us) c.index)) (λ c. Meets c (get_or us c.index 0))
+    (λ c h. subst (Meets c) (argument-words_from nr arch ip us c.index) h) cs

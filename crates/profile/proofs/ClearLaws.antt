@@ -1,15 +1,15 @@
 -- Rules are clear where none clashes with an earlier one.
 use Rattle.std.proofs.Common.{◌≡◌, ℕ, ◌+◌, ◌<◌, inl, inr, List, [], ◌∷◌, ◌++◌, length, take, get_or, Some, sym, ◌∙◌, ap, subst, arith}
 use Rattle.std.specs.List.{All, HoldsAt}
-use Rattle.std.proofs.lemmas.Bool.{cases_eq}
+use Rattle.std.proofs.lemmas.Bool.{cases_eq, cases_lt}
 use Rattle.std.proofs.lemmas.List.{take_more, get_or-take, length-take-le}
 use Rattle.std.proofs.lemmas.List.Elements.{All-contains, Contains-push_cases}
-use Rattle.std.proofs.lemmas.Option.{slice_get-get_or}
+use Rattle.std.proofs.lemmas.Option.{get_or_from_slice_get, slice_get-get_or}
 use Rattle.call_record.specs.Words.{IsRecord}
 use Rattle.profile.specs.declared.rules.Rule.{Rule}
 use Rattle.profile.specs.Rule.{Matches, Clash}
 use Rattle.profile.specs.Policy.{IsClear}
-use Rattle.profile.specs.Build.{ClashAt}
+use Rattle.profile.specs.Build.{ClashAt, IsFirstClash}
 
 pub clear_none : IsClear []
 clear_none r is_r a b in-a in-b ma mb = absurd (omega (arith, in-a.1))
@@ -26,16 +26,19 @@ clear_more xs x clear none r is_r a b in-a in-b ma mb =
     elim (Contains-push_cases xs x a in-a) [
       | inl a-before ↦ elim (Contains-push_cases xs x b in-b) [
         | inl b-before ↦ clear r is_r a b a-before b-before ma mb
-        | inr b-last ↦ same_word a b r is_r ma mb (subst (λ (y : Rule). ¬ Clash a y) b-last (All-contains (λ y. ¬ Clash y x) xs a none a-before))
+        | inr b-last ↦ same_word a b r is_r ma mb
+            (subst (λ (y : Rule). ¬ Clash a y) b-last (All-contains (λ y. ¬ Clash y x) xs a none a-before))
       ]
       | inr a-last ↦ elim (Contains-push_cases xs x b in-b) [
-        | inl b-before ↦ sym (same_word b a r is_r mb ma (subst (λ (y : Rule). ¬ Clash b y) a-last (All-contains (λ y. ¬ Clash y x) xs b none b-before)))
+        | inl b-before ↦ sym (same_word b a r is_r mb ma
+            (subst (λ (y : Rule). ¬ Clash b y) a-last (All-contains (λ y. ¬ Clash y x) xs b none b-before)))
         | inr b-last ↦ ap (λ (y : Rule). y.word) (sym a-last ∙ b-last)
       ]
     ]
 
 -- a clash with an earlier rule
-pub clash_found : (rules earlier : List Rule) (i j : ℕ) (b : Rule) → earlier ≡ take j rules → j < length rules → b ≡ get_or rules j b → i < length earlier → HoldsAt (λ a. Clash a b) earlier i → ClashAt rules i j
+pub clash_found : (rules earlier : List Rule) (i j : ℕ) (b : Rule) → earlier ≡ take j rules → j < length rules → b ≡ get_or rules j b
+    → i < length earlier → HoldsAt (λ a. Clash a b) earlier i → ClashAt rules i j
 clash_found rules earlier i j b is lt at in-earlier clash =
     let few : length earlier ≡ j = ap length is ∙ length-take-le j rules (omega (arith, lt)) in
     let below : i < j = omega (arith, few, in-earlier) in
@@ -48,8 +51,31 @@ clash_found rules earlier i j b is lt at in-earlier clash =
       subst (λ (a : Rule). Clash a b) same (clash b),
     )
 
+-- where the earlier rules are clear, and none before place i of them clashes with b, it is the first clash
+pub first_clash_found : (rules earlier : List Rule) (i j : ℕ) (b : Rule) → earlier ≡ take j rules → j < length rules → b ≡ get_or rules j b
+    → i < length earlier → HoldsAt (λ a. Clash a b) earlier i → All (λ a. ¬ Clash a b) (take i earlier) → IsClear (take j rules)
+    → IsFirstClash rules i j
+first_clash_found rules earlier i j b is lt at in-earlier clash least clear = record {
+  clash = clash_found rules earlier i j b is lt at in-earlier clash;
+  second_least = clear;
+  first_least = λ k (below, a, b', at-k, at-j, other).
+      elim (cases_lt k i) [
+        | inr past ↦ past
+        | inl before ↦
+            let few : length earlier ≡ j = ap length is ∙ length-take-le j rules (omega (arith, lt)) in
+            let few-i : length (take i earlier) ≡ i = length-take-le i earlier (omega (arith, in-earlier)) in
+            let same : b' ≡ b = sym (get_or_from_slice_get rules j b' b at-j) ∙ sym at in
+            let here : get_or (take i earlier) k a ≡ a =
+            get_or-take i earlier k a before ∙ ap (λ (xs : List Rule). get_or xs k a) is ∙ get_or-take j rules k a below
+            ∙ get_or_from_slice_get rules k a a at-k in
+            absurd (All-contains (λ x. ¬ Clash x b) (take i earlier) a least (k, omega (arith, few-i, before), here)
+            (subst (λ (y : Rule). Clash a y) same other))
+      ];
+}
+
 -- the earlier rules stay clear with the next
-pub clear_next : (rules earlier : List Rule) (j : ℕ) (b : Rule) → earlier ≡ take j rules → j < length rules → b ≡ get_or rules j b → IsClear (take j rules) → All (λ a. ¬ Clash a b) earlier → IsClear (take (j + 1) rules)
+pub clear_next : (rules earlier : List Rule) (j : ℕ) (b : Rule) → earlier ≡ take j rules → j < length rules → b ≡ get_or rules j b
+    → IsClear (take j rules) → All (λ a. ¬ Clash a b) earlier → IsClear (take (j + 1) rules)
 clear_next rules earlier j b is lt at clear none =
     let more : take (j + 1) rules ≡ take j rules ++ b ∷ [] = take_more rules j b lt ∙ ap (λ (y : Rule). take j rules ++ y ∷ []) (sym at) in
     subst IsClear (sym more) (clear_more (take j rules) b clear (subst (All (λ a. ¬ Clash a b)) is none))

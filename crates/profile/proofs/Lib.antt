@@ -6,4 +6,7 @@ pub mod Saying
 pub mod SaidLaws
 pub mod KeptLaws
 pub mod ClearLaws
+pub mod Clashing
+pub mod OneBuilt
+pub mod BuildLaws
 pub mod MachineLaws

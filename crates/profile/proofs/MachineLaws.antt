@@ -24,4 +24,5 @@ pub all_in_x86_64 : (archs : List Arch) → ¬ Contains archs Aarch64 → All (C
 all_in_x86_64 archs none = All-weaker (Contains archs) (Contains (X86_64 ∷ [])) (only_x86_64 archs none) archs (All-contains_itself archs)
 
 pub all_in_aarch64 : (archs : List Arch) → ¬ Contains archs X86_64 → All (Contains (Aarch64 ∷ [])) archs
-all_in_aarch64 archs none = All-weaker (Contains archs) (Contains (Aarch64 ∷ [])) (only_aarch64 archs none) archs (All-contains_itself archs)
+all_in_aarch64 archs none =
+    All-weaker (Contains archs) (Contains (Aarch64 ∷ [])) (only_aarch64 archs none) archs (All-contains_itself archs)

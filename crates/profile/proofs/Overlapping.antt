@@ -1,5 +1,6 @@
 -- Two rules can match one record where each argument has a number for the conditions on it.
-use Rattle.std.proofs.Common.{◌≡◌, ◌≢◌, ℕ, zero, suc, ◌+◌, ◌*◌, ◌^◌, ◌<◌, ◌==◌, ◌||◌, ◌⊎◌, inl, inr, Bool, true, false, not, List, [], ◌∷◌, map, get_or, refl, sym, ◌∙◌, ap, subst, arith}
+use Rattle.std.proofs.Common.{◌≡◌, ◌≢◌, ℕ, zero, suc, ◌+◌, ◌*◌, ◌^◌, ◌<◌, ◌==◌, ◌||◌, ◌⊎◌, inl, inr, Bool, true}
+use Rattle.std.proofs.Common.{false, not, List, [], ◌∷◌, map, get_or, refl, sym, ◌∙◌, ap, subst, arith}
 use Rattle.std.specs.List.{All, Contains, list_any}
 use Rattle.std.proofs.lemmas.Bool.{cases_Bool, and_parts}
 use Rattle.std.proofs.lemmas.Bool.Decides.{Decides-eqb}
@@ -9,9 +10,9 @@ use Rattle.profile.specs.declared.conditions.Cond.{Cond}
 use Rattle.profile.specs.declared.rules.Rule.{Rule}
 use Rattle.profile.specs.Operator.{are_distinct}
 use Rattle.call_record.specs.Words.{IsRecord, word, argument, words_from}
-use Rattle.profile.specs.Condition.{Holds}
+use Rattle.profile.specs.Condition.{Meets}
 use Rattle.profile.specs.Rule.{Overlap}
-use Rattle.profile.specs.Meet.{Meet, AllMeet, CanMeet}
+use Rattle.profile.specs.inner.Meeting.{HaveCommon, AllHaveCommon, CanOverlap}
 use Rattle.call_record.proofs.RecordLemmas.{argument-words_from, words_from-is_record}
 use Rattle.call_tables.proofs.ArchLaws.{token_of-same, token_of-fits}
 
@@ -23,13 +24,31 @@ argument_fits r j h =
     let high : word r (5 + 2 * j) < 2 ^ 32 = h.words (5 + 2 * j) in
     omega arith
 
-pub can_meet : (a b : Rule) → Overlap a b → CanMeet a b
+pub can_meet : (a b : Rule) → Overlap a b → CanOverlap a b
 can_meet a b (r, is_r, ma, mb) = record {
   machine = token_of-same a.arch b.arch (sym ma.machine ∙ mb.machine);
   number = sym ma.number ∙ mb.number;
-  left = λ k c lt n d lt-n same. (argument r _, argument_fits r _ is_r, ma.conditions k c lt, subst (λ (j : ℕ). Holds (get_or a.conds.items n d) (argument r j)) (sym same) (ma.conditions n d lt-n));
-  right = λ k c lt n d lt-n same. (argument r _, argument_fits r _ is_r, mb.conditions k c lt, subst (λ (j : ℕ). Holds (get_or b.conds.items n d) (argument r j)) (sym same) (mb.conditions n d lt-n));
-  both = λ k c lt n d lt-n same. (argument r _, argument_fits r _ is_r, ma.conditions k c lt, subst (λ (j : ℕ). Holds (get_or b.conds.items n d) (argument r j)) (sym same) (mb.conditions n d lt-n));
+  left = λ k c lt n d lt-n same. (
+    argument r _,
+    argument_fits r _ is_r,
+    ma.conditions k c lt,
+    subst (λ (j : ℕ). Meets (get_or a.conds.items n d) (argument r j))
+        (sym same) (ma.conditions n d lt-n),
+  );
+  right = λ k c lt n d lt-n same. (
+    argument r _,
+    argument_fits r _ is_r,
+    mb.conditions k c lt,
+    subst (λ (j : ℕ). Meets (get_or b.conds.items n d) (argument r j))
+        (sym same) (mb.conditions n d lt-n),
+  );
+  both = λ k c lt n d lt-n same. (
+    argument r _,
+    argument_fits r _ is_r,
+    ma.conditions k c lt,
+    subst (λ (j : ℕ). Meets (get_or b.conds.items n d) (argument r j))
+        (sym same) (mb.conditions n d lt-n),
+  );
 }
 
 -- ---- to a record
@@ -51,55 +70,69 @@ index_apart (x ∷ xs) i h =
 abbrev Only : List Cond → ℕ → Cond → Type 0
 Only cs j c = Contains cs c × (c.index ≡ j) × All (λ d. d.index ≡ j → d ≡ c) cs
 
-lookup : (cs : List Cond) (j : ℕ) → are_distinct (map (λ (c : Cond). c.index) cs) ≡ true → (All (λ c. c.index ≢ j) cs) ⊎ ((c : Cond) × Only cs j c)
+lookup : (cs : List Cond) (j : ℕ) → are_distinct (map (λ (c : Cond). c.index) cs) ≡ true
+    → (All (λ c. c.index ≢ j) cs) ⊎ ((c : Cond) × Only cs j c)
 lookup [] j h = inl (All-nil (λ c. c.index ≢ j))
 lookup (x ∷ xs) j h =
-    let parts = and_parts (not (list_any (λ y. y == x.index) (map (λ (c : Cond). c.index) xs))) (are_distinct (map (λ (c : Cond). c.index) xs)) h in
+    let parts = and_parts (not (list_any (λ y. y == x.index) (map (λ (c : Cond). c.index) xs)))
+    (are_distinct (map (λ (c : Cond). c.index) xs)) h in
     elim (cases_Bool (x.index == j)) [
       | inl here ↦
           let same : x.index ≡ j = (Decides-eqb x.index j).0 here in
-          let others : All (λ d. d.index ≡ j → d ≡ x) xs = All-weaker (λ d. d.index ≢ x.index) (λ d. d.index ≡ j → d ≡ x) (λ d ne e. absurd (ne (e ∙ sym same))) xs (index_apart xs x.index parts.0) in
+          let others : All (λ d. d.index ≡ j → d ≡ x) xs =
+          All-weaker (λ d. d.index ≢ x.index) (λ d. d.index ≡ j → d ≡ x) (λ d ne e. absurd (ne (e ∙ sym same))) xs
+          (index_apart xs x.index parts.0) in
           inr (x, ((0, omega arith, refl), same, All-cons (λ d. d.index ≡ j → d ≡ x) x xs (λ _. refl) others))
       | inr past ↦
           let ne : x.index ≢ j = apart_of x.index j past in
           elim (lookup xs j parts.1) [
             | inl none ↦ inl (All-cons (λ c. c.index ≢ j) x xs ne none)
-            | inr found ↦ inr (found.0, ((suc found.1.0.0, omega (arith, found.1.0.1), found.1.0.2), found.1.1, All-cons (λ d. d.index ≡ j → d ≡ found.0) x xs (λ e. absurd (ne e)) found.1.2))
+            | inr found ↦ inr (
+              found.0,
+              (
+                (suc found.1.0.0, omega (arith, found.1.0.1), found.1.0.2),
+                found.1.1,
+                All-cons (λ d. d.index ≡ j → d ≡ found.0) x xs (λ e. absurd (ne e)) found.1.2,
+              ),
+            )
           ]
     ]
 
 -- u meets each condition on argument j
 abbrev At : ℕ → ℕ → List Cond → Type 0
-At j u cs = All (λ c. c.index ≡ j → Holds c u) cs
+At j u cs = All (λ c. c.index ≡ j → Meets c u) cs
 
 at_none : (cs : List Cond) (j u : ℕ) → All (λ c. c.index ≢ j) cs → At j u cs
-at_none cs j u = All-weaker (λ c. c.index ≢ j) (λ c. c.index ≡ j → Holds c u) (λ c ne e. absurd (ne e)) cs
+at_none cs j u = All-weaker (λ c. c.index ≢ j) (λ c. c.index ≡ j → Meets c u) (λ c ne e. absurd (ne e)) cs
 
-at_one : (cs : List Cond) (j u : ℕ) (c : Cond) → All (λ d. d.index ≡ j → d ≡ c) cs → Holds c u → At j u cs
-at_one cs j u c only h = All-weaker (λ d. d.index ≡ j → d ≡ c) (λ d. d.index ≡ j → Holds d u) (λ d e i. subst (λ (x : Cond). Holds x u) (sym (e i)) h) cs only
+at_one : (cs : List Cond) (j u : ℕ) (c : Cond) → All (λ d. d.index ≡ j → d ≡ c) cs → Meets c u → At j u cs
+at_one cs j u c only h =
+    All-weaker (λ d. d.index ≡ j → d ≡ c) (λ d. d.index ≡ j → Meets d u) (λ d e i. subst (λ (x : Cond). Meets x u) (sym (e i)) h) cs only
 
 -- two conditions of the lists that stand on one argument
-pair : (xs ys : List Cond) → AllMeet xs ys → (c d : Cond) → Contains xs c → Contains ys d → c.index ≡ d.index → Meet c d
-pair xs ys all c d in-xs in-ys = All-contains (λ y. c.index ≡ y.index → Meet c y) ys d (All-contains (λ x. All (λ y. x.index ≡ y.index → Meet x y) ys) xs c all in-xs) in-ys
+pair : (xs ys : List Cond) → AllHaveCommon xs ys → (c d : Cond) → Contains xs c → Contains ys d → c.index ≡ d.index → HaveCommon c d
+pair xs ys all c d in-xs in-ys =
+    All-contains (λ y. c.index ≡ y.index → HaveCommon c y) ys d
+    (All-contains (λ x. All (λ y. x.index ≡ y.index → HaveCommon x y) ys) xs c all in-xs) in-ys
 
 abbrev Fill : List Cond → List Cond → ℕ → Type 0
 Fill xs ys j = (u : ℕ) × (u < 2 ^ 64) × At j u xs × At j u ys
 
-fill : (a b : Rule) → CanMeet a b → (j : ℕ) → Fill a.conds.items b.conds.items j
+fill : (a b : Rule) → CanOverlap a b → (j : ℕ) → Fill a.conds.items b.conds.items j
 fill a b m j =
     elim (lookup a.conds.items j a.apart) [
       | inl none-a ↦ elim (lookup b.conds.items j b.apart) [
         | inl none-b ↦ (0, omega arith, at_none a.conds.items j 0 none-a, at_none b.conds.items j 0 none-b)
         | inr d ↦
-            let w : Meet d.0 d.0 = pair b.conds.items b.conds.items m.right d.0 d.0 d.1.0 d.1.0 refl in
+            let w : HaveCommon d.0 d.0 = pair b.conds.items b.conds.items m.right d.0 d.0 d.1.0 d.1.0 refl in
             (w.0, w.1, at_none a.conds.items j w.0 none-a, at_one b.conds.items j w.0 d.0 d.1.2 w.2)
       ]
       | inr c ↦ elim (lookup b.conds.items j b.apart) [
         | inl none-b ↦
-            let w : Meet c.0 c.0 = pair a.conds.items a.conds.items m.left c.0 c.0 c.1.0 c.1.0 refl in
+            let w : HaveCommon c.0 c.0 = pair a.conds.items a.conds.items m.left c.0 c.0 c.1.0 c.1.0 refl in
             (w.0, w.1, at_one a.conds.items j w.0 c.0 c.1.2 w.2, at_none b.conds.items j w.0 none-b)
         | inr d ↦
-            let w : Meet c.0 d.0 = pair a.conds.items b.conds.items m.both c.0 d.0 c.1.0 d.1.0 (c.1.1 ∙ sym d.1.1) in
+            let w : HaveCommon c.0 d.0 = pair a.conds.items b.conds.items m.both c.0 d.0 c.1.0 d.1.0 (c.1.1 ∙ sym d.1.1) in
             (w.0, w.1, at_one a.conds.items j w.0 c.0 c.1.2 w.2, at_one b.conds.items j w.0 d.0 d.1.2 w.3)
       ]
     ]
@@ -126,16 +159,23 @@ six_fits u h (suc (suc (suc (suc zero)))) = h 4
 six_fits u h (suc (suc (suc (suc (suc zero))))) = h 5
 six_fits u h (suc (suc (suc (suc (suc (suc j)))))) = omega arith
 
-met : (cs : List Cond) (nr arch : ℕ) (u : ℕ → ℕ) → ((j : ℕ) → At j (u j) cs) → All (λ c. Holds c (argument (words_from nr arch 0 (six u)) c.index)) cs
+met : (cs : List Cond) (nr arch : ℕ) (u : ℕ → ℕ) → ((j : ℕ) → At j (u j) cs)
+    → All (λ c. Meets c (argument (words_from nr arch 0 (six u)) c.index)) cs
 met cs nr arch u at k c lt =
     let x = get_or cs k c in
-    subst (Holds x) (sym (argument-words_from nr arch 0 (six u) x.index ∙ get-six u x.index x.in_range)) (at x.index k c lt refl)
+    subst (Meets x) (sym (argument-words_from nr arch 0 (six u) x.index ∙ get-six u x.index x.in_range)) (at x.index k c lt refl)
 
-pub overlaps : (a b : Rule) → a.nr < 2 ^ 32 → CanMeet a b → Overlap a b
+pub overlaps : (a b : Rule) → a.nr < 2 ^ 32 → CanOverlap a b → Overlap a b
 overlaps a b small m =
     let u : ℕ → ℕ = λ j. (fill a b m j).0 in (
       words_from a.nr (token_of a.arch) 0 (six u),
-      words_from-is_record a.nr (token_of a.arch) 0 (six u) small (token_of-fits a.arch) (omega arith) refl (six_fits u (λ j. (fill a b m j).1)),
+      words_from-is_record a.nr (token_of a.arch) 0 (six u) small (token_of-fits a.arch) (omega arith) refl
+          (six_fits u (λ j. (fill a b m j).1)),
       record { machine = refl; number = refl; conditions = met a.conds.items a.nr (token_of a.arch) u (λ j. (fill a b m j).2) },
-      record { machine = ap token_of m.machine; number = m.number; conditions = met b.conds.items a.nr (token_of a.arch) u (λ j. (fill a b m j).3) },
+      record {
+        machine = ap token_of m.machine;
+        number = m.number;
+        conditions =
+            met b.conds.items a.nr (token_of a.arch) u (λ j. (fill a b m j).3);
+      },
     )

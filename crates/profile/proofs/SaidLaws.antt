@@ -1,9 +1,11 @@
 -- A clear profile says one word of a record: that of the first rule that matches.
-use Rattle.std.proofs.Common.{◌≡◌, ℕ, zero, suc, ◌<◌, ◌≤◌, ◌==◌, Bool, true, false, ◌⊎◌, inl, inr, List, [], ◌∷◌, Some, None, length, bit_and, refl, sym, ◌∙◌, subst, arith}
+use Rattle.std.proofs.Common.{◌≡◌, ℕ, zero, suc, ◌<◌, ◌≤◌, ◌==◌, Bool, true, false, ◌⊎◌, inl, inr, List, [], ◌∷◌}
+use Rattle.std.proofs.Common.{Some, None, length, bit_and, refl, sym, ◌∙◌, subst, arith}
 use Rattle.std.specs.Bool.{Decides}
 use Rattle.std.specs.List.{All, Any, Contains, HoldsAt, find, list_all, list_any}
 use Rattle.std.specs.Prelude.{nat_le}
-use Rattle.std.proofs.lemmas.Bool.Decides.{Decides-eqb, Decides-ltb, Decides-not, Decides-and, Decides-or, Decides-by_and, Decides-by_or, Decides-like, not_from_Decides, nat_tests}
+use Rattle.std.proofs.lemmas.Bool.Decides.{Decides-eqb, Decides-ltb, Decides-not, Decides-and, Decides-or}
+use Rattle.std.proofs.lemmas.Bool.Decides.{Decides-by_and, Decides-by_or, Decides-like, not_from_Decides, nat_tests}
 use Rattle.std.proofs.lemmas.List.Elements.{All-nil, All-cons, All-contains, All-weaker, at_read}
 use Rattle.std.proofs.lemmas.Bool.{cases_Bool, cases_eq}
 use Rattle.call_record.specs.Words.{IsRecord, word, argument}
@@ -15,9 +17,9 @@ use Rattle.profile.specs.declared.conditions.Op.{Op}
 use Rattle.profile.specs.declared.conditions.Op.TheVariants.{Ne, Lt, Le, Eq, Ge, Gt, MaskedEq}
 use Rattle.profile.specs.declared.rules.Rule.{Rule}
 use Rattle.profile.specs.Operator.{Compares}
-use Rattle.profile.specs.Condition.{Holds}
+use Rattle.profile.specs.Condition.{Meets}
 use Rattle.profile.specs.Rule.{Matches}
-use Rattle.profile.specs.Policy.{Policy, IsNative, IsClear, Says}
+use Rattle.profile.specs.Policy.{Policy, IsNative, IsClear, Says, least_x32_number}
 use Rattle.profile.specs.Said as spec
 
 Decides-leb : (a b : ℕ) → Decides (nat_le a b) (a ≤ b)
@@ -34,12 +36,13 @@ Decides-compares MaskedEq value datum u = Decides-eqb (bit_and u value) datum
 
 pub Decides-matches : (rule : Rule) (r : List ℕ) → Decides (spec.matches rule r) (Matches rule r)
 Decides-matches rule r =
-    let p : Cond → Bool = λ c. spec.holds c (argument r c.index) in
-    let P : Cond → Type 0 = λ c. Holds c (argument r c.index) in
+    let p : Cond → Bool = λ c. spec.meets c (argument r c.index) in
+    let P : Cond → Type 0 = λ c. Meets c (argument r c.index) in
     let each : (c : Cond) → Decides (p c) (P c) = λ c. Decides-compares c.op c.value c.datum (argument r c.index) in
     let machine = Decides-eqb (word r 1) (token_of rule.arch) in
     let number = Decides-eqb (word r 0) rule.nr in
-    let conditions : Decides (list_all p rule.conds.items) (All P rule.conds.items) = Decides-by_and p P (list_all p) each refl (λ _ _. refl) rule.conds.items in
+    let conditions : Decides (list_all p rule.conds.items) (All P rule.conds.items) =
+    Decides-by_and p P (list_all p) each refl (λ _ _. refl) rule.conds.items in
     let all = Decides-and _ _ (Decides-and _ _ machine number) conditions in
     Decides-like _ (λ (h, hold). record { machine = h.0; number = h.1; conditions = hold }) (λ m. ((m.machine, m.number), m.conditions)) all
 
@@ -58,9 +61,12 @@ pub Decides-is_native : (p : Policy) (r : List ℕ) → Decides (spec.is_native 
 Decides-is_native p r =
     let t : Arch → Bool = λ a. word r 1 == token_of a in
     let T : Arch → Type 0 = λ a. word r 1 ≡ token_of a in
-    let at : Decides (list_any t p.machines) ((k : ℕ) × (k < length p.machines) × HoldsAt T p.machines k) = Decides-by_or t T (list_any t) (λ a. Decides-eqb (word r 1) (token_of a)) refl (λ _ _. refl) p.machines in
-    let listed : Decides (list_any t p.machines) (Any T p.machines) = Decides-like (list_any t p.machines) (λ (k, lt, h). any_at T p.machines k lt h) (at_any T p.machines) at in
-    let x32 = Decides-or _ _ (Decides-not (word r 1 == token_of X86_64) (Decides-eqb (word r 1) (token_of X86_64))) (Decides-ltb (word r 0) 0x40000000) in
+    let at : Decides (list_any t p.machines) ((k : ℕ) × (k < length p.machines) × HoldsAt T p.machines k) =
+    Decides-by_or t T (list_any t) (λ a. Decides-eqb (word r 1) (token_of a)) refl (λ _ _. refl) p.machines in
+    let listed : Decides (list_any t p.machines) (Any T p.machines) =
+    Decides-like (list_any t p.machines) (λ (k, lt, h). any_at T p.machines k lt h) (at_any T p.machines) at in
+    let x32 = Decides-or _ _ (Decides-not (word r 1 == token_of X86_64) (Decides-eqb (word r 1) (token_of X86_64)))
+    (Decides-ltb (word r 0) least_x32_number) in
     let both = Decides-and _ _ listed x32 in
     Decides-like _
     (λ (some, or). record { listed = some; no_x32 = λ e. elim or [ inl ne ↦ absurd (ne e) | inr lt ↦ lt ] })
@@ -71,7 +77,8 @@ Decides-is_native p r =
 
 -- the first element that passes, or none does
 abbrev FindCases : (Rule → Bool) → List Rule → Type 0
-FindCases test xs = ((x : Rule) × (find test xs ≡ Some x) × Contains xs x × (test x ≡ true)) ⊎ ((find test xs ≡ None) × All (λ x. test x ≡ false) xs)
+FindCases test xs = ((x : Rule) × (find test xs ≡ Some x) × Contains xs x × (test x ≡ true)) ⊎
+    ((find test xs ≡ None) × All (λ x. test x ≡ false) xs)
 
 find_here : (test : Rule → Bool) (x : Rule) (xs : List Rule) → test x ≡ true → find test (x ∷ xs) ≡ Some x
 find_here test x xs h = rw h refl
@@ -94,10 +101,12 @@ find_cases test (x ∷ xs) =
 said_foreign : (p : Policy) (r : List ℕ) → spec.is_native p r ≡ false → spec.said p r ≡ 0
 said_foreign p r h = rw h refl
 
-said_found : (p : Policy) (r : List ℕ) (x : Rule) → spec.is_native p r ≡ true → find (λ rule. spec.matches rule r) p.rules ≡ Some x → spec.said p r ≡ x.word
+said_found : (p : Policy) (r : List ℕ) (x : Rule) → spec.is_native p r ≡ true → find (λ rule. spec.matches rule r) p.rules ≡ Some x
+    → spec.said p r ≡ x.word
 said_found p r x h f = rw (h, f) refl
 
-said_none : (p : Policy) (r : List ℕ) → spec.is_native p r ≡ true → find (λ rule. spec.matches rule r) p.rules ≡ None → spec.said p r ≡ p.default_word
+said_none : (p : Policy) (r : List ℕ) → spec.is_native p r ≡ true → find (λ rule. spec.matches rule r) p.rules ≡ None
+    → spec.said p r ≡ p.default_word
 said_none p r h f = rw (h, f) refl
 
 -- what is said is said by the function
@@ -108,7 +117,9 @@ says_one p r v s =
       | inr alien ↦ s.foreign (not_from_Decides _ native alien) ∙ sym (said_foreign p r alien)
       | inl is ↦ elim (find_cases (λ rule. spec.matches rule r) p.rules) [
         | inl (x, found, has, hit) ↦ s.matched (native.0 is) x has ((Decides-matches x r).0 hit) ∙ sym (said_found p r x is found)
-        | inr (none, miss) ↦ s.unmatched (native.0 is) (All-weaker (λ rule. spec.matches rule r ≡ false) (λ rule. ¬ Matches rule r) (λ rule m. not_from_Decides _ (Decides-matches rule r) m) p.rules miss) ∙ sym (said_none p r is none)
+        | inr (none, miss) ↦ s.unmatched (native.0 is)
+            (All-weaker (λ rule. spec.matches rule r ≡ false) (λ rule. ¬ Matches rule r)
+            (λ rule m. not_from_Decides _ (Decides-matches rule r) m) p.rules miss) ∙ sym (said_none p r is none)
       ]
     ]
 
@@ -131,7 +142,8 @@ function_says p r clear is_r =
             }
         | inr (none, miss) ↦ record {
           foreign = λ alien. absurd (alien (native.0 is));
-          matched = λ _ rule in-rules m'. absurd (not_from_Decides _ (Decides-matches rule r) (All-contains (λ y. spec.matches y r ≡ false) p.rules rule miss in-rules) m');
+          matched = λ _ rule in-rules m'. absurd
+              (not_from_Decides _ (Decides-matches rule r) (All-contains (λ y. spec.matches y r ≡ false) p.rules rule miss in-rules) m');
           unmatched = λ _ _. said_none p r is none;
         }
       ]

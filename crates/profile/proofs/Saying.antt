@@ -7,14 +7,16 @@ use Rattle.profile.specs.Rule.{Matches}
 use Rattle.call_record.specs.Words.{IsRecord}
 use Rattle.profile.specs.Policy.{Policy, IsNative, Says, IsClear}
 
-pub says_match : (p : Policy) (r : List ℕ) (i : ℕ) (x : Rule) → IsClear p.rules → IsRecord r → IsNative p r → i < length p.rules → x ≡ get_or p.rules i x → Matches x r → Says p r x.word
+pub says_match : (p : Policy) (r : List ℕ) (i : ℕ) (x : Rule) → IsClear p.rules → IsRecord r → IsNative p r → i < length p.rules
+    → x ≡ get_or p.rules i x → Matches x r → Says p r x.word
 says_match p r i x clear is_r native lt at m = record {
   foreign = λ no. absurd (no native);
   matched = λ _ rule has hit. clear r is_r x rule (i, lt, sym at) has m hit;
   unmatched = λ _ none. absurd (none i x lt (subst (λ (y : Rule). Matches y r) at m));
 }
 
-pub says_default : (p : Policy) (r : List ℕ) (i : ℕ) → IsNative p r → length p.rules ≤ i → All (λ rule. ¬ Matches rule r) (take i p.rules) → Says p r p.default_word
+pub says_default : (p : Policy) (r : List ℕ) (i : ℕ) → IsNative p r → length p.rules ≤ i → All (λ rule. ¬ Matches rule r) (take i p.rules)
+    → Says p r p.default_word
 says_default p r i native le none =
     let all : All (λ rule. ¬ Matches rule r) p.rules = subst (All (λ rule. ¬ Matches rule r)) (take_all i p.rules le) none in
     record {

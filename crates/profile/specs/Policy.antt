@@ -1,9 +1,10 @@
--- A profile as contracts see it, and the word that it says of a record.
-use Rattle.std.specs.Prelude.{◌≡◌, ◌<◌, ℕ, List}
+-- A profile as contracts see it, what each one is, and the word that it says of a record (OCI Runtime
+-- Specification, config-linux, Seccomp; seccomp(2)).
+use Rattle.std.specs.Prelude.{◌≡◌, ◌<◌, ◌≤◌, ◌⊎◌, ℕ, List, [], ◌∷◌, length, Some, slice_get}
 use Rattle.std.specs.List.{All, Any, Contains}
 use Rattle.call_record.specs.Words.{IsRecord, word}
 use Rattle.call_tables.specs.declared.arch.Arch.{Arch}
-use Rattle.call_tables.specs.declared.arch.Arch.TheVariants.{X86_64}
+use Rattle.call_tables.specs.declared.arch.Arch.TheVariants.{X86_64, Aarch64}
 use Rattle.call_tables.specs.Arch.{token_of}
 use Rattle.profile.specs.declared.rules.Rule.{Rule}
 use Rattle.profile.specs.Rule.{Matches}
@@ -14,11 +15,16 @@ pub record Policy : Type 0 where
   pub default_word : ℕ
   pub rules : List Rule
 
--- The record is of a listed machine, and is no x32 call: those carry the token of x86-64 with the
--- bit 0x40000000 in their number.
+-- ---- what is said of a record
+
+-- the least number of an x32 call: these carry the token of x86-64 and this bit in their number
+abbrev pub least_x32_number : ℕ
+least_x32_number = 0x40000000
+
+-- the record is of a listed machine, and is no x32 call
 pub record IsNative (p : Policy) (r : List ℕ) : Type 0 where
   pub listed : Any (λ a. word r 1 ≡ token_of a) p.machines
-  pub no_x32 : word r 1 ≡ token_of X86_64 → word r 0 < 0x40000000
+  pub no_x32 : word r 1 ≡ token_of X86_64 → word r 0 < least_x32_number
 
 -- The word that the profile says of a record. No order of the rules is known here.
 pub record Says (p : Policy) (r : List ℕ) (v : ℕ) : Type 0 where
@@ -26,6 +32,29 @@ pub record Says (p : Policy) (r : List ℕ) (v : ℕ) : Type 0 where
   pub matched : IsNative p r → (rule : Rule) → Contains p.rules rule → Matches rule r → v ≡ rule.word
   pub unmatched : IsNative p r → All (λ rule. ¬ Matches rule r) p.rules → v ≡ p.default_word
 
+-- ---- what each profile is
+
+-- machines, each once, x86-64 first
+abbrev pub InOrder : List Arch → Type 0
+InOrder machines = (machines ≡ X86_64 ∷ []) ⊎ ((machines ≡ Aarch64 ∷ []) ⊎ (machines ≡ X86_64 ∷ Aarch64 ∷ []))
+
+-- a rule stands at one place
+abbrev pub AreDifferent : List Rule → Type 0
+AreDifferent rules = (i j : ℕ) (rule : Rule) → slice_get rules i ≡ Some rule → slice_get rules j ≡ Some rule → i ≡ j
+
+-- how many different rules there are at most
+abbrev pub most_rules : ℕ
+most_rules = 8192
+
 -- no record matches two rules with unlike words
 abbrev pub IsClear : List Rule → Type 0
-IsClear rules = (r : List ℕ) → IsRecord r → (a b : Rule) → Contains rules a → Contains rules b → Matches a r → Matches b r → a.word ≡ b.word
+IsClear rules =
+    (r : List ℕ) → IsRecord r → (a b : Rule) → Contains rules a → Contains rules b → Matches a r → Matches b r → a.word ≡ b.word
+
+pub record IsProfile (p : Policy) : Type 0 where
+  pub native_listed : Contains p.machines p.native
+  pub machines_in_order : InOrder p.machines
+  pub rules_differ : AreDifferent p.rules
+  pub few : length p.rules ≤ most_rules
+  pub rules_listed : All (λ rule. Contains p.machines rule.arch) p.rules
+  pub clear : IsClear p.rules

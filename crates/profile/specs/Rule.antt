@@ -4,13 +4,13 @@ use Rattle.std.specs.List.{All}
 use Rattle.call_record.specs.Words.{IsRecord, word, argument}
 use Rattle.call_tables.specs.Arch.{token_of}
 use Rattle.profile.specs.declared.rules.Rule.{Rule}
-use Rattle.profile.specs.Condition.{Holds}
+use Rattle.profile.specs.Condition.{Meets}
 
--- the record is of the rule's machine and call, and each condition holds of its argument
+-- the record is of the rule's machine and call, and each argument meets its conditions
 pub record Matches (rule : Rule) (r : List ℕ) : Type 0 where
   pub machine : word r 1 ≡ token_of rule.arch
   pub number : word r 0 ≡ rule.nr
-  pub conditions : All (λ c. Holds c (argument r c.index)) rule.conds.items
+  pub conditions : All (λ c. Meets c (argument r c.index)) rule.conds.items
 
 -- some record matches both
 abbrev pub Overlap : Rule → Rule → Type 0

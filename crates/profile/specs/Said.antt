@@ -9,7 +9,7 @@ use Rattle.profile.specs.declared.conditions.Cond.{Cond}
 use Rattle.profile.specs.declared.conditions.Op.{Op}
 use Rattle.profile.specs.declared.conditions.Op.TheVariants.{Ne, Lt, Le, Eq, Ge, Gt, MaskedEq}
 use Rattle.profile.specs.declared.rules.Rule.{Rule}
-use Rattle.profile.specs.Policy.{Policy, IsClear, Says}
+use Rattle.profile.specs.Policy.{Policy, IsClear, Says, least_x32_number}
 
 abbrev pub compares : Op → ℕ → ℕ → ℕ → Bool
 compares Ne value datum u = not (u == value)
@@ -20,14 +20,15 @@ compares Ge value datum u = nat_le value u
 compares Gt value datum u = nat_lt value u
 compares MaskedEq value datum u = bit_and u value == datum
 
-abbrev pub holds : Cond → ℕ → Bool
-holds c u = compares c.op c.value c.datum u
+abbrev pub meets : Cond → ℕ → Bool
+meets c u = compares c.op c.value c.datum u
 
 abbrev pub matches : Rule → List ℕ → Bool
-matches rule r = word r 1 == token_of rule.arch && word r 0 == rule.nr && list_all (λ c. holds c (argument r c.index)) rule.conds.items
+matches rule r = word r 1 == token_of rule.arch && word r 0 == rule.nr && list_all (λ c. meets c (argument r c.index)) rule.conds.items
 
 abbrev pub is_native : Policy → List ℕ → Bool
-is_native p r = list_any (λ a. word r 1 == token_of a) p.machines && (not (word r 1 == token_of X86_64) || nat_lt (word r 0) 0x40000000)
+is_native p r = list_any (λ a. word r 1 == token_of a) p.machines &&
+    (not (word r 1 == token_of X86_64) || nat_lt (word r 0) least_x32_number)
 
 -- the word of the first rule that matches, the default where none does, and 0 where the record is not native
 abbrev pub said : Policy → List ℕ → ℕ

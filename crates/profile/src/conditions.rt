@@ -32,7 +32,7 @@ pub struct Cond {
 
 impl Cond {
     ghost use Rattle.std.specs.Prelude.{◌↔◌, IsTrue, IsSome, IfSome};
-    ghost use Rattle.profile.specs.Condition.{Holds, IsCondition};
+    ghost use Rattle.profile.specs.Condition.{IsCondition, Meets};
 
     /// The condition of these parts, or `None` where the index is above 5 or the datum has a stray
     /// bit.
@@ -57,7 +57,7 @@ impl Cond {
 
     /// Whether the condition holds of a number.
     pub fn holds(&self, argument: u64) -> bool
-        ensures { IsTrue result ↔ Holds self.now argument }
+        ensures { IsTrue result ↔ Meets self.now argument }
     {
         match self.op {
             Op::Ne => argument != self.value,

@@ -1,10 +1,14 @@
 //! The different rules of a list, each at its first place.
 ghost use Rattle.std.specs.Prelude.{◌≡◌, ◌≤◌, ◌↔◌, length, IsTrue, IfOk, IfErr, Contains};
-ghost use Rattle.profile.specs.Kept.{KeepsAt, StandsAmong};
+ghost use Rattle.profile.specs.Policy.{most_rules};
+ghost use Rattle.profile.specs.inner.Kept.{KeepsAt, IsKeepError};
 
-use crate::build::{BuildError, MAX_RULES};
+use crate::fault::BuildError;
 use crate::rules::Rule;
 use std::alloc::Global;
+
+/// How many different rules a profile has at most.
+pub const MAX_RULES: usize = 8192;
 
 /// Different rules in order, and the place of each in the list that was given.
 #[derive(Drop)]
@@ -16,8 +20,8 @@ pub(crate) struct Kept {
 /// The rules, of which equal ones are kept once.
 pub(crate) fn keep_once(alloc: Global, given: Vec<Rule>) -> Result<Kept, BuildError>
     ensures ok { IfOk result (λ kept. KeepsAt given.items kept.rules.items kept.places.items) }
-    ensures few { IfOk result (λ kept. length kept.rules.items ≤ MAX_RULES) }
-    ensures err { IfErr result (StandsAmong given.items) }
+    ensures few { IfOk result (λ kept. length kept.rules.items ≤ most_rules) }
+    ensures err { IfErr result (IsKeepError given.items) }
 {
     let mut rules = Vec::new(alloc);
     let mut places = Vec::new(alloc);

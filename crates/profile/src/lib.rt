@@ -7,10 +7,10 @@
 //! the order of its rules.
 #![tactic(auto)]
 
-mod build;
 mod clashes;
 mod conditions;
 mod distinct;
+mod fault;
 mod machines;
 mod meets;
 mod overlaps;
@@ -19,8 +19,9 @@ mod rules;
 #[cfg(test)]
 mod tests;
 
-pub use build::{BuildError, MAX_RULES};
 pub use conditions::{Cond, Op};
+pub use distinct::MAX_RULES;
+pub use fault::BuildError;
 pub use overlaps::overlap;
-pub use policy::{Profile, each_record_is_said_one_word};
+pub use policy::{LEAST_X32_NUMBER, Profile, building_is_one, each_record_is_said_one_word};
 pub use rules::Rule;

@@ -1,8 +1,8 @@
 //! Which machines are listed.
-ghost use Rattle.std.specs.Prelude.{◌≡◌, ◌↔◌, IsTrue, IfSome, IfNone, All, Contains, Some, slice_get};
+ghost use Rattle.std.specs.Prelude.{◌↔◌, IsTrue, IfSome, IfNone, All, Contains};
 ghost use Rattle.call_tables.specs.declared.arch.Arch.{Arch};
-ghost use Rattle.profile.specs.declared.rules.Rule.{Rule};
-ghost use Rattle.profile.specs.Build.{InOrder};
+ghost use Rattle.profile.specs.Policy.{InOrder};
+ghost use Rattle.profile.specs.Build.{AreListed, IsFirstForeign};
 
 use crate::rules::Rule;
 use call_tables::Arch;
@@ -34,8 +34,8 @@ pub(crate) fn lists(archs: &[Arch], arch: Arch) -> bool
 
 /// The least place of a rule for a machine that is not listed.
 pub(crate) fn first_foreign(archs: &[Arch], rules: &[Rule]) -> Option<usize>
-    ensures some { IfSome result (λ i. (rule : Rule) × (slice_get rules.now i ≡ Some rule) × ¬ Contains archs.now rule.arch) }
-    ensures none { IfNone result (All (λ rule. Contains archs.now rule.arch) rules.now) }
+    ensures some { IfSome result (IsFirstForeign archs.now rules.now) }
+    ensures none { IfNone result (AreListed archs.now rules.now) }
 {
     for (place, rule) in rules.iter().enumerate() {
         if !lists(archs, rule.arch) {

@@ -1,7 +1,7 @@
 //! Whether one number meets two conditions.
 ghost use Rattle.std.specs.Prelude.{◌≡◌, ◌<◌, ◌≤◌, ◌^◌, ◌↔◌, ℕ, false, IsTrue};
-ghost use Rattle.profile.specs.Condition.{Holds};
-ghost use Rattle.profile.specs.Meet.{Meet, IsOnePiece};
+ghost use Rattle.profile.specs.Condition.{Meets};
+ghost use Rattle.profile.specs.inner.Meeting.{HaveCommon, IsOnePiece};
 
 use crate::conditions::Cond;
 use call_record::least_from;
@@ -11,7 +11,7 @@ use call_record::least_from;
 /// A comparison with x changes its answer only at x and at x + 1. So where some number meets both,
 /// so does the least number with the bits of both from the greatest of the five starts below it.
 pub(crate) fn meet(a: &Cond, b: &Cond) -> bool
-    ensures { IsTrue result ↔ Meet a.now b.now }
+    ensures { IsTrue result ↔ HaveCommon a.now b.now }
 {
     if a.datum & b.op.mask(b.value) != b.datum & a.op.mask(a.value) {
         return false;
@@ -25,10 +25,10 @@ pub(crate) fn meet(a: &Cond, b: &Cond) -> bool
 
 // Whether both hold of the least number from `from` on that has the bits of both.
 fn meet_from(a: &Cond, b: &Cond, from: u64) -> bool
-    ensures found { IsTrue result → Meet a.now b.now }
+    ensures found { IsTrue result → HaveCommon a.now b.now }
     ensures none { result ≡ false → (v : ℕ) → v < 2 ^ 64 → from ≤ v
         → IsOnePiece a.now.value from v → IsOnePiece b.now.value from v
-        → Holds a.now v → Holds b.now v → ⊥ }
+        → Meets a.now v → Meets b.now v → ⊥ }
 {
     match least_from(
         from,

@@ -1,7 +1,7 @@
 //! Whether one record matches two rules.
-ghost use Rattle.std.specs.Prelude.{◌≡◌, ◌↔◌, ◌<◌, ◌^◌, IsTrue, All};
+ghost use Rattle.std.specs.Prelude.{◌≡◌, ◌↔◌, IsTrue, All};
 ghost use Rattle.profile.specs.Rule.{Overlap};
-ghost use Rattle.profile.specs.Meet.{CanMeet, Meet};
+ghost use Rattle.profile.specs.inner.Meeting.{CanOverlap, HaveCommon};
 
 use crate::conditions::Cond;
 use crate::meets::meet;
@@ -11,13 +11,12 @@ use crate::rules::Rule;
 pub fn overlap(a: &Rule, b: &Rule) -> bool
     ensures { IsTrue result ↔ Overlap a.now b.now }
 {
-    number_fits(a);
-    can_meet(a, b)
+    can_overlap(a, b)
 }
 
 // Whether the rules are for one call, and on each argument the conditions of both can be met.
-fn can_meet(a: &Rule, b: &Rule) -> bool
-    ensures { IsTrue result ↔ CanMeet a.now b.now }
+fn can_overlap(a: &Rule, b: &Rule) -> bool
+    ensures { IsTrue result ↔ CanOverlap a.now b.now }
 {
     if a.nr != b.nr {
         return false;
@@ -35,21 +34,15 @@ fn can_meet(a: &Rule, b: &Rule) -> bool
 }
 
 fn all_meet(a: &[Cond], b: &[Cond]) -> bool
-    ensures { IsTrue result ↔ All (λ c. All (λ d. c.index ≡ d.index → Meet c d) b.now) a.now }
+    ensures { IsTrue result ↔ All (λ c. All (λ d. c.index ≡ d.index → HaveCommon c d) b.now) a.now }
 {
     a.iter().all(|c| meets_each(c, b))
 }
 
 fn meets_each(cond: &Cond, others: &[Cond]) -> bool
-    ensures { IsTrue result ↔ All (λ d. cond.now.index ≡ d.index → Meet cond.now d) others.now }
+    ensures { IsTrue result ↔ All (λ d. cond.now.index ≡ d.index → HaveCommon cond.now d) others.now }
 {
     others
         .iter()
         .all(|other| cond.index != other.index || meet(cond, other))
-}
-
-fn number_fits(rule: &Rule)
-    ensures { rule.now.nr < 2 ^ 32 }
-{
-    let _nr = rule.nr;
 }

@@ -2,11 +2,13 @@
 ghost use Rattle.std.specs.Prelude.{◌≡◌, ◌≤◌, ◌↔◌, IsTrue, Any};
 ghost use Rattle.call_tables.specs.declared.arch.Arch.TheVariants.{X86_64};
 ghost use Rattle.call_tables.specs.Arch.{token_of};
+ghost use Rattle.profile.specs.Policy.{least_x32_number};
 ghost use Rattle.profile.specs.Said.{EachRecordIsSaidOneWord};
+ghost use Rattle.profile.specs.Build.{BuildingIsOne};
 
-use crate::build::BuildError;
 use crate::clashes::first_clash;
 use crate::distinct::{Kept, keep_once};
+use crate::fault::BuildError;
 use crate::machines::{first_foreign, in_order, lists};
 use crate::rules::Rule;
 use call_record::{Record, Word};
@@ -24,25 +26,36 @@ pub struct Profile {
 }
 
 impl Model for Profile {
-    ghost use Rattle.profile.specs.Policy.{Policy, IsClear};
+    ghost use Rattle.profile.specs.Policy.{Policy, IsProfile};
 
     ghost Value = { Policy };
 
-    ghost view = { λ p. record { native = p.native; machines = p.machines.now; default_word = p.default_word; rules = p.rules.items } };
+    ghost view = { λ p. record {
+      native = p.native;
+      machines = p.machines.now;
+      default_word = p.default_word;
+      rules = p.rules.items;
+    } };
 
-    ghost invariant = { λ p. IsClear p.rules.items };
+    ghost invariant = { λ p. IsProfile (record {
+      native = p.native;
+      machines = p.machines.now;
+      default_word = p.default_word;
+      rules = p.rules.items;
+    }) };
 }
 
 impl Profile {
     ghost use Rattle.std.specs.Prelude.{IfOk, IfErr};
     ghost use Rattle.call_record.specs.Record.{words};
-    ghost use Rattle.profile.specs.Policy.{Says, IsClear, IsNative};
-    ghost use Rattle.profile.specs.Build.{IsBuiltOf, Stands};
+    ghost use Rattle.profile.specs.Policy.{Says, IsProfile, IsNative};
+    ghost use Rattle.profile.specs.Build.{IsBuiltOf, IsFirstCause};
 
     /// The profile of these machines and rules, of which equal ones are kept once.
     ///
-    /// An error names the least place of its cause: of two rules that give unlike words to one
-    /// record the second has the least place, and then the first.
+    /// The causes of an error are looked for in this order, and the first is told:
+    /// `NativeMissing`, `ForeignRule` at the least place, `TooMany`, and `Overlap`, whose second
+    /// place is the least, and then its first. Memory is asked for after the first two.
     pub fn build(
         alloc: Global,
         native: Arch,
@@ -51,7 +64,7 @@ impl Profile {
         rules: Vec<Rule>,
     ) -> Result<Profile, BuildError>
         ensures ok { IfOk result (IsBuiltOf native archs.now default_word rules.items) }
-        ensures err { IfErr result (Stands native archs.now rules.items) }
+        ensures err { IfErr result (IsFirstCause native archs.now rules.items) }
     {
         if !lists(archs, native) {
             return Err(BuildError::NativeMissing);
@@ -80,7 +93,8 @@ impl Profile {
 
     /// The listed machines, each once, x86-64 first.
     pub fn machines(&self) -> &[Arch]
-        ensures { result.now ≡ self.now.machines }
+        ensures machines { result.now ≡ self.now.machines }
+        ensures is_profile { IsProfile self.now }
     {
         self.machines
     }
@@ -95,34 +109,34 @@ impl Profile {
     /// The rules, each once, in order.
     pub fn rules(&self) -> &[Rule]
         ensures rules { result.now ≡ self.now.rules }
-        ensures clear { IsClear self.now.rules }
+        ensures is_profile { IsProfile self.now }
     {
         &self.rules
     }
 
     /// The word of a record. It is [`Word::KILL_THREAD`] where the record is no call of a listed
     /// machine, or is an x32 call.
-    pub fn decide(&self, record: &Record) -> Word
-        ensures { Says self.now (words record.now) result }
+    pub fn decide(&self, call: &Record) -> Word
+        ensures { Says self.now (words call.now) result }
     {
-        if !self.is_native(record) {
+        if !self.is_native(call) {
             return Word::KILL_THREAD;
         }
         for rule in &self.rules {
-            if rule.matches(record) {
+            if rule.matches(call) {
                 return rule.word;
             }
         }
         self.default_word
     }
 
-    fn is_native(&self, record: &Record) -> bool
-        ensures { IsTrue result ↔ IsNative self.now (words record.now) }
+    fn is_native(&self, call: &Record) -> bool
+        ensures { IsTrue result ↔ IsNative self.now (words call.now) }
     {
-        if is_x32_call(record.arch, record.nr) {
+        if is_x32_call(call.arch, call.nr) {
             return false;
         }
-        is_listed(record.arch, self.machines)
+        is_listed(call.arch, self.machines)
     }
 }
 
@@ -133,11 +147,12 @@ fn is_listed(token: u32, machines: &[Arch]) -> bool
     machines.iter().any(|arch| token == arch.token())
 }
 
-// The least number of an x32 call. These calls carry the token of x86-64.
-const LEAST_X32_NUMBER: u32 = 0x4000_0000;
+/// The least number of an x32 call. These calls carry the token of x86-64, and are foreign to every
+/// profile.
+pub const LEAST_X32_NUMBER: u32 = 0x4000_0000;
 
 fn is_x32_call(token: u32, number: u32) -> bool
-    ensures { IsTrue result ↔ (token ≡ token_of X86_64) × (0x40000000 ≤ number) }
+    ensures { IsTrue result ↔ (token ≡ token_of X86_64) × (least_x32_number ≤ number) }
 {
     token == Arch::X86_64.token() && number >= LEAST_X32_NUMBER
 }
@@ -145,4 +160,9 @@ fn is_x32_call(token: u32, number: u32) -> bool
 /// A clear profile says exactly one word of each record: that of the first rule that matches.
 pub fn each_record_is_said_one_word()
     ensures { EachRecordIsSaidOneWord }
+{}
+
+/// What is built of the same parts is the same profile.
+pub fn building_is_one()
+    ensures { BuildingIsOne }
 {}

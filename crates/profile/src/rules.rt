@@ -1,7 +1,7 @@
 //! Rules of a profile.
-ghost use Rattle.std.specs.Prelude.{◌≡◌, ◌↔◌, ◌==◌, ⊤, true, map, IsTrue, All, slice_index};
+ghost use Rattle.std.specs.Prelude.{◌≡◌, ◌↔◌, ◌==◌, ◌<◌, ◌^◌, ⊤, true, map, IsTrue, All, slice_index};
 ghost use Rattle.std.specs.List.{list_any};
-ghost use Rattle.profile.specs.Condition.{Holds};
+ghost use Rattle.profile.specs.Condition.{Meets};
 ghost use Rattle.profile.specs.Operator.{are_distinct};
 
 use crate::conditions::Cond;
@@ -19,6 +19,7 @@ pub struct Rule {
     /// The conditions, no two of them on one argument.
     pub conds: ArrayVec<Cond, 6>,
     pub word: Word,
+    pub ghost in_range: { nr < 2 ^ 32 },
     pub ghost apart: { are_distinct (map (λ c. c.index) conds.items) ≡ true },
 }
 
@@ -48,16 +49,16 @@ impl Rule {
     }
 
     /// Whether the record meets the rule.
-    pub fn matches(&self, record: &Record) -> bool
-        ensures { IsTrue result ↔ Matches self.now (words record.now) }
+    pub fn matches(&self, call: &Record) -> bool
+        ensures { IsTrue result ↔ Matches self.now (words call.now) }
     {
-        if record.arch != self.arch.token() {
+        if call.arch != self.arch.token() {
             return false;
         }
-        if record.nr != self.nr {
+        if call.nr != self.nr {
             return false;
         }
-        hold(self.conds.as_slice(), &record.args)
+        hold(self.conds.as_slice(), &call.args)
     }
 }
 
@@ -101,7 +102,7 @@ fn has_index(conds: &[Cond], index: u8) -> bool
 
 // Whether each condition holds of its argument.
 fn hold(conds: &[Cond], args: &[u64; 6]) -> bool
-    ensures { IsTrue result ↔ All (λ c. Holds c (slice_index args.now c.index)) conds.now }
+    ensures { IsTrue result ↔ All (λ c. Meets c (slice_index args.now c.index)) conds.now }
 {
     conds
         .iter()

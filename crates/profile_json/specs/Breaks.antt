@@ -9,7 +9,7 @@ use Rattle.profile.specs.declared.conditions.Op.{Op}
 use Rattle.profile.specs.declared.rules.Rule.{Rule}
 use Rattle.profile.specs.Operator.{mask_of}
 use Rattle.profile.specs.Rule.{Clash}
-use Rattle.profile.specs.declared.build.TheConstants.{MAX_RULES}
+use Rattle.profile.specs.Policy.{most_rules}
 use Rattle.profile.specs.Build.{KeepsOnce}
 use Rattle.profile_json.specs.declared.action.Action.{Action}
 use Rattle.profile_json.specs.Keys as key
@@ -111,7 +111,7 @@ pub data EntriesBreak (s : Data) (native : Arch) : Fault → Type 0 where
   many : (ds : List Data) → or_default [] (member list key.syscalls s) ≡ Some ds → 256 < length ds → EntriesBreak s native too_many
   in_entry : (ds : List Data) (d : Data) (f : Fault) → or_default [] (member list key.syscalls s) ≡ Some ds → Contains ds d → EntryBreaks d f → EntriesBreak s native f
   many_rules : (archs : List Arch) (entries : List EntryParts) (said kept : List Rule) → ListsArchs s native archs → EntriesMean s entries
-      → map rule_parts said ≡ rules_of (in_order archs) entries → KeepsOnce said kept → MAX_RULES < length kept → EntriesBreak s native too_many
+      → map rule_parts said ≡ rules_of (in_order archs) entries → KeepsOnce said kept → most_rules < length kept → EntriesBreak s native too_many
   overlapping : (archs : List Arch) (ds : List Data) (i j : ℕ) (d e : Data) (x y : EntryParts) (name : List ℕ) → ListsArchs s native archs
       → or_default [] (member list key.syscalls s) ≡ Some ds → i < j → slice_get ds i ≡ Some d → slice_get ds j ≡ Some e
       → EntryMeans d x → EntryMeans e y → ClashUnder (in_order archs) x y name → EntriesBreak s native (overlap (short_name name) i j)

@@ -7,8 +7,7 @@ use Rattle.serde_json.specs.Data.{Data}
 use Rattle.call_tables.specs.declared.arch.Arch.{Arch}
 use Rattle.profile.specs.declared.rules.Rule.{Rule}
 use Rattle.profile.specs.Operator.{are_distinct, mask_of}
-use Rattle.profile.specs.Policy.{Policy, IsClear}
-use Rattle.profile.specs.declared.build.TheConstants.{MAX_RULES}
+use Rattle.profile.specs.Policy.{Policy, IsClear, most_rules}
 use Rattle.profile.specs.Build.{KeepsOnce}
 use Rattle.profile_json.specs.declared.action.Action.{Action}
 use Rattle.profile_json.specs.Keys as key
@@ -125,7 +124,7 @@ pub record CallsMean (s : Data) (native : Arch) (p : Policy) : Type 0 where
   pub said_is : map rule_parts said ≡ rules_of p.machines entries
   -- equal ones once, at the first place, and not too many
   pub kept : KeepsOnce said p.rules
-  pub few : length p.rules ≤ MAX_RULES
+  pub few : length p.rules ≤ most_rules
   -- no record is given unlike words
   pub clear : IsClear p.rules
 

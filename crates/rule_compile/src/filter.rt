@@ -11,11 +11,8 @@ use bpf_insn::Test;
 use call_record::Word;
 use call_record::offset::{MACHINE, NUMBER};
 use call_tables::Arch;
-use profile::Profile;
+use profile::{LEAST_X32_NUMBER, Profile};
 use std::alloc::Global;
-
-/// The least number of an x32 call, which carries the token of x86-64 and is foreign.
-const X32_CALLS: u32 = 0x4000_0000;
 
 /// A filter of the profile, as the bytes of its instructions.
 ///
@@ -63,7 +60,7 @@ fn calls_of(
             yes: foreign,
             no: native,
         };
-        code.branch(Test::AtLeast, X32_CALLS, exits)?;
+        code.branch(Test::AtLeast, LEAST_X32_NUMBER, exits)?;
     }
     code.load(NUMBER)
 }

@@ -6,7 +6,7 @@ use Rattle.serde_json.specs.Data.{Data}
 use Rattle.call_tables.specs.declared.arch.Arch.{Arch}
 use Rattle.call_tables.specs.declared.arch.Arch.TheVariants.{X86_64, Aarch64}
 use Rattle.profile.specs.Policy.{Policy}
-use Rattle.profile.specs.Build.{InOrder}
+use Rattle.profile.specs.Policy.{InOrder}
 use Rattle.profile_json.specs.Keys as key
 use Rattle.profile_json.specs.Fault.{Fault, overlap}
 use Rattle.profile_json.specs.Parts.{EntryParts}
@@ -124,7 +124,7 @@ one_order machines archs order listed all =
 pub bundle_means : (t s : Data) (native : Arch) (x : Said) (p : Policy) → RootMeans t s → SaidMeans s native x → IsMade x native p → Means t native p
 bundle_means t s native x p root said made =
     let built = made.built in
-    let machines : p.machines ≡ in_order x.archs = one_order p.machines x.archs built.machines_in_order built.machines_listed built.machines_all in
+    let machines : p.machines ≡ in_order x.archs = one_order p.machines x.archs built.is_profile.machines_in_order built.machines_listed built.machines_all in
     record {
       seccomp = s;
       root = root;
@@ -141,8 +141,8 @@ bundle_means t s native x p root said made =
         said = made.rules;
         said_is = made.rules_are ∙ ap (λ ms. rules_of ms x.entries) (sym machines);
         kept = built.rules_kept;
-        few = built.few;
-        clear = built.clear;
+        few = built.is_profile.few;
+        clear = built.is_profile.clear;
       };
     }
 

@@ -1,7 +1,12 @@
 use Rattle.std.proofs.Common.{◌≤◌, take, length}
-use Rattle.profile.specs.declared.build.TheConstants.{MAX_RULES}
-use Rattle.profile.specs.Kept.{KeepsAt}
+use Rattle.profile.specs.Policy.{most_rules}
+use Rattle.profile.specs.inner.Kept.{KeepsAt}
 use Rattle.profile.proofs.distinct.keep_once.Given as goal
 
 abbrev pub invariant-loop-place : goal.invariant-loop-place
-invariant-loop-place l = record { kept : KeepsAt (take (length l.yielded) l.fn.given.items) l.rules.items l.places.items; few : length l.rules.items ≤ MAX_RULES }
+invariant-loop-place l =
+    record {
+      kept : KeepsAt (take (length l.yielded) l.fn.given.items) l.rules.items l.places.items;
+      few : length
+          l.rules.items ≤ most_rules;
+    }

@@ -7,11 +7,17 @@ use Rattle.profile.specs.declared.rules.Rule.{Rule}
 use Rattle.profile.proofs.machines.first_foreign.Goals as goal
 
 pub returns-then-not-lists-clause-some : goal.returns-then-not-lists-clause-some
-returns-then-not-lists-clause-some c = (
-  c.index-rules-place.result,
-  slice_get-get_or c.args.rules.now c.loop-place.place c.index-rules-place.result c.loop-place-test.true ∙ ap Some (sym c.index-rules-place.is),
-  λ has. (let listed : c.lists.result ≡ true = c.lists.ensures.1 has in let missing : c.lists.result ≡ false = c.if-not-lists.true in cc),
-)
+returns-then-not-lists-clause-some c = record {
+  rule = c.index-rules-place.result;
+  at =
+      slice_get-get_or c.args.rules.now c.loop-place.place c.index-rules-place.result c.loop-place-test.true
+      ∙ ap Some (sym c.index-rules-place.is);
+  foreign = λ has.
+      let listed : c.lists.result ≡ true = c.lists.ensures.1 has in
+      let missing : c.lists.result ≡ false = c.if-not-lists.true in
+      cc;
+  least = c.loop-place.invariant;
+}
 
 pub loop-place-preserved : goal.loop-place-preserved
 loop-place-preserved c =

@@ -7,4 +7,6 @@ returns-then-lists-2-clause-all c = all_in_both c.args.archs.now
 
 pub returns-else-lists-2-clause-all : goal.returns-else-lists-2-clause-all
 returns-else-lists-2-clause-all c =
-    all_in_x86_64 c.args.archs.now (λ has. (let listed : c.lists-then-lists.result ≡ true = c.lists-then-lists.ensures.1 has in let missing : c.lists-then-lists.result ≡ false = c.if-lists-2.false in cc))
+    all_in_x86_64 c.args.archs.now
+    (λ has. (let listed : c.lists-then-lists.result ≡ true =
+    c.lists-then-lists.ensures.1 has in let missing : c.lists-then-lists.result ≡ false = c.if-lists-2.false in cc))

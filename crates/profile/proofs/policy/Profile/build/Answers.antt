@@ -1,63 +1,85 @@
-use Rattle.std.proofs.Common.{◌≡◌, ℕ, List, Some, get_or, refl, sym, ◌∙◌, subst, arith}
-use Rattle.std.specs.Prelude.{slice_get}
-use Rattle.std.specs.List.{All, Contains}
+use Rattle.std.proofs.Common.{rules, ◌≡◌, ℕ, List, get_or, refl, sym, ◌∙◌, subst, arith}
 use Rattle.std.proofs.lemmas.List.{get_or_default}
 use Rattle.profile.specs.declared.rules.Rule.{Rule}
-use Rattle.profile.specs.Kept.{KeepsAt}
+use Rattle.profile.specs.declared.fault.BuildError.TheVariants.{Overlap}
 use Rattle.profile.specs.Policy.{IsClear}
-use Rattle.profile.specs.Build.{ClashAt}
-use Rattle.profile.proofs.KeptLaws.{clash_in, clash_at}
+use Rattle.profile.specs.Build.{AreListed, IsFirstForeign, IsFirstClash, IsFirstCause}
+use Rattle.profile.specs.inner.Kept.{KeepsAt}
+use Rattle.profile.proofs.Clashing.{clash_in}
+use Rattle.profile.proofs.BuildLaws.{not_kept, overlapping, profile_of}
 use Rattle.profile.proofs.policy.Profile.build.Goals as goal
 
 pub returns-in-Some-clause-err : goal.returns-in-Some-clause-err
-returns-in-Some-clause-err c =
-    let P : List Rule → Type 0 = λ rules. (rule : Rule) × (slice_get rules c.in-Some.place ≡ Some rule) × ¬ Contains c.args.archs.now rule.arch in
-    subst P c.deref.ensures.value c.in-Some.ensures.some
+returns-in-Some-clause-err c = (
+  c.lists.ensures.0 c.if-not-lists.false,
+  subst (λ (rules : List Rule). IsFirstForeign c.args.archs.now rules c.in-Some.place) c.deref.ensures.value c.in-Some.ensures.some,
+)
 
 pub index-requires : goal.index-requires
 index-requires c =
     let kept = c.in_ok-rules.field-0 in
-    let first = c.in-Some-first_clash.first in
-    let second = c.in-Some-first_clash.second in
+    let i = c.in-Some-first_clash.first in
+    let j = c.in-Some-first_clash.second in
     let once : KeepsAt c.args.rules.items kept.rules.items kept.places.items = c.in_ok-rules.ensures.ok in
-    let clash : ClashAt kept.rules.items first second = subst (λ (xs : List Rule). ClashAt xs first second) c.deref-2.ensures.value c.in-Some-first_clash.ensures.some in
-    let inside = clash_in c.args.rules.items kept.rules.items kept.places.items first second once clash in
+    let first : IsFirstClash kept.rules.items i j =
+    subst (λ (xs : List Rule). IsFirstClash xs i j) c.deref-2.ensures.value c.in-Some-first_clash.ensures.some in
+    let inside = clash_in c.args.rules.items kept.rules.items kept.places.items i j once first.clash in
     omega (arith, inside.0, kept.places.ok.0)
 
 pub index-requires-in-Some-first_clash : goal.index-requires-in-Some-first_clash
 index-requires-in-Some-first_clash c =
     let kept = c.in_ok-rules.field-0 in
-    let first = c.in-Some-first_clash.first in
-    let second = c.in-Some-first_clash.second in
+    let i = c.in-Some-first_clash.first in
+    let j = c.in-Some-first_clash.second in
     let once : KeepsAt c.args.rules.items kept.rules.items kept.places.items = c.in_ok-rules.ensures.ok in
-    let clash : ClashAt kept.rules.items first second = subst (λ (xs : List Rule). ClashAt xs first second) c.deref-2.ensures.value c.in-Some-first_clash.ensures.some in
-    let inside = clash_in c.args.rules.items kept.rules.items kept.places.items first second once clash in
+    let first : IsFirstClash kept.rules.items i j =
+    subst (λ (xs : List Rule). IsFirstClash xs i j) c.deref-2.ensures.value c.in-Some-first_clash.ensures.some in
+    let inside = clash_in c.args.rules.items kept.rules.items kept.places.items i j once first.clash in
     omega (arith, inside.1, kept.places.ok.0)
 
 pub returns-in-Some-first_clash-clause-err : goal.returns-in-Some-first_clash-clause-err
 returns-in-Some-first_clash-clause-err c =
     let kept = c.in_ok-rules.field-0 in
-    let first = c.in-Some-first_clash.first in
-    let second = c.in-Some-first_clash.second in
+    let i = c.in-Some-first_clash.first in
+    let j = c.in-Some-first_clash.second in
+    let archs = c.args.archs.now in
     let once : KeepsAt c.args.rules.items kept.rules.items kept.places.items = c.in_ok-rules.ensures.ok in
-    let clash : ClashAt kept.rules.items first second = subst (λ (xs : List Rule). ClashAt xs first second) c.deref-2.ensures.value c.in-Some-first_clash.ensures.some in
-    let inside = clash_in c.args.rules.items kept.rules.items kept.places.items first second once clash in
-    let at-first : get_or kept.places.items first 0 ≡ c.index.result.now = get_or_default kept.places.items first 0 c.index.result.now inside.0 ∙ sym c.index.ensures in
-    let at-second : get_or kept.places.items second 0 ≡ c.index-in-Some-first_clash.result.now = get_or_default kept.places.items second 0 c.index-in-Some-first_clash.result.now inside.1 ∙ sym c.index-in-Some-first_clash.ensures in
-    subst (λ (j : ℕ). ClashAt c.args.rules.items c.index.result.now j) at-second
-    (subst (λ (i : ℕ). ClashAt c.args.rules.items i (get_or kept.places.items second 0)) at-first
-    (clash_at c.args.rules.items kept.rules.items kept.places.items first second once clash))
+    let first : IsFirstClash kept.rules.items i j =
+    subst (λ (xs : List Rule). IsFirstClash xs i j) c.deref-2.ensures.value c.in-Some-first_clash.ensures.some in
+    let inside = clash_in c.args.rules.items kept.rules.items kept.places.items i j once first.clash in
+    let listed : AreListed archs c.args.rules.items = subst (AreListed archs) c.deref.ensures.value c.in_default.ensures.none in
+    let at-first : get_or kept.places.items i 0 ≡ c.index.result.now =
+    get_or_default kept.places.items i 0 c.index.result.now inside.0 ∙ sym c.index.ensures in
+    let at-second : get_or kept.places.items j 0 ≡ c.index-in-Some-first_clash.result.now =
+    get_or_default kept.places.items j 0 c.index-in-Some-first_clash.result.now inside.1 ∙ sym c.index-in-Some-first_clash.ensures in
+    let cause = overlapping c.args.native archs c.args.rules.items kept.rules.items kept.places.items i j
+    (c.lists.ensures.0 c.if-not-lists.false) listed once c.in_ok-rules.ensures.few first in
+    subst (λ (n : ℕ). IsFirstCause c.args.native archs c.args.rules.items (Overlap c.index.result.now n)) at-second
+    (subst (λ (m : ℕ). IsFirstCause c.args.native archs c.args.rules.items (Overlap m (get_or kept.places.items j 0))) at-first cause)
 
 pub returns-clause-ok : goal.returns-clause-ok
 returns-clause-ok c = record {
+  is_profile =
+      profile_of _ c.args.archs.now c.args.rules.items (c.lists.ensures.0 c.if-not-lists.false) c.in_order.ensures.ordered
+      c.in_order.ensures.all (subst (AreListed c.args.archs.now) c.deref.ensures.value c.in_default.ensures.none)
+      c.in_ok-rules.ensures.ok.once c.in_ok-rules.ensures.few
+      (subst IsClear c.deref-2.ensures.value c.in_default-first_clash.ensures.none);
   native_is = refl;
-  native_listed = c.lists.ensures.0 c.if-not-lists.false;
-  machines_in_order = c.in_order.ensures.ordered;
   machines_listed = c.in_order.ensures.listed;
   machines_all = c.in_order.ensures.all;
   default_is = refl;
   rules_kept = c.in_ok-rules.ensures.ok.once;
-  few = c.in_ok-rules.ensures.few;
-  rules_listed = subst (All (λ (rule : Rule). Contains c.args.archs.now rule.arch)) c.deref.ensures.value c.in_default.ensures.none;
-  clear = subst IsClear c.deref-2.ensures.value c.in_default-first_clash.ensures.none;
 }
+
+pub returns-in_err-rules-clause-err : goal.returns-in_err-rules-clause-err
+returns-in_err-rules-clause-err c =
+    let cause = not_kept c.args.native c.args.archs.now c.args.rules.items c.in_err-rules.field-0.0 (c.lists.ensures.0 c.if-not-lists.false)
+    (subst (AreListed c.args.archs.now) c.deref.ensures.value c.in_default.ensures.none) c.in_err-rules.ensures.err in
+    search (rules, cause)
+
+pub invariant_of-result : goal.invariant_of-result
+invariant_of-result c =
+    profile_of _ c.args.archs.now c.args.rules.items (c.lists.ensures.0 c.if-not-lists.false) c.in_order.ensures.ordered
+    c.in_order.ensures.all (subst (AreListed c.args.archs.now) c.deref.ensures.value c.in_default.ensures.none)
+    c.in_ok-rules.ensures.ok.once c.in_ok-rules.ensures.few
+    (subst IsClear c.deref-2.ensures.value c.in_default-first_clash.ensures.none)

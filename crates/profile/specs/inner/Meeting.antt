@@ -3,23 +3,23 @@ use Rattle.std.specs.Prelude.{◌≡◌, ℕ, ◌<◌, ◌≤◌, ◌^◌, List}
 use Rattle.std.specs.List.{All}
 use Rattle.profile.specs.declared.conditions.Cond.{Cond}
 use Rattle.profile.specs.declared.rules.Rule.{Rule}
-use Rattle.profile.specs.Condition.{Holds}
+use Rattle.profile.specs.Condition.{Meets}
 
 -- one number meets both conditions
-abbrev pub Meet : Cond → Cond → Type 0
-Meet a b = (u : ℕ) × (u < 2 ^ 64) × Holds a u × Holds b u
+abbrev pub HaveCommon : Cond → Cond → Type 0
+HaveCommon a b = (u : ℕ) × (u < 2 ^ 64) × Meets a u × Meets b u
 
--- conditions of xs and ys on one argument can be met by one number
-abbrev pub AllMeet : List Cond → List Cond → Type 0
-AllMeet xs ys = All (λ c. All (λ d. c.index ≡ d.index → Meet c d) ys) xs
+-- for conditions of xs and ys on one argument there is a number that meets both
+abbrev pub AllHaveCommon : List Cond → List Cond → Type 0
+AllHaveCommon xs ys = All (λ c. All (λ d. c.index ≡ d.index → HaveCommon c d) ys) xs
 
 -- the machine and the number are one, and on each argument the conditions of both can be met
-pub record CanMeet (a b : Rule) : Type 0 where
+pub record CanOverlap (a b : Rule) : Type 0 where
   pub machine : a.arch ≡ b.arch
   pub number : a.nr ≡ b.nr
-  pub left : AllMeet a.conds.items a.conds.items
-  pub right : AllMeet b.conds.items b.conds.items
-  pub both : AllMeet a.conds.items b.conds.items
+  pub left : AllHaveCommon a.conds.items a.conds.items
+  pub right : AllHaveCommon b.conds.items b.conds.items
+  pub both : AllHaveCommon a.conds.items b.conds.items
 
 -- A comparison with x has one answer from `from` to v: neither x nor x + 1 lies above `from` and up to v.
 abbrev pub IsOnePiece : ℕ → ℕ → ℕ → Type 0
