@@ -1,7 +1,7 @@
 -- What is said of a filter and a record, both as bytes: the kernel's check (seccomp(2), and the seccomp_filter page of
 -- the kernel's documentation), and the word that the filter answers.
-use Rattle.std.specs.Prelude.{ℕ, ◌≡◌, ◌≢◌, Bool, true, false, List, ◌++◌, length, Option, Some, None, Result, IfOk, codes}
-use Rattle.call_record.specs.Text.{text_of}
+use Rattle.std.specs.Prelude.{ℕ, ◌≡◌, ◌≢◌, Bool, true, false, List, [], ◌∷◌, ◌++◌, length, Option, Some, None, Result, IfOk, codes}
+use Rattle.call_record.specs.Text as word
 use Rattle.call_record.specs.Words.{words_of}
 use Rattle.bpf_insn.specs.Bytes.{insns_of, view_fault}
 use Rattle.bpf_insn.specs.Machine.{verdict_of}
@@ -9,7 +9,7 @@ use Rattle.bpf_insn.specs.Fault as view
 use Rattle.kernel_check.specs.Accepted.{IsAccepted, IsRefusal}
 use Rattle.kernel_check.specs.Fault as kernel
 use Rattle.cli.specs.Sink.{Writes}
-use Rattle.cli.specs.declared.sink.ExportFault.{ExportFault}
+use Rattle.cli.specs.declared.fault.ExportFault.{ExportFault}
 use Rattle.cli.specs.declared.answer.Answer.{Answer}
 use Rattle.cli.specs.declared.answer.Answer.TheVariants.{Verdict, NoRecord, NoProgram, Refusal}
 
@@ -32,10 +32,10 @@ is_verdict other = false
 
 -- the line that says it, which ends by a line feed
 abbrev pub line_of : Answer → List ℕ
-line_of (Verdict v) = text_of v ++ codes "\n"
-line_of NoRecord = codes "refused record\n"
-line_of (NoProgram e) = codes "refused view " ++ view.text_of e ++ codes "\n"
-line_of (Refusal e) = codes "refused kernel " ++ kernel.text_of e ++ codes "\n"
+line_of (Verdict v) = word.text_of v ++ 10 ∷ []
+line_of NoRecord = codes "refused record" ++ 10 ∷ []
+line_of (NoProgram e) = codes "refused view " ++ view.text_of e ++ 10 ∷ []
+line_of (Refusal e) = codes "refused kernel " ++ kernel.text_of e ++ 10 ∷ []
 
 -- what was written is the line of the answer, and the call tells whether that is a word
 pub record WritesAnswer {S : Type 0} (held : S → Option (List ℕ)) (failures : S → ℕ) (old new : S) (filter rec : List ℕ) (result : Result Bool ExportFault) : Type 0 where

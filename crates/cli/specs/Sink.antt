@@ -1,8 +1,8 @@
 -- What a call that writes leaves.
 use Rattle.std.specs.Prelude.{ℕ, ◌≡◌, ◌<◌, ◌^◌, ◌-◌, ◌+◌, ◌⊎◌, min, Bool, true, ◌==◌, List, length, take, Option, Result, Ok, Err}
 use Rattle.std.specs.Io.KnownBytes.{Appends}
-use Rattle.cli.specs.declared.sink.ExportFault.{ExportFault}
-use Rattle.cli.specs.declared.sink.ExportFault.TheVariants.{Write, OutOfMemory}
+use Rattle.cli.specs.declared.fault.ExportFault.{ExportFault}
+use Rattle.cli.specs.declared.fault.ExportFault.TheVariants.{Write, OutOfMemory}
 
 -- a count of failures after one more, which stops at the greatest u64
 abbrev pub one_more : ℕ → ℕ

@@ -2,10 +2,10 @@
 use Rattle.std.specs.Prelude.{ℕ}
 use Rattle.command_line.specs.declared.Misuse.{Misuse}
 use Rattle.command_line.specs.declared.Misuse.TheVariants as misuse
-use Rattle.cli.specs.declared.sink.ExportFault.{ExportFault}
-use Rattle.cli.specs.declared.sink.ExportFault.TheVariants as fault
-use Rattle.cli.specs.declared.program.Stop.{Stop}
-use Rattle.cli.specs.declared.program.Stop.TheVariants.{Usage, CannotRead, Write, OutOfMemory}
+use Rattle.cli.specs.declared.fault.ExportFault.{ExportFault}
+use Rattle.cli.specs.declared.fault.ExportFault.TheVariants as fault
+use Rattle.cli.specs.declared.stops.Stop.{Stop}
+use Rattle.cli.specs.declared.stops.Stop.TheVariants.{Usage, CannotRead, Write, OutOfMemory}
 
 abbrev pub status_of : Stop → ℕ
 status_of Usage = 2

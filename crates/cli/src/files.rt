@@ -1,12 +1,6 @@
 //! Files by their names.
+use crate::fault::FileFault;
 use std::alloc::Global;
-
-/// Why a file was not read.
-#[derive(Clone, Copy, Debug, PartialEq, Eq)]
-pub enum FileFault {
-    CannotRead,
-    OutOfMemory,
-}
 
 /// What reads whole files by their names.
 pub trait Files {

@@ -2,17 +2,21 @@
 #![tactic(auto)]
 
 mod answer;
+mod fault;
 mod files;
 mod law;
 mod line;
 mod program;
 mod sink;
+mod stops;
 #[cfg(test)]
 mod tests;
 
 pub use answer::{Answer, answer_to};
-pub use files::{FileFault, Files};
+pub use fault::{ExportFault, FileFault};
+pub use files::Files;
 pub use law::one_answer;
 pub use line::verdict_line;
-pub use program::{Stop, dispatch, report};
-pub use sink::{ExportFault, Failed, Sink, ToWrite};
+pub use program::dispatch;
+pub use sink::{Failed, Sink, ToWrite};
+pub use stops::{Stop, report};

@@ -1,11 +1,12 @@
 //! The line of `ccell verdict`.
-ghost use Rattle.std.specs.Prelude.{◌≡◌, ◌≤◌, ◌+◌, ◌++◌, codes, length};
-ghost use Rattle.std.specs.Fmt.{decimal};
+ghost use Rattle.std.specs.Prelude.{◌≡◌, ◌≤◌, ◌+◌, ◌++◌, length};
 ghost use Rattle.arrayvec.specs.ArrayVec.{array_vec_len};
+ghost use Rattle.cli.specs.Fault.{label_text};
 ghost use Rattle.cli.specs.Answer.{WritesAnswer, line_of};
 
 use crate::answer::{Answer, answer_to};
-use crate::sink::{ExportFault, Sink, write_all};
+use crate::fault::ExportFault;
+use crate::sink::{Sink, write_all};
 use arrayvec::ArrayVec;
 
 const ROOM: usize = 64;
@@ -22,7 +23,7 @@ fn put(line: &mut ArrayVec<u8, ROOM>, bytes: &[u8])
 // Adds a fault's number and name.
 fn put_fault(line: &mut ArrayVec<u8, ROOM>, number: u32, name: &str)
     requires { array_vec_len line.old + length name.now ≤ 40 }
-    ensures items { line.new.items ≡ line.old.items ++ (decimal number ++ codes " " ++ name.now) }
+    ensures items { line.new.items ≡ line.old.items ++ label_text (number, name.now) }
     ensures len { array_vec_len line.new ≤ array_vec_len line.old + length name.now + 11 }
 {
     put(line, itoa::Buffer::new().format(number).as_bytes());

@@ -3,19 +3,12 @@ ghost use Rattle.std.specs.Prelude.{◌≡◌, ◌≤◌, ◌<◌, ℕ, List, Op
 ghost use Rattle.std.specs.Io.KnownBytes.{WriteAppends};
 ghost use Rattle.cli.specs.Sink.{Writes};
 
+use crate::fault::ExportFault;
 use std::io;
 
 /// A read or a write that failed.
 #[derive(Clone, Copy, Debug, PartialEq, Eq)]
 pub struct Failed;
-
-/// Why bytes were not all written.
-#[derive(Clone, Copy, Debug, PartialEq, Eq)]
-pub enum ExportFault {
-    /// The sink failed after it took so many bytes.
-    Write { out: u64 },
-    OutOfMemory,
-}
 
 /// What takes bytes.
 pub trait Sink {
