@@ -1,9 +1,11 @@
 -- What a list contains, and what lists made of it contain.
-use Rattle.std.proofs.Common.{◌≡◌, ℕ, zero, suc, ◌<◌, List, [], ◌∷◌, length, map, get_or, Option, Some, None, Bool, true, false, ◌||◌, ◌≤◌, ◌-◌, take, drop, Bor, ◌⊎◌, inl, inr, refl, sym, ◌∙◌, ap, subst, arith}
-use Rattle.std.specs.List.{Contains, flat_map, filter_map, cons_option, slice_get, list_any}
+use Rattle.std.proofs.Common.{◌≡◌, ℕ, zero, suc, ◌<◌, List, [], ◌∷◌, length, map, get_or, Option, Some, None, Bool, true, ◌||◌, ◌≤◌, ◌-◌, take, drop, Bor, ◌⊎◌, inl, inr, refl, sym, ◌∙◌, ap, subst, arith}
+use Rattle.std.specs.List.{AllZip, Contains, flat_map, filter_map, cons_option, slice_get, list_any}
 use Rattle.std.specs.Str.{bytes_eq}
 use Rattle.std.proofs.lemmas.Slice.Eq.{bytes_eq-Decides}
 use Rattle.std.proofs.lemmas.List.{take_all}
+use Rattle.std.proofs.lemmas.List.Folds.{Any-from_list_any, list_any_at}
+use Rattle.std.proofs.lemmas.Option.{same_Some}
 use Rattle.std.proofs.lemmas.List.Elements.{Contains-append_left, Contains-append_right, Contains-append_cases}
 
 module _ {A : Type 0} where
@@ -98,34 +100,46 @@ module _ {A B : Type 0} where
         | inr later ↦ (let at = contains_filter_map_back f xs y later in (at.0, contains_tail x xs at.0 at.1, at.2))
       ]
 
--- texts
-bool_cases : (b : Bool) → (b ≡ true) ⊎ (b ≡ false)
-bool_cases true = inl refl
-bool_cases false = inr refl
+-- ---- lists, place by place
 
-other_or : (a b : Bool) → a ≡ false → (a || b) ≡ true → b ≡ true
-other_or true b n h = cc
-other_or false b n h = h
+module _ {A B : Type 0} where
+  -- what is related to a member
+  pub related : (R : A → B → Type 0) (xs : List A) (ys : List B) (x : A) → AllZip R xs ys → Contains xs x → (y : B) × R x y
+  related R [] ys x p h = absurd (contains_nil x h)
+  related R (a ∷ xs) [] x p h = absurd p
+  related R (a ∷ xs) (y ∷ ys) x p h =
+      elim (contains_cases a xs x h) [
+        | inl here ↦ (y, subst (λ z. R z y) here p.0)
+        | inr later ↦ related R xs ys x p.1 later
+      ]
 
-or_true : (a b : Bool) → b ≡ true → (a || b) ≡ true
-or_true true b h = refl
-or_true false b h = h
+  pub related_at : (R : A → B → Type 0) (xs : List A) (ys : List B) (i : ℕ) (x : A) → AllZip R xs ys → slice_get xs i ≡ Some x → (y : B) × (slice_get ys i ≡ Some y) × R x y
+  related_at R [] ys i x p h = cc
+  related_at R (a ∷ xs) [] i x p h = absurd p
+  related_at R (a ∷ xs) (y ∷ ys) zero x p h = (y, refl, subst (λ z. R z y) (same_Some a x h) p.0)
+  related_at R (a ∷ xs) (y ∷ ys) (suc i) x p h = related_at R xs ys i x p.1 h
+
+  -- one list is related, where one thing is related to each member
+  pub one_related : (R : A → B → Type 0) → ((x : A) (y z : B) → R x y → R x z → y ≡ z) → (xs : List A) (ys zs : List B) → AllZip R xs ys → AllZip R xs zs → ys ≡ zs
+  one_related R one [] [] [] p q = refl
+  one_related R one [] [] (z ∷ zs) p q = absurd q
+  one_related R one [] (y ∷ ys) zs p q = absurd p
+  one_related R one (x ∷ xs) [] zs p q = absurd p
+  one_related R one (x ∷ xs) (y ∷ ys) [] p q = absurd q
+  one_related R one (x ∷ xs) (y ∷ ys) (z ∷ zs) p q =
+      let head : y ≡ z = one x y z p.0 q.0 in
+      let tail : ys ≡ zs = one_related R one xs ys zs p.1 q.1 in
+      cc
+
+-- ---- texts
 
 pub named : (names : List (List ℕ)) (name : List ℕ) → list_any (λ n. bytes_eq n name) names ≡ true → Contains names name
-named [] name h = cc
-named (n ∷ ns) name h =
-    elim (bool_cases (bytes_eq n name)) [
-      | inl same ↦ subst (λ m. Contains (n ∷ ns) m) ((bytes_eq-Decides n name).0 same) (contains_head n ns)
-      | inr other ↦ contains_tail n ns name (named ns name (other_or (bytes_eq n name) (list_any (λ m. bytes_eq m name) ns) other h))
-    ]
+named names name h =
+    let at = Any-from_list_any (λ n. bytes_eq n name) names h in
+    subst (Contains names) ((bytes_eq-Decides at.1 name).0 at.4) (at.0, at.2, at.3)
 
 pub named_back : (names : List (List ℕ)) (name : List ℕ) → Contains names name → list_any (λ n. bytes_eq n name) names ≡ true
-named_back [] name h = absurd (contains_nil name h)
-named_back (n ∷ ns) name h =
-    elim (contains_cases n ns name h) [
-      | inl here ↦ rw ((bytes_eq-Decides n name).1 here) refl
-      | inr later ↦ or_true (bytes_eq n name) (list_any (λ m. bytes_eq m name) ns) (named_back ns name later)
-    ]
+named_back names name h = list_any_at (λ n. bytes_eq n name) names h.0 name h.1 ((bytes_eq-Decides (get_or names h.0 name) name).1 h.2)
 
 -- the texts behind references
 any_now : (ns : List (Bor (List ℕ))) (name : List ℕ) → list_any (λ n. bytes_eq n.now name) ns ≡ list_any (λ n. bytes_eq n name) (map (λ n. n.now) ns)

@@ -37,7 +37,7 @@ fn arch_of(value: &Value) -> Result<Arch, ProfileError>
 }
 
 fn archs_in(alloc: Global, mut values: &[Value]) -> Result<Vec<Arch>, ProfileError>
-    ensures { GivesWithMemory (λ v. v.items) result (spec.archs_in (map view values.entry.now)) }
+    ensures { GivesWithMemory (λ v. v.items) result (spec.each spec.arch_of (map view values.entry.now)) }
 {
     let mut found = Vec::new(alloc);
     while let [first, rest @ ..] = values {

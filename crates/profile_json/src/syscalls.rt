@@ -32,7 +32,7 @@ fn name_of(value: &Value) -> Result<&str, ProfileError>
 }
 
 fn names_in<'a>(alloc: Global, mut values: &'a [Value]) -> Result<Vec<&'a str>, ProfileError>
-    ensures { GivesWithMemory (λ v. map (λ n. n.now) v.items) result (spec.names_in (map view values.entry.now)) }
+    ensures { GivesWithMemory (λ v. map (λ n. n.now) v.items) result (spec.each spec.name_of (map view values.entry.now)) }
 {
     let mut found = Vec::new(alloc);
     while let [first, rest @ ..] = values {
@@ -69,7 +69,7 @@ fn entry_of<'a>(alloc: Global, value: &'a Value) -> Result<Entry<'a>, ProfileErr
 }
 
 fn entries_in<'a>(alloc: Global, mut values: &'a [Value]) -> Result<Vec<Entry<'a>>, ProfileError>
-    ensures { GivesWithMemory (λ v. map entry_parts v.items) result (spec.entries_in (map view values.entry.now)) }
+    ensures { GivesWithMemory (λ v. map entry_parts v.items) result (spec.each spec.entry_of (map view values.entry.now)) }
 {
     let mut found = Vec::new(alloc);
     while let [first, rest @ ..] = values {

@@ -1,6 +1,7 @@
 -- Entries whose rules give unlike words to one record.
 use Rattle.std.proofs.Common.{◌≡◌, ◌≢◌, ℕ, List, length, map, get_or, Option, Some, None, option_map, ◌-◌, take, drop, Bool, true, false, Bor, inl, inr, refl, sym, ◌∙◌, ap, subst}
 use Rattle.std.specs.List.{Contains, Any}
+use Rattle.std.proofs.lemmas.Option.{same_Some}
 use Rattle.call_tables.specs.declared.arch.Arch.{Arch}
 use Rattle.call_tables.specs.Arch.{table_of}
 use Rattle.call_tables.specs.Table.{number_in, name_in}
@@ -14,16 +15,13 @@ use Rattle.profile_json.specs.inner.Clashes.{OverlapOn, NoClash}
 use Rattle.profile_json.proofs.PartsLemmas.{rule_same}
 use Rattle.profile_json.proofs.Lists.{contains_filter_map, contains_filter_map_back, contains_flat_back, now_split}
 
-some_same : {A : Type 0} (x y : A) → Some x ≡ Some y → x ≡ y
-some_same x y h = cc
-
 -- the rules of two entries for one call, where both are at hand
 pub on_some : (x y : EntryParts) (name : List ℕ) (arch : Arch) (nr : ℕ) (a b : Rule) → Some nr ≡ number_in (table_of arch) name → rule_parts a ≡ rule_of x arch nr → rule_parts b ≡ rule_of y arch nr
     → (Overlap a b → OverlapOn x y name arch) × (OverlapOn x y name arch → Overlap a b)
 on_some x y name arch nr a b at is_a is_b = (
   λ both. record { nr = nr; nr_is = sym at; first = a; first_is = is_a; second = b; second_is = is_b; both = both },
   λ (o : OverlapOn x y name arch). (
-      let same : o.nr ≡ nr = some_same o.nr nr (sym o.nr_is ∙ sym at) in
+      let same : o.nr ≡ nr = same_Some o.nr nr (sym o.nr_is ∙ sym at) in
       let first : o.first ≡ a = rule_same o.first a (o.first_is ∙ ap (rule_of x arch) same ∙ sym is_a) in
       let second : o.second ≡ b = rule_same o.second b (o.second_is ∙ ap (rule_of y arch) same ∙ sym is_b) in
       let there : Overlap a o.second = subst (λ (r : Rule). Overlap r o.second) first o.both in
@@ -93,7 +91,7 @@ must_clash machines x y a b in_x in_y clash none =
     let q_nr : number_in (table_of p.arch) n.0 ≡ Some p.nr = ap (λ s. number_in (table_of s) n.0) (sym archs) ∙ q.nr_is ∙ ap Some nrs in
     let m_is : name_in (table_of p.arch) p.nr ≡ Some m.0 = (table_of-inverse p.arch m.0 p.nr).0 p.nr_is in
     let n_is : name_in (table_of p.arch) p.nr ≡ Some n.0 = (table_of-inverse p.arch n.0 p.nr).0 q_nr in
-    let names : n.0 ≡ m.0 = some_same n.0 m.0 (sym n_is ∙ m_is) in
+    let names : n.0 ≡ m.0 = same_Some n.0 m.0 (sym n_is ∙ m_is) in
     let b_is : rule_parts b ≡ rule_of y p.arch p.nr = q.is ∙ ap (λ s. rule_of y s q.nr) archs ∙ ap (rule_of y p.arch) nrs in
     let o : OverlapOn x y m.0 p.arch = record { nr = p.nr; nr_is = p.nr_is; first = a; first_is = p.is; second = b; second_is = b_is; both = clash.1 } in
     let unlike : x.word ≢ y.word = λ (same : x.word ≡ y.word). clash.0 (ap (λ (s : RuleParts). s.word) p.is ∙ same ∙ sym (ap (λ (s : RuleParts). s.word) q.is)) in

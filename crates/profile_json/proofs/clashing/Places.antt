@@ -1,7 +1,7 @@
 -- Which entry a rule comes from, by its place.
-use Rattle.std.proofs.Common.{◌≡◌, ℕ, zero, suc, ◌+◌, ◌-◌, ◌<◌, ◌≤◌, List, [], ◌∷◌, ◌++◌, length, Some, Bool, true, false, nat_lt, ◌⊎◌, inl, inr, refl, sym, ◌∙◌, ap, subst, arith}
+use Rattle.std.proofs.Common.{◌≡◌, ℕ, zero, suc, ◌+◌, ◌-◌, ◌<◌, ◌≤◌, List, [], ◌∷◌, ◌++◌, length, Some, nat_lt, ◌⊎◌, inl, inr, refl, sym, ◌∙◌, ap, subst, arith}
 use Rattle.std.specs.List.{Contains, slice_get, position_from}
-use Rattle.std.proofs.lemmas.Bool.Decides.{nat_tests}
+use Rattle.std.proofs.lemmas.Bool.{cases_Bool, ltb-true, ltb-false}
 use Rattle.call_tables.specs.declared.arch.Arch.{Arch}
 use Rattle.profile_json.specs.Parts.{EntryParts, RuleParts}
 use Rattle.profile_json.specs.Rules.{rules_of_entry, rules_of}
@@ -17,16 +17,6 @@ get_right : {A : Type 0} (xs ys : List A) (i j : ℕ) → i ≡ length xs + j �
 get_right [] ys i j h = let same : i ≡ j = omega (arith, h) in ap (slice_get ys) same
 get_right (x ∷ xs) ys zero j h = absurd (omega (arith, h))
 get_right (x ∷ xs) ys (suc i) j h = get_right xs ys i j (omega (arith, h))
-
-bool_cases : (b : Bool) → (b ≡ true) ⊎ (b ≡ false)
-bool_cases true = inl refl
-bool_cases false = inr refl
-
-below : (m n : ℕ) → nat_lt m n ≡ true → m < n
-below m n h = grind (arith, nat_tests)
-
-not_below : (m n : ℕ) → nat_lt m n ≡ false → n ≤ m
-not_below m n h = grind (arith, nat_tests)
 
 -- the rule q comes from the entry at a place below k
 abbrev pub FromBelow : List Arch → List EntryParts → ℕ → RuleParts → Type 0
@@ -46,9 +36,9 @@ entry_of_place machines [] n p c r at = cc
 entry_of_place machines (e ∷ es) n p c r at =
     let own = rules_of_entry machines e in
     let rest = rules_of machines es in
-    elim (bool_cases (nat_lt (n + p) (n + length own))) [
+    elim (cases_Bool (nat_lt (n + p) (n + length own))) [
       | inl here ↦
-          let inside : n + p < n + length own = below (n + p) (n + length own) here in
+          let inside : n + p < n + length own = ltb-true (n + p) (n + length own) here in
           let mine : slice_get own p ≡ Some r = sym (get_left own rest p (omega (arith, inside))) ∙ at in
           let first : position_from (λ end. nat_lt (n + p) end) c (ends_after n machines (e ∷ es)) ≡ Some (c + 0) = rw here (ap Some (omega arith)) in (
             0,
@@ -61,7 +51,7 @@ entry_of_place machines (e ∷ es) n p c r at =
             },
           )
       | inr past ↦
-          let beyond : n + length own ≤ n + p = not_below (n + p) (n + length own) past in
+          let beyond : n + length own ≤ n + p = ltb-false (n + p) (n + length own) past in
           let split : p ≡ length own + (p - length own) = omega (arith, beyond) in
           let theirs : slice_get rest (p - length own) ≡ Some r = sym (get_right own rest p (p - length own) split) ∙ at in
           let later = entry_of_place machines es (n + length own) (p - length own) (c + 1) r theirs in
@@ -75,10 +65,10 @@ entry_of_place machines (e ∷ es) n p c r at =
               entry = is.entry;
               entry_at = is.entry_at;
               has = is.has;
-              earlier = λ i q before got. elim (bool_cases (nat_lt i (length own))) [
-                | inl mine ↦ inr (0, e, omega arith, refl, contains_at own i q (sym (get_left own rest i (below i (length own) mine)) ∙ got))
+              earlier = λ i q before got. elim (cases_Bool (nat_lt i (length own))) [
+                | inl mine ↦ inr (0, e, omega arith, refl, contains_at own i q (sym (get_left own rest i (ltb-true i (length own) mine)) ∙ got))
                 | inr more ↦
-                    let from : length own ≤ i = not_below i (length own) more in
+                    let from : length own ≤ i = ltb-false i (length own) more in
                     let apart : i ≡ length own + (i - length own) = omega (arith, from) in
                     let got_rest : slice_get rest (i - length own) ≡ Some q = sym (get_right own rest i (i - length own) apart) ∙ got in
                     elim (is.earlier (i - length own) q (omega (arith, before, from)) got_rest) [

@@ -1,9 +1,10 @@
 -- The second of two entries that clash, by the place of its rule.
-use Rattle.std.proofs.Common.{◌≡◌, ℕ, ◌+◌, ◌<◌, ◌≤◌, List, length, map, get_or, Some, None, option_map, nat_lt, Bool, true, false, ◌⊎◌, inl, inr, refl, sym, ◌∙◌, ap, subst, arith}
+use Rattle.std.proofs.Common.{◌≡◌, ℕ, ◌+◌, ◌<◌, ◌≤◌, List, length, map, get_or, Some, None, option_map, nat_lt, false, inl, inr, sym, ◌∙◌, ap, subst, arith}
 use Rattle.std.specs.List.{Contains, slice_get, position, position_from}
 use Rattle.std.proofs.lemmas.List.{length-map}
-use Rattle.std.proofs.lemmas.Option.{slice_get-map, slice_get_within, slice_get-get_or}
+use Rattle.std.proofs.lemmas.Option.{same_Some, slice_get-map, slice_get_within, slice_get-get_or}
 use Rattle.std.proofs.lemmas.Iterator.Adapters.{position_from-zero}
+use Rattle.std.proofs.lemmas.Bool.{cases_Bool, ltb-true, ltb-false}
 use Rattle.std.proofs.lemmas.Bool.Decides.{nat_tests}
 use Rattle.call_tables.specs.declared.arch.Arch.{Arch}
 use Rattle.profile.specs.declared.rules.Rule.{Rule}
@@ -62,14 +63,11 @@ entry_read entries i e lt is =
 pub within : (entries : List Entry) (i : ℕ) (y : EntryParts) → slice_get (map entry_parts entries) i ≡ Some y → i < length entries
 within entries i y at = let lt = slice_get_within (map entry_parts entries) i y at in omega (arith, lt, length-map entries entry_parts)
 
-some_same : {A : Type 0} (x y : A) → Some x ≡ Some y → x ≡ y
-some_same x y h = cc
-
 -- the place that the search for the rule's entry gives
 pub chosen : (machines : List Arch) (es : List EntryParts) (ends : List ℕ) (place k : ℕ) → ends ≡ ends_after 0 machines es → HasClash machines es place → Some k ≡ position (λ end. nat_lt place end) ends → IsSecond machines es k
 chosen machines es ends place k are h at =
     let s = second_of machines es place h in
-    let same : s.0 ≡ k = some_same s.0 k (sym s.1 ∙ ap (position (λ end. nat_lt place end)) (sym are) ∙ sym at) in
+    let same : s.0 ≡ k = same_Some s.0 k (sym s.1 ∙ ap (position (λ end. nat_lt place end)) (sym are) ∙ sym at) in
     subst (IsSecond machines es) same s.2
 
 pub none_chosen : (machines : List Arch) (es : List EntryParts) (ends : List ℕ) (place : ℕ) → ends ≡ ends_after 0 machines es → HasClash machines es place → None ≡ position (λ end. nat_lt place end) ends → ⊥
@@ -78,37 +76,27 @@ none_chosen machines es ends place are h at =
     let no : None ≡ Some s.0 = at ∙ ap (position (λ end. nat_lt place end)) are ∙ s.1 in
     cc
 
-bool_cases : (b : Bool) → (b ≡ true) ⊎ (b ≡ false)
-bool_cases true = inl refl
-bool_cases false = inr refl
-
-below : (m n : ℕ) → nat_lt m n ≡ true → m < n
-below m n h = grind (arith, nat_tests)
-
-not_below : (m n : ℕ) → nat_lt m n ≡ false → n ≤ m
-not_below m n h = grind (arith, nat_tests)
-
 -- no entry below `first` clashes with the one at k, so k is not among those
 pub before_second : (machines : List Arch) (es : List EntryParts) (k first : ℕ) (y : EntryParts) → IsSecond machines es k → slice_get es k ≡ Some y
     → ((j : ℕ) → j < first → (x : EntryParts) → slice_get es j ≡ Some x → NoClash machines x y) → first < k
 before_second machines es k first y s at none =
-    let same : y ≡ s.y = some_same y s.y (sym at ∙ s.y_at) in
-    elim (bool_cases (nat_lt first k)) [
-      | inl lower ↦ below first k lower
+    let same : y ≡ s.y = same_Some y s.y (sym at ∙ s.y_at) in
+    elim (cases_Bool (nat_lt first k)) [
+      | inl lower ↦ ltb-true first k lower
       | inr past ↦
-          let le : k ≤ first = not_below first k past in
+          let le : k ≤ first = ltb-false first k past in
           absurd (s.must (λ j lt x x_at. subst (λ (z : EntryParts). NoClash machines x z) same (none j (omega (arith, le, lt)) x x_at)))
     ]
 
 pub none_more : (machines : List Arch) (es : List EntryParts) (first : ℕ) (e y : EntryParts) → slice_get es first ≡ Some e → NoClash machines e y
     → ((j : ℕ) → j < first → (x : EntryParts) → slice_get es j ≡ Some x → NoClash machines x y) → (j : ℕ) → j < first + 1 → (x : EntryParts) → slice_get es j ≡ Some x → NoClash machines x y
 none_more machines es first e y at here before j lt x x_at =
-    elim (bool_cases (nat_lt j first)) [
-      | inl lower ↦ before j (below j first lower) x x_at
+    elim (cases_Bool (nat_lt j first)) [
+      | inl lower ↦ before j (ltb-true j first lower) x x_at
       | inr past ↦
-          let le : first ≤ j = not_below j first past in
+          let le : first ≤ j = ltb-false j first past in
           let place : j ≡ first = omega (arith, le, lt) in
-          let same : e ≡ x = some_same e x (sym at ∙ ap (slice_get es) (sym place) ∙ x_at) in
+          let same : e ≡ x = same_Some e x (sym at ∙ ap (slice_get es) (sym place) ∙ x_at) in
           subst (λ (z : EntryParts). NoClash machines z y) same here
     ]
 

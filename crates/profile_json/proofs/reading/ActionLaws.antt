@@ -1,7 +1,8 @@
 -- Actions: what reading gives is meant, and what it refuses is broken.
 use Rattle.std.proofs.Common.{◌≡◌, ℕ, ◌≤◌, ◌<◌, List, Bool, cond, nat_le, Ok, Err, Some, None, true, false, ◌⊎◌, inl, inr, refl, sym, ◌∙◌, ap, subst, arith}
 use Rattle.std.specs.Option.{ok_or}
-use Rattle.std.proofs.lemmas.Bool.Decides.{nat_tests}
+use Rattle.std.proofs.lemmas.Bool.{leb-true, leb-false}
+use Rattle.std.proofs.lemmas.Option.{same_Some}
 use Rattle.serde_json.specs.Data.{Data}
 use Rattle.profile_json.specs.declared.action.Action.{Action}
 use Rattle.profile_json.specs.Fault.{Fault, wrong_type, missing_key, unknown_action, errno_not_taken, errno_range}
@@ -11,7 +12,7 @@ use Rattle.profile_json.specs.inner.Outcome.{◌>>=◌}
 use Rattle.profile_json.specs.inner.Reading.{needed, action_at, errno_in, word_at}
 use Rattle.profile_json.specs.Meaning.{NamesAction, ErrnoMeans, none, given, WordMeans}
 use Rattle.profile_json.specs.Breaks.{ActionBreaks, action_text, action_unknown, WordBreaks, action, errno_other, not_taken, large}
-use Rattle.profile_json.proofs.reading.Steps.{bind_ok, bind_err, ok_or_ok, ok_or_err, needed_ok, needed_breaks, needed_unbroken, holds_same, some_same, ok_same, not_ok, true_false}
+use Rattle.profile_json.proofs.reading.Steps.{bind_ok, bind_err, ok_or_ok, ok_or_err, needed_ok, needed_breaks, needed_unbroken, holds_same, ok_same, not_ok, true_false}
 
 pub action_means : (k : List ℕ) (d : Data) (a : Action) → action_at k d ≡ Ok a → NamesAction k d a
 unfolding action_at
@@ -38,7 +39,7 @@ action_unbroken k d a _ m (action_unknown name at e) =
 pub one_action : (k : List ℕ) (d : Data) (a b : Action) → NamesAction k d a → NamesAction k d b → a ≡ b
 one_action k d a b x y =
     let same : x.0 ≡ y.0 = holds_same x.0 y.0 (sym x.1 ∙ y.1) in
-    some_same a b (sym x.2 ∙ ap action_named same ∙ y.2)
+    same_Some a b (sym x.2 ∙ ap action_named same ∙ y.2)
 
 -- ---- the data of an action
 
@@ -46,12 +47,6 @@ one_action k d a b x y =
 data Errno (a : Action) (m : Member ℕ) : ℕ → Type 0 where
   no_member : m ≡ missing → Errno a m 1
   member_is : (n : ℕ) → m ≡ holds n → takes_data a ≡ true → n ≤ 4095 → Errno a m n
-
-small : (n : ℕ) → nat_le n 4095 ≡ true → n ≤ 4095
-small n h = grind (arith, nat_tests)
-
-not_small : (n : ℕ) → nat_le n 4095 ≡ false → 4095 < n
-not_small n h = grind (arith, nat_tests)
 
 chosen_ok : (t s : Bool) (n x : ℕ) → cond t (cond s (Ok n) (Err errno_range)) (Err errno_not_taken) ≡ Ok x → (t ≡ true) × (s ≡ true) × (n ≡ x)
 chosen_ok true true n x h = (refl, refl, cc)
@@ -68,7 +63,7 @@ errno_ok a missing x h = subst (Errno a missing) (ok_same 1 x h) (no_member refl
 errno_ok a other_type x h = cc
 errno_ok a (holds n) x h =
     let at = chosen_ok (takes_data a) (nat_le n 4095) n x h in
-    subst (Errno a (holds n)) at.2 (member_is n refl at.0 (small n at.1))
+    subst (Errno a (holds n)) at.2 (member_is n refl at.0 (leb-true n 4095 at.1))
 
 errno_err : (a : Action) (m : Member ℕ) (e : Fault) → errno_in a m ≡ Err e → ((m ≡ other_type) × (wrong_type ≡ e)) ⊎ ((n : ℕ) × (m ≡ holds n) × (((takes_data a ≡ false) × (errno_not_taken ≡ e)) ⊎ ((4095 < n) × (errno_range ≡ e))))
 errno_err a missing e h = cc
@@ -76,7 +71,7 @@ errno_err a other_type e h = inl (refl, cc)
 errno_err a (holds n) e h =
     elim (chosen_err (takes_data a) (nat_le n 4095) n e h) [
       | inl at ↦ inr (n, refl, inl at)
-      | inr at ↦ inr (n, refl, inr (not_small n at.0, at.1))
+      | inr at ↦ inr (n, refl, inr (leb-false n 4095 at.0, at.1))
     ]
 
 errno_of_member : (k : List ℕ) (d : Data) (a : Action) (n : ℕ) → Errno a (member whole k d) n → ErrnoMeans k d a n

@@ -1,7 +1,10 @@
 -- Listed machines: what reading gives is meant, and what it refuses is broken.
-use Rattle.std.proofs.Common.{◌≡◌, ℕ, List, [], ◌∷◌, ◌++◌, cond, ◌||◌, Bool, Ok, Err, Some, None, true, false, ◌⊎◌, inl, inr, refl, sym, ◌∙◌, ap, subst}
+use Rattle.std.proofs.Common.{◌≡◌, ℕ, List, [], cond, Ok, Err, Some, None, true, inl, inr, refl, sym, ◌∙◌, ap, subst}
 use Rattle.std.specs.Option.{ok_or}
 use Rattle.std.specs.List.{AllZip, Contains, list_any}
+use Rattle.std.proofs.lemmas.List.Folds.{list_any_at}
+use Rattle.std.proofs.lemmas.Map.Views.{Contains-from_any}
+use Rattle.std.proofs.lemmas.Option.{same_Some}
 use Rattle.serde_json.specs.Data.{Data}
 use Rattle.call_tables.specs.declared.arch.Arch.{Arch}
 use Rattle.call_tables.specs.declared.arch.Arch.TheVariants.{X86_64, Aarch64}
@@ -11,11 +14,11 @@ use Rattle.profile_json.specs.Lookup.{member, or_default, text, list}
 use Rattle.profile_json.specs.Names.{arch_named}
 use Rattle.profile_json.specs.Rules.{same_arch, or_native}
 use Rattle.profile_json.specs.inner.Outcome.{◌>>=◌}
-use Rattle.profile_json.specs.inner.Reading.{typed, with_front, arch_of, archs_in, archs_or_native, archs_of}
+use Rattle.profile_json.specs.inner.Reading.{typed, each, arch_of, archs_or_native, archs_of}
 use Rattle.profile_json.specs.Meaning.{NamesArch, ListsArchs}
 use Rattle.profile_json.specs.Breaks.{ArchsBreak, no_list, no_text, unknown, not_native}
-use Rattle.profile_json.proofs.Lists.{contains_nil, contains_head, contains_tail, contains_cases}
-use Rattle.profile_json.proofs.reading.Steps.{bind_ok, bind_err, ok_or_ok, ok_or_err, cond_ok, cond_err, some_same, none_some, ok_same, not_ok, true_false}
+use Rattle.profile_json.proofs.Lists.{related, one_related}
+use Rattle.profile_json.proofs.reading.Steps.{bind_ok, bind_err, ok_or_ok, ok_or_err, cond_ok, cond_err, each_ok, each_err, none_some, ok_same, not_ok, true_false}
 
 arch_means : (d : Data) (a : Arch) → arch_of d ≡ Ok a → NamesArch d a
 unfolding arch_of
@@ -36,24 +39,6 @@ arch_breaks d f h =
       | inr step ↦ (let at = ok_or_err (arch_named step.0) unknown_arch f step.2 in subst (ArchBreaks d) at.1 (is_unknown step.0 (ok_or_ok (text d) wrong_type step.0 step.1) at.0))
     ]
 
-archs_mean : (ds : List Data) (archs : List Arch) → archs_in ds ≡ Ok archs → AllZip NamesArch ds archs
-archs_mean [] archs h = subst (AllZip NamesArch []) (ok_same [] archs h) tt
-archs_mean (d ∷ ds) archs h =
-    let step = bind_ok (arch_of d) (λ a. with_front (a ∷ []) (archs_in ds)) archs h in
-    let rest = bind_ok (archs_in ds) (λ xs. Ok (step.0 ∷ [] ++ xs)) archs step.2 in
-    subst (AllZip NamesArch (d ∷ ds)) (ok_same (step.0 ∷ rest.0) archs rest.2) (arch_means d step.0 step.1, archs_mean ds rest.0 rest.1)
-
-archs_break : (ds : List Data) (f : Fault) → archs_in ds ≡ Err f → (d : Data) × Contains ds d × ArchBreaks d f
-archs_break [] f h = cc
-archs_break (d ∷ ds) f h =
-    elim (bind_err (arch_of d) (λ a. with_front (a ∷ []) (archs_in ds)) f h) [
-      | inl bad ↦ (d, contains_head d ds, arch_breaks d f bad)
-      | inr step ↦ elim (bind_err (archs_in ds) (λ xs. Ok (step.0 ∷ [] ++ xs)) f step.2) [
-        | inl bad ↦ (let at = archs_break ds f bad in (at.0, contains_tail d ds at.0 at.1, at.2))
-        | inr rest ↦ absurd (not_ok (step.0 ∷ [] ++ rest.0) f rest.2)
-      ]
-    ]
-
 value_breaks : (s : Data) (native : Arch) (ds : List Data) (d : Data) (f : Fault) → or_default [] (member list key.architectures s) ≡ Some ds → Contains ds d → ArchBreaks d f → ArchsBreak s native f
 value_breaks s native ds d _ at in_ds (has_no_text e) = no_text ds d at in_ds e
 value_breaks s native ds d _ at in_ds (is_unknown name e u) = unknown ds d name at in_ds e u
@@ -68,38 +53,16 @@ same_self : (a : Arch) → same_arch a a ≡ true
 same_self X86_64 = refl
 same_self Aarch64 = refl
 
-bool_cases : (b : Bool) → (b ≡ true) ⊎ (b ≡ false)
-bool_cases true = inl refl
-bool_cases false = inr refl
-
-other_or : (a b : Bool) → a ≡ false → (a || b) ≡ true → b ≡ true
-other_or true b n h = cc
-other_or false b n h = h
-
-or_true : (a b : Bool) → b ≡ true → (a || b) ≡ true
-or_true true b h = refl
-or_true false b h = h
-
 pub lists_native : (a : Arch) (archs : List Arch) → list_any (same_arch a) archs ≡ true → Contains archs a
-lists_native a [] h = cc
-lists_native a (b ∷ bs) h =
-    elim (bool_cases (same_arch a b)) [
-      | inl same ↦ subst (λ c. Contains (b ∷ bs) c) (sym (same_is a b same)) (contains_head b bs)
-      | inr other ↦ contains_tail b bs a (lists_native a bs (other_or (same_arch a b) (list_any (same_arch a) bs) other h))
-    ]
+lists_native a archs h = Contains-from_any same_is a archs h
 
 pub native_lists : (a : Arch) (archs : List Arch) → Contains archs a → list_any (same_arch a) archs ≡ true
-native_lists a [] h = absurd (contains_nil a h)
-native_lists a (b ∷ bs) h =
-    elim (contains_cases b bs a h) [
-      | inl here ↦ (let is : same_arch a b ≡ true = ap (same_arch a) here ∙ same_self a in rw is refl)
-      | inr later ↦ or_true (same_arch a b) (list_any (same_arch a) bs) (native_lists a bs later)
-    ]
+native_lists a archs h = list_any_at (same_arch a) archs h.0 a h.1 (ap (same_arch a) h.2 ∙ same_self a)
 
 lists_of : (s : Data) (native : Arch) (ds : List Data) (archs : List Arch) → or_default [] (member list key.architectures s) ≡ Some ds → archs_or_native native ds ≡ Ok archs → ListsArchs s native archs
 lists_of s native ds archs at h =
-    let step = bind_ok (archs_in ds) (λ xs0. Ok (or_native native xs0)) archs h in
-    record { values = ds; values_are = at; named = step.0; names = archs_mean ds step.0 step.1; archs_are = sym (ok_same (or_native native step.0) archs step.2) }
+    let step = bind_ok (each arch_of ds) (λ xs0. Ok (or_native native xs0)) archs h in
+    record { values = ds; values_are = at; named = step.0; names = each_ok arch_of NamesArch arch_means ds step.0 step.1; archs_are = sym (ok_same (or_native native step.0) archs step.2) }
 
 pub lists_archs : (s : Data) (native : Arch) (archs : List Arch) → archs_of native s ≡ Ok archs → ListsArchs s native archs × Contains archs native
 unfolding archs_of
@@ -118,8 +81,8 @@ archs_refused s native f h =
       | inr at_d ↦
           let values = ok_or_ok (or_default [] (member list key.architectures s)) wrong_type at_d.0 at_d.1 in
           elim (bind_err (archs_or_native native at_d.0) (λ xs0. cond (list_any (same_arch native) xs0) (Ok xs0) (Err native_missing)) f at_d.2) [
-            | inl bad ↦ elim (bind_err (archs_in at_d.0) (λ xs0. Ok (or_native native xs0)) f bad) [
-              | inl worse ↦ (let at = archs_break at_d.0 f worse in value_breaks s native at_d.0 at.0 f values at.1 at.2)
+            | inl bad ↦ elim (bind_err (each arch_of at_d.0) (λ xs0. Ok (or_native native xs0)) f bad) [
+              | inl worse ↦ (let at = each_err arch_of at_d.0 f worse in value_breaks s native at_d.0 at.0 f values at.1 (arch_breaks at.0 f at.2))
               | inr step ↦ absurd (not_ok (or_native native step.0) f step.2)
             ]
             | inr at_a ↦
@@ -133,45 +96,24 @@ archs_refused s native f h =
 
 one_arch : (d : Data) (a b : Arch) → NamesArch d a → NamesArch d b → a ≡ b
 one_arch d a b x y =
-    let same : x.0 ≡ y.0 = some_same x.0 y.0 (sym x.1 ∙ y.1) in
-    some_same a b (sym x.2 ∙ ap arch_named same ∙ y.2)
-
-one_list : (ds : List Data) (xs ys : List Arch) → AllZip NamesArch ds xs → AllZip NamesArch ds ys → xs ≡ ys
-one_list [] [] [] p q = refl
-one_list [] [] (y ∷ ys) p q = absurd q
-one_list [] (x ∷ xs) ys p q = absurd p
-one_list (d ∷ ds) [] ys p q = absurd p
-one_list (d ∷ ds) (x ∷ xs) [] p q = absurd q
-one_list (d ∷ ds) (x ∷ xs) (y ∷ ys) p q =
-    let head : x ≡ y = one_arch d x y p.0 q.0 in
-    let tail : xs ≡ ys = one_list ds xs ys p.1 q.1 in
-    cc
+    let same : x.0 ≡ y.0 = same_Some x.0 y.0 (sym x.1 ∙ y.1) in
+    same_Some a b (sym x.2 ∙ ap arch_named same ∙ y.2)
 
 pub one_archs : (s : Data) (native : Arch) (xs ys : List Arch) → ListsArchs s native xs → ListsArchs s native ys → xs ≡ ys
 one_archs s native xs ys p q =
-    let values : p.values ≡ q.values = some_same p.values q.values (sym p.values_are ∙ q.values_are) in
+    let values : p.values ≡ q.values = same_Some p.values q.values (sym p.values_are ∙ q.values_are) in
     let names : AllZip NamesArch q.values p.named = subst (λ ds. AllZip NamesArch ds p.named) values p.names in
-    p.archs_are ∙ ap (or_native native) (one_list q.values p.named q.named names q.names) ∙ sym q.archs_are
-
--- each value of the list names a machine
-named_at : (ds : List Data) (archs : List Arch) (d : Data) → AllZip NamesArch ds archs → Contains ds d → (a : Arch) × NamesArch d a
-named_at [] archs d p h = absurd (contains_nil d h)
-named_at (e ∷ ds) [] d p h = absurd p
-named_at (e ∷ ds) (a ∷ archs) d p h =
-    elim (contains_cases e ds d h) [
-      | inl here ↦ (a, subst (λ x. NamesArch x a) here p.0)
-      | inr later ↦ named_at ds archs d p.1 later
-    ]
+    p.archs_are ∙ ap (or_native native) (one_related NamesArch one_arch q.values p.named q.named names q.names) ∙ sym q.archs_are
 
 pub archs_unbroken : (s : Data) (native : Arch) (archs : List Arch) (f : Fault) → ListsArchs s native archs → Contains archs native → ArchsBreak s native f → ⊥
 archs_unbroken s native archs _ m has (no_list e) = none_some (or_default [] (member list key.architectures s)) m.values e m.values_are
 archs_unbroken s native archs _ m has (no_text ds d at in_ds e) =
-    let same : m.values ≡ ds = some_same m.values ds (sym m.values_are ∙ at) in
-    let name = named_at m.values m.named d m.names (subst (λ xs. Contains xs d) (sym same) in_ds) in
+    let same : m.values ≡ ds = same_Some m.values ds (sym m.values_are ∙ at) in
+    let name = related NamesArch m.values m.named d m.names (subst (λ xs. Contains xs d) (sym same) in_ds) in
     none_some (text d) name.1.0 e name.1.1
 archs_unbroken s native archs _ m has (unknown ds d t at in_ds e u) =
-    let same : m.values ≡ ds = some_same m.values ds (sym m.values_are ∙ at) in
-    let name = named_at m.values m.named d m.names (subst (λ xs. Contains xs d) (sym same) in_ds) in
-    let names : name.1.0 ≡ t = some_same name.1.0 t (sym name.1.1 ∙ e) in
+    let same : m.values ≡ ds = same_Some m.values ds (sym m.values_are ∙ at) in
+    let name = related NamesArch m.values m.named d m.names (subst (λ xs. Contains xs d) (sym same) in_ds) in
+    let names : name.1.0 ≡ t = same_Some name.1.0 t (sym name.1.1 ∙ e) in
     none_some (arch_named t) name.0 u (ap arch_named (sym names) ∙ name.1.2)
 archs_unbroken s native archs _ m has (not_native others lists lost) = lost (subst (λ (xs0 : List Arch). Contains xs0 native) (one_archs s native archs others m lists) has)

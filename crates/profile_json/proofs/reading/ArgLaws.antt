@@ -1,8 +1,10 @@
 -- Conditions: what reading gives is meant, and what it refuses is broken.
-use Rattle.std.proofs.Common.{◌≡◌, ◌≢◌, ℕ, ◌<◌, ◌≤◌, ◌==◌, nat_lt, List, bit_and, cond, Bool, Ok, Err, Some, None, IsSome, true, false, ◌⊎◌, inl, inr, refl, sym, ◌∙◌, ap, subst, arith}
+use Rattle.std.proofs.Common.{◌≡◌, ◌≢◌, ℕ, ◌<◌, ◌==◌, nat_lt, List, bit_and, cond, Bool, Ok, Err, Some, None, IsSome, true, false, ◌⊎◌, inl, inr, refl, sym, ◌∙◌, ap, subst, arith}
 use Rattle.std.specs.Option.{ok_or}
 use Rattle.std.specs.List.{list_any}
-use Rattle.std.proofs.lemmas.Bool.Decides.{nat_tests, Decides-eqb}
+use Rattle.std.proofs.lemmas.Bool.{ltb-true, ltb-false}
+use Rattle.std.proofs.lemmas.Bool.Decides.{Decides-eqb}
+use Rattle.std.proofs.lemmas.Option.{same_Some}
 use Rattle.serde_json.specs.Data.{Data}
 use Rattle.profile.specs.declared.conditions.Op.{Op}
 use Rattle.profile.specs.Operator.{mask_of}
@@ -15,7 +17,7 @@ use Rattle.profile_json.specs.inner.Outcome.{◌>>=◌}
 use Rattle.profile_json.specs.inner.Reading.{typed, needed, index_at, op_at, cond_of, arg_of}
 use Rattle.profile_json.specs.Meaning.{ArgMeans}
 use Rattle.profile_json.specs.Breaks.{ArgBreaks, no_object, index_whole, index_large, value_whole, second_other, op_text, op_unknown, stray}
-use Rattle.profile_json.proofs.reading.Steps.{bind_ok, bind_err, ok_or_ok, ok_or_err, cond_ok, cond_err, needed_ok, needed_breaks, needed_unbroken, object_is, object_not, is_some_not_none, some_same, holds_same, none_some, true_false}
+use Rattle.profile_json.proofs.reading.Steps.{bind_ok, bind_err, ok_or_ok, ok_or_err, cond_ok, cond_err, needed_ok, needed_breaks, needed_unbroken, object_is, object_not, is_some_not_none, holds_same, none_some, true_false}
 
 -- ---- index
 
@@ -29,12 +31,6 @@ index_fault true true i e h = inr (refl, cc)
 index_fault true false i e h = cc
 index_fault false seen i e h = inl (refl, cc)
 
-lower : (i : ℕ) → nat_lt i 6 ≡ true → i < 6
-lower i h = grind (arith, nat_tests)
-
-not_lower : (i : ℕ) → nat_lt i 6 ≡ false → 6 ≤ i
-not_lower i h = grind (arith, nat_tests)
-
 -- a small index that no condition in front has
 record IsIndex (front : List CondParts) (d : Data) (i : ℕ) : Type 0 where
   is : member whole key.index d ≡ holds i
@@ -46,7 +42,7 @@ unfolding index_at
 index_ok front d x h =
     let step = bind_ok (needed missing_key (member whole key.index d)) (λ i. cond (nat_lt i 6) (cond (list_any (λ c. c.index == i) front) (Err repeated_index) (Ok i)) (Err bad_index)) x h in
     let at = index_test (nat_lt step.0 6) (list_any (λ c. c.index == step.0) front) step.0 x step.2 in
-    let found : IsIndex front d step.0 = record { is = needed_ok missing_key (member whole key.index d) step.0 step.1; small = lower step.0 at.0; fresh = at.1 } in
+    let found : IsIndex front d step.0 = record { is = needed_ok missing_key (member whole key.index d) step.0 step.1; small = ltb-true step.0 6 at.0; fresh = at.1 } in
     subst (IsIndex front d) at.2 found
 
 -- why a member is refused: it breaks a rule, or its index stands in front
@@ -62,7 +58,7 @@ index_err front d f is_object h =
       | inr step ↦
           let is = needed_ok missing_key (member whole key.index d) step.0 step.1 in
           elim (index_fault (nat_lt step.0 6) (list_any (λ c. c.index == step.0) front) step.0 f step.2) [
-            | inl big ↦ subst (Refused front d) big.1 (alone bad_index (index_large step.0 is (not_lower step.0 big.0)))
+            | inl big ↦ subst (Refused front d) big.1 (alone bad_index (index_large step.0 is (ltb-false step.0 6 big.0)))
             | inr seen ↦ subst (Refused front d) seen.1 (repeated step.0 is seen.0)
           ]
     ]
@@ -188,9 +184,9 @@ arg_unbroken d c _ m (op_unknown name at e) =
     none_some (op_named name) c.op e (ap op_named (sym same) ∙ m.op_is)
 arg_unbroken d c _ m (stray name o value second at_o named at_v at_s apart) =
     let names : m.op_name ≡ name = holds_same m.op_name name (sym m.op_text ∙ at_o) in
-    let ops : c.op ≡ o = some_same c.op o (sym m.op_is ∙ ap op_named names ∙ named) in
+    let ops : c.op ≡ o = same_Some c.op o (sym m.op_is ∙ ap op_named names ∙ named) in
     let values : c.value ≡ value = holds_same c.value value (sym m.value_is ∙ at_v) in
-    let seconds : m.second ≡ second = some_same m.second second (sym m.second_is ∙ at_s) in
+    let seconds : m.second ≡ second = same_Some m.second second (sym m.second_is ∙ at_s) in
     let datum : c.datum ≡ mask_of o second = m.datum_is ∙ ap (λ x. mask_of x m.second) ops ∙ ap (mask_of o) seconds in
     let masks : mask_of c.op c.value ≡ mask_of o value = ap (λ x. mask_of x c.value) ops ∙ ap (mask_of o) values in
     apart (ap (λ x. bit_and x (mask_of o value)) (sym datum) ∙ ap (bit_and c.datum) (sym masks) ∙ m.no_stray ∙ datum)

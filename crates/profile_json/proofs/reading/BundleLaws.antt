@@ -2,6 +2,7 @@
 use Rattle.std.proofs.Common.{◌≡◌, ℕ, zero, suc, List, [], ◌∷◌, cond, Bool, Ok, Err, Option, Some, None, IfSome, IsSomeAnd, true, false, inl, inr, refl, sym, ◌∙◌, ap, subst}
 use Rattle.std.specs.List.{All, AllZip, Contains, list_any, slice_get}
 use Rattle.std.proofs.lemmas.List.Elements.{All-contains}
+use Rattle.std.proofs.lemmas.Option.{same_Some}
 use Rattle.serde_json.specs.Data.{Data}
 use Rattle.call_tables.specs.declared.arch.Arch.{Arch}
 use Rattle.call_tables.specs.declared.arch.Arch.TheVariants.{X86_64, Aarch64}
@@ -18,7 +19,7 @@ use Rattle.profile_json.specs.Meaning.{IsText, RootMeans, WordMeans, KeysMean, L
 use Rattle.profile_json.specs.Breaks.{Breaks, WordBreaks, EntriesBreak, SeccompBreaks, ValueBreaks}
 use Rattle.profile_json.specs.Breaks as broken
 use Rattle.profile_json.specs.inner.Making.{IsMade, IsNotMade, many, clash}
-use Rattle.profile_json.proofs.reading.Steps.{bind_ok, bind_err, ok_same, not_ok, some_same}
+use Rattle.profile_json.proofs.reading.Steps.{bind_ok, bind_err, ok_same, not_ok}
 use Rattle.profile_json.proofs.reading.RootLaws.{root_breaks}
 use Rattle.profile_json.proofs.reading.ActionLaws.{word_means, word_breaks}
 use Rattle.profile_json.proofs.reading.KeyLaws.{keys_mean, keys_break}
@@ -150,7 +151,7 @@ entry_at : (ds : List Data) (es : List EntryParts) (i : ℕ) (e : EntryParts) �
 entry_at [] [] i e z h = cc
 entry_at [] (y ∷ ys) i e z h = absurd z
 entry_at (d ∷ ds) [] i e z h = absurd z
-entry_at (d ∷ ds) (y ∷ ys) zero e z h = (d, refl, subst (EntryMeans d) (some_same y e h) z.0)
+entry_at (d ∷ ds) (y ∷ ys) zero e z h = (d, refl, subst (EntryMeans d) (same_Some y e h) z.0)
 entry_at (d ∷ ds) (y ∷ ys) (suc i) e z h = entry_at ds ys i e z.1 h
 
 pub not_made_breaks : (s : Data) (native : Arch) (x : Said) (f : Fault) → SaidMeans s native x → IsNotMade x f → SeccompBreaks s native f

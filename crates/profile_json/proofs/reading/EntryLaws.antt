@@ -1,6 +1,7 @@
 -- Entries: what reading gives is meant, and what it refuses is broken.
-use Rattle.std.proofs.Common.{◌≡◌, ℕ, suc, ◌<◌, ◌≤◌, ◌==◌, nat_lt, List, [], ◌∷◌, ◌++◌, length, map, cond, ◌||◌, Bool, Ok, Err, Some, None, IsSome, true, false, ◌⊎◌, inl, inr, refl, sym, ◌∙◌, ap, subst, arith}
+use Rattle.std.proofs.Common.{◌≡◌, ℕ, suc, ◌<◌, ◌==◌, nat_lt, List, [], ◌∷◌, ◌++◌, length, map, cond, ◌||◌, Bool, Ok, Err, Some, None, IsSome, true, false, ◌⊎◌, inl, inr, refl, sym, ◌∙◌, ap, subst, arith}
 use Rattle.std.specs.List.{AllZip, Contains, list_any, slice_get}
+use Rattle.std.proofs.lemmas.Bool.{ltb-true, ltb-false}
 use Rattle.std.proofs.lemmas.Bool.Decides.{nat_tests}
 use Rattle.std.proofs.lemmas.List.{append_assoc, append-nil, map-append}
 use Rattle.serde_json.specs.Data.{Data}
@@ -12,7 +13,7 @@ use Rattle.profile_json.specs.Lookup.{holds, member, or_default, object, text, w
 use Rattle.profile_json.specs.Names.{is_known}
 use Rattle.profile_json.specs.CallName.{short_name}
 use Rattle.profile_json.specs.inner.Outcome.{◌>>=◌}
-use Rattle.profile_json.specs.inner.Reading.{typed, needed, is_empty, with_front, arg_of, args_after, args_of, name_of, names_in, names_of, entry_word, entry_of, entries_in, entries_of}
+use Rattle.profile_json.specs.inner.Reading.{typed, needed, is_empty, each, arg_of, args_after, args_of, name_of, names_of, entry_word, entry_of, entries_of}
 use Rattle.profile_json.specs.Meaning.{WordMeans, ArgMeans, ArgsMean, NamesMean, EntryMeans, EntriesMean}
 use Rattle.profile_json.specs.Breaks.{WordBreaks, ArgBreaks, ArgsBreak, NamesBreak, EntryBreaks}
 use Rattle.profile_json.specs.Breaks as broken
@@ -20,7 +21,7 @@ use Rattle.profile_json.proofs.Lists.{contains_head, contains_tail}
 use Rattle.profile_json.proofs.reading.Conditions.{distinct_push}
 use Rattle.profile_json.proofs.reading.ActionLaws.{word_means, word_breaks}
 use Rattle.profile_json.proofs.reading.ArgLaws.{Refused, alone, repeated, arg_ok, arg_err}
-use Rattle.profile_json.proofs.reading.Steps.{bind_ok, bind_err, ok_or_ok, ok_or_err, cond_ok, cond_err, guard_ok, guard_err, needed_ok, needed_breaks, object_is, object_not, ok_same, not_ok}
+use Rattle.profile_json.proofs.reading.Steps.{bind_ok, bind_err, ok_or_ok, ok_or_err, cond_ok, cond_err, guard_ok, guard_err, needed_ok, needed_breaks, object_is, object_not, each_ok, each_err, is_nil, ok_same, not_ok}
 
 -- ---- the list of conditions
 
@@ -139,49 +140,21 @@ name_err d f h =
       | inr step ↦ (let at = cond_err (is_known step.0) (unknown_call (short_name step.0)) f step.0 step.2 in subst (NameBreaks d) at.1 (is_unknown step.0 (ok_or_ok (text d) wrong_type step.0 step.1) at.0))
     ]
 
-names_ok : (ds : List Data) (names : List (List ℕ)) → names_in ds ≡ Ok names → AllZip (λ value name. (text value ≡ Some name) × (is_known name ≡ true)) ds names
-names_ok [] names h = subst (AllZip (λ value name. (text value ≡ Some name) × (is_known name ≡ true)) []) (ok_same [] names h) tt
-names_ok (d ∷ ds) names h =
-    let step = bind_ok (name_of d) (λ n. with_front (n ∷ []) (names_in ds)) names h in
-    let rest = bind_ok (names_in ds) (λ xs. Ok (step.0 ∷ [] ++ xs)) names step.2 in
-    subst (AllZip (λ value name. (text value ≡ Some name) × (is_known name ≡ true)) (d ∷ ds)) (ok_same (step.0 ∷ rest.0) names rest.2) (name_ok d step.0 step.1, names_ok ds rest.0 rest.1)
-
-names_err : (ds : List Data) (f : Fault) → names_in ds ≡ Err f → (d : Data) × Contains ds d × NameBreaks d f
-names_err [] f h = cc
-names_err (d ∷ ds) f h =
-    elim (bind_err (name_of d) (λ n. with_front (n ∷ []) (names_in ds)) f h) [
-      | inl bad ↦ (d, contains_head d ds, name_err d f bad)
-      | inr step ↦ elim (bind_err (names_in ds) (λ xs. Ok (step.0 ∷ [] ++ xs)) f step.2) [
-        | inl bad ↦ (let at = names_err ds f bad in (at.0, contains_tail d ds at.0 at.1, at.2))
-        | inr rest ↦ absurd (not_ok (step.0 ∷ [] ++ rest.0) f rest.2)
-      ]
-    ]
-
 not_zero : (n : ℕ) → (n == 0) ≡ false → 0 < n
 not_zero n h = grind (arith, nat_tests)
-
-no_more : (m n : ℕ) → nat_lt m n ≡ false → n ≤ m
-no_more m n h = grind (arith, nat_tests)
-
-more : (m n : ℕ) → nat_lt m n ≡ true → m < n
-more m n h = grind (arith, nat_tests)
-
-nil_is : {A : Type 0} (xs : List A) → is_empty xs ≡ true → xs ≡ []
-nil_is [] h = refl
-nil_is (x ∷ xs) h = absurd (let no : (length (x ∷ xs) == 0) ≡ false = grind (arith, nat_tests) in let both : true ≡ false = sym h ∙ no in cc)
 
 names_mean : (d : Data) (names : List (List ℕ)) → names_of d ≡ Ok names → NamesMean d names
 unfolding names_of
 names_mean d names h =
-    let step = bind_ok (needed missing_key (member list key.names d)) (λ ds. cond (is_empty ds) (Err empty_names) (cond (nat_lt 128 (length ds)) (Err too_many) (names_in ds))) names h in
-    let some = guard_ok (is_empty step.0) empty_names (cond (nat_lt 128 (length step.0)) (Err too_many) (names_in step.0)) names step.2 in
-    let few = guard_ok (nat_lt 128 (length step.0)) too_many (names_in step.0) names some.1 in
+    let step = bind_ok (needed missing_key (member list key.names d)) (λ ds. cond (is_empty ds) (Err empty_names) (cond (nat_lt 128 (length ds)) (Err too_many) (each name_of ds))) names h in
+    let some = guard_ok (is_empty step.0) empty_names (cond (nat_lt 128 (length step.0)) (Err too_many) (each name_of step.0)) names step.2 in
+    let few = guard_ok (nat_lt 128 (length step.0)) too_many (each name_of step.0) names some.1 in
     record {
       values = step.0;
       values_are = needed_ok missing_key (member list key.names d) step.0 step.1;
       some = not_zero (length step.0) some.0;
-      few = no_more 128 (length step.0) few.0;
-      each = names_ok step.0 names few.1;
+      few = ltb-false 128 (length step.0) few.0;
+      each = each_ok name_of _ name_ok step.0 names few.1;
     }
 
 name_refused : (d : Data) (ds : List Data) (x : Data) (f : Fault) → member list key.names d ≡ holds ds → Contains ds x → NameBreaks x f → NamesBreak d f
@@ -191,15 +164,15 @@ name_refused d ds x _ at in_ds (is_unknown name e u) = broken.NamesBreak.unknown
 names_break : (d : Data) (f : Fault) → names_of d ≡ Err f → NamesBreak d f
 unfolding names_of
 names_break d f h =
-    elim (bind_err (needed missing_key (member list key.names d)) (λ ds. cond (is_empty ds) (Err empty_names) (cond (nat_lt 128 (length ds)) (Err too_many) (names_in ds))) f h) [
+    elim (bind_err (needed missing_key (member list key.names d)) (λ ds. cond (is_empty ds) (Err empty_names) (cond (nat_lt 128 (length ds)) (Err too_many) (each name_of ds))) f h) [
       | inl bad ↦ broken.NamesBreak.no_list f (needed_breaks (member list key.names d) f bad)
       | inr step ↦
           let at = needed_ok missing_key (member list key.names d) step.0 step.1 in
-          elim (guard_err (is_empty step.0) empty_names f (cond (nat_lt 128 (length step.0)) (Err too_many) (names_in step.0)) step.2) [
-            | inl none ↦ subst (NamesBreak d) none.1 (broken.NamesBreak.none (at ∙ ap holds (nil_is step.0 none.0)))
-            | inr some ↦ elim (guard_err (nat_lt 128 (length step.0)) too_many f (names_in step.0) some.1) [
-              | inl many ↦ subst (NamesBreak d) many.1 (broken.NamesBreak.many step.0 at (more 128 (length step.0) many.0))
-              | inr few ↦ (let bad = names_err step.0 f few.1 in name_refused d step.0 bad.0 f at bad.1 bad.2)
+          elim (guard_err (is_empty step.0) empty_names f (cond (nat_lt 128 (length step.0)) (Err too_many) (each name_of step.0)) step.2) [
+            | inl none ↦ subst (NamesBreak d) none.1 (broken.NamesBreak.none (at ∙ ap holds (is_nil step.0 none.0)))
+            | inr some ↦ elim (guard_err (nat_lt 128 (length step.0)) too_many f (each name_of step.0) some.1) [
+              | inl many ↦ subst (NamesBreak d) many.1 (broken.NamesBreak.many step.0 at (ltb-true 128 (length step.0) many.0))
+              | inr few ↦ (let bad = each_err name_of step.0 f few.1 in name_refused d step.0 bad.0 f at bad.1 (name_err bad.0 f bad.2))
             ]
           ]
     ]
@@ -263,34 +236,16 @@ entry_breaks d f h =
           subst (λ (x : Data). EntryBreaks x f) (sym o.1) (entry_err_in at.0 f is_object at.2)
     ]
 
-entries_ok : (ds : List Data) (es : List EntryParts) → entries_in ds ≡ Ok es → AllZip EntryMeans ds es
-entries_ok [] es h = subst (AllZip EntryMeans []) (ok_same [] es h) tt
-entries_ok (d ∷ ds) es h =
-    let step = bind_ok (entry_of d) (λ e. with_front (e ∷ []) (entries_in ds)) es h in
-    let rest = bind_ok (entries_in ds) (λ xs. Ok (step.0 ∷ [] ++ xs)) es step.2 in
-    subst (AllZip EntryMeans (d ∷ ds)) (ok_same (step.0 ∷ rest.0) es rest.2) (entry_means d step.0 step.1, entries_ok ds rest.0 rest.1)
-
-entries_err : (ds : List Data) (f : Fault) → entries_in ds ≡ Err f → (d : Data) × Contains ds d × EntryBreaks d f
-entries_err [] f h = cc
-entries_err (d ∷ ds) f h =
-    elim (bind_err (entry_of d) (λ e. with_front (e ∷ []) (entries_in ds)) f h) [
-      | inl bad ↦ (d, contains_head d ds, entry_breaks d f bad)
-      | inr step ↦ elim (bind_err (entries_in ds) (λ xs. Ok (step.0 ∷ [] ++ xs)) f step.2) [
-        | inl bad ↦ (let at = entries_err ds f bad in (at.0, contains_tail d ds at.0 at.1, at.2))
-        | inr rest ↦ absurd (not_ok (step.0 ∷ [] ++ rest.0) f rest.2)
-      ]
-    ]
-
 pub entries_mean : (s : Data) (es : List EntryParts) → entries_of s ≡ Ok es → EntriesMean s es
 unfolding entries_of
 entries_mean s es h =
-    let step = bind_ok (typed (or_default [] (member list key.syscalls s))) (λ ds. cond (nat_lt 256 (length ds)) (Err too_many) (entries_in ds)) es h in
-    let few = guard_ok (nat_lt 256 (length step.0)) too_many (entries_in step.0) es step.2 in
+    let step = bind_ok (typed (or_default [] (member list key.syscalls s))) (λ ds. cond (nat_lt 256 (length ds)) (Err too_many) (each entry_of ds)) es h in
+    let few = guard_ok (nat_lt 256 (length step.0)) too_many (each entry_of step.0) es step.2 in
     record {
       values = step.0;
       values_are = ok_or_ok (or_default [] (member list key.syscalls s)) wrong_type step.0 step.1;
-      few = no_more 256 (length step.0) few.0;
-      each = entries_ok step.0 es few.1;
+      few = ltb-false 256 (length step.0) few.0;
+      each = each_ok entry_of EntryMeans entry_means step.0 es few.1;
     }
 
 -- why entries are refused, each by itself
@@ -302,12 +257,12 @@ pub data EntriesRefused (s : Data) : Fault → Type 0 where
 pub entries_refused : (s : Data) (f : Fault) → entries_of s ≡ Err f → EntriesRefused s f
 unfolding entries_of
 entries_refused s f h =
-    elim (bind_err (typed (or_default [] (member list key.syscalls s))) (λ ds. cond (nat_lt 256 (length ds)) (Err too_many) (entries_in ds)) f h) [
+    elim (bind_err (typed (or_default [] (member list key.syscalls s))) (λ ds. cond (nat_lt 256 (length ds)) (Err too_many) (each entry_of ds)) f h) [
       | inl bad ↦ (let at = ok_or_err (or_default [] (member list key.syscalls s)) wrong_type f bad in subst (EntriesRefused s) at.1 (is_no_list at.0))
       | inr step ↦
           let at = ok_or_ok (or_default [] (member list key.syscalls s)) wrong_type step.0 step.1 in
-          elim (guard_err (nat_lt 256 (length step.0)) too_many f (entries_in step.0) step.2) [
-            | inl many ↦ subst (EntriesRefused s) many.1 (are_many step.0 at (more 256 (length step.0) many.0))
-            | inr few ↦ (let bad = entries_err step.0 f few.1 in in_one_entry step.0 bad.0 f at bad.1 bad.2)
+          elim (guard_err (nat_lt 256 (length step.0)) too_many f (each entry_of step.0) step.2) [
+            | inl many ↦ subst (EntriesRefused s) many.1 (are_many step.0 at (ltb-true 256 (length step.0) many.0))
+            | inr few ↦ (let bad = each_err entry_of step.0 f few.1 in in_one_entry step.0 bad.0 f at bad.1 (entry_breaks bad.0 f bad.2))
           ]
     ]

@@ -1,6 +1,6 @@
 -- Keys that are refused: what reading gives is meant, and what it refuses is broken.
-use Rattle.std.proofs.Common.{◌≡◌, ◌≢◌, List, [], ◌∷◌, length, cond, ◌==◌, Ok, Err, Some, true, false, inl, inr, refl, sym, ◌∙◌, ap, subst, arith}
-use Rattle.std.proofs.lemmas.Bool.Decides.{nat_tests}
+use Rattle.std.proofs.Common.{◌≡◌, ◌≢◌, List, [], ◌∷◌, cond, Ok, Err, Some, true, false, inl, inr, sym, ◌∙◌, ap, subst}
+use Rattle.std.proofs.lemmas.Option.{same_Some}
 use Rattle.serde_json.specs.Data.{Data}
 use Rattle.profile_json.specs.Keys as key
 use Rattle.profile_json.specs.Fault.{Fault, wrong_type, unsupported_key}
@@ -9,11 +9,7 @@ use Rattle.profile_json.specs.inner.Outcome.{◌>>=◌}
 use Rattle.profile_json.specs.inner.Reading.{typed, empty, is_empty, refused_of}
 use Rattle.profile_json.specs.Meaning.{KeysMean}
 use Rattle.profile_json.specs.Breaks.{EmptyBreaks, is_other, not_empty, KeysBreak, flags, path, metadata}
-use Rattle.profile_json.proofs.reading.Steps.{bind_ok, bind_err, ok_or_ok, ok_or_err, cond_ok, cond_err, some_same, none_some}
-
-is_nil : {A : Type 0} (xs : List A) → is_empty xs ≡ true → xs ≡ []
-is_nil [] h = refl
-is_nil (x ∷ xs) h = absurd (let no : (length (x ∷ xs) == 0) ≡ false = grind (arith, nat_tests) in let both : true ≡ false = sym h ∙ no in cc)
+use Rattle.profile_json.proofs.reading.Steps.{bind_ok, bind_err, ok_or_ok, ok_or_err, cond_ok, cond_err, is_nil, none_some}
 
 not_nil : {A : Type 0} (xs : List A) → is_empty xs ≡ false → xs ≢ []
 not_nil [] h = λ same. (let both : true ≡ false = h in cc)
@@ -36,7 +32,7 @@ empty_err {A} m e h =
 
 empty_unbroken : {A : Type 0} (m : Member (List A)) (f : Fault) → or_default [] m ≡ Some [] → EmptyBreaks m f → ⊥
 empty_unbroken m _ is (is_other e) = none_some (or_default [] m) [] e is
-empty_unbroken m _ is (not_empty xs e ne) = ne (some_same xs [] (sym e ∙ is))
+empty_unbroken m _ is (not_empty xs e ne) = ne (same_Some xs [] (sym e ∙ is))
 
 pub keys_mean : (s : Data) (u : Unit {0}) → refused_of s ≡ Ok u → KeysMean s
 unfolding refused_of

@@ -1,9 +1,10 @@
 -- Where the beginning of a call name ends, and what is printed of it.
-use Rattle.std.proofs.Common.{◌≡◌, ◌≢◌, ℕ, zero, suc, ◌<◌, ◌≤◌, ◌==◌, List, [], ◌∷◌, ◌++◌, length, Bool, true, false, cond, ◌||◌, nat_lt, nat_le, ◌⊎◌, inl, inr, refl, sym, ap, ◌∙◌, arith, slice_index, slice_range, ◌-◌, take}
+use Rattle.std.proofs.Common.{◌≡◌, ◌≢◌, ℕ, zero, suc, ◌<◌, ◌≤◌, ◌==◌, List, [], ◌∷◌, ◌++◌, length, true, cond, ◌||◌, nat_lt, nat_le, inl, inr, refl, sym, ap, ◌∙◌, arith, slice_index, slice_range, ◌-◌, take}
 use Rattle.std.specs.List.{flat_map}
 use Rattle.std.specs.Char.{encode_utf8}
 use Rattle.std.specs.Str.{IsCharBoundary, IsUtf8, chars}
 use Rattle.std.proofs.lemmas.Str.{chars_past_char}
+use Rattle.std.proofs.lemmas.Bool.{cases_Bool}
 use Rattle.std.proofs.lemmas.Bool.Decides.{nat_tests}
 use Rattle.profile_json.specs.CallName.{is_boundary, boundary_up_to, short_name, printed_char, printed}
 
@@ -13,14 +14,10 @@ tells i n b h = (grind (arith, nat_tests), grind (arith, nat_tests))
 told : (i n b : ℕ) → i ≤ n → (i < n → 128 ≤ b → 192 ≤ b) → cond (nat_lt i n) (nat_lt b 128 || nat_le 192 b) (i == n) ≡ true
 told i n b within start = grind (arith, nat_tests)
 
-bool_cases : (b : Bool) → (b ≡ true) ⊎ (b ≡ false)
-bool_cases true = inl refl
-bool_cases false = inr refl
-
 boundary_found : (n : ℕ) (name : List ℕ) (end : ℕ) → end ≤ n → IsCharBoundary name end → ((i : ℕ) → end < i → i ≤ n → ¬ IsCharBoundary name i) → boundary_up_to n name ≡ end
 boundary_found zero name end h b near = omega arith
 boundary_found (suc n) name end h b near =
-    elim (bool_cases (is_boundary name (suc n))) [
+    elim (cases_Bool (is_boundary name (suc n))) [
       | inl here ↦
           let at : IsCharBoundary name (suc n) = tells (suc n) (length name) (slice_index name (suc n)) here in
           let top : end < suc n → ⊥ = λ (below : end < suc n). near (suc n) below (omega arith) at in

@@ -1,12 +1,15 @@
 -- The steps of a reading: what gave a value, and what failed.
-use Rattle.std.proofs.Common.{◌≡◌, Bool, true, false, cond, Result, Ok, Err, Option, Some, None, IsSome, ◌⊎◌, inl, inr, refl, sym, ◌∙◌, subst, rules, is_some}
+use Rattle.std.proofs.Common.{◌≡◌, List, [], ◌∷◌, ◌++◌, length, arith, Bool, true, false, cond, Result, Ok, Err, Option, Some, None, IsSome, ◌⊎◌, inl, inr, refl, sym, ◌∙◌, subst, rules, is_some}
+use Rattle.std.specs.List.{AllZip, Contains}
 use Rattle.std.specs.Option.{ok_or}
+use Rattle.std.proofs.lemmas.Bool.{eqb-true}
 use Rattle.serde_json.specs.Data.{Data}
 use Rattle.serde_json.specs.Find.{as_object}
 use Rattle.profile_json.specs.Fault.{Fault, wrong_type, missing_key}
 use Rattle.profile_json.specs.Lookup.{Member, missing, other_type, holds, object}
 use Rattle.profile_json.specs.inner.Outcome.{◌>>=◌}
-use Rattle.profile_json.specs.inner.Reading.{typed, needed}
+use Rattle.profile_json.specs.inner.Reading.{typed, needed, is_empty, with_front, each}
+use Rattle.profile_json.proofs.Lists.{contains_head, contains_tail}
 use Rattle.profile_json.specs.Breaks.{NeededBreaks, is_missing, is_other}
 
 pub bind_ok : {A B : Type 0} (r : Result A Fault) (f : A → Result B Fault) (y : B) → (r >>= f) ≡ Ok y → (x : A) × (r ≡ Ok x) × (f x ≡ Ok y)
@@ -48,9 +51,6 @@ ok_same x y h = cc
 pub not_ok : {A : Type 0} (x : A) (e : Fault) → (let r : Result A Fault = Ok x in r) ≡ Err e → ⊥
 not_ok x e h = cc
 
-pub some_same : {A : Type 0} (x y : A) → Some x ≡ Some y → x ≡ y
-some_same x y h = cc
-
 pub holds_same : {A : Type 0} (x y : A) → holds x ≡ holds y → x ≡ y
 holds_same x y h = cc
 
@@ -59,6 +59,32 @@ none_some o x n s = let no-more : Some x ≡ None = sym s ∙ n in cc
 
 pub true_false : (b : Bool) → b ≡ true → b ≡ false → ⊥
 true_false b t f = let both : true ≡ false = sym t ∙ f in cc
+
+-- ---- lists
+
+module _ {A : Type 0} (read : Data → Result A Fault) where
+  pub each_ok : (R : Data → A → Type 0) → ((d : Data) (x : A) → read d ≡ Ok x → R d x)
+      → (ds : List Data) (xs : List A) → each read ds ≡ Ok xs → AllZip R ds xs
+  each_ok R one [] xs h = subst (AllZip R []) (ok_same [] xs h) tt
+  each_ok R one (d ∷ ds) xs h =
+      let step = bind_ok (read d) (λ x. with_front (x ∷ []) (each read ds)) xs h in
+      let rest = bind_ok (each read ds) (λ ys. Ok (step.0 ∷ [] ++ ys)) xs step.2 in
+      subst (AllZip R (d ∷ ds)) (ok_same (step.0 ∷ rest.0) xs rest.2) (one d step.0 step.1, each_ok R one ds rest.0 rest.1)
+
+  pub each_err : (ds : List Data) (f : Fault) → each read ds ≡ Err f → (d : Data) × Contains ds d × (read d ≡ Err f)
+  each_err [] f h = cc
+  each_err (d ∷ ds) f h =
+      elim (bind_err (read d) (λ x. with_front (x ∷ []) (each read ds)) f h) [
+        | inl bad ↦ (d, contains_head d ds, bad)
+        | inr step ↦ elim (bind_err (each read ds) (λ ys. Ok (step.0 ∷ [] ++ ys)) f step.2) [
+          | inl bad ↦ (let at = each_err ds f bad in (at.0, contains_tail d ds at.0 at.1, at.2))
+          | inr rest ↦ absurd (not_ok (step.0 ∷ [] ++ rest.0) f rest.2)
+        ]
+      ]
+
+pub is_nil : {A : Type 0} (xs : List A) → is_empty xs ≡ true → xs ≡ []
+is_nil [] h = refl
+is_nil (x ∷ xs) h = absurd (omega (arith, eqb-true (length (x ∷ xs)) 0 h))
 
 -- ---- members
 

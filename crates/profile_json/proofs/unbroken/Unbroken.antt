@@ -4,6 +4,7 @@ use Rattle.std.specs.Prelude.{codes}
 use Rattle.std.specs.List.{AllZip, Contains, slice_get}
 use Rattle.std.proofs.lemmas.List.Elements.{Contains-append_left, Contains-push, Contains-push_cases}
 use Rattle.serde_json.specs.Read.{read}
+use Rattle.std.proofs.lemmas.Option.{same_Some}
 use Rattle.serde_json.specs.Data.{Data}
 use Rattle.call_tables.specs.declared.arch.Arch.{Arch}
 use Rattle.profile.specs.declared.rules.Rule.{Rule}
@@ -18,14 +19,13 @@ use Rattle.profile_json.specs.Rules.{in_order, rules_under, rules_of_entry, rule
 use Rattle.profile_json.specs.Meaning.{none, WordMeans, EntryMeans, EntriesMean, CallsMean, Means}
 use Rattle.profile_json.specs.Breaks.{ClashUnder, EntriesBreak, no_list, many, in_entry, many_rules, overlapping, SeccompBreaks, default_word, keys, archs, entries, ValueBreaks, root, seccomp, no_value, in_value}
 use Rattle.profile_json.specs.Laws.{MeaningIsUnbroken, MeaningIsOne, MeaningIsKept}
-use Rattle.profile_json.proofs.Lists.{contains_head, contains_at, contains_map_back, contains_flat}
+use Rattle.profile_json.proofs.Lists.{contains_head, contains_at, contains_map_back, contains_flat, related, related_at, one_related}
 use Rattle.profile_json.proofs.PartsLemmas.{rule_same, rules_same}
-use Rattle.profile_json.proofs.reading.Steps.{some_same, none_some}
+use Rattle.profile_json.proofs.reading.Steps.{none_some}
 use Rattle.profile_json.proofs.reading.RootLaws.{one_seccomp, root_unbroken}
 use Rattle.profile_json.proofs.reading.ActionLaws.{word_unbroken, one_word}
 use Rattle.profile_json.proofs.reading.KeyLaws.{keys_unbroken}
 use Rattle.profile_json.proofs.reading.ArchLaws.{one_archs, archs_unbroken}
-use Rattle.profile_json.proofs.unbroken.UnbrokenArgs.{related, related_at, one_related}
 use Rattle.profile_json.proofs.unbroken.UnbrokenEntry.{entry_unbroken, one_entry}
 
 -- ---- rules that are kept
@@ -81,7 +81,7 @@ one_kept_of _ _ _ _ (build.again xs ks x p has) (build.again ys ls y q has_y) h 
 -- ---- entries
 
 one_values : (s : Data) (xs ys : List Data) → or_default [] (member list key.syscalls s) ≡ Some xs → or_default [] (member list key.syscalls s) ≡ Some ys → xs ≡ ys
-one_values s xs ys p q = some_same xs ys (sym p ∙ q)
+one_values s xs ys p q = same_Some xs ys (sym p ∙ q)
 
 one_entries : (s : Data) (xs ys : List EntryParts) → EntriesMean s xs → EntriesMean s ys → xs ≡ ys
 one_entries s xs ys m n =
@@ -159,7 +159,7 @@ value_unbroken t native p f m (seccomp s _ is bad) =
 pub meaning_is_unbroken : MeaningIsUnbroken
 meaning_is_unbroken bytes t native p _ is m (no_value unread) = none_some (read bytes) t (unread is.0) is.1
 meaning_is_unbroken bytes t native p f is m (in_value u _ is_u bad) =
-    value_unbroken t native p f m (subst (λ d. ValueBreaks d native f) (some_same u t (sym is_u.1 ∙ is.1)) bad)
+    value_unbroken t native p f m (subst (λ d. ValueBreaks d native f) (same_Some u t (sym is_u.1 ∙ is.1)) bad)
 
 -- ---- one meaning
 

@@ -1,8 +1,9 @@
 -- Conditions that are meant: there is one meaning, and it breaks no rule.
-use Rattle.std.proofs.Common.{◌≡◌, ℕ, zero, suc, ◌<◌, ◌==◌, ◌||◌, ◌&&◌, not, List, [], ◌∷◌, map, Bool, Some, option_map, true, false, inl, inr, refl, sym, ◌∙◌, ap, subst, arith}
+use Rattle.std.proofs.Common.{◌≡◌, ℕ, zero, suc, ◌<◌, ◌==◌, not, List, [], ◌∷◌, map, Some, option_map, true, refl, sym, ◌∙◌, ap, subst, arith}
 use Rattle.std.specs.List.{AllZip, Contains, list_any, slice_get}
 use Rattle.std.proofs.lemmas.Bool.Decides.{Decides-eqb}
-use Rattle.std.proofs.lemmas.Option.{slice_get-map}
+use Rattle.std.proofs.lemmas.Bool.{and_parts, not-true, or_right}
+use Rattle.std.proofs.lemmas.Option.{same_Some, slice_get-map}
 use Rattle.serde_json.specs.Data.{Data}
 use Rattle.profile.specs.declared.conditions.Op.{Op}
 use Rattle.profile.specs.Operator.{are_distinct, mask_of}
@@ -13,40 +14,9 @@ use Rattle.profile_json.specs.Lookup.{holds, member, or_default, whole, list}
 use Rattle.profile_json.specs.Names.{op_named}
 use Rattle.profile_json.specs.Meaning.{ArgMeans, ArgsMean}
 use Rattle.profile_json.specs.Breaks.{ArgsBreak, no_list, in_arg, twice}
-use Rattle.profile_json.proofs.Lists.{contains_nil, contains_cases}
-use Rattle.profile_json.proofs.reading.Steps.{some_same, holds_same, none_some, true_false}
+use Rattle.profile_json.proofs.Lists.{related, related_at, one_related}
+use Rattle.profile_json.proofs.reading.Steps.{holds_same, none_some, true_false}
 use Rattle.profile_json.proofs.reading.ArgLaws.{arg_unbroken}
-
--- ---- lists, place by place
-
-module _ {A B : Type 0} where
-  -- what is related to a member
-  pub related : (R : A → B → Type 0) (xs : List A) (ys : List B) (x : A) → AllZip R xs ys → Contains xs x → (y : B) × R x y
-  related R [] ys x p h = absurd (contains_nil x h)
-  related R (a ∷ xs) [] x p h = absurd p
-  related R (a ∷ xs) (y ∷ ys) x p h =
-      elim (contains_cases a xs x h) [
-        | inl here ↦ (y, subst (λ z. R z y) here p.0)
-        | inr later ↦ related R xs ys x p.1 later
-      ]
-
-  pub related_at : (R : A → B → Type 0) (xs : List A) (ys : List B) (i : ℕ) (x : A) → AllZip R xs ys → slice_get xs i ≡ Some x → (y : B) × (slice_get ys i ≡ Some y) × R x y
-  related_at R [] ys i x p h = cc
-  related_at R (a ∷ xs) [] i x p h = absurd p
-  related_at R (a ∷ xs) (y ∷ ys) zero x p h = (y, refl, subst (λ z. R z y) (some_same a x h) p.0)
-  related_at R (a ∷ xs) (y ∷ ys) (suc i) x p h = related_at R xs ys i x p.1 h
-
-  -- one list is related, where one thing is related to each member
-  pub one_related : (R : A → B → Type 0) → ((x : A) (y z : B) → R x y → R x z → y ≡ z) → (xs : List A) (ys zs : List B) → AllZip R xs ys → AllZip R xs zs → ys ≡ zs
-  one_related R one [] [] [] p q = refl
-  one_related R one [] [] (z ∷ zs) p q = absurd q
-  one_related R one [] (y ∷ ys) zs p q = absurd p
-  one_related R one (x ∷ xs) [] zs p q = absurd p
-  one_related R one (x ∷ xs) (y ∷ ys) [] p q = absurd q
-  one_related R one (x ∷ xs) (y ∷ ys) (z ∷ zs) p q =
-      let head : y ≡ z = one x y z p.0 q.0 in
-      let tail : ys ≡ zs = one_related R one xs ys zs p.1 q.1 in
-      cc
 
 -- ---- conditions
 
@@ -61,42 +31,30 @@ same_cond a b ei eo ev ed =
 pub one_arg : (d : Data) (a b : CondParts) → ArgMeans d a → ArgMeans d b → a ≡ b
 one_arg d a b m n =
     let names : m.op_name ≡ n.op_name = holds_same m.op_name n.op_name (sym m.op_text ∙ n.op_text) in
-    let ops : a.op ≡ b.op = some_same a.op b.op (sym m.op_is ∙ ap op_named names ∙ n.op_is) in
+    let ops : a.op ≡ b.op = same_Some a.op b.op (sym m.op_is ∙ ap op_named names ∙ n.op_is) in
     let values : a.value ≡ b.value = holds_same a.value b.value (sym m.value_is ∙ n.value_is) in
-    let seconds : m.second ≡ n.second = some_same m.second n.second (sym m.second_is ∙ n.second_is) in
+    let seconds : m.second ≡ n.second = same_Some m.second n.second (sym m.second_is ∙ n.second_is) in
     let datums : a.datum ≡ b.datum = m.datum_is ∙ ap (λ x. mask_of x m.second) ops ∙ ap (mask_of b.op) seconds ∙ sym n.datum_is in
     same_cond a b (holds_same a.index b.index (sym m.index_is ∙ n.index_is)) ops values datums
 
 -- ---- `args`
 
-both : (a b : Bool) → (a && b) ≡ true → (a ≡ true) × (b ≡ true)
-both true b h = (refl, h)
-both false b h = (cc, cc)
-
-not_true : (a : Bool) → not a ≡ true → a ≡ false
-not_true true h = cc
-not_true false h = refl
-
-or_true : (a b : Bool) → b ≡ true → (a || b) ≡ true
-or_true true b h = refl
-or_true false b h = h
-
 found_at : (xs : List ℕ) (i n : ℕ) → slice_get xs i ≡ Some n → list_any (λ z. z == n) xs ≡ true
 found_at [] i n h = cc
-found_at (x ∷ xs) zero n h = rw ((Decides-eqb x n).1 (some_same x n h)) refl
-found_at (x ∷ xs) (suc i) n h = or_true (x == n) (list_any (λ z. z == n) xs) (found_at xs i n h)
+found_at (x ∷ xs) zero n h = rw ((Decides-eqb x n).1 (same_Some x n h)) refl
+found_at (x ∷ xs) (suc i) n h = or_right (x == n) (list_any (λ z. z == n) xs) (found_at xs i n h)
 
 -- no two of different numbers are the same
 distinct_twice : (xs : List ℕ) (i j n : ℕ) → are_distinct xs ≡ true → i < j → slice_get xs i ≡ Some n → slice_get xs j ≡ Some n → ⊥
 distinct_twice [] i j n h lt at_i at_j = cc
 distinct_twice (x ∷ xs) zero zero n h lt at_i at_j = omega arith
 distinct_twice (x ∷ xs) zero (suc j) n h lt at_i at_j =
-    let same : x ≡ n = some_same x n at_i in
-    let parts = both (not (list_any (λ z. z == x) xs)) (are_distinct xs) h in
-    true_false (list_any (λ z. z == x) xs) (found_at xs j x (at_j ∙ ap Some (sym same))) (not_true (list_any (λ z. z == x) xs) parts.0)
+    let same : x ≡ n = same_Some x n at_i in
+    let parts = and_parts (not (list_any (λ z. z == x) xs)) (are_distinct xs) h in
+    true_false (list_any (λ z. z == x) xs) (found_at xs j x (at_j ∙ ap Some (sym same))) (not-true (list_any (λ z. z == x) xs) parts.0)
 distinct_twice (x ∷ xs) (suc i) zero n h lt at_i at_j = omega arith
 distinct_twice (x ∷ xs) (suc i) (suc j) n h lt at_i at_j =
-    let parts = both (not (list_any (λ z. z == x) xs)) (are_distinct xs) h in
+    let parts = and_parts (not (list_any (λ z. z == x) xs)) (are_distinct xs) h in
     distinct_twice xs i j n parts.1 (omega arith) at_i at_j
 
 index_at : (ds : List Data) (cs : List CondParts) (i : ℕ) (x : Data) (n : ℕ) → AllZip ArgMeans ds cs → slice_get ds i ≡ Some x → member whole key.index x ≡ holds n → slice_get (map (λ c. c.index) cs) i ≡ Some n
@@ -107,16 +65,16 @@ index_at ds cs i x n each at is =
 pub args_unbroken : (d : Data) (cs : List CondParts) (f : Fault) → ArgsMean d cs → ArgsBreak d f → ⊥
 args_unbroken d cs _ m (no_list e) = none_some (or_default [] (member list key.args d)) m.values e m.values_are
 args_unbroken d cs f m (in_arg ds x _ at in_ds bad) =
-    let same : ds ≡ m.values = some_same ds m.values (sym at ∙ m.values_are) in
+    let same : ds ≡ m.values = same_Some ds m.values (sym at ∙ m.values_are) in
     let c = related ArgMeans m.values cs x m.each (subst (λ xs. Contains xs x) same in_ds) in
     arg_unbroken x c.0 f c.1 bad
 args_unbroken d cs _ m (twice ds i j x y n at lt at_i at_j is_x is_y) =
-    let same : ds ≡ m.values = some_same ds m.values (sym at ∙ m.values_are) in
+    let same : ds ≡ m.values = same_Some ds m.values (sym at ∙ m.values_are) in
     let in_x : slice_get m.values i ≡ Some x = ap (λ xs. slice_get xs i) (sym same) ∙ at_i in
     let in_y : slice_get m.values j ≡ Some y = ap (λ xs. slice_get xs j) (sym same) ∙ at_j in
     distinct_twice (map (λ c. c.index) cs) i j n m.apart lt (index_at m.values cs i x n m.each in_x is_x) (index_at m.values cs j y n m.each in_y is_y)
 
 pub one_args : (d : Data) (xs ys : List CondParts) → ArgsMean d xs → ArgsMean d ys → xs ≡ ys
 one_args d xs ys m n =
-    let same : m.values ≡ n.values = some_same m.values n.values (sym m.values_are ∙ n.values_are) in
+    let same : m.values ≡ n.values = same_Some m.values n.values (sym m.values_are ∙ n.values_are) in
     one_related ArgMeans one_arg n.values xs ys (subst (λ ds. AllZip ArgMeans ds xs) same m.each) n.each

@@ -1,6 +1,7 @@
 -- An entry that is meant: there is one meaning, and it breaks no rule.
 use Rattle.std.proofs.Common.{◌≡◌, ℕ, List, [], length, Some, true, sym, ◌∙◌, ap, subst, arith}
 use Rattle.std.specs.List.{AllZip, Contains}
+use Rattle.std.proofs.lemmas.Option.{same_Some}
 use Rattle.serde_json.specs.Data.{Data}
 use Rattle.profile_json.specs.Keys as key
 use Rattle.profile_json.specs.Fault.{Fault}
@@ -10,9 +11,10 @@ use Rattle.profile_json.specs.Names.{is_known}
 use Rattle.profile_json.specs.Meaning.{NamesMean, EntryMeans}
 use Rattle.profile_json.specs.Breaks.{NamesBreak, no_list, many, no_text, unknown, EntryBreaks, no_object, names, word, args}
 use Rattle.profile_json.specs.Breaks as breaks
-use Rattle.profile_json.proofs.reading.Steps.{needed_unbroken, is_some_not_none, some_same, holds_same, none_some, true_false}
+use Rattle.profile_json.proofs.Lists.{related, one_related}
+use Rattle.profile_json.proofs.reading.Steps.{needed_unbroken, is_some_not_none, holds_same, none_some, true_false}
 use Rattle.profile_json.proofs.reading.ActionLaws.{word_unbroken, one_word}
-use Rattle.profile_json.proofs.unbroken.UnbrokenArgs.{related, one_related, args_unbroken, one_args}
+use Rattle.profile_json.proofs.unbroken.UnbrokenArgs.{args_unbroken, one_args}
 
 -- ---- names
 
@@ -42,11 +44,11 @@ names_unbroken d ns _ m (no_text ds x at in_ds e) =
 names_unbroken d ns _ m (unknown ds x t at in_ds e u) =
     let same : ds ≡ m.values = one_values d ds m.values at m.values_are in
     let name = related IsName m.values ns x m.each (subst (λ xs. Contains xs x) same in_ds) in
-    let names_it : name.0 ≡ t = some_same name.0 t (sym name.1.0 ∙ e) in
+    let names_it : name.0 ≡ t = same_Some name.0 t (sym name.1.0 ∙ e) in
     true_false (is_known t) (ap is_known (sym names_it) ∙ name.1.1) u
 
 one_name : (d : Data) (x y : List ℕ) → IsName d x → IsName d y → x ≡ y
-one_name d x y p q = some_same x y (sym p.0 ∙ q.0)
+one_name d x y p q = same_Some x y (sym p.0 ∙ q.0)
 
 one_names : (d : Data) (xs ys : List (List ℕ)) → NamesMean d xs → NamesMean d ys → xs ≡ ys
 one_names d xs ys m n =

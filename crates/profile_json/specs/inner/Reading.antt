@@ -40,6 +40,11 @@ is_empty xs = length xs == 0
 abbrev pub with_front : {A : Type 0} → List A → Result (List A) Fault → Result (List A) Fault
 with_front front reading = reading >>= (λ xs. Ok (front ++ xs))
 
+-- each value of a list, read
+abbrev pub each : {A : Type 0} → (Data → Result A Fault) → List Data → Result (List A) Fault
+each read [] = Ok []
+each read (d ∷ ds) = read d >>= (λ x. with_front (x ∷ []) (each read ds))
+
 -- ---- root
 
 unfoldable pub version_of : Data → Result (Unit {0}) Fault
@@ -100,12 +105,8 @@ arch_of d = do
   name ← typed (text d)
   ok_or (arch_named name) unknown_arch
 
-abbrev pub archs_in : List Data → Result (List Arch) Fault
-archs_in [] = Ok []
-archs_in (d ∷ ds) = arch_of d >>= (λ a. with_front (a ∷ []) (archs_in ds))
-
 abbrev pub archs_or_native : Arch → List Data → Result (List Arch) Fault
-archs_or_native native ds = archs_in ds >>= (λ archs. Ok (or_native native archs))
+archs_or_native native ds = each arch_of ds >>= (λ archs. Ok (or_native native archs))
 
 unfoldable pub archs_of : Arch → Data → Result (List Arch) Fault
 archs_of native s = do
@@ -158,14 +159,10 @@ name_of d = do
   name ← typed (text d)
   if is_known name then Ok name else Err (unknown_call (short_name name))
 
-abbrev pub names_in : List Data → Result (List (List ℕ)) Fault
-names_in [] = Ok []
-names_in (d ∷ ds) = name_of d >>= (λ n. with_front (n ∷ []) (names_in ds))
-
 unfoldable pub names_of : Data → Result (List (List ℕ)) Fault
 names_of d = do
   ds ← needed missing_key (member list key.names d)
-  if is_empty ds then Err empty_names else (if nat_lt 128 (length ds) then Err too_many else names_in ds)
+  if is_empty ds then Err empty_names else (if nat_lt 128 (length ds) then Err too_many else each name_of ds)
 
 unfoldable pub entry_of : Data → Result EntryParts Fault
 entry_of d = do
@@ -175,14 +172,10 @@ entry_of d = do
   conds ← args_of o
   Ok (record { names = names; conds = conds; word = word })
 
-abbrev pub entries_in : List Data → Result (List EntryParts) Fault
-entries_in [] = Ok []
-entries_in (d ∷ ds) = entry_of d >>= (λ e. with_front (e ∷ []) (entries_in ds))
-
 unfoldable pub entries_of : Data → Result (List EntryParts) Fault
 entries_of s = do
   ds ← typed (or_default [] (member list key.syscalls s))
-  if nat_lt 256 (length ds) then Err too_many else entries_in ds
+  if nat_lt 256 (length ds) then Err too_many else each entry_of ds
 
 -- ---- the whole
 

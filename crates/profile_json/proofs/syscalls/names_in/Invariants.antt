@@ -1,10 +1,10 @@
 use Rattle.std.proofs.Common.{◌≡◌, length, map}
 use Rattle.serde_json.specs.View.{view}
-use Rattle.profile_json.specs.inner.Reading.{names_in, with_front}
+use Rattle.profile_json.specs.inner.Reading.{name_of, each, with_front}
 use Rattle.profile_json.proofs.syscalls.names_in.Given as goal
 
 abbrev pub invariant-loop-values : goal.invariant-loop-values
-invariant-loop-values l = with_front (map (λ n. n.now) l.found.items) (names_in (map view l.values)) ≡ names_in (map view l.initial.values)
+invariant-loop-values l = with_front (map (λ n. n.now) l.found.items) (each name_of (map view l.values)) ≡ each name_of (map view l.initial.values)
 
 abbrev pub decreases-loop-values : goal.decreases-loop-values
 decreases-loop-values l = length l.values
