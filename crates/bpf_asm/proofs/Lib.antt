@@ -2,7 +2,9 @@ mod Splits
 mod Numerals
 mod Parts
 mod Pieces
+mod Mnemonics
 mod Outcomes
+mod Shapes
 mod Lines
 mod Texts
 mod Listings

@@ -1,18 +1,18 @@
 -- Numbers as they are written.
-use Rattle.std.proofs.Common.{◌≡◌, ◌≢◌, ℕ, zero, suc, ◌+◌, ◌*◌, ◌/◌, ◌%◌, ◌^◌, ◌<◌, ◌≤◌, Bool, true, false, cond, ◌&&◌, List, [], ◌∷◌, ◌++◌, length, get_or, refl, ap, sym, ◌∙◌, arith, inl, inr}
+use Rattle.std.proofs.Common.{◌≡◌, ◌≢◌, ℕ, zero, suc, ◌+◌, ◌*◌, ◌/◌, ◌%◌, ◌^◌, ◌<◌, ◌≤◌, Bool, true, false, cond, List, [], ◌∷◌, ◌++◌, length, get_or, refl, ap, sym, ◌∙◌, arith, inl, inr}
 use Rattle.std.specs.Prelude.{◌==◌, ◌⊎◌, nat_lt, Some, None}
 use Rattle.std.specs.List.{list_all}
 use Rattle.std.specs.Char.{is_ascii_digit, digit_value}
 use Rattle.std.specs.Str.Parse.{AllDigits, IsNumeral, digits_value, digits_value_after}
 use Rattle.std.specs.Fmt.{digits, digits_onto, digit_glyph, decimal}
-use Rattle.std.proofs.lemmas.Bool.{cases_lt, eq-eqb, ne_eqb, lt-ltb, le-ltb}
+use Rattle.std.proofs.lemmas.Bool.{and_parts, cases_lt, eq-eqb, ne_eqb, lt-ltb, le-ltb}
 use Rattle.std.proofs.lemmas.Bool.Decides.{nat_tests}
 use Rattle.std.proofs.lemmas.List.{append_assoc, append-nil}
 use Rattle.std.proofs.lemmas.Str.Parse.{numerals_by_value, tells_digits}
 use Rattle.std.proofs.lemmas.Fmt.{decimal-digits_value, decimal_is_IsNumeral, decimal_digit, first_decimal, digits_is_IsNumeral, hex_one_digit}
 use Rattle.bpf_asm.specs.Digits.{IsBadNumber, are_digits, has_leading_zero, is_hexadecimal_digit}
-use Rattle.bpf_asm.specs.Listing.{hexadecimal}
-use Rattle.bpf_asm.specs.Reading.{number_of, within}
+use Rattle.bpf_asm.specs.Forms.{Address, Constant, Decimal, Hexadecimal, Notation, Scratch, base_of, is_digit_of}
+use Rattle.bpf_asm.specs.inner.Reading.{number_of, within}
 
 -- Digits have a value below the radix.
 
@@ -22,20 +22,16 @@ decimal_digit_value c h = grind (arith, nat_tests)
 hexadecimal_digit_value : (c : ℕ) → is_hexadecimal_digit c ≡ true → digit_value c < 16
 hexadecimal_digit_value c h = grind (arith, nat_tests)
 
-pub both : (a b : Bool) → (a && b) ≡ true → (a ≡ true) × (b ≡ true)
-both true b h = (refl, h)
-both false b h = cc
-
 all_decimal : (ds : List ℕ) → list_all is_ascii_digit ds ≡ true → AllDigits 10 ds
 all_decimal [] h = tt
 all_decimal (c ∷ cs) h =
-    let parts = both (is_ascii_digit c) (list_all is_ascii_digit cs) h in
+    let parts = and_parts (is_ascii_digit c) (list_all is_ascii_digit cs) h in
     (decimal_digit_value c parts.0, all_decimal cs parts.1)
 
 all_hexadecimal : (ds : List ℕ) → list_all is_hexadecimal_digit ds ≡ true → AllDigits 16 ds
 all_hexadecimal [] h = tt
 all_hexadecimal (c ∷ cs) h =
-    let parts = both (is_hexadecimal_digit c) (list_all is_hexadecimal_digit cs) h in
+    let parts = and_parts (is_hexadecimal_digit c) (list_all is_hexadecimal_digit cs) h in
     (hexadecimal_digit_value c parts.0, all_hexadecimal cs parts.1)
 
 some_digits : (is_digit : ℕ → Bool) (ds : List ℕ) → are_digits is_digit ds ≡ true → (0 < length ds) × (list_all is_digit ds ≡ true)
@@ -57,6 +53,10 @@ are_digits-from_all is_digit [] some h = absurd (omega arith)
 are_digits-from_all is_digit (c ∷ cs) some h = h
 
 -- Hexadecimal, digit by digit.
+
+-- with small letters
+abbrev pub hexadecimal : ℕ → List ℕ
+hexadecimal n = digits 16 false n
 
 abbrev spell : ℕ → ℕ → List ℕ → List ℕ
 spell k n acc = digits_onto k 16 false n acc
@@ -116,7 +116,7 @@ hexadecimal_value_after : (n : ℕ) (ds : List ℕ) → 0 < n → list_all is_he
     → digits_value_after 16 n ds < 2 ^ 32 → hexadecimal (digits_value_after 16 n ds) ≡ hexadecimal n ++ ds
 hexadecimal_value_after n [] some d small = sym (append-nil (hexadecimal n))
 hexadecimal_value_after n (c ∷ cs) some d small =
-    let parts = both (is_hexadecimal_digit c) (list_all is_hexadecimal_digit cs) d in
+    let parts = and_parts (is_hexadecimal_digit c) (list_all is_hexadecimal_digit cs) d in
     let below = hexadecimal_digit_value c parts.0 in
     let m : ℕ = n * 16 + digit_value c in
     let front : m / 16 ≡ n = omega arith in
@@ -131,12 +131,12 @@ hexadecimal-digits_value : (ds : List ℕ) → are_digits is_hexadecimal_digit d
     → digits_value 16 ds < 2 ^ 32 → hexadecimal (digits_value 16 ds) ≡ ds
 hexadecimal-digits_value [] d lead small = cc
 hexadecimal-digits_value (c ∷ []) d lead small =
-    let parts = both (is_hexadecimal_digit c) true d in
+    let parts = and_parts (is_hexadecimal_digit c) true d in
     let below = hexadecimal_digit_value c parts.0 in
     let is : 0 * 16 + digit_value c ≡ digit_value c = omega arith in
     ap hexadecimal is ∙ hex_one_digit false (digit_value c) below ∙ ap (λ x. x ∷ []) (glyph_of_value c parts.0)
 hexadecimal-digits_value (c ∷ e ∷ cs) d lead small =
-    let parts = both (is_hexadecimal_digit c) (list_all is_hexadecimal_digit (e ∷ cs)) d in
+    let parts = and_parts (is_hexadecimal_digit c) (list_all is_hexadecimal_digit (e ∷ cs)) d in
     let below = hexadecimal_digit_value c parts.0 in
     let is : 0 * 16 + digit_value c ≡ digit_value c = omega arith in
     let long : nat_lt 1 (suc (suc (length cs))) ≡ true = lt-ltb 1 (suc (suc (length cs))) (omega arith) in
@@ -291,3 +291,27 @@ number_of-within radix ds = by_zero (has_leading_zero ds) refl where
   by_zero : (b : Bool) → has_leading_zero ds ≡ b → within 32 (number_of radix ds) ≡ number_of radix ds
   by_zero true lead = rw (number_of-zero radix ds lead) refl
   by_zero false lead = by_size lead (cases_lt (digits_value radix ds) (2 ^ 32))
+
+-- Numbers in each notation.
+
+pub judged_number : (notation : Notation) (bits : ℕ) (ds : List ℕ) → 2 ^ bits ≤ 2 ^ 32 → are_digits (is_digit_of notation) ds ≡ true
+    → Judged (base_of notation) bits (digits (base_of notation) false) ds
+judged_number Address bits ds narrow d = judged_decimal bits ds narrow d
+judged_number Scratch bits ds narrow d = judged_decimal bits ds narrow d
+judged_number Constant bits ds narrow d = judged_hexadecimal bits ds narrow d
+judged_number Decimal bits ds narrow d = judged_decimal bits ds narrow d
+judged_number Hexadecimal bits ds narrow d = judged_hexadecimal bits ds narrow d
+
+pub are_digits-digits : (notation : Notation) (n : ℕ) → n < 2 ^ 32 → are_digits (is_digit_of notation) (digits (base_of notation) false n) ≡ true
+are_digits-digits Address n small = are_digits-decimal n small
+are_digits-digits Scratch n small = are_digits-decimal n small
+are_digits-digits Constant n small = are_digits-hexadecimal n small
+are_digits-digits Decimal n small = are_digits-decimal n small
+are_digits-digits Hexadecimal n small = are_digits-hexadecimal n small
+
+pub number_of-digits : (notation : Notation) (n : ℕ) → n < 2 ^ 32 → number_of (base_of notation) (digits (base_of notation) false n) ≡ Some n
+number_of-digits Address n small = number_of-decimal n small
+number_of-digits Scratch n small = number_of-decimal n small
+number_of-digits Constant n small = number_of-hexadecimal n small
+number_of-digits Decimal n small = number_of-decimal n small
+number_of-digits Hexadecimal n small = number_of-hexadecimal n small

@@ -4,7 +4,7 @@ use Rattle.std.specs.Prelude.{None, option_and_then, codes}
 use Rattle.std.specs.Option.{option_map}
 use Rattle.std.specs.Str.{bytes_eq}
 use Rattle.bpf_asm.specs.declared.arguments.Part.TheVariants.{Address, Scratch}
-use Rattle.bpf_asm.specs.Reading.{behind, bracketed_at, decimal_at, hexadecimal_at, number_part, part_at}
+use Rattle.bpf_asm.specs.inner.Reading.{behind, bracketed_at, decimal_at, hexadecimal_at, bare_part, part_at}
 use Rattle.bpf_asm.proofs.Splits.{ahead_of-push, ahead_of_none, behind_none}
 
 -- up to a bracket at the end there is a decimal number
@@ -27,6 +27,6 @@ part_at-scratch text rest h = ap part_at h
 -- what begins with no mark is a number
 pub part_at-number : (text : List ℕ) → bytes_eq text (codes "a") ≡ false → bytes_eq text (codes "x") ≡ false
     → ((rest : List ℕ) → text ≢ 35 ∷ rest) → ((rest : List ℕ) → text ≢ 91 ∷ rest) → behind (77 ∷ 91 ∷ []) text ≡ None
-    → part_at text ≡ number_part (hexadecimal_at text) text
+    → part_at text ≡ bare_part (hexadecimal_at text) text
 unfolding part_at
 part_at-number text a x mark bracket scratch = rw (a, x, behind_none 35 text mark, behind_none 91 text bracket, scratch) refl

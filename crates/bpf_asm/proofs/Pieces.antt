@@ -5,7 +5,7 @@ use Rattle.std.specs.Option.{option_map}
 use Rattle.std.specs.List.{list_all}
 use Rattle.std.specs.Char.{is_ascii_digit}
 use Rattle.std.specs.Str.{bytes_eq}
-use Rattle.std.proofs.lemmas.Bool.{ne_eqb}
+use Rattle.std.proofs.lemmas.Bool.{and_parts, ne_eqb}
 use Rattle.std.proofs.lemmas.Bool.Decides.{nat_tests}
 use Rattle.std.proofs.lemmas.Slice.Eq.{bytes_eq-Decides}
 use Rattle.bpf_asm.specs.declared.arguments.Part.{Part}
@@ -13,10 +13,9 @@ use Rattle.bpf_asm.specs.declared.arguments.Part.TheVariants as parts
 use Rattle.bpf_asm.specs.declared.arguments.Arguments.{Arguments}
 use Rattle.bpf_asm.specs.declared.arguments.Arguments.TheVariants.{One, Three, Four}
 use Rattle.bpf_asm.specs.Digits.{are_digits, is_hexadecimal_digit}
-use Rattle.bpf_asm.specs.Listing.{Piece, RegisterA, RegisterX, Address, Scratch, Constant, Decimal, Hexadecimal, piece_text}
-use Rattle.bpf_asm.specs.Faults.{IsPiece}
-use Rattle.bpf_asm.specs.Reading.{ahead_of, arguments_at, behind, bracketed_at, decimal_at, hexadecimal_at, last_parts, marked_part, number_of, number_part, part_at, part_of, parts_of, split_at}
-use Rattle.bpf_asm.proofs.Numerals.{both}
+use Rattle.bpf_asm.specs.Forms.{Address, Scratch, Constant, Decimal, Hexadecimal}
+use Rattle.bpf_asm.specs.inner.Written.{IsWritten, OfA, OfNumber, OfX, Written, part_of, written_text}
+use Rattle.bpf_asm.specs.inner.Reading.{ahead_of, arguments_at, behind, bracketed_at, decimal_at, hexadecimal_at, last_parts, marked_part, number_of, bare_part, part_at, parts_of, split_at}
 use Rattle.bpf_asm.proofs.Splits.{Lacks, ahead_of_sound, behind_sound, lacks_append, split_at_first, split_at_none, split_at_sound}
 use Rattle.bpf_asm.proofs.Parts.{bracketed_at-closed, part_at-address, part_at-number, part_at-scratch}
 
@@ -54,8 +53,8 @@ hexadecimal_at-decimal (a ∷ []) d = by_test (a == 48) where
   by_test true = refl
   by_test false = refl
 hexadecimal_at-decimal (a ∷ b ∷ ds) d =
-    let digits = both (is_ascii_digit a) (list_all is_ascii_digit (b ∷ ds)) d in
-    let second = both (is_ascii_digit b) (list_all is_ascii_digit ds) digits.1 in
+    let digits = and_parts (is_ascii_digit a) (list_all is_ascii_digit (b ∷ ds)) d in
+    let second = and_parts (is_ascii_digit b) (list_all is_ascii_digit ds) digits.1 in
     let other : (b == 120) ≡ false = ne_eqb b 120 (is_not 120 b refl second.0) in
     rw other (by_test (a == 48))
   where
@@ -66,7 +65,7 @@ hexadecimal_at-decimal (a ∷ b ∷ ds) d =
 part_at-decimal : (ds : List ℕ) → are_digits is_ascii_digit ds ≡ true → part_at ds ≡ Some (parts.Decimal (number_of 10 ds))
 part_at-decimal [] d = absurd (cc)
 part_at-decimal (a ∷ ds) d =
-    let first = both (is_ascii_digit a) (list_all is_ascii_digit ds) d in
+    let first = and_parts (is_ascii_digit a) (list_all is_ascii_digit ds) d in
     let not_a : (a == 97) ≡ false = ne_eqb a 97 (is_not 97 a refl first.0) in
     let not_x : (a == 120) ≡ false = ne_eqb a 120 (is_not 120 a refl first.0) in
     let not_m : (a == 77) ≡ false = ne_eqb a 77 (is_not 77 a refl first.0) in
@@ -74,17 +73,17 @@ part_at-decimal (a ∷ ds) d =
     ∙ rw (hexadecimal_at-decimal (a ∷ ds) d, decimal_at-digits (a ∷ ds) d) refl
 
 -- what is written is read
-pub part_at-piece_text : (p : Piece) → IsPiece p → part_at (piece_text p) ≡ Some (part_of p)
+pub part_at-written_text : (p : Written) → IsWritten p → part_at (written_text p) ≡ Some (part_of p)
 unfolding part_at
-part_at-piece_text RegisterA h = refl
-part_at-piece_text RegisterX h = refl
-part_at-piece_text (Address ds) h =
+part_at-written_text OfA h = refl
+part_at-written_text OfX h = refl
+part_at-written_text (OfNumber Address ds) h =
     part_at-address (91 ∷ (ds ++ 93 ∷ [])) (ds ++ 93 ∷ []) refl ∙ ap (option_map parts.Address) (bracketed_at-closed (ds ++ 93 ∷ []) ds refl ∙ decimal_at-digits ds h)
-part_at-piece_text (Scratch ds) h =
+part_at-written_text (OfNumber Scratch ds) h =
     part_at-scratch (77 ∷ 91 ∷ (ds ++ 93 ∷ [])) (ds ++ 93 ∷ []) refl ∙ ap (option_map parts.Scratch) (bracketed_at-closed (ds ++ 93 ∷ []) ds refl ∙ decimal_at-digits ds h)
-part_at-piece_text (Constant ds) h = ap (option_map parts.Constant) (hexadecimal_at-digits ds h)
-part_at-piece_text (Decimal ds) h = part_at-decimal ds h
-part_at-piece_text (Hexadecimal ds) h = ap (λ o. number_part o (48 ∷ 120 ∷ ds)) (hexadecimal_at-digits ds h)
+part_at-written_text (OfNumber Constant ds) h = ap (option_map parts.Constant) (hexadecimal_at-digits ds h)
+part_at-written_text (OfNumber Decimal ds) h = part_at-decimal ds h
+part_at-written_text (OfNumber Hexadecimal ds) h = ap (λ o. bare_part o (48 ∷ 120 ∷ ds)) (hexadecimal_at-digits ds h)
 
 decimal_at_sound : (text : List ℕ) (n : Option ℕ) → decimal_at text ≡ Some n → (are_digits is_ascii_digit text ≡ true) × (number_of 10 text ≡ n)
 unfolding decimal_at
@@ -108,33 +107,33 @@ bracketed_at_sound text n h =
 
 -- a piece that a text is, and that is read as this part
 abbrev pub Shows : List ℕ → Part → Type 0
-Shows text x = (p : Piece) × IsPiece p × (text ≡ piece_text p) × (part_of p ≡ x)
+Shows text x = (p : Written) × IsWritten p × (text ≡ written_text p) × (part_of p ≡ x)
 
-number_part_sound : (text : List ℕ) (x : Part) (o : Option (Option ℕ)) → hexadecimal_at text ≡ o → number_part o text ≡ Some x → Shows text x
-number_part_sound text x (Some n) found h =
+bare_part_sound : (text : List ℕ) (x : Part) (o : Option (Option ℕ)) → hexadecimal_at text ≡ o → bare_part o text ≡ Some x → Shows text x
+bare_part_sound text x (Some n) found h =
     let read = hexadecimal_at_sound text n found in
     let made : parts.Hexadecimal n ≡ x = cc in
-    (Hexadecimal read.0, read.2, read.1, ap parts.Hexadecimal read.3 ∙ made)
-number_part_sound text x None found h =
+    (OfNumber Hexadecimal read.0, read.2, read.1, ap parts.Hexadecimal read.3 ∙ made)
+bare_part_sound text x None found h =
     let taken = map_some parts.Decimal (decimal_at text) x h in
     let read = decimal_at_sound text taken.0 taken.1 in
-    (Decimal text, read.0, refl, ap parts.Decimal read.1 ∙ taken.2)
+    (OfNumber Decimal text, read.0, refl, ap parts.Decimal read.1 ∙ taken.2)
 
 marked_part_sound : (text : List ℕ) (x : Part) (mark bracket word : Option (List ℕ)) → behind (35 ∷ []) text ≡ mark → behind (91 ∷ []) text ≡ bracket
     → behind (77 ∷ 91 ∷ []) text ≡ word → marked_part mark bracket word text ≡ Some x → Shows text x
 marked_part_sound text x (Some rest) bracket word m b s h =
     let taken = map_some parts.Constant (hexadecimal_at rest) x h in
     let read = hexadecimal_at_sound rest taken.0 taken.1 in
-    (Constant read.0, read.2, behind_sound (35 ∷ []) text rest m ∙ ap (λ t. 35 ∷ t) read.1, ap parts.Constant read.3 ∙ taken.2)
+    (OfNumber Constant read.0, read.2, behind_sound (35 ∷ []) text rest m ∙ ap (λ t. 35 ∷ t) read.1, ap parts.Constant read.3 ∙ taken.2)
 marked_part_sound text x None (Some rest) word m b s h =
     let taken = map_some parts.Address (bracketed_at rest) x h in
     let read = bracketed_at_sound rest taken.0 taken.1 in
-    (Address read.0, read.2, behind_sound (91 ∷ []) text rest b ∙ ap (λ t. 91 ∷ t) read.1, ap parts.Address read.3 ∙ taken.2)
+    (OfNumber Address read.0, read.2, behind_sound (91 ∷ []) text rest b ∙ ap (λ t. 91 ∷ t) read.1, ap parts.Address read.3 ∙ taken.2)
 marked_part_sound text x None None (Some rest) m b s h =
     let taken = map_some parts.Scratch (bracketed_at rest) x h in
     let read = bracketed_at_sound rest taken.0 taken.1 in
-    (Scratch read.0, read.2, behind_sound (77 ∷ 91 ∷ []) text rest s ∙ ap (λ t. 77 ∷ 91 ∷ t) read.1, ap parts.Scratch read.3 ∙ taken.2)
-marked_part_sound text x None None None m b s h = number_part_sound text x (hexadecimal_at text) refl h
+    (OfNumber Scratch read.0, read.2, behind_sound (77 ∷ 91 ∷ []) text rest s ∙ ap (λ t. 77 ∷ 91 ∷ t) read.1, ap parts.Scratch read.3 ∙ taken.2)
+marked_part_sound text x None None None m b s h = bare_part_sound text x (hexadecimal_at text) refl h
 
 -- what is read is written so
 pub part_at_sound : (text : List ℕ) (x : Part) → part_at text ≡ Some x → Shows text x
@@ -142,13 +141,13 @@ unfolding part_at
 part_at_sound text x h = by_a (bytes_eq text (codes "a")) refl h where
   by_x : (b : Bool) → bytes_eq text (codes "x") ≡ b
       → cond b (Some parts.RegisterX) (marked_part (behind (35 ∷ []) text) (behind (91 ∷ []) text) (behind (77 ∷ 91 ∷ []) text) text) ≡ Some x → Shows text x
-  by_x true e g = (RegisterX, tt, (bytes_eq-Decides text (codes "x")).0 e, cc)
+  by_x true e g = (OfX, tt, (bytes_eq-Decides text (codes "x")).0 e, cc)
   by_x false e g = marked_part_sound text x (behind (35 ∷ []) text) (behind (91 ∷ []) text) (behind (77 ∷ 91 ∷ []) text) refl refl refl g
 
   by_a : (b : Bool) → bytes_eq text (codes "a") ≡ b
       → cond b (Some parts.RegisterA) (cond (bytes_eq text (codes "x")) (Some parts.RegisterX) (marked_part (behind (35 ∷ []) text) (behind (91 ∷ []) text) (behind (77 ∷ 91 ∷ []) text) text)) ≡ Some x
       → Shows text x
-  by_a true e g = (RegisterA, tt, (bytes_eq-Decides text (codes "a")).0 e, cc)
+  by_a true e g = (OfA, tt, (bytes_eq-Decides text (codes "a")).0 e, cc)
   by_a false e g = by_x (bytes_eq text (codes "x")) refl g
 
 -- A piece has no comma and no line feed.
@@ -156,7 +155,7 @@ part_at_sound text x h = by_a (bytes_eq text (codes "a")) refl h where
 pub lacks_digits : (is_digit : ℕ → Bool) (c : ℕ) → is_digit c ≡ false → (ds : List ℕ) → list_all is_digit ds ≡ true → Lacks c ds
 lacks_digits is_digit c other [] h = tt
 lacks_digits is_digit c other (d ∷ ds) h =
-    let digits = both (is_digit d) (list_all is_digit ds) h in
+    let digits = and_parts (is_digit d) (list_all is_digit ds) h in
     ((λ e. different d digits.0 e), lacks_digits is_digit c other ds digits.1)
   where
     different : (x : ℕ) → is_digit x ≡ true → x ≡ c → ⊥
@@ -166,77 +165,77 @@ lacks_some : (is_digit : ℕ → Bool) (c : ℕ) → is_digit c ≡ false → (d
 lacks_some is_digit c other [] h = tt
 lacks_some is_digit c other (d ∷ ds) h = lacks_digits is_digit c other (d ∷ ds) h
 
-pub lacks-piece_text : (c : ℕ) → c < 48 → c ≢ 35 → (p : Piece) → IsPiece p → Lacks c (piece_text p)
-lacks-piece_text c low other RegisterA h = (omega arith, tt)
-lacks-piece_text c low other RegisterX h = (omega arith, tt)
-lacks-piece_text c low other (Address ds) h =
+pub lacks-written_text : (c : ℕ) → c < 48 → c ≢ 35 → (p : Written) → IsWritten p → Lacks c (written_text p)
+lacks-written_text c low other OfA h = (omega arith, tt)
+lacks-written_text c low other OfX h = (omega arith, tt)
+lacks-written_text c low other (OfNumber Address ds) h =
     (omega arith, lacks_append c ds (93 ∷ []) (lacks_some is_ascii_digit c (no_decimal c low) ds h) (omega arith, tt))
   where
     no_decimal : (x : ℕ) → x < 48 → is_ascii_digit x ≡ false
     no_decimal x l = grind (arith, nat_tests)
-lacks-piece_text c low other (Scratch ds) h =
+lacks-written_text c low other (OfNumber Scratch ds) h =
     (omega arith, (omega arith, lacks_append c ds (93 ∷ []) (lacks_some is_ascii_digit c (no_decimal c low) ds h) (omega arith, tt)))
   where
     no_decimal : (x : ℕ) → x < 48 → is_ascii_digit x ≡ false
     no_decimal x l = grind (arith, nat_tests)
-lacks-piece_text c low other (Constant ds) h =
+lacks-written_text c low other (OfNumber Constant ds) h =
     ((λ e. other (sym e)), (omega arith, (omega arith, lacks_some is_hexadecimal_digit c (no_hexadecimal c low) ds h)))
   where
     no_hexadecimal : (x : ℕ) → x < 48 → is_hexadecimal_digit x ≡ false
     no_hexadecimal x l = grind (arith, nat_tests)
-lacks-piece_text c low other (Decimal ds) h = lacks_some is_ascii_digit c (no_decimal c low) ds h
+lacks-written_text c low other (OfNumber Decimal ds) h = lacks_some is_ascii_digit c (no_decimal c low) ds h
   where
     no_decimal : (x : ℕ) → x < 48 → is_ascii_digit x ≡ false
     no_decimal x l = grind (arith, nat_tests)
-lacks-piece_text c low other (Hexadecimal ds) h =
+lacks-written_text c low other (OfNumber Hexadecimal ds) h =
     (omega arith, (omega arith, lacks_some is_hexadecimal_digit c (no_hexadecimal c low) ds h))
   where
     no_hexadecimal : (x : ℕ) → x < 48 → is_hexadecimal_digit x ≡ false
     no_hexadecimal x l = grind (arith, nat_tests)
 
-no_comma : (p : Piece) → IsPiece p → Lacks 44 (piece_text p)
-no_comma p h = lacks-piece_text 44 (lit< tt) (λ e. omega arith) p h
+no_comma : (p : Written) → IsWritten p → Lacks 44 (written_text p)
+no_comma p h = lacks-written_text 44 (lit< tt) (λ e. omega arith) p h
 
 -- Several pieces.
 
-pub arguments_at-one : (p : Piece) → IsPiece p → arguments_at (piece_text p) ≡ Some (One (part_of p))
+pub arguments_at-one : (p : Written) → IsWritten p → arguments_at (written_text p) ≡ Some (One (part_of p))
 unfolding arguments_at
-arguments_at-one p h = rw (split_at_none 44 (piece_text p) (no_comma p h), part_at-piece_text p h) refl
+arguments_at-one p h = rw (split_at_none 44 (written_text p) (no_comma p h), part_at-written_text p h) refl
 
-pub arguments_at-three : (p q r : Piece) → IsPiece p → IsPiece q → IsPiece r
-    → arguments_at (piece_text p ++ 44 ∷ (piece_text q ++ 44 ∷ piece_text r)) ≡ Some (Three (part_of p) (part_of q) (part_of r))
+pub arguments_at-three : (p q r : Written) → IsWritten p → IsWritten q → IsWritten r
+    → arguments_at (written_text p ++ 44 ∷ (written_text q ++ 44 ∷ written_text r)) ≡ Some (Three (part_of p) (part_of q) (part_of r))
 unfolding arguments_at
 arguments_at-three p q r hp hq hr =
     rw (
-      split_at_first 44 (piece_text p) (piece_text q ++ 44 ∷ piece_text r) (no_comma p hp),
-      part_at-piece_text p hp,
-      split_at_first 44 (piece_text q) (piece_text r) (no_comma q hq),
-      part_at-piece_text q hq,
-      split_at_none 44 (piece_text r) (no_comma r hr),
-      part_at-piece_text r hr,
+      split_at_first 44 (written_text p) (written_text q ++ 44 ∷ written_text r) (no_comma p hp),
+      part_at-written_text p hp,
+      split_at_first 44 (written_text q) (written_text r) (no_comma q hq),
+      part_at-written_text q hq,
+      split_at_none 44 (written_text r) (no_comma r hr),
+      part_at-written_text r hr,
     ) refl
 
-pub arguments_at-four : (p q r s : Piece) → IsPiece p → IsPiece q → IsPiece r → IsPiece s
-    → arguments_at (piece_text p ++ 44 ∷ (piece_text q ++ 44 ∷ (piece_text r ++ 44 ∷ piece_text s))) ≡ Some (Four (part_of p) (part_of q) (part_of r) (part_of s))
+pub arguments_at-four : (p q r s : Written) → IsWritten p → IsWritten q → IsWritten r → IsWritten s
+    → arguments_at (written_text p ++ 44 ∷ (written_text q ++ 44 ∷ (written_text r ++ 44 ∷ written_text s))) ≡ Some (Four (part_of p) (part_of q) (part_of r) (part_of s))
 unfolding arguments_at
 arguments_at-four p q r s hp hq hr hs =
     rw (
-      split_at_first 44 (piece_text p) (piece_text q ++ 44 ∷ (piece_text r ++ 44 ∷ piece_text s)) (no_comma p hp),
-      part_at-piece_text p hp,
-      split_at_first 44 (piece_text q) (piece_text r ++ 44 ∷ piece_text s) (no_comma q hq),
-      part_at-piece_text q hq,
-      split_at_first 44 (piece_text r) (piece_text s) (no_comma r hr),
-      part_at-piece_text r hr,
-      part_at-piece_text s hs,
+      split_at_first 44 (written_text p) (written_text q ++ 44 ∷ (written_text r ++ 44 ∷ written_text s)) (no_comma p hp),
+      part_at-written_text p hp,
+      split_at_first 44 (written_text q) (written_text r ++ 44 ∷ written_text s) (no_comma q hq),
+      part_at-written_text q hq,
+      split_at_first 44 (written_text r) (written_text s) (no_comma r hr),
+      part_at-written_text r hr,
+      part_at-written_text s hs,
     ) refl
 
 -- the pieces that a text is, and that are read as these arguments
 pub data Spells (text : List ℕ) (arguments : Arguments) : Type 0 where
-  OfOne : (p : Piece) → IsPiece p → text ≡ piece_text p → arguments ≡ One (part_of p) → Spells text arguments
-  OfThree : (p q r : Piece) → IsPiece p → IsPiece q → IsPiece r → text ≡ piece_text p ++ 44 ∷ (piece_text q ++ 44 ∷ piece_text r)
+  OfOne : (p : Written) → IsWritten p → text ≡ written_text p → arguments ≡ One (part_of p) → Spells text arguments
+  OfThree : (p q r : Written) → IsWritten p → IsWritten q → IsWritten r → text ≡ written_text p ++ 44 ∷ (written_text q ++ 44 ∷ written_text r)
       → arguments ≡ Three (part_of p) (part_of q) (part_of r) → Spells text arguments
-  OfFour : (p q r s : Piece) → IsPiece p → IsPiece q → IsPiece r → IsPiece s
-      → text ≡ piece_text p ++ 44 ∷ (piece_text q ++ 44 ∷ (piece_text r ++ 44 ∷ piece_text s))
+  OfFour : (p q r s : Written) → IsWritten p → IsWritten q → IsWritten r → IsWritten s
+      → text ≡ written_text p ++ 44 ∷ (written_text q ++ 44 ∷ (written_text r ++ 44 ∷ written_text s))
       → arguments ≡ Four (part_of p) (part_of q) (part_of r) (part_of s) → Spells text arguments
 
 spelled_three : (text first second third : List ℕ) (a b c : Part) (arguments : Arguments)

@@ -6,7 +6,7 @@ use Rattle.std.specs.List.{AllByRecursion}
 use denote.Ref.{Bor}
 use Rattle.std.proofs.lemmas.Bool.{eqb-true, ne_eqb, eq-eqb}
 use Rattle.std.proofs.lemmas.Str.Pattern.{IsSplitOnceResult, split_parts}
-use Rattle.bpf_asm.specs.Reading.{split_at, behind, ahead_of}
+use Rattle.bpf_asm.specs.inner.Reading.{split_at, behind, ahead_of}
 
 -- no byte of a text is this one
 abbrev pub Lacks : ℕ → List ℕ → Type 0

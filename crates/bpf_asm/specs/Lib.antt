@@ -1,6 +1,6 @@
-pub mod Words
 pub mod Digits
+pub mod Forms
 pub mod Listing
-pub mod Fault
 pub mod Faults
-pub mod Reading
+pub mod Fault
+pub mod inner

@@ -4,7 +4,7 @@ ghost use Rattle.std.specs.Option.{option_map};
 ghost use Rattle.std.specs.Char.{is_ascii_digit};
 ghost use Rattle.std.specs.Str.Parse.{IsNumeral};
 ghost use Rattle.bpf_asm.specs.Digits.{are_digits, is_hexadecimal_digit};
-ghost use Rattle.bpf_asm.specs.Reading.{arguments_at, bracketed_at, decimal_at, hexadecimal_at, number_of, part_at, split_at};
+ghost use Rattle.bpf_asm.specs.inner.Reading.{arguments_at, bracketed_at, decimal_at, hexadecimal_at, number_of, part_at, split_at};
 
 /// What stands after the word of a line, between two commas.
 ///
@@ -45,7 +45,7 @@ pub(crate) fn split(text: &str, separator: char) -> Option<(&str, &str)>
 }
 
 // The number that digits write, where it has no leading zero and 32 bits hold it.
-#[tactic(auto, unfolding(crate::specs::Reading::number_of))]
+#[tactic(auto, unfolding(crate::specs::inner::Reading::number_of))]
 fn number(digits: &str, radix: u32) -> Option<u32>
     requires least_radix { 2 ≤ radix }
     requires greatest_radix { radix ≤ 36 }
@@ -74,7 +74,7 @@ fn is_hexadecimal(text: &str) -> bool
 }
 
 // The number that a text is in decimal, if it is digits alone.
-#[tactic(auto, unfolding(crate::specs::Reading::decimal_at))]
+#[tactic(auto, unfolding(crate::specs::inner::Reading::decimal_at))]
 fn decimal(text: &str) -> Option<Option<u32>>
     ensures { result ≡ decimal_at text.now }
 {
@@ -86,7 +86,7 @@ fn decimal(text: &str) -> Option<Option<u32>>
 }
 
 // The number that a text is in hexadecimal, if it is `0x` and digits alone.
-#[tactic(auto, unfolding(crate::specs::Reading::hexadecimal_at))]
+#[tactic(auto, unfolding(crate::specs::inner::Reading::hexadecimal_at))]
 fn hexadecimal(text: &str) -> Option<Option<u32>>
     ensures { result ≡ hexadecimal_at text.now }
 {
@@ -99,7 +99,7 @@ fn hexadecimal(text: &str) -> Option<Option<u32>>
 }
 
 // The number that a text is in decimal, up to a bracket at its end.
-#[tactic(auto, unfolding(crate::specs::Reading::bracketed_at))]
+#[tactic(auto, unfolding(crate::specs::inner::Reading::bracketed_at))]
 fn bracketed(rest: &str) -> Option<Option<u32>>
     ensures { result ≡ bracketed_at rest.now }
 {
@@ -107,7 +107,7 @@ fn bracketed(rest: &str) -> Option<Option<u32>>
 }
 
 // The part that a text is, if it is one.
-#[tactic(auto, unfolding(crate::specs::Reading::part_at))]
+#[tactic(auto, unfolding(crate::specs::inner::Reading::part_at))]
 fn read_part(text: &str) -> Option<Part>
     ensures { result ≡ part_at text.now }
 {
@@ -133,7 +133,7 @@ fn read_part(text: &str) -> Option<Part>
 }
 
 /// The arguments that a text is, if it is such: one part, three or four, with commas between them.
-#[tactic(auto, unfolding(crate::specs::Reading::arguments_at))]
+#[tactic(auto, unfolding(crate::specs::inner::Reading::arguments_at))]
 pub(crate) fn read_arguments(text: &str) -> Option<Arguments>
     ensures { result ≡ arguments_at text.now }
 {

@@ -1,31 +1,28 @@
 //! From a text to its program.
 ghost use Rattle.std.specs.Prelude.{◌≡◌, ◌≤◌, List, ℕ, None, IfErr, IfOk, MatchResult, vec_len};
-ghost use Rattle.bpf_insn.specs.Bytes.{AreBytes, AreInsns, insns_of, view_fault};
+ghost use Rattle.bpf_insn.specs.Bytes.{AreBytes, AreInsns, insns_of, max_insns, view_fault};
 ghost use Rattle.bpf_asm.specs.Faults.{Explains};
 ghost use Rattle.bpf_asm.specs.Listing.{listing};
 
 use crate::arguments::split;
 use crate::fault::{AsmError, LineFault};
 use crate::line::read_line;
-use bpf_insn::{Insn, encode_into};
+use bpf_insn::{Insn, MAX_INSNS, encode_into};
 use std::alloc::Global;
-
-/// The most lines that a listing has, as a program has no more instructions (`BPF_MAXINSNS`).
-const LIMIT: usize = 4096;
 
 // The instructions of the lines, of which there are 1 to 4096.
 fn read_lines(alloc: Global, text: &str) -> Result<Vec<Insn>, AsmError>
     ensures each { IfOk result (λ insns. AreInsns insns.items) }
     ensures listed { IfOk result (λ insns. listing insns.items ≡ text.now) }
     ensures some { IfOk result (λ insns. 1 ≤ vec_len insns) }
-    ensures limit { IfOk result (λ insns. vec_len insns ≤ 4096) }
+    ensures limit { IfOk result (λ insns. vec_len insns ≤ max_insns) }
     ensures fault { IfErr result (Explains text.now) }
 {
     let mut insns = Vec::new(alloc);
     let mut rest = text;
     while !rest.is_empty() {
         let line = insns.len() + 1;
-        if line > LIMIT {
+        if line > MAX_INSNS {
             let fault = LineFault::TooLong;
             return Err(AsmError::Line { line, fault });
         }

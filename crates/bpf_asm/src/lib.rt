@@ -11,9 +11,9 @@ mod fault;
 mod laws;
 mod line;
 mod listing;
-mod word;
+mod mnemonic;
 
 pub use assembling::assemble;
 pub use fault::{AsmError, LineFault};
-pub use laws::{faults_exclude_programs, listings_differ, programs_differ};
+pub use laws::{faults_are_one, faults_exclude_programs, listings_differ, programs_differ};
 pub use listing::disassemble;

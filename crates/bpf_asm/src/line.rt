@@ -1,11 +1,11 @@
 //! From a line to its instruction.
 ghost use Rattle.std.specs.Prelude.{◌≡◌};
-ghost use Rattle.bpf_asm.specs.Reading.{fields_of, insn_of, line_at};
+ghost use Rattle.bpf_asm.specs.inner.Reading.{fields_of, insn_of, line_at};
 
 use crate::arguments::{Arguments, Part, read_arguments, split};
 use crate::fault::LineFault;
 use crate::listing::form;
-use crate::word::Word;
+use crate::mnemonic::Mnemonic;
 use bpf_insn::{Insn, Operand, Operation};
 
 /// The fields of an instruction, each with its number where a line gives it well.
@@ -18,7 +18,7 @@ pub(crate) struct Fields {
 }
 
 impl Fields {
-    ghost use Rattle.bpf_asm.specs.Reading.{branch_fields, plain_fields};
+    ghost use Rattle.bpf_asm.specs.inner.Reading.{branch_fields, plain_fields};
 
     // Those of an operation that has no targets.
     fn plain(operation: Operation, k: Option<u32>) -> Fields
@@ -35,52 +35,61 @@ impl Fields {
         Fields { code, jt, jf, k }
     }
 
-    // The fields that a line gives, where what stands after its word has a shape of the word.
-    fn of(word: Word, arguments: Arguments) -> Option<Fields>
-        ensures { result ≡ fields_of word arguments }
+    // The fields that a line gives, where what stands after its mnemonic has a shape of it.
+    fn of(mnemonic: Mnemonic, arguments: Arguments) -> Option<Fields>
+        ensures { result ≡ fields_of mnemonic arguments }
     {
-        let fields = match (word, arguments) {
-            (Word::Ld, Arguments::One(Part::Address(k))) => Fields::plain(Operation::LoadWord, k),
-            (Word::Ld, Arguments::One(Part::Scratch(k))) => {
+        let fields = match (mnemonic, arguments) {
+            (Mnemonic::Ld, Arguments::One(Part::Address(k))) => Fields::plain(
+                Operation::LoadWord,
+                k,
+            ),
+            (Mnemonic::Ld, Arguments::One(Part::Scratch(k))) => {
                 Fields::plain(Operation::LoadScratch, k)
             }
-            (Word::Ldx, Arguments::One(Part::Scratch(k))) => {
+            (Mnemonic::Ldx, Arguments::One(Part::Scratch(k))) => {
                 Fields::plain(Operation::LoadScratchX, k)
             }
-            (Word::St, Arguments::One(Part::Scratch(k))) => Fields::plain(Operation::Store, k),
-            (Word::Stx, Arguments::One(Part::Scratch(k))) => Fields::plain(Operation::StoreX, k),
-            (Word::Ld, Arguments::One(Part::Constant(k))) => Fields::plain(Operation::SetA, k),
-            (Word::Ldx, Arguments::One(Part::Constant(k))) => Fields::plain(Operation::SetX, k),
-            (Word::Ret, Arguments::One(Part::Constant(k))) => Fields::plain(Operation::ReturnK, k),
-            (Word::Ret, Arguments::One(Part::RegisterA)) => {
+            (Mnemonic::St, Arguments::One(Part::Scratch(k))) => Fields::plain(Operation::Store, k),
+            (Mnemonic::Stx, Arguments::One(Part::Scratch(k))) => Fields::plain(
+                Operation::StoreX,
+                k,
+            ),
+            (Mnemonic::Ld, Arguments::One(Part::Constant(k))) => Fields::plain(Operation::SetA, k),
+            (Mnemonic::Ldx, Arguments::One(Part::Constant(k))) => Fields::plain(Operation::SetX, k),
+            (Mnemonic::Ret, Arguments::One(Part::Constant(k))) => Fields::plain(
+                Operation::ReturnK,
+                k,
+            ),
+            (Mnemonic::Ret, Arguments::One(Part::RegisterA)) => {
                 Fields::plain(Operation::ReturnA, Some(0))
             }
-            (Word::Ja, Arguments::One(Part::Decimal(k))) => Fields::plain(Operation::Jump, k),
+            (Mnemonic::Ja, Arguments::One(Part::Decimal(k))) => Fields::plain(Operation::Jump, k),
             (
-                Word::Branch(test),
+                Mnemonic::Branch(test),
                 Arguments::Three(Part::Constant(k), Part::Decimal(jt), Part::Decimal(jf)),
             ) => Fields::branch(Operation::Branch(test, Operand::K), k, jt, jf),
             (
-                Word::Branch(test),
+                Mnemonic::Branch(test),
                 Arguments::Three(Part::RegisterX, Part::Decimal(jt), Part::Decimal(jf)),
             ) => Fields::branch(Operation::Branch(test, Operand::X), Some(0), jt, jf),
-            (Word::Compute(arithmetic), Arguments::One(Part::Constant(k))) => {
+            (Mnemonic::Compute(arithmetic), Arguments::One(Part::Constant(k))) => {
                 Fields::plain(Operation::Compute(arithmetic, Operand::K), k)
             }
-            (Word::Compute(arithmetic), Arguments::One(Part::RegisterX)) => {
+            (Mnemonic::Compute(arithmetic), Arguments::One(Part::RegisterX)) => {
                 Fields::plain(Operation::Compute(arithmetic, Operand::X), Some(0))
             }
-            (Word::Lsh, Arguments::One(Part::Constant(k))) => {
+            (Mnemonic::Lsh, Arguments::One(Part::Constant(k))) => {
                 Fields::plain(Operation::ShiftLeft, k)
             }
-            (Word::Rsh, Arguments::One(Part::Constant(k))) => {
+            (Mnemonic::Rsh, Arguments::One(Part::Constant(k))) => {
                 Fields::plain(Operation::ShiftRight, k)
             }
-            (Word::Neg, Arguments::Nothing) => Fields::plain(Operation::Negate, Some(0)),
-            (Word::Tax, Arguments::Nothing) => Fields::plain(Operation::CopyToX, Some(0)),
-            (Word::Txa, Arguments::Nothing) => Fields::plain(Operation::CopyToA, Some(0)),
+            (Mnemonic::Neg, Arguments::Nothing) => Fields::plain(Operation::Negate, Some(0)),
+            (Mnemonic::Tax, Arguments::Nothing) => Fields::plain(Operation::CopyToX, Some(0)),
+            (Mnemonic::Txa, Arguments::Nothing) => Fields::plain(Operation::CopyToA, Some(0)),
             (
-                Word::Raw,
+                Mnemonic::Raw,
                 Arguments::Four(
                     Part::Hexadecimal(code),
                     Part::Decimal(jt),
@@ -107,27 +116,27 @@ impl Fields {
 }
 
 /// The instruction that a line is of, without its line feed, or what is wrong with the line.
-#[tactic(auto, unfolding(crate::specs::Reading::line_at))]
+#[tactic(auto, unfolding(crate::specs::inner::Reading::line_at))]
 pub(crate) fn read_line(line: &str) -> Result<Insn, LineFault>
     ensures { result ≡ line_at line.now }
 {
-    let (word, arguments) = match split(line, ' ') {
+    let (front, arguments) = match split(line, ' ') {
         None => (line, Some(Arguments::Nothing)),
-        Some((word, rest)) => (word, read_arguments(rest)),
+        Some((front, rest)) => (front, read_arguments(rest)),
     };
-    let Some(word) = Word::read(word) else {
+    let Some(mnemonic) = Mnemonic::read(front) else {
         return Err(LineFault::UnknownWord);
     };
     let Some(arguments) = arguments else {
         return Err(LineFault::BadLine);
     };
-    let Some(fields) = Fields::of(word, arguments) else {
+    let Some(fields) = Fields::of(mnemonic, arguments) else {
         return Err(LineFault::BadLine);
     };
     let Some(insn) = fields.insn() else {
         return Err(LineFault::BadNumber);
     };
-    if word.is_raw() && form(insn).is_some() {
+    if mnemonic.is_raw() && form(insn).is_some() {
         return Err(LineFault::BadLine);
     }
     Ok(insn)

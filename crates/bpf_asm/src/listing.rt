@@ -3,29 +3,31 @@ ghost use Rattle.std.specs.Prelude.{◌≡◌, IfOk, string_bytes};
 ghost use Rattle.bpf_insn.specs.Program.{insns};
 ghost use Rattle.bpf_asm.specs.Listing.{form_of, listing};
 
-use crate::word::Word;
+use crate::mnemonic::Mnemonic;
 use bpf_insn::{Insn, Operand, Operation, Program};
 use std::alloc::{AllocError, Global};
 use std::fmt;
 
 /// The operation whose form an instruction has: the one that its code stands for, where each field
-/// that the operation doesn't use is 0.
+/// that the operation's line doesn't show is 0.
 #[tactic(auto, unfolding(crate::specs::Listing::form_of))]
 pub(crate) fn form(insn: Insn) -> Option<Operation>
     ensures { result ≡ form_of insn }
 {
     let operation = insn.operation()?;
-    let uses_targets = matches!(operation, Operation::Branch(_, _));
-    let uses_k = match operation {
+    let shows_k = match operation {
         Operation::ReturnA | Operation::Negate | Operation::CopyToX | Operation::CopyToA => false,
         Operation::Branch(_, operand) | Operation::Compute(_, operand) => operand == Operand::K,
         _ => true,
     };
-    if (uses_targets || insn.jt == 0 && insn.jf == 0) && (uses_k || insn.k == 0) {
-        Some(operation)
-    } else {
-        None
+    let shows_targets = matches!(operation, Operation::Branch(_, _));
+    if !shows_targets && (insn.jt != 0 || insn.jf != 0) {
+        return None;
     }
+    if !shows_k && insn.k != 0 {
+        return None;
+    }
+    Some(operation)
 }
 
 /// An instruction, to be printed as its line.
@@ -44,25 +46,25 @@ impl fmt::Display for Line {
         let Some(operation) = form(self.0) else {
             return write!(f, "raw 0x{code:x},{jt},{jf},0x{k:x}");
         };
-        let word = Word::of(operation);
+        let mnemonic = Mnemonic::of(operation);
         match operation {
-            Operation::LoadWord => write!(f, "{word} [{k}]"),
+            Operation::LoadWord => write!(f, "{mnemonic} [{k}]"),
             Operation::LoadScratch
             | Operation::LoadScratchX
             | Operation::Store
-            | Operation::StoreX => write!(f, "{word} M[{k}]"),
+            | Operation::StoreX => write!(f, "{mnemonic} M[{k}]"),
             Operation::SetA
             | Operation::SetX
             | Operation::ReturnK
             | Operation::ShiftLeft
             | Operation::ShiftRight
-            | Operation::Compute(_, Operand::K) => write!(f, "{word} #0x{k:x}"),
-            Operation::ReturnA => write!(f, "{word} a"),
-            Operation::Compute(_, Operand::X) => write!(f, "{word} x"),
-            Operation::Jump => write!(f, "{word} {k}"),
-            Operation::Branch(_, Operand::K) => write!(f, "{word} #0x{k:x},{jt},{jf}"),
-            Operation::Branch(_, Operand::X) => write!(f, "{word} x,{jt},{jf}"),
-            Operation::Negate | Operation::CopyToX | Operation::CopyToA => write!(f, "{word}"),
+            | Operation::Compute(_, Operand::K) => write!(f, "{mnemonic} #0x{k:x}"),
+            Operation::ReturnA => write!(f, "{mnemonic} a"),
+            Operation::Compute(_, Operand::X) => write!(f, "{mnemonic} x"),
+            Operation::Jump => write!(f, "{mnemonic} {k}"),
+            Operation::Branch(_, Operand::K) => write!(f, "{mnemonic} #0x{k:x},{jt},{jf}"),
+            Operation::Branch(_, Operand::X) => write!(f, "{mnemonic} x,{jt},{jf}"),
+            Operation::Negate | Operation::CopyToX | Operation::CopyToA => write!(f, "{mnemonic}"),
         }
     }
 }

@@ -1,23 +1,32 @@
-use Rattle.std.proofs.Common.{◌≡◌, ◌+◌, ◌<◌, length, sym, arith, rules}
+use Rattle.std.proofs.Common.{◌+◌, ◌<◌, length, sym, arith, rules}
 use Rattle.std.proofs.lemmas.Bool.Decides.{nat_tests}
-use Rattle.bpf_asm.proofs.Texts.{at_last, at_line, last_cause, line_ok, more_insns, one_more, shorter}
+use Rattle.bpf_asm.proofs.Texts.{IsAfter, at_last, at_line, line_ok, more_insns, one_more, shorter}
 use Rattle.bpf_asm.proofs.assembling.read_lines.Goals as goal
 
 pub returns-in_default-clause-fault : goal.returns-in_default-clause-fault
 returns-in_default-clause-fault c =
     let before = c.loop-rest.insns in
-    let count : c.len-line.result + 1 ≡ length before.items + 1 = omega (arith, before.ok.0) in
+    let there : IsAfter c.args.text.now before.items (c.len-line.result + 1) c.loop-rest.rest.now = record {
+      each = c.loop-rest.invariant.each;
+      split = c.loop-rest.invariant.split;
+      count = omega (arith, before.ok.0);
+      few = omega (arith, before.ok.0, c.loop-rest.invariant.limit);
+    } in
     let some : 0 < length c.loop-rest.rest.now = grind (arith, nat_tests) in
-    let cause = last_cause c.read_line.result c.err.result c.unwrap_or-fault.result c.err.ensures.value c.unwrap_or-fault.ensures in
-    at_last c.args.text.now before.items c.loop-rest.rest.now (c.len-line.result + 1) c.unwrap_or-fault.result
-    (omega (arith, before.ok.0, c.loop-rest.invariant.limit)) c.loop-rest.invariant.each c.loop-rest.invariant.split count some (sym c.in_default.ensures) (rw (← c.read_line.ensures) cause)
+    at_last c.args.text.now before.items c.loop-rest.rest.now (c.len-line.result + 1) c.read_line.result c.err.result c.unwrap_or-fault.result
+    there (grind (arith, nat_tests)) some (sym c.in_default.ensures) (sym c.read_line.ensures) c.err.ensures.value c.unwrap_or-fault.ensures
 
 pub returns-in-Err-clause-fault : goal.returns-in-Err-clause-fault
 returns-in-Err-clause-fault c =
     let before = c.loop-rest.insns in
-    let count : c.len-line.result + 1 ≡ length before.items + 1 = omega (arith, before.ok.0) in
+    let there : IsAfter c.args.text.now before.items (c.len-line.result + 1) c.loop-rest.rest.now = record {
+      each = c.loop-rest.invariant.each;
+      split = c.loop-rest.invariant.split;
+      count = omega (arith, before.ok.0);
+      few = omega (arith, before.ok.0, c.loop-rest.invariant.limit);
+    } in
     at_line c.args.text.now before.items c.loop-rest.rest.now c.in-Some.own.now c.in-Some.after.now (c.len-line.result + 1) c.in-Err.fault
-    (omega (arith, before.ok.0, c.loop-rest.invariant.limit)) c.loop-rest.invariant.each c.loop-rest.invariant.split count (sym c.in-Some.ensures) (sym c.in-Err.ensures)
+    there (grind (arith, nat_tests)) (sym c.in-Some.ensures) (sym c.in-Err.ensures)
 
 pub loop-rest-smaller : goal.loop-rest-smaller
 loop-rest-smaller c = shorter c.loop-rest.rest.now c.in-Some.own.now c.in-Some.after.now (sym c.in-Some.ensures)

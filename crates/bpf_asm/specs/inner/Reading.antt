@@ -12,11 +12,10 @@ use Rattle.bpf_insn.specs.Code.{code_of}
 use Rattle.bpf_asm.specs.declared.line.Fields.{Fields}
 use Rattle.bpf_asm.specs.declared.fault.LineFault.{LineFault}
 use Rattle.bpf_asm.specs.declared.fault.LineFault.TheVariants.{UnknownWord, BadNumber, BadLine}
-use Rattle.bpf_asm.specs.Listing.{Piece, form_of}
-use Rattle.bpf_asm.specs.Listing as pieces
-use Rattle.bpf_asm.specs.Words.{is_raw, word_at}
-use Rattle.bpf_asm.specs.declared.word.Word.{Word}
-use Rattle.bpf_asm.specs.declared.word.Word.TheVariants.{Ld, Ldx, St, Stx, Ret, Ja, Branch, Compute, Lsh, Rsh, Neg, Tax, Txa, Raw}
+use Rattle.bpf_asm.specs.Listing.{form_of}
+use Rattle.bpf_asm.specs.inner.Mnemonics.{is_raw, mnemonic_at}
+use Rattle.bpf_asm.specs.declared.mnemonic.Mnemonic.{Mnemonic}
+use Rattle.bpf_asm.specs.declared.mnemonic.Mnemonic.TheVariants.{Ld, Ldx, St, Stx, Ret, Ja, Branch, Compute, Lsh, Rsh, Neg, Tax, Txa, Raw}
 use Rattle.bpf_asm.specs.declared.arguments.Part.{Part}
 use Rattle.bpf_asm.specs.declared.arguments.Part.TheVariants.{RegisterA, RegisterX, Address, Scratch, Constant, Decimal, Hexadecimal}
 use Rattle.bpf_asm.specs.declared.arguments.Arguments.{Arguments}
@@ -58,9 +57,9 @@ hexadecimal_at text = do
   ds ← behind (codes "0x") text
   if are_digits is_hexadecimal_digit ds then Some (number_of 16 ds) else None
 
-abbrev pub number_part : Option (Option ℕ) → List ℕ → Option Part
-number_part (Some n) text = Some (Hexadecimal n)
-number_part None text = option_map Decimal (decimal_at text)
+abbrev pub bare_part : Option (Option ℕ) → List ℕ → Option Part
+bare_part (Some n) text = Some (Hexadecimal n)
+bare_part None text = option_map Decimal (decimal_at text)
 
 unfoldable pub bracketed_at : List ℕ → Option (Option ℕ)
 bracketed_at rest = do
@@ -72,7 +71,7 @@ abbrev pub marked_part : Option (List ℕ) → Option (List ℕ) → Option (Lis
 marked_part (Some rest) bracket scratch text = option_map Constant (hexadecimal_at rest)
 marked_part None (Some rest) scratch text = option_map Address (bracketed_at rest)
 marked_part None None (Some rest) text = option_map Scratch (bracketed_at rest)
-marked_part None None None text = number_part (hexadecimal_at text) text
+marked_part None None None text = bare_part (hexadecimal_at text) text
 
 unfoldable pub part_at : List ℕ → Option Part
 part_at text =
@@ -108,8 +107,8 @@ branch_fields operation k jt jf = record { code = Some (code_of operation); jt =
 abbrev pub plain_fields : Operation → Option ℕ → Fields
 plain_fields operation k = branch_fields operation k (Some 0) (Some 0)
 
--- the fields that a line gives, where what stands after its word has a shape of the word
-abbrev pub fields_of : Word → Arguments → Option Fields
+-- the fields that a line gives, where what stands after its mnemonic has a shape of it
+abbrev pub fields_of : Mnemonic → Arguments → Option Fields
 fields_of Ld (One (Address k)) = Some (plain_fields operations.LoadWord k)
 fields_of Ld (One (Scratch k)) = Some (plain_fields operations.LoadScratch k)
 fields_of Ld (One (Constant k)) = Some (plain_fields operations.SetA k)
@@ -130,7 +129,7 @@ fields_of Neg Nothing = Some (plain_fields operations.Negate (Some 0))
 fields_of Tax Nothing = Some (plain_fields operations.CopyToX (Some 0))
 fields_of Txa Nothing = Some (plain_fields operations.CopyToA (Some 0))
 fields_of Raw (Four (Hexadecimal code) (Decimal jt) (Decimal jf) (Hexadecimal k)) = Some (record { code = code; jt = jt; jf = jf; k = k })
-fields_of word arguments = None
+fields_of mnemonic arguments = None
 
 -- a number of so many bits
 abbrev pub within : ℕ → Option ℕ → Option ℕ
@@ -153,28 +152,23 @@ abbrev pub read_rest : Option (List ℕ × List ℕ) → Option Arguments
 read_rest None = Some Nothing
 read_rest (Some parts) = arguments_at parts.1
 
+-- the mnemonic that a line begins with, and the fields that the line gives where its rest has a shape of it
+abbrev pub with_fields : Option Mnemonic → Option Arguments → Option (Mnemonic × Option Fields)
+with_fields None arguments = None
+with_fields (Some mnemonic) arguments = Some (mnemonic, option_and_then (fields_of mnemonic) arguments)
+
+abbrev pub fields_at : List ℕ → Option (Mnemonic × Option Fields)
+fields_at line = with_fields (mnemonic_at (first_part line (split_at 32 line))) (read_rest (split_at 32 line))
+
 abbrev pub checked : Bool → Option Insn → Result Insn LineFault
 checked raw None = Err BadNumber
 checked raw (Some i) = if raw && is_some (form_of i) then Err BadLine else Ok i
 
-abbrev pub shaped : Bool → Option Fields → Result Insn LineFault
-shaped raw None = Err BadLine
-shaped raw (Some f) = checked raw (insn_of f)
-
-abbrev pub named : Option Word → Option Arguments → Result Insn LineFault
-named None arguments = Err UnknownWord
-named (Some word) arguments = shaped (is_raw word) (option_and_then (fields_of word) arguments)
+abbrev pub judged : Option (Mnemonic × Option Fields) → Result Insn LineFault
+judged None = Err UnknownWord
+judged (Some (mnemonic, None)) = Err BadLine
+judged (Some (mnemonic, Some fields)) = checked (is_raw mnemonic) (insn_of fields)
 
 -- the instruction of a line, or what is wrong with it
 unfoldable pub line_at : List ℕ → Result Insn LineFault
-line_at line = named (word_at (first_part line (split_at 32 line))) (read_rest (split_at 32 line))
-
--- a piece, with the number that its digits write
-abbrev pub part_of : Piece → Part
-part_of pieces.RegisterA = RegisterA
-part_of pieces.RegisterX = RegisterX
-part_of (pieces.Address ds) = Address (number_of 10 ds)
-part_of (pieces.Scratch ds) = Scratch (number_of 10 ds)
-part_of (pieces.Constant ds) = Constant (number_of 16 ds)
-part_of (pieces.Decimal ds) = Decimal (number_of 10 ds)
-part_of (pieces.Hexadecimal ds) = Hexadecimal (number_of 16 ds)
+line_at line = judged (fields_at line)
