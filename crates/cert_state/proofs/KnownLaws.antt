@@ -79,7 +79,8 @@ module _ (r : List ℕ) (rec : IsRecord r) (lits : List Lit) (known : All (λ l.
   dead_at_none w (inr (inr (inl h))) =
       let between = h.range.between (word r w) (point w) in h.missed (word r w) between.0 between.1 (masks w)
   dead_at_none w (inr (inr (inr h))) =
-      All-contains (λ l. Holds l r) lits (NotBits w h.mask h.datum) known h.stated (under w h.mask h.datum h.known)
+      All-contains (λ l. Holds l r) lits (NotBits w h.mask h.datum) known h.stated
+      (under w h.mask h.datum (record { within = h.within; datum = h.same }))
 
   pub dead_is_none : IsDead lits → ⊥
   dead_is_none (w, below, h) = dead_at_none w h

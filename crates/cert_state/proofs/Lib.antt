@@ -3,4 +3,7 @@ pub mod KnownLaws
 pub mod StepLaws
 pub mod EdgeLaws
 pub mod PointLaws
+pub mod ListLaws
 pub mod WindowLaws
+pub mod SummaryLaws
+pub mod RangeLaws

@@ -1,6 +1,6 @@
 -- Numbers near another that are excluded, as bits.
-use Rattle.std.proofs.Common.{◌≡◌, ℕ, zero, suc, ◌+◌, ◌-◌, ◌*◌, ◌%◌, ◌^◌, ◌<◌, Bool, true, false, List, ◌∷◌, sym, ap, subst, ◌∙◌, arith, inl, inr, ◌⊎◌, ◌↔◌}
-use Rattle.std.specs.Prelude.{Contains, bit_or}
+use Rattle.std.proofs.Common.{◌≡◌, ℕ, ◌+◌, ◌-◌, ◌*◌, ◌%◌, ◌^◌, ◌<◌, Bool, true, false, List, ◌∷◌, sym, ap, subst, ◌∙◌, arith, inl, inr, ◌⊎◌, ◌↔◌}
+use Rattle.std.specs.Prelude.{bit_or}
 use Rattle.std.specs.Int.{bit_at, trailing_ones, w64}
 use Rattle.std.specs.Int.Count.{trailing_of_zero}
 use Rattle.std.proofs.lemmas.Bool.{cases_eq, cases_lt}
@@ -8,6 +8,7 @@ use Rattle.std.proofs.lemmas.Nat.Bits.{bit_at_ones, bit_at_set_same, bit_at_set_
 use Rattle.cert_state.specs.declared.literal.Lit.{Lit}
 use Rattle.cert_state.specs.declared.literal.Lit.TheVariants.{NotBits}
 use Rattle.cert_state.specs.Literals.{all_bits}
+use Rattle.cert_state.proofs.ListLaws.{contains_split, contains_here, contains_later}
 use Rattle.cert_state.specs.inner.Window.{IsAt, ExcludedBy, ExcludesAt}
 
 -- a place and a number give each other
@@ -19,31 +20,16 @@ pub same_number : (up : Bool) (from k d e : ℕ) → IsAt up from k d → IsAt u
 same_number true from k d e a b = omega arith
 same_number false from k d e a b = omega arith
 
--- a list is its first literal and the rest
-
-first_or_later : (l x : Lit) (rest : List Lit) → Contains (l ∷ rest) x → (l ≡ x) ⊎ Contains rest x
-first_or_later l x rest (zero, lt, is) = inl is
-first_or_later l x rest (suc i, lt, is) = inr (i, omega arith, is)
-
 module _ (l : Lit) (before rest : List Lit) (e : before ≡ l ∷ rest) where
-  pub contains_split : (x : Lit) → Contains before x → (l ≡ x) ⊎ Contains rest x
-  contains_split x has = first_or_later l x rest (subst (λ ls. Contains ls x) e has)
-
-  pub contains_here : (x : Lit) → l ≡ x → Contains before x
-  contains_here x is = subst (λ ls. Contains ls x) (sym e) (0, omega arith, is)
-
-  pub contains_later : (x : Lit) → Contains rest x → Contains before x
-  contains_later x has = subst (λ ls. Contains ls x) (sym e) (suc has.0, omega (arith, has.1), has.2)
-
   module _ (w : ℕ) (up : Bool) (from : ℕ) where
     split : (k : ℕ) → ExcludesAt before w up from k → ExcludedBy l w up from k ⊎ ExcludesAt rest w up from k
-    split k (d, at, has) = elim (contains_split (NotBits w all_bits d) has) [ inl is ↦ inl (d, at, is) | inr later ↦ inr (d, at, later) ]
+    split k (d, at, has) = elim (contains_split l before rest e (NotBits w all_bits d) has) [ inl is ↦ inl (d, at, is) | inr later ↦ inr (d, at, later) ]
 
     here : (k : ℕ) → ExcludedBy l w up from k → ExcludesAt before w up from k
-    here k (d, at, is) = (d, at, contains_here (NotBits w all_bits d) is)
+    here k (d, at, is) = (d, at, contains_here l before rest e (NotBits w all_bits d) is)
 
     later : (k : ℕ) → ExcludesAt rest w up from k → ExcludesAt before w up from k
-    later k (d, at, has) = (d, at, contains_later (NotBits w all_bits d) has)
+    later k (d, at, has) = (d, at, contains_later l before rest e (NotBits w all_bits d) has)
 
     -- a literal that excludes nothing near leaves what is seen as it is
     pub not_seen : (k seen : ℕ) → (ExcludedBy l w up from k → ⊥)

@@ -50,17 +50,13 @@ pub record IsTornAt (lits : List Lit) (w : ℕ) : Type 0 where
   pub other : Contains lits (Bits w other_mask other_datum)
   pub differ : Differ mask datum other_mask other_datum
 
--- a NotBits of w excludes what its Bits say
-pub record IsRefutedAt (lits : List Lit) (w : ℕ) : Type 0 where
-  pub mask : ℕ
-  pub datum : ℕ
-  pub stated : Contains lits (NotBits w mask datum)
-  pub known : AreKnown lits w mask datum
-
--- the literals of the word w can not all be true
+-- the literals of the word w can not all be true: it has no point, two of its Bits differ, no number
+-- from its least to its greatest point is as its Bits say, or a NotBits excludes what they say
 abbrev pub IsDeadAt : List Lit → ℕ → Type 0
 IsDeadAt lits w =
-    HasNoPoint lits w ⊎ (IsTornAt lits w ⊎ (IsMissed lits w (mask_of lits w) (datum_of lits w) ⊎ IsRefutedAt lits w))
+    HasNoPoint lits w
+    ⊎ (IsTornAt lits w
+    ⊎ (IsMissed lits w (mask_of lits w) (datum_of lits w) ⊎ IsExcluded lits w (mask_of lits w) (datum_of lits w)))
 
 -- this is so of one of the words
 abbrev pub IsDead : List Lit → Type 0

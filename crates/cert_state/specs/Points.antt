@@ -34,17 +34,18 @@ pub record IsMissed (lits : List Lit) (w m d : ℕ) : Type 0 where
   pub range : IsRange lits w lo hi
   pub missed : NoneBetween lo hi m d
 
--- the union of the masks of the Bits of w
-abbrev pub mask_of : List Lit → ℕ → ℕ
-mask_of [] w = 0
-mask_of (Bits v m d ∷ lits) w = if v == w then bit_or m (mask_of lits w) else mask_of lits w
-mask_of (_ ∷ lits) w = mask_of lits w
+-- the union, over the Bits of w, of what is taken of mask and datum
+abbrev pub union_of : (ℕ → ℕ → ℕ) → List Lit → ℕ → ℕ
+union_of part [] w = 0
+union_of part (Bits v m d ∷ lits) w = if v == w then bit_or (part m d) (union_of part lits w) else union_of part lits w
+union_of part (_ ∷ lits) w = union_of part lits w
 
--- the union of their data
+-- the union of their masks, and of their data
+abbrev pub mask_of : List Lit → ℕ → ℕ
+mask_of lits w = union_of (λ m d. m) lits w
+
 abbrev pub datum_of : List Lit → ℕ → ℕ
-datum_of [] w = 0
-datum_of (Bits v m d ∷ lits) w = if v == w then bit_or d (datum_of lits w) else datum_of lits w
-datum_of (_ ∷ lits) w = datum_of lits w
+datum_of lits w = union_of (λ m d. d) lits w
 
 -- each bit of m is one of n
 abbrev pub IsWithin : ℕ → ℕ → Type 0

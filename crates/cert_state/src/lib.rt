@@ -5,6 +5,7 @@
 #![tactic(auto)]
 
 mod after;
+mod entailment;
 mod laws;
 mod literal;
 mod points;
@@ -12,6 +13,7 @@ mod state;
 mod summary;
 
 pub use after::{edge_fact, transfer};
+pub use entailment::{dead, entails};
 pub use laws::{dead_is_sound, edge_fact_is_sound, entails_is_sound, transfer_is_sound};
 pub use literal::{AVal, Lit, Regs};
 pub use points::range;

@@ -90,9 +90,8 @@ fn last_free<S: State>(state: &S, word: u8, low: u32, high: u32) -> u32
     }
 }
 
-/// The least and the greatest point of a word below 16, if it has one.
+/// The least and the greatest point of a word, if it has one.
 pub fn range<S: State>(state: &S, word: u8) -> Option<(u32, u32)>
-    requires { word < 16 }
     ensures { MatchOption result (HasNoPoint (S.known state.now) word) (λ p. IsRange (S.known state.now) word p.0 p.1) }
 {
     let summary = summarize(state, word);

@@ -1,0 +1,26 @@
+use Rattle.std.proofs.Common.{rules, ◌↔◌, inl, inr}
+use Rattle.cert_state.specs.Points.{IsMissed, NoneBetween, mask_of, datum_of}
+use Rattle.cert_state.specs.Entailment.{IsExcluded, IsTornAt}
+use Rattle.cert_state.proofs.RangeLaws.{missed_at}
+use Rattle.cert_state.proofs.entailment.is_dead_at.Goals as goal
+
+pub returns-in-Some : goal.returns-in-Some
+returns-in-Some g c =
+    let known = g.S.State.known c.args.state.now in
+    let at : IsMissed known c.args.word (mask_of known c.args.word) (datum_of known c.args.word) ↔ NoneBetween c.in-Some.low c.in-Some.high c.summarize-summary.result.mask c.summarize-summary.result.datum =
+    rw (c.summarize-summary.ensures.mask, c.summarize-summary.ensures.datum)
+    (missed_at known c.args.word c.in-Some.low c.in-Some.high c.in-Some.ensures (mask_of known c.args.word) (datum_of known c.args.word))
+    in
+    let whole : IsTornAt known c.args.word → ⊥ = λ h. c.summarize-summary.ensures.torn.1 h c.if-summary-ne0.false in
+    let free : IsExcluded known c.args.word (mask_of known c.args.word) (datum_of known c.args.word) → ⊥ = search rules in (
+      λ t. inr (inr (inl (at.1 (c.none_between.ensures.0 t)))),
+      λ h. elim h [
+        | inl none ↦ absurd (none c.in-Some.low c.in-Some.ensures.least)
+        | inr h ↦
+            elim h [
+              | inl torn ↦ absurd (whole torn)
+              | inr h ↦
+                  elim h [ inl missed ↦ c.none_between.ensures.1 (at.0 missed) | inr excluded ↦ absurd (free excluded) ]
+            ]
+      ],
+    )

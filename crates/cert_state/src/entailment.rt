@@ -1,0 +1,151 @@
+//! What follows from what is known, and what can not be so.
+ghost use Rattle.std.specs.Prelude.{◌≡◌, ◌↔◌, ℕ, IsTrue, Contains};
+ghost use Rattle.cert_state.specs.declared.literal.Lit.TheVariants.{In, Bits, NotBits};
+ghost use Rattle.cert_state.specs.Points.{AreKnown, IsMissed, NoneBetween, datum_of, mask_of};
+ghost use Rattle.cert_state.specs.Entailment.{Derives, Differ, Entails, IsDead, IsDeadAt, IsExcluded, IsInside, IsOnePoint};
+ghost use Rattle.cert_state.specs.inner.Exclusion.{IsSuch};
+
+use crate::literal::Lit;
+use crate::points::range;
+use crate::state::State;
+use crate::summary::summarize;
+use call_record::least_below;
+
+// Whether a literal is stated.
+fn states<S: State>(state: &S, wanted: &Lit) -> bool
+    ensures { IsTrue result ↔ Contains (S.known state.now) wanted.now }
+{
+    let mut at = state.start();
+    while let Some((literal, next)) = state.next(at) {
+        if literal == *wanted {
+            return true;
+        }
+        at = next;
+    }
+    false
+}
+
+// Whether a literal excludes a datum under a mask.
+fn excludes(literal: Lit, word: u8, mask: u32, datum: u32) -> bool
+    ensures { IsTrue result ↔ IsSuch word mask datum literal }
+{
+    match literal {
+        Lit::NotBits(w, m, d) => w == word && m & mask == m && datum & m == d,
+        _ => false,
+    }
+}
+
+// Whether one of the literals does.
+fn is_excluded<S: State>(state: &S, word: u8, mask: u32, datum: u32) -> bool
+    ensures { IsTrue result ↔ IsExcluded (S.known state.now) word mask datum }
+{
+    let mut at = state.start();
+    while let Some((literal, next)) = state.next(at) {
+        if excludes(literal, word, mask, datum) {
+            return true;
+        }
+        at = next;
+    }
+    false
+}
+
+// Whether no number from `low` to `high` has the datum under the mask.
+fn none_between(low: u32, high: u32, mask: u32, datum: u32) -> bool
+    ensures { IsTrue result ↔ NoneBetween low high mask datum }
+{
+    match least_below(32, low as u64, mask as u64, datum as u64) {
+        Some(least) => least > high as u64,
+        None => true,
+    }
+}
+
+// Whether no number from the least to the greatest point has the datum under the mask.
+fn is_missed<S: State>(state: &S, word: u8, mask: u32, datum: u32) -> bool
+    ensures { IsTrue result ↔ IsMissed (S.known state.now) word mask datum }
+{
+    match range(state, word) {
+        Some((low, high)) => none_between(low, high, mask, datum),
+        None => false,
+    }
+}
+
+// Whether the points lie from `low` to `high`.
+fn is_inside<S: State>(state: &S, word: u8, low: u32, high: u32) -> bool
+    ensures { IsTrue result ↔ IsInside (S.known state.now) word low high }
+{
+    match range(state, word) {
+        Some((least, greatest)) => low <= least && greatest <= high,
+        None => false,
+    }
+}
+
+// Whether there is just one point, with the datum under the mask.
+fn is_one_point<S: State>(state: &S, word: u8, mask: u32, datum: u32) -> bool
+    ensures { IsTrue result ↔ IsOnePoint (S.known state.now) word mask datum }
+{
+    match range(state, word) {
+        Some((least, greatest)) => least == greatest && least & mask == datum,
+        None => false,
+    }
+}
+
+// Whether the `Bits` of a word say the datum under the mask.
+fn are_known<S: State>(state: &S, word: u8, mask: u32, datum: u32) -> bool
+    ensures { IsTrue result ↔ AreKnown (S.known state.now) word mask datum }
+{
+    let summary = summarize(state, word);
+    mask & summary.mask == mask && summary.datum & mask == datum
+}
+
+// Whether they say another one.
+fn differ<S: State>(state: &S, word: u8, mask: u32, datum: u32) -> bool
+    ensures { IsTrue result ↔ Differ (mask_of (S.known state.now) word) (datum_of (S.known state.now) word) mask datum }
+{
+    let summary = summarize(state, word);
+    summary.mask & mask & (summary.datum ^ datum) != 0
+}
+
+/// Whether a literal follows from those of a state: it is stated, or the others of its word give it.
+pub fn entails<S: State>(state: &S, literal: &Lit) -> bool
+    ensures { IsTrue result ↔ Entails (S.known state.now) literal.now }
+{
+    if states(state, literal) {
+        return true;
+    }
+    match *literal {
+        Lit::In(w, low, high) => is_inside(state, w, low, high),
+        Lit::Bits(w, m, d) => are_known(state, w, m, d) || is_one_point(state, w, m, d),
+        Lit::NotBits(w, m, d) => {
+            differ(state, w, m, d) || is_excluded(state, w, m, d) || is_missed(state, w, m, d)
+        }
+    }
+}
+
+// Whether the literals of a word can not all be true.
+fn is_dead_at<S: State>(state: &S, word: u8) -> bool
+    ensures { IsTrue result ↔ IsDeadAt (S.known state.now) word }
+{
+    let summary = summarize(state, word);
+    if summary.ones & summary.zeros != 0 {
+        return true;
+    }
+    if is_excluded(state, word, summary.mask, summary.datum) {
+        return true;
+    }
+    match range(state, word) {
+        Some((low, high)) => none_between(low, high, summary.mask, summary.datum),
+        None => true,
+    }
+}
+
+/// Whether the literals of a state can not all be true.
+pub fn dead<S: State>(state: &S) -> bool
+    ensures { IsTrue result ↔ IsDead (S.known state.now) }
+{
+    for word in 0..16 {
+        if is_dead_at(state, word) {
+            return true;
+        }
+    }
+    false
+}
