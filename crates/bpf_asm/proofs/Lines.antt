@@ -41,7 +41,8 @@ before_first-split c (b ∷ text) = by_test (b == c) (split_at c text) (before_f
 
   by_test : (t : Bool) (o : Option (List ℕ × List ℕ)) → before_first (λ x. x == c) text ≡ first_part text o
       → take (cond (not t) (1 + position_or_len (λ x. x == c) text) 0) (b ∷ text)
-      ≡ first_part (b ∷ text) (cond {A = Option (List ℕ × List ℕ)} t (Some ([], text)) (option_map (λ (p : List ℕ × List ℕ). (b ∷ p.0, p.1)) o))
+      ≡ first_part (b ∷ text)
+      (cond {A = Option (List ℕ × List ℕ)} t (Some ([], text)) (option_map (λ (p : List ℕ × List ℕ). (b ∷ p.0, p.1)) o))
   by_test true o ih = refl
   by_test false None ih = rw next (ap (λ t. b ∷ t) ih)
   by_test false (Some q) ih = rw next (ap (λ t. b ∷ t) ih)
@@ -72,10 +73,12 @@ first_word-shaped line form d shaped =
 fields_at-bare : (w : Mnemonic) → fields_at (text_of w) ≡ Some (w, fields_of w Nothing)
 fields_at-bare w = rw (split_at_none 32 (text_of w) (no_space w), mnemonic_at-text_of w) refl
 
-fields_at-rest : (w : Mnemonic) (rest : List ℕ) → fields_at (text_of w ++ 32 ∷ rest) ≡ Some (w, option_and_then (fields_of w) (arguments_at rest))
+fields_at-rest : (w : Mnemonic) (rest : List ℕ)
+    → fields_at (text_of w ++ 32 ∷ rest) ≡ Some (w, option_and_then (fields_of w) (arguments_at rest))
 fields_at-rest w rest = rw (split_at_first 32 (text_of w) rest (no_space w), mnemonic_at-text_of w) refl
 
-fields_at-whole : (w : Mnemonic) (ps : List Written) (arguments : Arguments) → AllByRecursion IsWritten ps → arguments_of ps ≡ Some arguments
+fields_at-whole : (w : Mnemonic) (ps : List Written) (arguments : Arguments) → AllByRecursion IsWritten ps
+    → arguments_of ps ≡ Some arguments
     → fields_at (whole w ps) ≡ Some (w, option_and_then (fields_of w) (arguments_of ps))
 fields_at-whole w [] arguments d h = ap fields_at (append-nil (text_of w)) ∙ fields_at-bare w
 fields_at-whole w (p ∷ []) arguments d h =
@@ -118,7 +121,8 @@ untold : (o : Option Notation) (n : ℕ) → (is_some o || n == 0) ≡ true → 
 untold (Some notation) n h none = absurd (cc)
 untold None n h none = eqb-true n 0 h
 
-form_of-own : (op : Operation) (i : Insn) → ((field : Field) → notation_in (pieces_of (Some op)) field ≡ None → number_at field i ≡ fixed field (Some op))
+form_of-own : (op : Operation) (i : Insn)
+    → ((field : Field) → notation_in (pieces_of (Some op)) field ≡ None → number_at field i ≡ fixed field (Some op))
     → form_of i ≡ Some op
 unfolding form_of
 form_of-own op i hidden =
@@ -197,20 +201,25 @@ judged_read : (line : List ℕ) (w : Mnemonic) (ps : List Written) (f : Fields) 
 judged_read line w ps f text each read =
     let own = found w ps f read in
     let P : List Written → Type 0 = AllByRecursion IsWritten in
+    let own_digits = all_digits own.digits (pieces_of own.form) (subst P (sym own.pieces) each) in
     judged_shape line own.form own.digits (record {
-      each = All-from_recursion (HasDigits own.digits) (pieces_of own.form) (all_digits own.digits (pieces_of own.form) (subst P (sym own.pieces) each));
+      each = All-from_recursion (HasDigits own.digits) (pieces_of own.form) own_digits;
       text = text ∙ (λ x. whole (sym own.mnemonic x) (sym own.pieces x)) ∙ sym (line_whole own.form own.digits);
     })
 
 -- a line from which no fields are read has no shape
 judged_unread : (line : List ℕ) (w : Mnemonic) → first_word line ≡ text_of w → fields_at line ≡ Some (w, None) → LineJudged line
 judged_unread line w begins unread =
-    Shapeless (record { form = form_with w; begins = begins; none = λ other d shaped. clash other d (fields_at-shaped line other d shaped) })
-    (line_at-unread line w unread)
+    Shapeless (record {
+      form = form_with w;
+      begins = begins;
+      none = λ other d shaped. clash other d (fields_at-shaped line other d shaped);
+    }) (line_at-unread line w unread)
   where
     clash : (form : Form) (d : Digits) → fields_at line ≡ Some (mnemonic_of form, Some (fields_with form d)) → ⊥
     clash form d read =
-        let both = ap (λ (q : Mnemonic × Option Fields). q.1) (same_Some (w, None) (mnemonic_of form, Some (fields_with form d)) (sym unread ∙ read)) in
+        let same = same_Some (w, None) (mnemonic_of form, Some (fields_with form d)) (sym unread ∙ read) in
+        let clashing = ap (λ (q : Mnemonic × Option Fields). q.1) same in
         cc
 
 judged_rest : (line : List ℕ) (w : Mnemonic) (rest : List ℕ) → line ≡ text_of w ++ 32 ∷ rest
@@ -226,7 +235,8 @@ judged_rest line w rest e (Some arguments) read (Some f) made = by_pieces (argum
   by_pieces (OfThree p q r dp dq dr t a) =
       judged_read line w (p ∷ q ∷ r ∷ []) f (e ∙ ap (λ x. text_of w ++ 32 ∷ x) t) (dp, (dq, (dr, tt))) (ap (fields_of w) (sym a) ∙ made)
   by_pieces (OfFour p q r s dp dq dr ds t a) =
-      judged_read line w (p ∷ q ∷ r ∷ s ∷ []) f (e ∙ ap (λ x. text_of w ++ 32 ∷ x) t) (dp, (dq, (dr, (ds, tt)))) (ap (fields_of w) (sym a) ∙ made)
+      judged_read line w (p ∷ q ∷ r ∷ s ∷ []) f (e ∙ ap (λ x. text_of w ++ 32 ∷ x) t) (dp, (dq, (dr, (ds, tt))))
+      (ap (fields_of w) (sym a) ∙ made)
 
 judged_bare : (line : List ℕ) (w : Mnemonic) → line ≡ text_of w → (g : Option Fields) → fields_of w Nothing ≡ g → LineJudged line
 judged_bare line w e None none =
@@ -279,19 +289,21 @@ shaped-line_of i fits =
 insn_of-fields : (form : Form) (i : Insn) → IsInsn i
     → ((field : Field) → notation_in (pieces_of form) field ≡ None → fixed field form ≡ number_at field i)
     → insn_of (fields_with form (digits_of i)) ≡ Some i
-insn_of-fields form i fits hidden = (λ x. insn_with (within 16 (own Code x)) (within 8 (own Jt x)) (within 8 (own Jf x)) (own K x)) ∙ widths where
-  by_notation : (field : Field) (o : Option Notation) → notation_in (pieces_of form) field ≡ o
-      → content form (digits_of i) field ≡ Some (number_at field i)
-  by_notation field (Some notation) shows =
-      ap (λ o. content_by o form (digits_of i) field) shows ∙ number_of-digits notation (number_at field i) (small i fits field)
-  by_notation field None none =
-      ap (λ o. content_by o form (digits_of i) field) none ∙ ap (λ n. Some n) (hidden field none)
+insn_of-fields form i fits hidden =
+    (λ x. insn_with (within 16 (own Code x)) (within 8 (own Jt x)) (within 8 (own Jf x)) (own K x)) ∙ widths
+  where
+    by_notation : (field : Field) (o : Option Notation) → notation_in (pieces_of form) field ≡ o
+        → content form (digits_of i) field ≡ Some (number_at field i)
+    by_notation field (Some notation) shows =
+        ap (λ o. content_by o form (digits_of i) field) shows ∙ number_of-digits notation (number_at field i) (small i fits field)
+    by_notation field None none =
+        ap (λ o. content_by o form (digits_of i) field) none ∙ ap (λ n. Some n) (hidden field none)
 
-  own : (field : Field) → content form (digits_of i) field ≡ Some (number_at field i)
-  own field = by_notation field (notation_in (pieces_of form) field) refl
+    own : (field : Field) → content form (digits_of i) field ≡ Some (number_at field i)
+    own field = by_notation field (notation_in (pieces_of form) field) refl
 
-  widths : insn_with (within 16 (Some i.code)) (within 8 (Some i.jt)) (within 8 (Some i.jf)) (Some i.k) ≡ Some i
-  widths = rw (within_some 16 i.code fits.code, within_some 8 i.jt fits.jt, within_some 8 i.jf fits.jf) refl
+    widths : insn_with (within 16 (Some i.code)) (within 8 (Some i.jt)) (within 8 (Some i.jf)) (Some i.k) ≡ Some i
+    widths = rw (within_some 16 i.code fits.code, within_some 8 i.jt fits.jt, within_some 8 i.jf fits.jf) refl
 
 -- a raw line is read, unless the instruction has another form
 line_at-raw : (line : List ℕ) (i : Insn) → IsInsn i → line ≡ line_text None (digits_of i) → line_at line ≡ checked true (Some i)
@@ -311,7 +323,8 @@ line_at-line_of i fits = by_form (form_of i) refl where
   by_form : (form : Form) → form_of i ≡ form → line_at (line_of i) ≡ Ok i
   by_form None form = line_at-raw (line_of i) i fits (line_of-form i None form) ∙ rw form refl
   by_form (Some op) form =
-      ap line_at (line_of-form i (Some op) form) ∙ line_at-shaped (line_text (Some op) (digits_of i)) (Some op) (digits_of i) (shaped_own i fits (Some op))
+      ap line_at (line_of-form i (Some op) form)
+      ∙ line_at-shaped (line_text (Some op) (digits_of i)) (Some op) (digits_of i) (shaped_own i fits (Some op))
       ∙ ap (checked (is_raw (mnemonic_of (Some op)))) (insn_of-fields (Some op) i fits (hidden_fixed (Some op) i form))
       ∙ ap (λ raw. checked raw (Some i)) (not_raw op)
 
@@ -328,10 +341,12 @@ lacks-whole w (p ∷ ps) d =
     lacks_append 10 (text_of w) (32 ∷ join_with_byte 44 (map written_text (p ∷ ps))) (lacks-text_of 10 refl w)
     ((λ e. omega arith), joined p ps d.0 d.1)
   where
-    joined : (q : Written) (qs : List Written) → IsWritten q → AllByRecursion IsWritten qs → Lacks 10 (join_with_byte 44 (map written_text (q ∷ qs)))
+    joined : (q : Written) (qs : List Written) → IsWritten q → AllByRecursion IsWritten qs
+        → Lacks 10 (join_with_byte 44 (map written_text (q ∷ qs)))
     joined q [] dq ds = lacks-written_text 10 (lit< tt) (λ e. omega arith) q dq
     joined q (r ∷ rs) dq ds =
-        lacks_append 10 (written_text q) (44 ∷ join_with_byte 44 (map written_text (r ∷ rs))) (lacks-written_text 10 (lit< tt) (λ e. omega arith) q dq)
+        lacks_append 10 (written_text q) (44 ∷ join_with_byte 44 (map written_text (r ∷ rs)))
+        (lacks-written_text 10 (lit< tt) (λ e. omega arith) q dq)
         ((λ e. omega arith), joined r rs ds.0 ds.1)
 
 pub lacks-line_of : (i : Insn) → IsInsn i → Lacks 10 (line_of i)
@@ -340,7 +355,8 @@ lacks-line_of i fits =
     let each = recursion_from_All (HasDigits (digits_of i)) (pieces_of (form_of i)) shaped.each in
     let P : List ℕ → Type 0 = Lacks 10 in
     subst P (sym (shaped.text ∙ line_whole (form_of i) (digits_of i)))
-    (lacks-whole (mnemonic_of (form_of i)) (map (with_digits (digits_of i)) (pieces_of (form_of i))) (all_written (digits_of i) (pieces_of (form_of i)) each))
+    (lacks-whole (mnemonic_of (form_of i)) (map (with_digits (digits_of i)) (pieces_of (form_of i)))
+    (all_written (digits_of i) (pieces_of (form_of i)) each))
 
 -- Each fault is the one that is told.
 

@@ -90,7 +90,9 @@ spell_enough zero k n acc p q = spell_last zero n acc (omega arith) ∙ sym (spe
 spell_enough (suc j) zero n acc p q = spell_last (suc j) n acc (omega arith) ∙ sym (spell_last zero n acc (omega arith))
 spell_enough (suc j) (suc k) n acc p q = elim (cases_lt n 16) [
   | inl l ↦ spell_last (suc j) n acc l ∙ sym (spell_last (suc k) n acc l)
-  | inr l ↦ spell_next (suc j) n acc l ∙ spell_enough j k (n / 16) (last_digit n ∷ acc) (omega arith) (omega arith) ∙ sym (spell_next (suc k) n acc l)
+  | inr l ↦
+      spell_next (suc j) n acc l ∙ spell_enough j k (n / 16) (last_digit n ∷ acc) (omega arith) (omega arith)
+      ∙ sym (spell_next (suc k) n acc l)
 ]
 
 hexadecimal_step : (n : ℕ) → 16 ≤ n → n < 2 ^ 32 → hexadecimal n ≡ hexadecimal (n / 16) ++ last_digit n ∷ []
@@ -123,7 +125,8 @@ hexadecimal_value_after n (c ∷ cs) some d small =
     let end : m % 16 ≡ digit_value c = omega arith in
     let glyph : last_digit m ≡ c = ap (digit_glyph false) end ∙ glyph_of_value c parts.0 in
     hexadecimal_value_after m cs (omega arith) parts.1 small
-    ∙ ap (λ x. x ++ cs) (hexadecimal_step m (omega arith) (omega (arith, le_value_after m cs)) ∙ (λ i. hexadecimal (front i) ++ glyph i ∷ []))
+    ∙ ap (λ x. x ++ cs) (hexadecimal_step m (omega arith) (omega (arith, le_value_after m cs))
+    ∙ (λ i. hexadecimal (front i) ++ glyph i ∷ []))
     ∙ append_assoc (hexadecimal n) (c ∷ []) cs
 
 -- digits with no leading zero are what is written of their value
@@ -220,7 +223,8 @@ no_zero-hexadecimal n small = elim (cases_lt n 16) [
 
 -- The number of digits.
 
-number_of-good : (radix n : ℕ) (ds : List ℕ) → has_leading_zero ds ≡ false → digits_value radix ds ≡ n → n < 2 ^ 32 → number_of radix ds ≡ Some n
+number_of-good : (radix n : ℕ) (ds : List ℕ) → has_leading_zero ds ≡ false → digits_value radix ds ≡ n → n < 2 ^ 32
+    → number_of radix ds ≡ Some n
 unfolding number_of
 number_of-good radix n ds lead value small =
     let fits : nat_lt (digits_value radix ds) (2 ^ 32) ≡ true = lt-ltb (digits_value radix ds) (2 ^ 32) (omega arith) in
@@ -251,7 +255,8 @@ within_none bits n h = rw (le-ltb n (2 ^ bits) h) refl
 -- a number is bad for its field, or is what is written of a number that the field holds
 pub data Judged (radix bits : ℕ) (write : ℕ → List ℕ) (ds : List ℕ) : Type 0 where
   Bad : IsBadNumber radix bits ds → within bits (number_of radix ds) ≡ None → Judged radix bits write ds
-  Good : (n : ℕ) → n < 2 ^ bits → within bits (number_of radix ds) ≡ Some n → ds ≡ write n → (IsBadNumber radix bits ds → ⊥) → Judged radix bits write ds
+  Good : (n : ℕ) → n < 2 ^ bits → within bits (number_of radix ds) ≡ Some n → ds ≡ write n → (IsBadNumber radix bits ds → ⊥)
+      → Judged radix bits write ds
 
 not_bad : (radix bits : ℕ) (ds : List ℕ) → has_leading_zero ds ≡ false → digits_value radix ds < 2 ^ bits → IsBadNumber radix bits ds → ⊥
 not_bad radix bits ds lead small (inl zero_first) = cc
@@ -265,7 +270,8 @@ judged radix bits write ds narrow canonical = by_zero (has_leading_zero ds) refl
       → (digits_value radix ds < 2 ^ bits) ⊎ (2 ^ bits ≤ digits_value radix ds) → Judged radix bits write ds
   by_size lead (inr large) fits = Bad (inr (omega arith)) (rw (number_of-large radix ds lead large) refl)
   by_size lead (inl small) (inr large) =
-      Bad (inr large) (rw (number_of-good radix (digits_value radix ds) ds lead refl small) (within_none bits (digits_value radix ds) large))
+      Bad (inr large)
+      (rw (number_of-good radix (digits_value radix ds) ds lead refl small) (within_none bits (digits_value radix ds) large))
   by_size lead (inl small) (inl fits) =
       Good (digits_value radix ds) fits
       (rw (number_of-good radix (digits_value radix ds) ds lead refl small) (within_some bits (digits_value radix ds) fits))
@@ -278,14 +284,17 @@ judged radix bits write ds narrow canonical = by_zero (has_leading_zero ds) refl
 pub judged_decimal : (bits : ℕ) (ds : List ℕ) → 2 ^ bits ≤ 2 ^ 32 → are_digits is_ascii_digit ds ≡ true → Judged 10 bits decimal ds
 judged_decimal bits ds narrow d = judged 10 bits decimal ds narrow (decimal_digits ds d)
 
-pub judged_hexadecimal : (bits : ℕ) (ds : List ℕ) → 2 ^ bits ≤ 2 ^ 32 → are_digits is_hexadecimal_digit ds ≡ true → Judged 16 bits hexadecimal ds
+pub judged_hexadecimal : (bits : ℕ) (ds : List ℕ) → 2 ^ bits ≤ 2 ^ 32 → are_digits is_hexadecimal_digit ds ≡ true
+    → Judged 16 bits hexadecimal ds
 judged_hexadecimal bits ds narrow d = judged 16 bits hexadecimal ds narrow (hexadecimal-digits_value ds d)
 
 -- 32 bits hold each number that is read
 pub number_of-within : (radix : ℕ) (ds : List ℕ) → within 32 (number_of radix ds) ≡ number_of radix ds
 number_of-within radix ds = by_zero (has_leading_zero ds) refl where
-  by_size : has_leading_zero ds ≡ false → (digits_value radix ds < 2 ^ 32) ⊎ (2 ^ 32 ≤ digits_value radix ds) → within 32 (number_of radix ds) ≡ number_of radix ds
-  by_size lead (inl small) = rw (number_of-good radix (digits_value radix ds) ds lead refl small) (within_some 32 (digits_value radix ds) small)
+  by_size : has_leading_zero ds ≡ false → (digits_value radix ds < 2 ^ 32) ⊎ (2 ^ 32 ≤ digits_value radix ds)
+      → within 32 (number_of radix ds) ≡ number_of radix ds
+  by_size lead (inl small) =
+      rw (number_of-good radix (digits_value radix ds) ds lead refl small) (within_some 32 (digits_value radix ds) small)
   by_size lead (inr large) = rw (number_of-large radix ds lead large) refl
 
   by_zero : (b : Bool) → has_leading_zero ds ≡ b → within 32 (number_of radix ds) ≡ number_of radix ds
@@ -302,14 +311,16 @@ judged_number Constant bits ds narrow d = judged_hexadecimal bits ds narrow d
 judged_number Decimal bits ds narrow d = judged_decimal bits ds narrow d
 judged_number Hexadecimal bits ds narrow d = judged_hexadecimal bits ds narrow d
 
-pub are_digits-digits : (notation : Notation) (n : ℕ) → n < 2 ^ 32 → are_digits (is_digit_of notation) (digits (base_of notation) false n) ≡ true
+pub are_digits-digits : (notation : Notation) (n : ℕ) → n < 2 ^ 32
+    → are_digits (is_digit_of notation) (digits (base_of notation) false n) ≡ true
 are_digits-digits Address n small = are_digits-decimal n small
 are_digits-digits Scratch n small = are_digits-decimal n small
 are_digits-digits Constant n small = are_digits-hexadecimal n small
 are_digits-digits Decimal n small = are_digits-decimal n small
 are_digits-digits Hexadecimal n small = are_digits-hexadecimal n small
 
-pub number_of-digits : (notation : Notation) (n : ℕ) → n < 2 ^ 32 → number_of (base_of notation) (digits (base_of notation) false n) ≡ Some n
+pub number_of-digits : (notation : Notation) (n : ℕ) → n < 2 ^ 32
+    → number_of (base_of notation) (digits (base_of notation) false n) ≡ Some n
 number_of-digits Address n small = number_of-decimal n small
 number_of-digits Scratch n small = number_of-decimal n small
 number_of-digits Constant n small = number_of-hexadecimal n small

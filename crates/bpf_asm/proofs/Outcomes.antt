@@ -93,15 +93,17 @@ digits_shown : (d : Digits) (ps : List Piece) → AllByRecursion (HasDigits d) p
 digits_shown d [] each field notation shows = absurd (cc)
 digits_shown d (RegisterA ∷ ps) each field notation shows = digits_shown d ps each.1 field notation shows
 digits_shown d (RegisterX ∷ ps) each field notation shows = digits_shown d ps each.1 field notation shows
-digits_shown d (Number own at ∷ ps) each field notation shows = by_same (is_same at field) refl (digits_shown d ps each.1 field notation) shows where
-  by_same : (b : Bool) → is_same at field ≡ b
-      → (notation_in ps field ≡ Some notation → are_digits (is_digit_of notation) (d notation field) ≡ true)
-      → cond b (Some own) (notation_in ps field) ≡ Some notation → are_digits (is_digit_of notation) (d notation field) ≡ true
-  by_same true e later h =
-      let P : Notation → Type 0 = λ x. are_digits (is_digit_of x) (d x field) ≡ true in
-      let Q : Field → Type 0 = λ x. are_digits (is_digit_of own) (d own x) ≡ true in
-      subst P (same_Some own notation h) (subst Q (same_field at field e) each.0)
-  by_same false e later h = later h
+digits_shown d (Number own at ∷ ps) each field notation shows =
+    by_same (is_same at field) refl (digits_shown d ps each.1 field notation) shows
+  where
+    by_same : (b : Bool) → is_same at field ≡ b
+        → (notation_in ps field ≡ Some notation → are_digits (is_digit_of notation) (d notation field) ≡ true)
+        → cond b (Some own) (notation_in ps field) ≡ Some notation → are_digits (is_digit_of notation) (d notation field) ≡ true
+    by_same true e later h =
+        let P : Notation → Type 0 = λ x. are_digits (is_digit_of x) (d x field) ≡ true in
+        let Q : Field → Type 0 = λ x. are_digits (is_digit_of own) (d own x) ≡ true in
+        subst P (same_Some own notation h) (subst Q (same_field at field e) each.0)
+    by_same false e later h = later h
 
 -- One field: its number is bad, or is one that the field holds.
 
@@ -143,10 +145,12 @@ field_judged form d each field = by_notation (notation_in (pieces_of form) field
   by_notation : (o : Option Notation) → notation_in (pieces_of form) field ≡ o → FieldJudged form d field
   by_notation (Some notation) shows =
       by_number notation shows
-      (judged_number notation (width_of field) (d notation field) (narrow field) (digits_shown d (pieces_of form) each field notation shows))
+      (judged_number notation (width_of field) (d notation field) (narrow field)
+      (digits_shown d (pieces_of form) each field notation shows))
   by_notation None hidden =
       Good (fixed field form) (fixed_small field form)
-      (read None hidden ∙ within_some (width_of field) (fixed field form) (fixed_small field form)) (λ notation shows. absurd (cc)) (λ h. refl)
+      (read None hidden ∙ within_some (width_of field) (fixed field form) (fixed_small field form))
+      (λ notation shows. absurd (cc)) (λ h. refl)
 
 -- 32 bits hold each k that is read
 k_within : (form : Form) (d : Digits) → within 32 (content form d K) ≡ content form d K
@@ -168,7 +172,8 @@ pub data Outcome (form : Form) (d : Digits) : Type 0 where
 together : (form : Form) (d : Digits)
     → FieldJudged form d Code → FieldJudged form d Jt → FieldJudged form d Jf → FieldJudged form d K → Outcome form d
 together form d (Bad notation shows bad none) t f k =
-    Faulty Code notation shows bad (ap (λ x. insn_with x (within 8 (content form d Jt)) (within 8 (content form d Jf)) (content form d K)) none)
+    Faulty Code notation shows bad
+    (ap (λ x. insn_with x (within 8 (content form d Jt)) (within 8 (content form d Jf)) (content form d K)) none)
 together form d (Good c fits_c found_c shown_c hidden_c) (Bad notation shows bad none) f k =
     Faulty Jt notation shows bad
     (ap (λ x. insn_with (within 16 (content form d Code)) x (within 8 (content form d Jf)) (content form d K)) none
@@ -180,7 +185,8 @@ together form d (Good c fits_c found_c shown_c hidden_c) (Good t fits_t found_t 
 together form d (Good c fits_c found_c shown_c hidden_c) (Good t fits_t found_t shown_t hidden_t) (Good f fits_f found_f shown_f hidden_f)
     (Bad notation shows bad none) =
     Faulty K notation shows bad
-    (ap (λ x. insn_with (within 16 (content form d Code)) (within 8 (content form d Jt)) (within 8 (content form d Jf)) x) (sym (k_within form d) ∙ none)
+    (ap (λ x. insn_with (within 16 (content form d Code)) (within 8 (content form d Jt)) (within 8 (content form d Jf)) x)
+    (sym (k_within form d) ∙ none)
     ∙ no_k (within 16 (content form d Code)) (within 8 (content form d Jt)) (within 8 (content form d Jf)))
 together form d (Good c fits_c found_c shown_c hidden_c) (Good t fits_t found_t shown_t hidden_t) (Good f fits_f found_f shown_f hidden_f)
     (Good k fits_k found_k shown_k hidden_k) =

@@ -19,7 +19,8 @@ use Rattle.bpf_asm.specs.inner.Reading.{ahead_of, arguments_at, behind, brackete
 use Rattle.bpf_asm.proofs.Splits.{Lacks, ahead_of_sound, behind_sound, lacks_append, split_at_first, split_at_none, split_at_sound}
 use Rattle.bpf_asm.proofs.Parts.{bracketed_at-closed, part_at-address, part_at-number, part_at-scratch}
 
-pub and_then_some : {A B : Type 0} (f : A → Option B) (o : Option A) (y : B) → option_and_then f o ≡ Some y → (x : A) × (o ≡ Some x) × (f x ≡ Some y)
+pub and_then_some : {A B : Type 0} (f : A → Option B) (o : Option A) (y : B) → option_and_then f o ≡ Some y
+    → (x : A) × (o ≡ Some x) × (f x ≡ Some y)
 and_then_some f None y h = absurd (cc)
 and_then_some f (Some x) y h = (x, refl, h)
 
@@ -49,7 +50,9 @@ hexadecimal_at-decimal : (ds : List ℕ) → are_digits is_ascii_digit ds ≡ tr
 unfolding hexadecimal_at
 hexadecimal_at-decimal [] d = refl
 hexadecimal_at-decimal (a ∷ []) d = by_test (a == 48) where
-  by_test : (t : Bool) → option_and_then (λ ds. cond (are_digits is_hexadecimal_digit ds) (Some (number_of 16 ds)) None) (cond t (behind (120 ∷ []) []) None) ≡ None
+  by_test : (t : Bool)
+      → option_and_then (λ ds. cond (are_digits is_hexadecimal_digit ds) (Some (number_of 16 ds)) None) (cond t (behind (120 ∷ []) []) None)
+      ≡ None
   by_test true = refl
   by_test false = refl
 hexadecimal_at-decimal (a ∷ b ∷ ds) d =
@@ -58,7 +61,8 @@ hexadecimal_at-decimal (a ∷ b ∷ ds) d =
     let other : (b == 120) ≡ false = ne_eqb b 120 (is_not 120 b refl second.0) in
     rw other (by_test (a == 48))
   where
-    by_test : (t : Bool) → option_and_then (λ xs. cond (are_digits is_hexadecimal_digit xs) (Some (number_of 16 xs)) None) (cond t None None) ≡ None
+    by_test : (t : Bool)
+        → option_and_then (λ xs. cond (are_digits is_hexadecimal_digit xs) (Some (number_of 16 xs)) None) (cond t None None) ≡ None
     by_test true = refl
     by_test false = refl
 
@@ -69,7 +73,8 @@ part_at-decimal (a ∷ ds) d =
     let not_a : (a == 97) ≡ false = ne_eqb a 97 (is_not 97 a refl first.0) in
     let not_x : (a == 120) ≡ false = ne_eqb a 120 (is_not 120 a refl first.0) in
     let not_m : (a == 77) ≡ false = ne_eqb a 77 (is_not 77 a refl first.0) in
-    part_at-number (a ∷ ds) (rw not_a refl) (rw not_x refl) (λ rest e. is_not 35 a refl first.0 cc) (λ rest e. is_not 91 a refl first.0 cc) (rw not_m refl)
+    part_at-number (a ∷ ds) (rw not_a refl) (rw not_x refl) (λ rest e. is_not 35 a refl first.0 cc)
+    (λ rest e. is_not 91 a refl first.0 cc) (rw not_m refl)
     ∙ rw (hexadecimal_at-decimal (a ∷ ds) d, decimal_at-digits (a ∷ ds) d) refl
 
 -- what is written is read
@@ -78,14 +83,17 @@ unfolding part_at
 part_at-written_text OfA h = refl
 part_at-written_text OfX h = refl
 part_at-written_text (OfNumber Address ds) h =
-    part_at-address (91 ∷ (ds ++ 93 ∷ [])) (ds ++ 93 ∷ []) refl ∙ ap (option_map parts.Address) (bracketed_at-closed (ds ++ 93 ∷ []) ds refl ∙ decimal_at-digits ds h)
+    part_at-address (91 ∷ (ds ++ 93 ∷ [])) (ds ++ 93 ∷ []) refl
+    ∙ ap (option_map parts.Address) (bracketed_at-closed (ds ++ 93 ∷ []) ds refl ∙ decimal_at-digits ds h)
 part_at-written_text (OfNumber Scratch ds) h =
-    part_at-scratch (77 ∷ 91 ∷ (ds ++ 93 ∷ [])) (ds ++ 93 ∷ []) refl ∙ ap (option_map parts.Scratch) (bracketed_at-closed (ds ++ 93 ∷ []) ds refl ∙ decimal_at-digits ds h)
+    part_at-scratch (77 ∷ 91 ∷ (ds ++ 93 ∷ [])) (ds ++ 93 ∷ []) refl
+    ∙ ap (option_map parts.Scratch) (bracketed_at-closed (ds ++ 93 ∷ []) ds refl ∙ decimal_at-digits ds h)
 part_at-written_text (OfNumber Constant ds) h = ap (option_map parts.Constant) (hexadecimal_at-digits ds h)
 part_at-written_text (OfNumber Decimal ds) h = part_at-decimal ds h
 part_at-written_text (OfNumber Hexadecimal ds) h = ap (λ o. bare_part o (48 ∷ 120 ∷ ds)) (hexadecimal_at-digits ds h)
 
-decimal_at_sound : (text : List ℕ) (n : Option ℕ) → decimal_at text ≡ Some n → (are_digits is_ascii_digit text ≡ true) × (number_of 10 text ≡ n)
+decimal_at_sound : (text : List ℕ) (n : Option ℕ) → decimal_at text ≡ Some n
+    → (are_digits is_ascii_digit text ≡ true) × (number_of 10 text ≡ n)
 unfolding decimal_at
 decimal_at_sound text n h = cond_some (are_digits is_ascii_digit text) (number_of 10 text) n h
 
@@ -93,7 +101,8 @@ hexadecimal_at_sound : (text : List ℕ) (n : Option ℕ) → hexadecimal_at tex
     → (ds : List ℕ) × (text ≡ 48 ∷ 120 ∷ ds) × (are_digits is_hexadecimal_digit ds ≡ true) × (number_of 16 ds ≡ n)
 unfolding hexadecimal_at
 hexadecimal_at_sound text n h =
-    let found = and_then_some (λ ds. cond (are_digits is_hexadecimal_digit ds) (Some (number_of 16 ds)) None) (behind (48 ∷ 120 ∷ []) text) n h in
+    let found =
+    and_then_some (λ ds. cond (are_digits is_hexadecimal_digit ds) (Some (number_of 16 ds)) None) (behind (48 ∷ 120 ∷ []) text) n h in
     let digits = cond_some (are_digits is_hexadecimal_digit found.0) (number_of 16 found.0) n found.2 in
     (found.0, behind_sound (48 ∷ 120 ∷ []) text found.0 found.1, digits.0, digits.1)
 
@@ -119,7 +128,8 @@ bare_part_sound text x None found h =
     let read = decimal_at_sound text taken.0 taken.1 in
     (OfNumber Decimal text, read.0, refl, ap parts.Decimal read.1 ∙ taken.2)
 
-marked_part_sound : (text : List ℕ) (x : Part) (mark bracket word : Option (List ℕ)) → behind (35 ∷ []) text ≡ mark → behind (91 ∷ []) text ≡ bracket
+marked_part_sound : (text : List ℕ) (x : Part) (mark bracket word : Option (List ℕ)) → behind (35 ∷ []) text ≡ mark
+    → behind (91 ∷ []) text ≡ bracket
     → behind (77 ∷ 91 ∷ []) text ≡ word → marked_part mark bracket word text ≡ Some x → Shows text x
 marked_part_sound text x (Some rest) bracket word m b s h =
     let taken = map_some parts.Constant (hexadecimal_at rest) x h in
@@ -132,21 +142,24 @@ marked_part_sound text x None (Some rest) word m b s h =
 marked_part_sound text x None None (Some rest) m b s h =
     let taken = map_some parts.Scratch (bracketed_at rest) x h in
     let read = bracketed_at_sound rest taken.0 taken.1 in
-    (OfNumber Scratch read.0, read.2, behind_sound (77 ∷ 91 ∷ []) text rest s ∙ ap (λ t. 77 ∷ 91 ∷ t) read.1, ap parts.Scratch read.3 ∙ taken.2)
+    let whole = behind_sound (77 ∷ 91 ∷ []) text rest s ∙ ap (λ t. 77 ∷ 91 ∷ t) read.1 in
+    (OfNumber Scratch read.0, read.2, whole, ap parts.Scratch read.3 ∙ taken.2)
 marked_part_sound text x None None None m b s h = bare_part_sound text x (hexadecimal_at text) refl h
 
 -- what is read is written so
 pub part_at_sound : (text : List ℕ) (x : Part) → part_at text ≡ Some x → Shows text x
 unfolding part_at
 part_at_sound text x h = by_a (bytes_eq text (codes "a")) refl h where
+  marked : Option Part
+  marked = marked_part (behind (35 ∷ []) text) (behind (91 ∷ []) text) (behind (77 ∷ 91 ∷ []) text) text
+
   by_x : (b : Bool) → bytes_eq text (codes "x") ≡ b
-      → cond b (Some parts.RegisterX) (marked_part (behind (35 ∷ []) text) (behind (91 ∷ []) text) (behind (77 ∷ 91 ∷ []) text) text) ≡ Some x → Shows text x
+      → cond b (Some parts.RegisterX) marked ≡ Some x → Shows text x
   by_x true e g = (OfX, tt, (bytes_eq-Decides text (codes "x")).0 e, cc)
   by_x false e g = marked_part_sound text x (behind (35 ∷ []) text) (behind (91 ∷ []) text) (behind (77 ∷ 91 ∷ []) text) refl refl refl g
 
   by_a : (b : Bool) → bytes_eq text (codes "a") ≡ b
-      → cond b (Some parts.RegisterA) (cond (bytes_eq text (codes "x")) (Some parts.RegisterX) (marked_part (behind (35 ∷ []) text) (behind (91 ∷ []) text) (behind (77 ∷ 91 ∷ []) text) text)) ≡ Some x
-      → Shows text x
+      → cond b (Some parts.RegisterA) (cond (bytes_eq text (codes "x")) (Some parts.RegisterX) marked) ≡ Some x → Shows text x
   by_a true e g = (OfA, tt, (bytes_eq-Decides text (codes "a")).0 e, cc)
   by_a false e g = by_x (bytes_eq text (codes "x")) refl g
 
@@ -216,7 +229,8 @@ arguments_at-three p q r hp hq hr =
     ) refl
 
 pub arguments_at-four : (p q r s : Written) → IsWritten p → IsWritten q → IsWritten r → IsWritten s
-    → arguments_at (written_text p ++ 44 ∷ (written_text q ++ 44 ∷ (written_text r ++ 44 ∷ written_text s))) ≡ Some (Four (part_of p) (part_of q) (part_of r) (part_of s))
+    → arguments_at (written_text p ++ 44 ∷ (written_text q ++ 44 ∷ (written_text r ++ 44 ∷ written_text s)))
+    ≡ Some (Four (part_of p) (part_of q) (part_of r) (part_of s))
 unfolding arguments_at
 arguments_at-four p q r s hp hq hr hs =
     rw (
@@ -232,14 +246,16 @@ arguments_at-four p q r s hp hq hr hs =
 -- the pieces that a text is, and that are read as these arguments
 pub data Spells (text : List ℕ) (arguments : Arguments) : Type 0 where
   OfOne : (p : Written) → IsWritten p → text ≡ written_text p → arguments ≡ One (part_of p) → Spells text arguments
-  OfThree : (p q r : Written) → IsWritten p → IsWritten q → IsWritten r → text ≡ written_text p ++ 44 ∷ (written_text q ++ 44 ∷ written_text r)
+  OfThree : (p q r : Written) → IsWritten p → IsWritten q → IsWritten r
+      → text ≡ written_text p ++ 44 ∷ (written_text q ++ 44 ∷ written_text r)
       → arguments ≡ Three (part_of p) (part_of q) (part_of r) → Spells text arguments
   OfFour : (p q r s : Written) → IsWritten p → IsWritten q → IsWritten r → IsWritten s
       → text ≡ written_text p ++ 44 ∷ (written_text q ++ 44 ∷ (written_text r ++ 44 ∷ written_text s))
       → arguments ≡ Four (part_of p) (part_of q) (part_of r) (part_of s) → Spells text arguments
 
 spelled_three : (text first second third : List ℕ) (a b c : Part) (arguments : Arguments)
-    → text ≡ first ++ 44 ∷ (second ++ 44 ∷ third) → Shows first a → Shows second b → Shows third c → Three a b c ≡ arguments → Spells text arguments
+    → text ≡ first ++ 44 ∷ (second ++ 44 ∷ third) → Shows first a → Shows second b → Shows third c → Three a b c ≡ arguments
+    → Spells text arguments
 spelled_three text first second third a b c arguments e (p, hp, tp, vp) (q, hq, tq, vq) (r, hr, tr, vr) made =
     OfThree p q r hp hq hr (rw (e, tp, tq, tr) refl) (rw (vp, vq, vr) (sym made))
 
@@ -263,15 +279,18 @@ last_parts_sound text first second rest a b arguments (Some both_parts) e sa sb 
     (e ∙ ap (λ t. first ++ 44 ∷ (second ++ 44 ∷ t)) whole.0) sa sb
     (part_at_sound both_parts.0 third.0 third.1) (part_at_sound both_parts.1 fourth.0 fourth.1) cc
 
-parts_of_sound : (text : List ℕ) (arguments : Arguments) (o : Option (List ℕ × List ℕ)) → split_at 44 text ≡ o → parts_of text o ≡ Some arguments → Spells text arguments
+parts_of_sound : (text : List ℕ) (arguments : Arguments) (o : Option (List ℕ × List ℕ)) → split_at 44 text ≡ o
+    → parts_of text o ≡ Some arguments → Spells text arguments
 parts_of_sound text arguments None cut h =
     let one = and_then_some (λ a. Some (One a)) (part_at text) arguments h in
     let (p, hp, tp, vp) = part_at_sound text one.0 one.1 in
     let made : One one.0 ≡ arguments = cc in
     OfOne p hp tp (sym made ∙ ap One (sym vp))
 parts_of_sound text arguments (Some cut_parts) cut h =
-    let first = and_then_some (λ a. option_and_then (λ more. option_and_then (λ b. last_parts a b more.1 (split_at 44 more.1)) (part_at more.0)) (split_at 44 cut_parts.1)) (part_at cut_parts.0) arguments h in
-    let more = and_then_some (λ more. option_and_then (λ b. last_parts first.0 b more.1 (split_at 44 more.1)) (part_at more.0)) (split_at 44 cut_parts.1) arguments first.2 in
+    let after : Part → List ℕ × List ℕ → Option Arguments =
+    λ a more. option_and_then (λ b. last_parts a b more.1 (split_at 44 more.1)) (part_at more.0) in
+    let first = and_then_some (λ a. option_and_then (after a) (split_at 44 cut_parts.1)) (part_at cut_parts.0) arguments h in
+    let more = and_then_some (after first.0) (split_at 44 cut_parts.1) arguments first.2 in
     let second = and_then_some (λ b. last_parts first.0 b more.0.1 (split_at 44 more.0.1)) (part_at more.0.0) arguments more.2 in
     let whole = split_at_sound 44 text cut_parts cut in
     let rest = split_at_sound 44 cut_parts.1 more.0 more.1 in

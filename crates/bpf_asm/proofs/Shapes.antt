@@ -78,7 +78,8 @@ same_pieces (Some operations.SetX) d e same = λ x. number_text Constant (same C
 same_pieces (Some operations.ReturnK) d e same = λ x. number_text Constant (same Constant K refl x) ∷ []
 same_pieces (Some operations.ReturnA) d e same = refl
 same_pieces (Some operations.Jump) d e same = λ x. number_text Decimal (same Decimal K refl x) ∷ []
-same_pieces (Some (operations.Branch test operands.K)) d e same = λ x. number_text Constant (same Constant K refl x) ∷ same Decimal Jt refl x ∷ same Decimal Jf refl x ∷ []
+same_pieces (Some (operations.Branch test operands.K)) d e same =
+    λ x. number_text Constant (same Constant K refl x) ∷ same Decimal Jt refl x ∷ same Decimal Jf refl x ∷ []
 same_pieces (Some (operations.Branch test operands.X)) d e same = λ x. codes "x" ∷ same Decimal Jt refl x ∷ same Decimal Jf refl x ∷ []
 same_pieces (Some (operations.Compute arithmetic operands.K)) d e same = λ x. number_text Constant (same Constant K refl x) ∷ []
 same_pieces (Some (operations.Compute arithmetic operands.X)) d e same = refl
@@ -129,8 +130,14 @@ pub record Found (w : Mnemonic) (ps : List Written) : Type 0 where
   pub mnemonic : mnemonic_of form ≡ w
   pub pieces : map (with_digits digits) (pieces_of form) ≡ ps
 
+of_form : (form : Form) (d : Digits) → Found (mnemonic_of form) (map (with_digits d) (pieces_of form))
+of_form form d = record { form = form; digits = d; mnemonic = refl; pieces = refl }
+
 abbrev no_digits : Digits
 no_digits notation field = []
+
+abbrev all_fields : List ℕ → Digits
+all_fields ds notation field = ds
 
 abbrev by_field : List ℕ → List ℕ → List ℕ → List ℕ → Digits
 by_field code jt jf k notation Code = code
@@ -139,42 +146,40 @@ by_field code jt jf k notation Jf = jf
 by_field code jt jf k notation K = k
 
 found_none : (w : Mnemonic) (f : Fields) → fields_of w Nothing ≡ Some f → Found w []
-found_none Neg f h = record { form = Some operations.Negate; digits = no_digits; mnemonic = refl; pieces = refl }
-found_none Tax f h = record { form = Some operations.CopyToX; digits = no_digits; mnemonic = refl; pieces = refl }
-found_none Txa f h = record { form = Some operations.CopyToA; digits = no_digits; mnemonic = refl; pieces = refl }
+found_none Neg f h = of_form (Some operations.Negate) no_digits
+found_none Tax f h = of_form (Some operations.CopyToX) no_digits
+found_none Txa f h = of_form (Some operations.CopyToA) no_digits
 found_none w f h = absurd (cc)
 
 found_one : (w : Mnemonic) (p : Written) (f : Fields) → fields_of w (One (part_of p)) ≡ Some f → Found w (p ∷ [])
-found_one Ld (OfNumber Address ds) f h = record { form = Some operations.LoadWord; digits = λ notation field. ds; mnemonic = refl; pieces = refl }
-found_one Ld (OfNumber Scratch ds) f h = record { form = Some operations.LoadScratch; digits = λ notation field. ds; mnemonic = refl; pieces = refl }
-found_one Ldx (OfNumber Scratch ds) f h = record { form = Some operations.LoadScratchX; digits = λ notation field. ds; mnemonic = refl; pieces = refl }
-found_one St (OfNumber Scratch ds) f h = record { form = Some operations.Store; digits = λ notation field. ds; mnemonic = refl; pieces = refl }
-found_one Stx (OfNumber Scratch ds) f h = record { form = Some operations.StoreX; digits = λ notation field. ds; mnemonic = refl; pieces = refl }
-found_one Ld (OfNumber Constant ds) f h = record { form = Some operations.SetA; digits = λ notation field. ds; mnemonic = refl; pieces = refl }
-found_one Ldx (OfNumber Constant ds) f h = record { form = Some operations.SetX; digits = λ notation field. ds; mnemonic = refl; pieces = refl }
-found_one Ret (OfNumber Constant ds) f h = record { form = Some operations.ReturnK; digits = λ notation field. ds; mnemonic = refl; pieces = refl }
-found_one Ret OfA f h = record { form = Some operations.ReturnA; digits = no_digits; mnemonic = refl; pieces = refl }
-found_one Ja (OfNumber Decimal ds) f h = record { form = Some operations.Jump; digits = λ notation field. ds; mnemonic = refl; pieces = refl }
-found_one (Compute arithmetic) (OfNumber Constant ds) f h =
-    record { form = Some (operations.Compute arithmetic operands.K); digits = λ notation field. ds; mnemonic = refl; pieces = refl }
-found_one (Compute arithmetic) OfX f h =
-    record { form = Some (operations.Compute arithmetic operands.X); digits = no_digits; mnemonic = refl; pieces = refl }
-found_one Lsh (OfNumber Constant ds) f h = record { form = Some operations.ShiftLeft; digits = λ notation field. ds; mnemonic = refl; pieces = refl }
-found_one Rsh (OfNumber Constant ds) f h = record { form = Some operations.ShiftRight; digits = λ notation field. ds; mnemonic = refl; pieces = refl }
+found_one Ld (OfNumber Address ds) f h = of_form (Some operations.LoadWord) (all_fields ds)
+found_one Ld (OfNumber Scratch ds) f h = of_form (Some operations.LoadScratch) (all_fields ds)
+found_one Ldx (OfNumber Scratch ds) f h = of_form (Some operations.LoadScratchX) (all_fields ds)
+found_one St (OfNumber Scratch ds) f h = of_form (Some operations.Store) (all_fields ds)
+found_one Stx (OfNumber Scratch ds) f h = of_form (Some operations.StoreX) (all_fields ds)
+found_one Ld (OfNumber Constant ds) f h = of_form (Some operations.SetA) (all_fields ds)
+found_one Ldx (OfNumber Constant ds) f h = of_form (Some operations.SetX) (all_fields ds)
+found_one Ret (OfNumber Constant ds) f h = of_form (Some operations.ReturnK) (all_fields ds)
+found_one Ret OfA f h = of_form (Some operations.ReturnA) no_digits
+found_one Ja (OfNumber Decimal ds) f h = of_form (Some operations.Jump) (all_fields ds)
+found_one (Compute arithmetic) (OfNumber Constant ds) f h = of_form (Some (operations.Compute arithmetic operands.K)) (all_fields ds)
+found_one (Compute arithmetic) OfX f h = of_form (Some (operations.Compute arithmetic operands.X)) no_digits
+found_one Lsh (OfNumber Constant ds) f h = of_form (Some operations.ShiftLeft) (all_fields ds)
+found_one Rsh (OfNumber Constant ds) f h = of_form (Some operations.ShiftRight) (all_fields ds)
 found_one w p f h = absurd (cc)
 
 found_three : (w : Mnemonic) (p q r : Written) (f : Fields) → fields_of w (Three (part_of p) (part_of q) (part_of r)) ≡ Some f
     → Found w (p ∷ q ∷ r ∷ [])
 found_three (Branch test) (OfNumber Constant k) (OfNumber Decimal jt) (OfNumber Decimal jf) f h =
-    record { form = Some (operations.Branch test operands.K); digits = by_field [] jt jf k; mnemonic = refl; pieces = refl }
+    of_form (Some (operations.Branch test operands.K)) (by_field [] jt jf k)
 found_three (Branch test) OfX (OfNumber Decimal jt) (OfNumber Decimal jf) f h =
-    record { form = Some (operations.Branch test operands.X); digits = by_field [] jt jf []; mnemonic = refl; pieces = refl }
+    of_form (Some (operations.Branch test operands.X)) (by_field [] jt jf [])
 found_three w p q r f h = absurd (cc)
 
 found_four : (w : Mnemonic) (p q r s : Written) (f : Fields)
     → fields_of w (Four (part_of p) (part_of q) (part_of r) (part_of s)) ≡ Some f → Found w (p ∷ q ∷ r ∷ s ∷ [])
 found_four Raw (OfNumber Hexadecimal code) (OfNumber Decimal jt) (OfNumber Decimal jf) (OfNumber Hexadecimal k) f h =
-    record { form = None; digits = by_field code jt jf k; mnemonic = refl; pieces = refl }
+    of_form None (by_field code jt jf k)
 found_four w p q r s f h = absurd (cc)
 
 pub found : (w : Mnemonic) (ps : List Written) (f : Fields) → option_and_then (fields_of w) (arguments_of ps) ≡ Some f → Found w ps

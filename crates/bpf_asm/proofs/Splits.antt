@@ -37,7 +37,8 @@ split_at_first c (b ∷ xs) ys h =
     let other : (b == c) ≡ false = ne_eqb b c h.0 in
     rw (other, split_at_first c xs ys h.1) refl
 
-pub split_at_sound : (c : ℕ) (bs : List ℕ) (parts : List ℕ × List ℕ) → split_at c bs ≡ Some parts → (bs ≡ parts.0 ++ c ∷ parts.1) × Lacks c parts.0
+pub split_at_sound : (c : ℕ) (bs : List ℕ) (parts : List ℕ × List ℕ) → split_at c bs ≡ Some parts
+    → (bs ≡ parts.0 ++ c ∷ parts.1) × Lacks c parts.0
 split_at_sound c [] parts h = absurd (cc)
 split_at_sound c (b ∷ bs) parts h = by_test (b == c) refl (split_at c bs) (split_at_sound c bs) h where
   Parted : List ℕ × List ℕ → Type 0
@@ -45,7 +46,8 @@ split_at_sound c (b ∷ bs) parts h = by_test (b == c) refl (split_at c bs) (spl
 
   by_test : (t : Bool) → (b == c) ≡ t → (o : Option (List ℕ × List ℕ))
       → ((q : List ℕ × List ℕ) → o ≡ Some q → (bs ≡ q.0 ++ c ∷ q.1) × Lacks c q.0)
-      → cond {A = Option (List ℕ × List ℕ)} t (Some ([], bs)) (option_map (λ (p : List ℕ × List ℕ). (b ∷ p.0, p.1)) o) ≡ Some parts → Parted parts
+      → cond {A = Option (List ℕ × List ℕ)} t (Some ([], bs)) (option_map (λ (p : List ℕ × List ℕ). (b ∷ p.0, p.1)) o) ≡ Some parts
+      → Parted parts
   by_test true e o ih g =
       let same : ([], bs) ≡ parts = cc in
       subst Parted same (ap (λ x. x ∷ bs) (eqb-true b c e), tt)
@@ -58,7 +60,8 @@ pub split_at_lacks : (c : ℕ) (bs : List ℕ) → split_at c bs ≡ None → La
 split_at_lacks c [] h = tt
 split_at_lacks c (b ∷ bs) h = by_test (b == c) refl (split_at c bs) (split_at_lacks c bs) h where
   by_test : (t : Bool) → (b == c) ≡ t → (o : Option (List ℕ × List ℕ)) → (o ≡ None → Lacks c bs)
-      → cond {A = Option (List ℕ × List ℕ)} t (Some ([], bs)) (option_map (λ (p : List ℕ × List ℕ). (b ∷ p.0, p.1)) o) ≡ None → (b ≢ c) × Lacks c bs
+      → cond {A = Option (List ℕ × List ℕ)} t (Some ([], bs)) (option_map (λ (p : List ℕ × List ℕ). (b ∷ p.0, p.1)) o) ≡ None
+      → (b ≢ c) × Lacks c bs
   by_test true e o ih g = absurd (cc)
   by_test false e None ih g = (ne_from_test b c e, ih refl)
   by_test false e (Some q) ih g = absurd (cc)
@@ -67,7 +70,8 @@ pub split_is : (c : ℕ) (bs : List ℕ) (r : Option (Bor (List ℕ) × Bor (Lis
     → option_map (λ parts. (parts.0.now, parts.1.now)) r ≡ split_at c bs
 split_is c bs r h small = by_case r (split_parts c bs r h small) where
   by_case : (o : Option (Bor (List ℕ) × Bor (List ℕ)))
-      → MatchOption o ((i : ℕ) → i < length bs → get_or bs i 0 ≢ c) (λ x. (bs ≡ x.0.now ++ (c ∷ x.1.now)) × ((i : ℕ) → i < length x.0.now → get_or x.0.now i 0 ≢ c))
+      → MatchOption o ((i : ℕ) → i < length bs → get_or bs i 0 ≢ c)
+      (λ x. (bs ≡ x.0.now ++ (c ∷ x.1.now)) × ((i : ℕ) → i < length x.0.now → get_or x.0.now i 0 ≢ c))
       → option_map (λ parts. (parts.0.now, parts.1.now)) o ≡ split_at c bs
   by_case None k = sym (split_at_none c bs (lacks_from_each c bs k))
   by_case (Some x) k = sym (ap (split_at c) k.0 ∙ split_at_first c x.0.now x.1.now (lacks_from_each c x.0.now k.1))
@@ -84,7 +88,8 @@ pub behind_absent : (front text : List ℕ) → ((rest : List ℕ) → text ≢ 
 behind_absent [] text h = absurd (h text refl)
 behind_absent (c ∷ front) [] h = refl
 behind_absent (c ∷ front) (b ∷ text) h = by_test (b == c) refl (behind_absent front text) where
-  by_test : (t : Bool) → (b == c) ≡ t → (((rest : List ℕ) → text ≢ front ++ rest) → behind front text ≡ None) → cond t (behind front text) None ≡ None
+  by_test : (t : Bool) → (b == c) ≡ t → (((rest : List ℕ) → text ≢ front ++ rest) → behind front text ≡ None)
+      → cond t (behind front text) None ≡ None
   by_test true e shorter = shorter (λ rest more. h rest (λ i. eqb-true b c e i ∷ more i))
   by_test false e shorter = refl
 
@@ -98,7 +103,8 @@ ahead_of_none c [] h = refl
 ahead_of_none c (b ∷ []) h =
     let other : (b == c) ≡ false = ne_eqb b c (λ e. h [] (ap (λ x. x ∷ []) e)) in
     rw other refl
-ahead_of_none c (b ∷ d ∷ text) h = ap (option_map (λ (f : List ℕ). b ∷ f)) (ahead_of_none c (d ∷ text) (λ front e. h (b ∷ front) (ap (λ t. b ∷ t) e)))
+ahead_of_none c (b ∷ d ∷ text) h =
+    ap (option_map (λ (f : List ℕ). b ∷ f)) (ahead_of_none c (d ∷ text) (λ front e. h (b ∷ front) (ap (λ t. b ∷ t) e)))
 
 -- what stands behind a front and ahead of an end
 pub behind_sound : (front text rest : List ℕ) → behind front text ≡ Some rest → text ≡ front ++ rest

@@ -104,7 +104,8 @@ told text before rest n f after stands =
       stands = stands;
     }
 
-pub at_line : (text : List ℕ) (before : List Insn) (rest own after : List ℕ) (n : ℕ) (f : LineFault) → IsAfter text before n rest → n ≤ max_insns
+pub at_line : (text : List ℕ) (before : List Insn) (rest own after : List ℕ) (n : ℕ) (f : LineFault) → IsAfter text before n rest
+    → n ≤ max_insns
     → split_at line_feed rest ≡ Some (own, after) → line_at own ≡ Err f → FaultAt text n f
 at_line text before rest own after n f is limit cut fault =
     let P : List ℕ → Type 0 = HasFault f in
@@ -112,7 +113,8 @@ at_line text before rest own after n f is limit cut fault =
     (InLine (some_cut rest (own, after) cut) limit (subst P (sym (first_line-cut rest (own, after) cut)) (line_err own f fault)))
 
 -- the last line, which lacks its line feed, is read as one that has it, and told if it is read
-pub at_last : (text : List ℕ) (before : List Insn) (rest : List ℕ) (n : ℕ) (r : Result Insn LineFault) (o : Option LineFault) (f : LineFault)
+pub at_last : (text : List ℕ) (before : List Insn) (rest : List ℕ) (n : ℕ)
+    (r : Result Insn LineFault) (o : Option LineFault) (f : LineFault)
     → IsAfter text before n rest → n ≤ max_insns → 0 < length rest → split_at line_feed rest ≡ None
     → line_at rest ≡ r → o ≡ result_err r → f ≡ unwrap_or o BadLine → FaultAt text n f
 at_last text before rest n (Err g) o f is limit some cut read e h =
@@ -136,7 +138,8 @@ at_nothing text none =
 
 -- one line more
 pub one_more : (text : List ℕ) (before : List Insn) (i : Insn) (rest own after : List ℕ)
-    → text ≡ listing before ++ rest → split_at line_feed rest ≡ Some (own, after) → line_of i ≡ own → text ≡ listing (before ++ i ∷ []) ++ after
+    → text ≡ listing before ++ rest → split_at line_feed rest ≡ Some (own, after) → line_of i ≡ own
+    → text ≡ listing (before ++ i ∷ []) ++ after
 one_more text before i rest own after split cut line =
     let front : List ℕ = listing before in
     let ended : List ℕ = line_of i ++ line_feed ∷ [] in

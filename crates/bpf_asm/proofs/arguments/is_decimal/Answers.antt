@@ -7,5 +7,6 @@ use Rattle.bpf_asm.proofs.arguments.is_decimal.Goals as goal
 
 pub returns-then-not-is_empty : goal.returns-then-not-is_empty
 returns-then-not-is_empty c =
-    all_from_yields_List is_ascii_digit _ _ _ c.all.ensures.ran (YieldsList-from_bytes c.args.text.now c.bytes.ensures.rest) (λ x b q k. search (rules, tests))
+    all_from_yields_List is_ascii_digit _ _ _ c.all.ensures.ran (YieldsList-from_bytes c.args.text.now c.bytes.ensures.rest)
+    (λ x b q k. search (rules, tests))
     ∙ are_digits-some is_ascii_digit c.args.text.now (sym c.is_empty.ensures ∙ c.if-not-is_empty.true)

@@ -10,7 +10,8 @@ returns-in-Some-hexadecimal c =
     let mark = strip_prefix_char 35 c.args.text.now None c.in_default.ensures.cases (lit< tt) in
     let bracket = strip_prefix_char 91 c.args.text.now None c.in_default-strip_prefix.ensures.cases (lit< tt) in
     let scratch = behind_absent (77 ∷ 91 ∷ []) c.args.text.now c.in_default-strip_prefix-2.ensures.cases in
-    let read = part_at-number c.args.text.now (sym c.eq.ensures ∙ c.if-eq.false) (sym c.eq-2.ensures ∙ c.if-eq-2.false) mark bracket scratch in
+    let read =
+    part_at-number c.args.text.now (sym c.eq.ensures ∙ c.if-eq.false) (sym c.eq-2.ensures ∙ c.if-eq-2.false) mark bracket scratch in
     rw (read, ← c.in-Some-hexadecimal.ensures) refl
 
 pub returns-in-None : goal.returns-in-None
@@ -18,5 +19,6 @@ returns-in-None c =
     let mark = strip_prefix_char 35 c.args.text.now None c.in_default.ensures.cases (lit< tt) in
     let bracket = strip_prefix_char 91 c.args.text.now None c.in_default-strip_prefix.ensures.cases (lit< tt) in
     let scratch = behind_absent (77 ∷ 91 ∷ []) c.args.text.now c.in_default-strip_prefix-2.ensures.cases in
-    let read = part_at-number c.args.text.now (sym c.eq.ensures ∙ c.if-eq.false) (sym c.eq-2.ensures ∙ c.if-eq-2.false) mark bracket scratch in
+    let read =
+    part_at-number c.args.text.now (sym c.eq.ensures ∙ c.if-eq.false) (sym c.eq-2.ensures ∙ c.if-eq-2.false) mark bracket scratch in
     rw (read, ← c.in-None.ensures) (search rules)

@@ -9,7 +9,8 @@ use Rattle.bpf_asm.proofs.assembling.assemble.Goals as goal
 pub returns-in_err-insns-clause-only : goal.returns-in_err-insns-clause-only
 returns-in_err-insns-clause-only c =
     let told = err_from_is_err_and c.from_residual.result c.from_residual.ensures.1 in
-    λ bytes are whole e. rw (told.1, told.2) (only_memory c.args.text.now c.in_err-insns.field-0.0 bytes c.in_err-insns.ensures.fault are whole e)
+    λ bytes are whole e.
+    rw (told.1, told.2) (only_memory c.args.text.now c.in_err-insns.field-0.0 bytes c.in_err-insns.ensures.fault are whole e)
 
 pub returns-clause-only : goal.returns-clause-only
 returns-clause-only c =

@@ -13,8 +13,9 @@ returns-in_default-clause-fault c =
       few = omega (arith, before.ok.0, c.loop-rest.invariant.limit);
     } in
     let some : 0 < length c.loop-rest.rest.now = grind (arith, nat_tests) in
-    at_last c.args.text.now before.items c.loop-rest.rest.now (c.len-line.result + 1) c.read_line.result c.err.result c.unwrap_or-fault.result
-    there (grind (arith, nat_tests)) some (sym c.in_default.ensures) (sym c.read_line.ensures) c.err.ensures.value c.unwrap_or-fault.ensures
+    at_last c.args.text.now before.items c.loop-rest.rest.now (c.len-line.result + 1)
+    c.read_line.result c.err.result c.unwrap_or-fault.result there (grind (arith, nat_tests)) some
+    (sym c.in_default.ensures) (sym c.read_line.ensures) c.err.ensures.value c.unwrap_or-fault.ensures
 
 pub returns-in-Err-clause-fault : goal.returns-in-Err-clause-fault
 returns-in-Err-clause-fault c =
