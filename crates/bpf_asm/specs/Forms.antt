@@ -153,10 +153,16 @@ piece_text digits RegisterA = codes "a"
 piece_text digits RegisterX = codes "x"
 piece_text digits (Number notation field) = number_text notation (digits notation field)
 
+abbrev pub space : ℕ
+space = 32
+
+abbrev pub comma : ℕ
+comma = 44
+
 -- after a space, the pieces, with commas between them
 abbrev pub rest_text : List (List ℕ) → List ℕ
 rest_text [] = []
-rest_text (piece ∷ pieces) = 32 ∷ join_with_byte 44 (piece ∷ pieces)
+rest_text (piece ∷ pieces) = space ∷ join_with_byte comma (piece ∷ pieces)
 
 -- a line of the form with these digits, without its line feed
 abbrev pub line_text : Form → Digits → List ℕ

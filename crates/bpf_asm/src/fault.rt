@@ -5,19 +5,21 @@ use std::alloc::{AllocError, AllocFailed};
 use std::error::Error;
 use std::fmt;
 
-/// What is wrong with a line. Of two faults of a line the one that comes first here is told; a line of
-/// which only `raw` or the missing line feed is wrong has good numbers.
+/// What is wrong with a line.
+///
+/// Of two faults of a line this one is told: that it is line 4097; its word; its shape; a number; that it
+/// need not be `raw`; that its line feed is missing.
 #[derive(Clone, Copy, Debug, PartialEq, Eq)]
 pub enum LineFault {
-    /// It is line 4097.
-    TooLong,
     /// It begins with no word of the listing.
     UnknownWord,
+    /// A number has a leading zero, or is too large for its field.
+    BadNumber,
+    /// It is line 4097.
+    TooLong,
     /// What follows the word has none of its shapes, a `raw` line is of an instruction that has another
     /// form, the line feed is missing, or there is no line at all.
     BadLine,
-    /// A number has a leading zero, or is too large for its field.
-    BadNumber,
 }
 
 /// Why a text is not assembled.
