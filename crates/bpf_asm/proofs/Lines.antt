@@ -5,7 +5,7 @@ use Rattle.std.specs.Option.{option_map}
 use Rattle.std.specs.List.{AllByRecursion, before_first, join_with_byte, position_or_len}
 use Rattle.std.proofs.lemmas.Bool.{and_parts, eq-eqb, eqb-true}
 use Rattle.std.proofs.lemmas.List.{append-nil}
-use Rattle.std.proofs.lemmas.Option.{same_Some}
+use Rattle.std.proofs.lemmas.Option.{cond_some, same_Some}
 use Rattle.std.proofs.lemmas.List.Elements.{All-from_recursion, recursion_from_All}
 use Rattle.bpf_insn.specs.declared.code.Operation.{Operation}
 use Rattle.bpf_insn.specs.declared.instruction.Insn.{Insn}
@@ -26,7 +26,7 @@ use Rattle.bpf_asm.specs.inner.Reading.{arguments_at, checked, fields_at, fields
 use Rattle.bpf_asm.specs.inner.Written.{IsWritten, Written, arguments_of, content, content_by, fields_with, fixed, with_digits, written_text}
 use Rattle.bpf_asm.proofs.Numerals.{are_digits-digits, number_of-digits, within_some}
 use Rattle.bpf_asm.proofs.Splits.{Lacks, lacks_append, split_at_first, split_at_none, split_at_sound}
-use Rattle.bpf_asm.proofs.Pieces.{Spells, OfOne, OfThree, OfFour, and_then_some, arguments_at-four, arguments_at-one, arguments_at-three, arguments_at_sound, cond_some, lacks-written_text}
+use Rattle.bpf_asm.proofs.Pieces.{Spells, OfOne, OfThree, OfFour, and_then_some, arguments_at-four, arguments_at-one, arguments_at-three, arguments_at_sound, lacks-written_text}
 use Rattle.bpf_asm.proofs.Mnemonics.{lacks-text_of, mnemonic_at-text_of, mnemonic_at_none, mnemonic_at_sound, not_raw, text_of-mnemonic_of}
 use Rattle.bpf_asm.proofs.Outcomes.{Faulty, Made, Outcome, outcome}
 use Rattle.bpf_asm.proofs.Shapes.{all_digits, all_written, found, line_whole, no_code, reads_form, same_line, whole}

@@ -4,7 +4,7 @@ use Rattle.std.specs.Prelude.{◌==◌, Option, Some, None, MatchOption}
 use Rattle.std.specs.Option.{option_map}
 use Rattle.std.specs.List.{AllByRecursion}
 use denote.Ref.{Bor}
-use Rattle.std.proofs.lemmas.Bool.{eqb-true, ne_eqb, eq-eqb}
+use Rattle.std.proofs.lemmas.Bool.{eqb-false, eqb-true, ne_eqb, eq-eqb}
 use Rattle.std.proofs.lemmas.Str.Pattern.{IsSplitOnceResult, split_parts}
 use Rattle.bpf_asm.specs.inner.Reading.{split_at, behind, ahead_of}
 
@@ -19,9 +19,6 @@ lacks_from_each c (b ∷ bs) h = (h 0 (omega arith), lacks_from_each c bs (λ i 
 pub lacks_append : (c : ℕ) (xs ys : List ℕ) → Lacks c xs → Lacks c ys → Lacks c (xs ++ ys)
 lacks_append c [] ys h k = k
 lacks_append c (x ∷ xs) ys h k = (h.0, lacks_append c xs ys h.1 k)
-
-pub ne_from_test : (b c : ℕ) → (b == c) ≡ false → b ≢ c
-ne_from_test b c h e = let same : (b == c) ≡ true = eq-eqb b c e in cc
 
 -- a text without the byte is not split
 pub split_at_none : (c : ℕ) (bs : List ℕ) → Lacks c bs → split_at c bs ≡ None
@@ -54,7 +51,7 @@ split_at_sound c (b ∷ bs) parts h = by_test (b == c) refl (split_at c bs) (spl
   by_test false e None ih g = absurd (cc)
   by_test false e (Some q) ih g =
       let same : (b ∷ q.0, q.1) ≡ parts = cc in
-      subst Parted same (ap (λ t. b ∷ t) (ih q refl).0, (ne_from_test b c e, (ih q refl).1))
+      subst Parted same (ap (λ t. b ∷ t) (ih q refl).0, (eqb-false b c e, (ih q refl).1))
 
 pub split_at_lacks : (c : ℕ) (bs : List ℕ) → split_at c bs ≡ None → Lacks c bs
 split_at_lacks c [] h = tt
@@ -63,7 +60,7 @@ split_at_lacks c (b ∷ bs) h = by_test (b == c) refl (split_at c bs) (split_at_
       → cond {A = Option (List ℕ × List ℕ)} t (Some ([], bs)) (option_map (λ (p : List ℕ × List ℕ). (b ∷ p.0, p.1)) o) ≡ None
       → (b ≢ c) × Lacks c bs
   by_test true e o ih g = absurd (cc)
-  by_test false e None ih g = (ne_from_test b c e, ih refl)
+  by_test false e None ih g = (eqb-false b c e, ih refl)
   by_test false e (Some q) ih g = absurd (cc)
 
 pub split_is : (c : ℕ) (bs : List ℕ) (r : Option (Bor (List ℕ) × Bor (List ℕ))) → IsSplitOnceResult c bs r → c < 128
