@@ -13,8 +13,6 @@ mod layout;
 mod little;
 pub mod offset;
 mod strictness;
-#[cfg(test)]
-mod tests;
 mod text;
 mod verdict;
 

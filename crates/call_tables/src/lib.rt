@@ -9,8 +9,6 @@ mod arch;
 mod calls;
 mod machines;
 mod table;
-#[cfg(test)]
-mod tests;
 
 pub use arch::{Arch, look_ups_are_inverse};
 pub use machines::{Aarch64, Machine, X86_64, machine_look_ups_are_inverse};

@@ -1,5 +1,5 @@
 -- What clashes first among the different rules clashes first in the list that was given.
-use Rattle.std.proofs.Common.{◌≡◌, ℕ, ◌<◌, ◌≤◌, inl, inr, List, length, get_or, take, sym, ◌∙◌, ap, arith, Some}
+use Rattle.std.proofs.Common.{◌≡◌, ℕ, ◌<◌, ◌≤◌, inl, inr, List, length, get_or, take, sym, ◌∙◌, ap, subst, arith, Some}
 use Rattle.std.specs.List.{Contains}
 use Rattle.std.specs.Prelude.{slice_get}
 use Rattle.std.proofs.lemmas.Bool.{cases_lt, cases_eq}
@@ -10,7 +10,7 @@ use Rattle.profile.specs.Build.{ClashAt, IsFirstClash}
 use Rattle.profile.specs.inner.Kept.{KeepsAt}
 
 -- both rules of a clash have a place
-pub clash_in : (rules kept : List Rule) (places : List ℕ) (i j : ℕ) → KeepsAt rules kept places → ClashAt kept i j
+clash_in : (rules kept : List Rule) (places : List ℕ) (i j : ℕ) → KeepsAt rules kept places → ClashAt kept i j
     → (i < length places) × (j < length places)
 clash_in rules kept places i j h (lt, a, b, at-i, at-j, clash) = (
   omega (arith, h.as_many, slice_get_within kept i a at-i),
@@ -18,7 +18,7 @@ clash_in rules kept places i j h (lt, a, b, at-i, at-j, clash) = (
 )
 
 -- what clashes among the kept rules clashes in the list
-pub clash_at : (rules kept : List Rule) (places : List ℕ) (i j : ℕ) → KeepsAt rules kept places → ClashAt kept i j
+clash_at : (rules kept : List Rule) (places : List ℕ) (i j : ℕ) → KeepsAt rules kept places → ClashAt kept i j
     → ClashAt rules (get_or places i 0) (get_or places j 0)
 clash_at rules kept places i j h (lt, a, b, at-i, at-j, clash) =
     let in-i : i < length kept = slice_get_within kept i a at-i in
@@ -68,6 +68,14 @@ among_earlier rules kept places j x h in-j (n, lt, at) =
     slice_get-get_or rules n x (omega (arith, before, h.within j in-j)) ∙ ap Some found in
     let k = kept_before rules kept places j n x h in-j here before in
     taken_at kept j k.0 x k.1 in-j k.2
+
+-- the first clash of the rules that are lent is that of those that are kept, and both have a place
+pub first_clash_in : (rules kept lent : List Rule) (places : List ℕ) (i j : ℕ) → KeepsAt rules kept places → lent ≡ kept
+    → IsFirstClash lent i j → IsFirstClash kept i j × (i < length places) × (j < length places)
+first_clash_in rules kept lent places i j h same f =
+    let first : IsFirstClash kept i j = subst (λ (xs : List Rule). IsFirstClash xs i j) same f in
+    let inside = clash_in rules kept places i j h first.clash in
+    (first, inside.0, inside.1)
 
 pub first_clash_at : (rules kept : List Rule) (places : List ℕ) (i j : ℕ) → KeepsAt rules kept places → IsFirstClash kept i j
     → IsFirstClash rules (get_or places i 0) (get_or places j 0)

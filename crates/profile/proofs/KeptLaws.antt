@@ -1,11 +1,11 @@
 -- The different rules of a list, as the list grows by a rule.
 use Rattle.std.proofs.Common.{◌≡◌, ℕ, zero, suc, ◌+◌, ◌<◌, ◌≤◌, ◌⊎◌, inl, inr, true, false, List, [], ◌∷◌, ◌++◌}
-use Rattle.std.proofs.Common.{length, get_or, take, drop, refl, sym, ◌∙◌, ap, subst, arith, append_assoc}
+use Rattle.std.proofs.Common.{length, get_or, refl, sym, ◌∙◌, ap, subst, arith, append_assoc}
 use Rattle.std.proofs.Common.{length-append, Some}
-use Rattle.std.specs.List.{Contains, enumerate_from}
+use Rattle.std.specs.List.{Contains}
 use Rattle.std.specs.Prelude.{slice_get}
 use Rattle.std.proofs.lemmas.Bool.{cases_Bool, cases_lt}
-use Rattle.std.proofs.lemmas.List.{append-nil, get_or_append_left, take_more, take-append-drop}
+use Rattle.std.proofs.lemmas.List.{append-nil, get_or_append_left}
 use Rattle.std.proofs.lemmas.List.Elements.{Contains-append_left, Contains-push, Contains-push_cases}
 use Rattle.std.proofs.lemmas.Option.{same_Some, slice_get_within, slice_get-get_or}
 use Rattle.std.proofs.Math.Seq.{get_or-append_seam}
@@ -192,40 +192,6 @@ too_many rules kept more rule h new full =
       subst (λ xs. KeepsOnce xs all.0) (append_assoc rules (rule ∷ []) more) all.1,
       omega (arith, push_length kept rule, full, longer),
     )
-
--- ---- a list with its places
-
-pub enumerate_at : (from : ℕ) (xs : List Rule) (n : ℕ) (d : ℕ × Rule) → n < length xs
-    → get_or (enumerate_from from xs) n d ≡ (from + n, get_or xs n d.1)
-enumerate_at from [] n d lt = absurd (omega (arith, lt))
-enumerate_at from (x ∷ xs) zero d lt = ap (λ (k : ℕ). (k, x)) (omega arith)
-enumerate_at from (x ∷ xs) (suc n) d lt = enumerate_at (from + 1) xs n d (omega (arith, lt))
-    ∙ ap (λ (k : ℕ). (k, get_or xs n d.1)) (omega arith)
-
-pub length-enumerate : (from : ℕ) (xs : List Rule) → length (enumerate_from from xs) ≡ length xs
-length-enumerate from [] = refl
-length-enumerate from (x ∷ xs) = ap suc (length-enumerate (from + 1) xs)
-
--- the place and the rule of one turn of a loop over a list with its places
-pub turn_of : (rules : List Rule) (n place : ℕ) (rule : Rule)
-    → (n < length (enumerate_from 0 rules)) × ((place, rule) ≡ get_or (enumerate_from 0 rules) n (place, rule))
-    → (place ≡ n) × (n < length rules) × (take (n + 1) rules ≡ take n rules ++ rule ∷ [])
-turn_of rules n place rule (lt, at) =
-    let inside : n < length rules = omega (arith, lt, length-enumerate 0 rules) in
-    let both : (place, rule) ≡ (0 + n, get_or rules n rule) = at ∙ enumerate_at 0 rules n (place, rule) inside in
-    let same : rule ≡ get_or rules n rule = ap (λ (p : ℕ × Rule). p.1) both in (
-      ap (λ (p : ℕ × Rule). p.0) both ∙ omega arith,
-      inside,
-      take_more rules n rule inside
-          ∙ ap (λ (y : Rule). take n rules ++ y ∷ []) (sym same),
-    )
-
--- the list in two parts round a rule
-pub split_of : (rules : List Rule) (n : ℕ) (rule : Rule) → take (n + 1) rules ≡ take n rules ++ rule ∷ []
-    → rules ≡ take n rules ++ rule ∷ drop (n + 1) rules
-split_of rules n rule e =
-    sym (take-append-drop (n + 1) rules) ∙ ap (λ (xs : List Rule). xs ++ drop (n + 1) rules) e
-    ∙ append_assoc (take n rules) (rule ∷ []) (drop (n + 1) rules)
 
 pub keeps_same : (rules rules' kept kept' : List Rule) (places places' : List ℕ) → rules' ≡ rules → kept' ≡ kept → places' ≡ places
     → KeepsAt rules kept places → KeepsAt rules' kept' places'

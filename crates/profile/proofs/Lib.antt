@@ -5,6 +5,7 @@ pub mod Overlapping
 pub mod Saying
 pub mod SaidLaws
 pub mod KeptLaws
+pub mod Turns
 pub mod ClearLaws
 pub mod Clashing
 pub mod OneBuilt

@@ -16,8 +16,6 @@ mod meets;
 mod overlaps;
 mod policy;
 mod rules;
-#[cfg(test)]
-mod tests;
 
 pub use conditions::{Cond, Op};
 pub use distinct::MAX_RULES;

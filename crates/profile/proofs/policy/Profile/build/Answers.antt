@@ -3,9 +3,8 @@ use Rattle.std.proofs.lemmas.List.{get_or_default}
 use Rattle.profile.specs.declared.rules.Rule.{Rule}
 use Rattle.profile.specs.declared.fault.BuildError.TheVariants.{Overlap}
 use Rattle.profile.specs.Policy.{IsClear}
-use Rattle.profile.specs.Build.{AreListed, IsFirstForeign, IsFirstClash, IsFirstCause}
-use Rattle.profile.specs.inner.Kept.{KeepsAt}
-use Rattle.profile.proofs.Clashing.{clash_in}
+use Rattle.profile.specs.Build.{AreListed, IsFirstForeign, IsFirstCause}
+use Rattle.profile.proofs.Clashing.{first_clash_in}
 use Rattle.profile.proofs.BuildLaws.{not_kept, overlapping, profile_of}
 use Rattle.profile.proofs.policy.Profile.build.Goals as goal
 
@@ -18,44 +17,36 @@ returns-in-Some-clause-err c = (
 pub index-requires : goal.index-requires
 index-requires c =
     let kept = c.in_ok-rules.field-0 in
-    let i = c.in-Some-first_clash.first in
-    let j = c.in-Some-first_clash.second in
-    let once : KeepsAt c.args.rules.items kept.rules.items kept.places.items = c.in_ok-rules.ensures.ok in
-    let first : IsFirstClash kept.rules.items i j =
-    subst (λ (xs : List Rule). IsFirstClash xs i j) c.deref-2.ensures.value c.in-Some-first_clash.ensures.some in
-    let inside = clash_in c.args.rules.items kept.rules.items kept.places.items i j once first.clash in
-    omega (arith, inside.0, kept.places.ok.0)
+    let first = first_clash_in c.args.rules.items kept.rules.items _ kept.places.items _ _ c.in_ok-rules.ensures.ok c.deref-2.ensures.value
+    c.in-Some-first_clash.ensures.some in
+    omega (arith, first.1, kept.places.ok.0)
 
 pub index-requires-in-Some-first_clash : goal.index-requires-in-Some-first_clash
 index-requires-in-Some-first_clash c =
     let kept = c.in_ok-rules.field-0 in
-    let i = c.in-Some-first_clash.first in
-    let j = c.in-Some-first_clash.second in
-    let once : KeepsAt c.args.rules.items kept.rules.items kept.places.items = c.in_ok-rules.ensures.ok in
-    let first : IsFirstClash kept.rules.items i j =
-    subst (λ (xs : List Rule). IsFirstClash xs i j) c.deref-2.ensures.value c.in-Some-first_clash.ensures.some in
-    let inside = clash_in c.args.rules.items kept.rules.items kept.places.items i j once first.clash in
-    omega (arith, inside.1, kept.places.ok.0)
+    let first = first_clash_in c.args.rules.items kept.rules.items _ kept.places.items _ _ c.in_ok-rules.ensures.ok c.deref-2.ensures.value
+    c.in-Some-first_clash.ensures.some in
+    omega (arith, first.2, kept.places.ok.0)
 
 pub returns-in-Some-first_clash-clause-err : goal.returns-in-Some-first_clash-clause-err
 returns-in-Some-first_clash-clause-err c =
-    let kept = c.in_ok-rules.field-0 in
+    let rules = c.args.rules.items in
+    let archs = c.args.archs.now in
+    let kept = c.in_ok-rules.field-0.rules.items in
+    let places = c.in_ok-rules.field-0.places.items in
     let i = c.in-Some-first_clash.first in
     let j = c.in-Some-first_clash.second in
-    let archs = c.args.archs.now in
-    let once : KeepsAt c.args.rules.items kept.rules.items kept.places.items = c.in_ok-rules.ensures.ok in
-    let first : IsFirstClash kept.rules.items i j =
-    subst (λ (xs : List Rule). IsFirstClash xs i j) c.deref-2.ensures.value c.in-Some-first_clash.ensures.some in
-    let inside = clash_in c.args.rules.items kept.rules.items kept.places.items i j once first.clash in
-    let listed : AreListed archs c.args.rules.items = subst (AreListed archs) c.deref.ensures.value c.in_default.ensures.none in
-    let at-first : get_or kept.places.items i 0 ≡ c.index.result.now =
-    get_or_default kept.places.items i 0 c.index.result.now inside.0 ∙ sym c.index.ensures in
-    let at-second : get_or kept.places.items j 0 ≡ c.index-in-Some-first_clash.result.now =
-    get_or_default kept.places.items j 0 c.index-in-Some-first_clash.result.now inside.1 ∙ sym c.index-in-Some-first_clash.ensures in
-    let cause = overlapping c.args.native archs c.args.rules.items kept.rules.items kept.places.items i j
-    (c.lists.ensures.0 c.if-not-lists.false) listed once c.in_ok-rules.ensures.few first in
-    subst (λ (n : ℕ). IsFirstCause c.args.native archs c.args.rules.items (Overlap c.index.result.now n)) at-second
-    (subst (λ (m : ℕ). IsFirstCause c.args.native archs c.args.rules.items (Overlap m (get_or kept.places.items j 0))) at-first cause)
+    let first = first_clash_in rules kept c.deref-2.result.now places i j c.in_ok-rules.ensures.ok c.deref-2.ensures.value
+    c.in-Some-first_clash.ensures.some in
+    let listed : AreListed archs rules = subst (AreListed archs) c.deref.ensures.value c.in_default.ensures.none in
+    let at-first : get_or places i 0 ≡ c.index.result.now =
+    get_or_default places i 0 c.index.result.now first.1 ∙ sym c.index.ensures in
+    let at-second : get_or places j 0 ≡ c.index-in-Some-first_clash.result.now =
+    get_or_default places j 0 c.index-in-Some-first_clash.result.now first.2 ∙ sym c.index-in-Some-first_clash.ensures in
+    let cause = overlapping c.args.native archs rules kept places i j (c.lists.ensures.0 c.if-not-lists.false) listed
+    c.in_ok-rules.ensures.ok c.in_ok-rules.ensures.few first.0 in
+    subst (λ (n : ℕ). IsFirstCause c.args.native archs rules (Overlap c.index.result.now n)) at-second
+    (subst (λ (m : ℕ). IsFirstCause c.args.native archs rules (Overlap m (get_or places j 0))) at-first cause)
 
 pub returns-clause-ok : goal.returns-clause-ok
 returns-clause-ok c = record {
