@@ -1,5 +1,5 @@
 -- What the kernel accepts, and what it refuses a program for (the kernel's documentation of
--- seccomp_filter, and its checks bpf_check_classic, check_load_and_stores and seccomp_check_filter).
+-- seccomp_filter, and its checks bpf_check_classic and seccomp_check_filter).
 use Rattle.std.specs.Prelude.{ℕ, ◌≡◌, ◌≢◌, ◌+◌, ◌≤◌, ◌⊎◌, List, length, Option, Some, slice_get}
 use Rattle.bpf_insn.specs.declared.code.Operation.{Operation}
 use Rattle.bpf_insn.specs.declared.code.Operation.TheVariants.{ReturnK, ReturnA, Jump, Branch}

@@ -1,5 +1,7 @@
--- The paths through a program, and which scratch words may be unwritten on them. A path begins at
--- position 0 and may take either target of a jump, whatever is compared.
+-- The paths through a program, and which scratch words may be unwritten on them (the kernel's
+-- check_load_and_stores). A path begins at position 0 and may take either target of a jump, whatever is
+-- compared. The kernel's own check also goes on past a return, in the order of the code, and so may
+-- refuse more.
 use Rattle.std.specs.Prelude.{ℕ, ◌≡◌, ◌+◌, ◌⊎◌, List, Option, Some, slice_get}
 use Rattle.bpf_insn.specs.declared.code.Operation.{Operation}
 use Rattle.bpf_insn.specs.declared.code.Operation.TheVariants.{ReturnK, ReturnA, Jump, Branch}
