@@ -73,7 +73,7 @@ impl Cond {
 
 impl Op {
     /// The bits that a condition with this operator and value names: those of the mask.
-    pub(crate) fn mask(self, value: u64) -> u64
+    pub fn mask(self, value: u64) -> u64
         ensures { result ≡ mask_of self value }
     {
         match self {

@@ -8,7 +8,7 @@ use crate::rules::Rule;
 use call_tables::Arch;
 
 /// The listed machines, each once, x86-64 first.
-pub(crate) fn in_order(archs: &[Arch]) -> &'static [Arch]
+pub fn in_order(archs: &[Arch]) -> &'static [Arch]
     requires { (arch : Arch) × Contains archs.now arch }
     ensures ordered { InOrder result.now }
     ensures listed { (arch : Arch) → Contains result.now arch → Contains archs.now arch }

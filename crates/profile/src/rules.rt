@@ -90,8 +90,8 @@ fn are_apart(mut conds: &[Cond]) -> bool
     true
 }
 
-// Whether one of the conditions is on this argument.
-fn has_index(conds: &[Cond], index: u8) -> bool
+/// Whether one of the conditions is on this argument.
+pub fn has_index(conds: &[Cond], index: u8) -> bool
     ensures { result ≡ list_any (λ i. i == index) (map (λ c. c.index) conds.now) }
 {
     conds

@@ -2,7 +2,7 @@
 ghost use Rattle.std.specs.Prelude.{◌≡◌, ◌<◌, ◌==◌, [], map, true, false, IfOk};
 ghost use Rattle.std.specs.List.{list_any};
 ghost use Rattle.serde_json.specs.View.{view};
-ghost use Rattle.profile.specs.Operator.{are_distinct, mask_of};
+ghost use Rattle.profile.specs.Operator.{are_distinct};
 ghost use Rattle.profile_json.specs.Names as names;
 ghost use Rattle.profile_json.specs.inner.Outcome.{Gives};
 ghost use Rattle.profile_json.specs.Parts.{cond_parts};
@@ -12,7 +12,7 @@ use crate::fault::ProfileError;
 use crate::key::{self, ARGS, INDEX, OP, VALUE, VALUE_TWO};
 use crate::lookup::{list_or_empty, object_of, text_at, whole_at, whole_or_zero};
 use arrayvec::ArrayVec;
-use profile::{Cond, Op};
+use profile::{Cond, Op, has_index};
 use serde_json::Value;
 
 /// The operator of a name.
@@ -40,38 +40,22 @@ fn op_at(member: &Value) -> Result<Op, ProfileError>
     op_named(name).ok_or(ProfileError::UnknownOp)
 }
 
-/// Whether a condition is on this argument.
-fn has_index(conds: &ArrayVec<Cond, 6>, index: u64) -> bool
-    ensures { result ≡ list_any (λ c. c.index == index) conds.now.items }
-{
-    conds.as_slice().iter().any(|c| u64::from(c.index) == index)
-}
-
 /// The argument that a member names, which no earlier condition names.
 #[tactic(auto, using(crate::proofs::reading::Conditions::any_index), unfolding(crate::specs::inner::Reading::index_at))]
 fn index_at(member: &Value, earlier: &ArrayVec<Cond, 6>) -> Result<u8, ProfileError>
     ensures reading { Gives (λ i. i) result (spec.index_at (map cond_parts earlier.now.items) (view member.now)) }
     ensures small { IfOk result (λ i. i < 6) }
-    ensures fresh { IfOk result (λ i. list_any (λ c. c.index == i) earlier.now.items ≡ false) }
+    ensures fresh { IfOk result (λ i. list_any (λ j. j == i) (map (λ c. c.index) earlier.now.items) ≡ false) }
 {
-    let index = whole_at(member, INDEX)?;
-    if index >= 6 {
+    let number = whole_at(member, INDEX)?;
+    if number >= 6 {
         return Err(ProfileError::BadIndex);
     }
-    if has_index(earlier, index) {
+    let index = number as u8;
+    if has_index(earlier.as_slice(), index) {
         return Err(ProfileError::RepeatedIndex);
     }
-    Ok(index as u8)
-}
-
-/// The bits that a datum may have: those of the value under MASKED_EQ, and else none.
-fn mask_of(op: Op, value: u64) -> u64
-    ensures { result ≡ mask_of op value }
-{
-    match op {
-        Op::MaskedEq => value,
-        _ => 0,
-    }
+    Ok(index)
 }
 
 /// A condition. The second value counts under MASKED_EQ alone.
@@ -81,24 +65,14 @@ fn cond_of(index: u8, op: Op, value: u64, second: u64) -> Result<Cond, ProfileEr
     ensures reading { Gives cond_parts result (spec.cond_of index op value second) }
     ensures index { IfOk result (λ c. c.index ≡ index) }
 {
-    let datum = mask_of(op, second);
-    if datum & mask_of(op, value) == datum {
-        Ok(Cond {
-            index,
-            op,
-            value,
-            datum,
-        })
-    } else {
-        Err(ProfileError::StrayDatum)
-    }
+    Cond::new(index, op, value, op.mask(second)).ok_or(ProfileError::StrayDatum)
 }
 
 /// The condition of a member of `args`, after those of the earlier members.
 #[tactic(auto, unfolding(crate::specs::inner::Reading::arg_of))]
 fn arg_of(value: &Value, earlier: &ArrayVec<Cond, 6>) -> Result<Cond, ProfileError>
     ensures reading { Gives cond_parts result (spec.arg_of (map cond_parts earlier.now.items) (view value.now)) }
-    ensures fresh { IfOk result (λ c. list_any (λ d. d.index == c.index) earlier.now.items ≡ false) }
+    ensures fresh { IfOk result (λ c. list_any (λ j. j == c.index) (map (λ d. d.index) earlier.now.items) ≡ false) }
 {
     let member = object_of(value)?;
     let index = index_at(member, earlier)?;

@@ -14,7 +14,7 @@ ghost use Rattle.profile_json.specs.inner.View.{said_parts};
 
 use crate::action::default_of;
 use crate::fault::ProfileError;
-use crate::machines::{archs_of, in_order};
+use crate::machines::{archs_of, machines_of};
 use crate::overlaps::overlap_of;
 use crate::refused::refuse_keys;
 use crate::root::root_of;
@@ -70,7 +70,7 @@ fn profile_of(alloc: Global, said: &Said, native: Arch) -> Result<Profile, Profi
     ensures ok { IfOk result (IsMade (said_parts said.now) native) }
     ensures err { IfErr result (λ e. IfSome (fault_of e) (IsNotMade (said_parts said.now))) }
 {
-    let machines = in_order(&said.archs);
+    let machines = machines_of(&said.archs);
     let Rules { list, ends } = rules_of(alloc, &said.entries, machines)?;
     match Profile::build(alloc, native, machines, said.default_word, list) {
         Ok(profile) => Ok(profile),

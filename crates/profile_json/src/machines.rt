@@ -2,6 +2,7 @@
 ghost use Rattle.std.specs.Prelude.{◌≡◌, map, true, IfOk};
 ghost use Rattle.std.specs.List.{list_any};
 ghost use Rattle.serde_json.specs.View.{view};
+ghost use Rattle.call_tables.specs.declared.arch.Arch.{Arch};
 ghost use Rattle.profile_json.specs.Names as names;
 ghost use Rattle.profile_json.specs.Rules.{same_arch, in_order};
 ghost use Rattle.profile_json.specs.inner.Outcome.{Gives, GivesWithMemory};
@@ -11,6 +12,7 @@ use crate::fault::ProfileError;
 use crate::key::ARCHITECTURES;
 use crate::lookup::{list_or_empty, text_of};
 use call_tables::Arch;
+use profile::in_order;
 use serde_json::Value;
 use std::alloc::Global;
 
@@ -91,16 +93,9 @@ pub(crate) fn archs_of(
 }
 
 /// The listed machines, each once, x86-64 first.
-pub(crate) fn in_order(archs: &[Arch]) -> &'static [Arch]
+pub(crate) fn machines_of(archs: &[Arch]) -> &'static [Arch]
+    requires { (arch : Arch) × (list_any (same_arch arch) archs.now ≡ true) }
     ensures { result.now ≡ in_order archs.now }
 {
-    match (
-        is_listed(archs, Arch::X86_64),
-        is_listed(archs, Arch::Aarch64),
-    ) {
-        (true, true) => &[Arch::X86_64, Arch::Aarch64],
-        (true, false) => &[Arch::X86_64],
-        (false, true) => &[Arch::Aarch64],
-        (false, false) => &[],
-    }
+    in_order(archs)
 }

@@ -23,12 +23,7 @@ pub(crate) struct Rules {
 pub(crate) fn rule_of(entry: &Entry, arch: Arch, nr: u32) -> Rule
     ensures { rule_parts result ≡ spec.rule_of (entry_parts entry.now) arch nr }
 {
-    Rule {
-        arch,
-        nr,
-        conds: entry.conds.clone().unwrap(),
-        word: entry.word,
-    }
+    Rule::new(arch, nr, entry.conds.clone().unwrap(), entry.word).unwrap()
 }
 
 /// Adds the rules of one name, x86-64 first.

@@ -1,5 +1,5 @@
 -- Conditions: what reading gives is meant, and what it refuses is broken.
-use Rattle.std.proofs.Common.{◌≡◌, ◌≢◌, ℕ, ◌<◌, ◌==◌, nat_lt, List, bit_and, cond, Bool, Ok, Err, Some, None, IsSome, true, false, ◌⊎◌, inl, inr, refl, sym, ◌∙◌, ap, subst, arith}
+use Rattle.std.proofs.Common.{◌≡◌, ◌≢◌, ℕ, ◌<◌, ◌==◌, nat_lt, List, map, bit_and, cond, Bool, Ok, Err, Some, None, IsSome, true, false, ◌⊎◌, inl, inr, refl, sym, ◌∙◌, ap, subst, arith}
 use Rattle.std.specs.Option.{ok_or}
 use Rattle.std.specs.List.{list_any}
 use Rattle.std.proofs.lemmas.Bool.{ltb-true, ltb-false}
@@ -35,29 +35,29 @@ index_fault false seen i e h = inl (refl, cc)
 record IsIndex (front : List CondParts) (d : Data) (i : ℕ) : Type 0 where
   is : member whole key.index d ≡ holds i
   small : i < 6
-  fresh : list_any (λ c. c.index == i) front ≡ false
+  fresh : list_any (λ j. j == i) (map (λ e. e.index) front) ≡ false
 
 index_ok : (front : List CondParts) (d : Data) (x : ℕ) → index_at front d ≡ Ok x → IsIndex front d x
 unfolding index_at
 index_ok front d x h =
-    let step = bind_ok (needed missing_key (member whole key.index d)) (λ i. cond (nat_lt i 6) (cond (list_any (λ c. c.index == i) front) (Err repeated_index) (Ok i)) (Err bad_index)) x h in
-    let at = index_test (nat_lt step.0 6) (list_any (λ c. c.index == step.0) front) step.0 x step.2 in
+    let step = bind_ok (needed missing_key (member whole key.index d)) (λ i. cond (nat_lt i 6) (cond (list_any (λ j. j == i) (map (λ e. e.index) front)) (Err repeated_index) (Ok i)) (Err bad_index)) x h in
+    let at = index_test (nat_lt step.0 6) (list_any (λ j. j == step.0) (map (λ e. e.index) front)) step.0 x step.2 in
     let found : IsIndex front d step.0 = record { is = needed_ok missing_key (member whole key.index d) step.0 step.1; small = ltb-true step.0 6 at.0; fresh = at.1 } in
     subst (IsIndex front d) at.2 found
 
 -- why a member is refused: it breaks a rule, or its index stands in front
 pub data Refused (front : List CondParts) (d : Data) : Fault → Type 0 where
   alone : (f : Fault) → ArgBreaks d f → Refused front d f
-  repeated : (i : ℕ) → member whole key.index d ≡ holds i → list_any (λ c. c.index == i) front ≡ true → Refused front d repeated_index
+  repeated : (i : ℕ) → member whole key.index d ≡ holds i → list_any (λ j. j == i) (map (λ e. e.index) front) ≡ true → Refused front d repeated_index
 
 index_err : (front : List CondParts) (d : Data) (f : Fault) → IsSome (object d) → index_at front d ≡ Err f → Refused front d f
 unfolding index_at
 index_err front d f is_object h =
-    elim (bind_err (needed missing_key (member whole key.index d)) (λ i. cond (nat_lt i 6) (cond (list_any (λ c. c.index == i) front) (Err repeated_index) (Ok i)) (Err bad_index)) f h) [
+    elim (bind_err (needed missing_key (member whole key.index d)) (λ i. cond (nat_lt i 6) (cond (list_any (λ j. j == i) (map (λ e. e.index) front)) (Err repeated_index) (Ok i)) (Err bad_index)) f h) [
       | inl bad ↦ alone f (index_whole f is_object (needed_breaks (member whole key.index d) f bad))
       | inr step ↦
           let is = needed_ok missing_key (member whole key.index d) step.0 step.1 in
-          elim (index_fault (nat_lt step.0 6) (list_any (λ c. c.index == step.0) front) step.0 f step.2) [
+          elim (index_fault (nat_lt step.0 6) (list_any (λ j. j == step.0) (map (λ e. e.index) front)) step.0 f step.2) [
             | inl big ↦ subst (Refused front d) big.1 (alone bad_index (index_large step.0 is (ltb-false step.0 6 big.0)))
             | inr seen ↦ subst (Refused front d) seen.1 (repeated step.0 is seen.0)
           ]
@@ -97,7 +97,7 @@ parts_of index op value datum = record { index = index; op = op; value = value; 
 -- the condition that an object says, where its index is not in front
 arg_ok_in : (front : List CondParts) (d : Data) (c : CondParts) → IsSome (object d)
     → (index_at front d >>= (λ index. needed missing_key (member whole key.value d) >>= (λ value. typed (or_default 0 (member whole key.value_two d)) >>= (λ two. op_at d >>= (λ op. cond_of index op value two))))) ≡ Ok c
-    → ArgMeans d c × (list_any (λ x. x.index == c.index) front ≡ false)
+    → ArgMeans d c × (list_any (λ j. j == c.index) (map (λ e. e.index) front) ≡ false)
 unfolding cond_of
 arg_ok_in front d c is_object h =
     let at_i = bind_ok (index_at front d) (λ index. needed missing_key (member whole key.value d) >>= (λ value. typed (or_default 0 (member whole key.value_two d)) >>= (λ two. op_at d >>= (λ op. cond_of index op value two)))) c h in
@@ -122,15 +122,15 @@ arg_ok_in front d c is_object h =
       datum_is = refl;
       no_stray = (Decides-eqb (bit_and datum (mask_of at_o.0 at_v.0)) datum).0 last.0;
     } in
-    (subst (ArgMeans d) last.1 means, subst (λ (x : CondParts). list_any (λ y. y.index == x.index) front ≡ false) last.1 index.fresh)
+    (subst (ArgMeans d) last.1 means, subst (λ (x : CondParts). list_any (λ j. j == x.index) (map (λ e. e.index) front) ≡ false) last.1 index.fresh)
 
-pub arg_ok : (front : List CondParts) (d : Data) (c : CondParts) → arg_of front d ≡ Ok c → ArgMeans d c × (list_any (λ x. x.index == c.index) front ≡ false)
+pub arg_ok : (front : List CondParts) (d : Data) (c : CondParts) → arg_of front d ≡ Ok c → ArgMeans d c × (list_any (λ j. j == c.index) (map (λ e. e.index) front) ≡ false)
 unfolding arg_of
 arg_ok front d c h =
     let at = bind_ok (typed (object d)) (λ o. index_at front o >>= (λ index. needed missing_key (member whole key.value o) >>= (λ value. typed (or_default 0 (member whole key.value_two o)) >>= (λ two. op_at o >>= (λ op. cond_of index op value two))))) c h in
     let o = object_is d at.0 at.1 in
     let some : IsSome (object at.0) = subst (λ (x : Data). IsSome (object x)) o.1 o.0 in
-    subst (λ (x : Data). ArgMeans x c × (list_any (λ y. y.index == c.index) front ≡ false)) (sym o.1) (arg_ok_in front at.0 c some at.2)
+    subst (λ (x : Data). ArgMeans x c × (list_any (λ j. j == c.index) (map (λ e. e.index) front) ≡ false)) (sym o.1) (arg_ok_in front at.0 c some at.2)
 
 arg_err_in : (front : List CondParts) (d : Data) (f : Fault) → IsSome (object d)
     → (index_at front d >>= (λ index. needed missing_key (member whole key.value d) >>= (λ value. typed (or_default 0 (member whole key.value_two d)) >>= (λ two. op_at d >>= (λ op. cond_of index op value two))))) ≡ Err f

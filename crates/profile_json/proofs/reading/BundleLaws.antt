@@ -111,21 +111,29 @@ test_in_order true false = (refl, refl)
 test_in_order false true = (refl, refl)
 test_in_order false false = (refl, refl)
 
-pub one_order : (machines archs : List Arch) → InOrder machines → ((a : Arch) → Contains machines a → Contains (in_order archs) a) → All (Contains machines) (in_order archs) → machines ≡ in_order archs
-unfolding chosen
+-- machines in order are told by which there are
+pub one_order : (machines archs : List Arch) → InOrder machines → ((a : Arch) → Contains machines a → Contains archs a) → All (Contains machines) archs
+    → machines ≡ in_order archs
 one_order machines archs order listed all =
-    let agree : (a : Arch) → list_any (same_arch a) machines ≡ list_any (same_arch a) (in_order archs) = λ a. same_test (list_any (same_arch a) machines) (list_any (same_arch a) (in_order archs))
-    (λ t. native_lists a (in_order archs) (listed a (lists_native a machines t)))
-    (λ t. native_lists a machines (All-contains (Contains machines) (in_order archs) a all (lists_native a (in_order archs) t))) in
+    let agree : (a : Arch) → list_any (same_arch a) machines ≡ list_any (same_arch a) archs =
+    λ a. same_test (list_any (same_arch a) machines) (list_any (same_arch a) archs)
+    (λ t. native_lists a archs (listed a (lists_native a machines t)))
+    (λ t. native_lists a machines (All-contains (Contains machines) archs a all (lists_native a archs t))) in
+    sym (ordered machines order) ∙ in_order_by machines archs (agree X86_64) (agree Aarch64)
+
+in_order_again : (archs : List Arch) → in_order (in_order archs) ≡ in_order archs
+unfolding chosen
+in_order_again archs =
     let tests = test_in_order (list_any (same_arch X86_64) archs) (list_any (same_arch Aarch64) archs) in
-    sym (ordered machines order) ∙ in_order_by machines archs (agree X86_64 ∙ tests.0) (agree Aarch64 ∙ tests.1)
+    in_order_by (in_order archs) archs tests.0 tests.1
 
 -- ---- the whole
 
 pub bundle_means : (t s : Data) (native : Arch) (x : Said) (p : Policy) → RootMeans t s → SaidMeans s native x → IsMade x native p → Means t native p
 bundle_means t s native x p root said made =
     let built = made.built in
-    let machines : p.machines ≡ in_order x.archs = one_order p.machines x.archs built.is_profile.machines_in_order built.machines_listed built.machines_all in
+    let machines : p.machines ≡ in_order x.archs = one_order p.machines (in_order x.archs) built.is_profile.machines_in_order built.machines_listed built.machines_all
+    ∙ in_order_again x.archs in
     record {
       seccomp = s;
       root = root;

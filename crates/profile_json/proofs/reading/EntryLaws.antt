@@ -1,9 +1,11 @@
 -- Entries: what reading gives is meant, and what it refuses is broken.
-use Rattle.std.proofs.Common.{◌≡◌, ℕ, suc, ◌<◌, ◌==◌, nat_lt, List, [], ◌∷◌, ◌++◌, length, map, cond, ◌||◌, Bool, Ok, Err, Some, None, IsSome, true, false, ◌⊎◌, inl, inr, refl, sym, ◌∙◌, ap, subst, arith}
+use Rattle.std.proofs.Common.{◌≡◌, ℕ, suc, ◌<◌, ◌==◌, nat_lt, List, [], ◌∷◌, ◌++◌, length, map, cond, ◌||◌, Ok, Err, Some, None, IsSome, true, false, ◌⊎◌, inl, inr, refl, sym, ◌∙◌, ap, subst, arith}
 use Rattle.std.specs.List.{AllZip, Contains, list_any, slice_get}
-use Rattle.std.proofs.lemmas.Bool.{ltb-true, ltb-false}
+use Rattle.std.proofs.lemmas.Bool.{cases_Bool, eqb-true, ltb-true, ltb-false}
+use Rattle.std.proofs.Math.Bool.{or-false}
+use Rattle.std.proofs.lemmas.List.Folds.{list_any-append}
 use Rattle.std.proofs.lemmas.Bool.Decides.{nat_tests}
-use Rattle.std.proofs.lemmas.List.{append_assoc, append-nil, map-append}
+use Rattle.std.proofs.lemmas.List.{append_assoc, append-nil, map_push}
 use Rattle.serde_json.specs.Data.{Data}
 use Rattle.profile.specs.Operator.{are_distinct}
 use Rattle.profile_json.specs.Keys as key
@@ -25,12 +27,12 @@ use Rattle.profile_json.proofs.reading.Steps.{bind_ok, bind_err, ok_or_ok, ok_or
 
 -- ---- the list of conditions
 
-any_index : (cs : List CondParts) (i : ℕ) → list_any (λ x. x == i) (map (λ c. c.index) cs) ≡ list_any (λ c. c.index == i) cs
-any_index [] i = refl
-any_index (c ∷ cs) i = ap (λ b. (c.index == i) || b) (any_index cs i)
+indexes_push : (front : List CondParts) (c : CondParts) → map (λ x. x.index) (front ++ c ∷ []) ≡ map (λ x. x.index) front ++ c.index ∷ []
+indexes_push front c = map_push (λ (x : CondParts). x.index) front c
 
-apart_push : (front : List CondParts) (c : CondParts) → are_distinct (map (λ x. x.index) front) ≡ true → list_any (λ x. x.index == c.index) front ≡ false → are_distinct (map (λ x. x.index) (front ++ c ∷ [])) ≡ true
-apart_push front c h e = rw map-append (distinct_push (map (λ x. x.index) front) c.index h (any_index front c.index ∙ e))
+apart_push : (front : List CondParts) (c : CondParts) → are_distinct (map (λ x. x.index) front) ≡ true
+    → list_any (λ j. j == c.index) (map (λ x. x.index) front) ≡ false → are_distinct (map (λ x. x.index) (front ++ c ∷ [])) ≡ true
+apart_push front c h e = rw (indexes_push front c) (distinct_push (map (λ x. x.index) front) c.index h e)
 
 -- what is read after the conditions in front
 record After (front : List CondParts) (ds : List Data) (conds : List CondParts) : Type 0 where
@@ -58,29 +60,27 @@ args_ok front (d ∷ ds) conds h =
 data ArgsRefused (front : List CondParts) (ds : List Data) : Fault → Type 0 where
   in_one : (d : Data) (f : Fault) → Contains ds d → ArgBreaks d f → ArgsRefused front ds f
   of_two : (i j : ℕ) (x y : Data) (n : ℕ) → i < j → slice_get ds i ≡ Some x → slice_get ds j ≡ Some y → member whole key.index x ≡ holds n → member whole key.index y ≡ holds n → ArgsRefused front ds repeated_index
-  with_earlier : (j : ℕ) (y : Data) (n : ℕ) → slice_get ds j ≡ Some y → member whole key.index y ≡ holds n → list_any (λ c. c.index == n) front ≡ true → ArgsRefused front ds repeated_index
+  with_earlier : (j : ℕ) (y : Data) (n : ℕ) → slice_get ds j ≡ Some y → member whole key.index y ≡ holds n → list_any (λ j. j == n) (map (λ c. c.index) front) ≡ true → ArgsRefused front ds repeated_index
 
 first_refused : (front : List CondParts) (d : Data) (ds : List Data) (f : Fault) → Refused front d f → ArgsRefused front (d ∷ ds) f
 first_refused front d ds f (alone _ e) = in_one d f (contains_head d ds) e
 first_refused front d ds _ (repeated i at seen) = with_earlier 0 d i refl at seen
 
-seen_one : (m n : ℕ) → ((m == n) || false) ≡ true → m ≡ n
-seen_one m n h = grind (arith, nat_tests)
-
-seen_cons : (a b c : Bool) (P : Type 0) → (a || c) ≡ true → (c ≡ true → (b ≡ true) ⊎ P) → ((a || b) ≡ true) ⊎ P
-seen_cons true b c P h rest = inl refl
-seen_cons false b c P h rest = rest h
-
--- a test that is true of a list with one more is true of the list, or of that one
-seen_push : (front : List CondParts) (c : CondParts) (n : ℕ) → list_any (λ x. x.index == n) (front ++ c ∷ []) ≡ true → (list_any (λ x. x.index == n) front ≡ true) ⊎ (c.index ≡ n)
-seen_push [] c n h = inr (seen_one c.index n h)
-seen_push (x ∷ xs) c n h = seen_cons (x.index == n) (list_any (λ y. y.index == n) xs) (list_any (λ y. y.index == n) (xs ++ c ∷ [])) (c.index ≡ n) h (seen_push xs c n)
+-- a number that is in a list with one more is in the list, or is that one
+seen_push : (xs : List ℕ) (y n : ℕ) → list_any (λ j. j == n) (xs ++ y ∷ []) ≡ true → (list_any (λ j. j == n) xs ≡ true) ⊎ (y ≡ n)
+seen_push xs y n h =
+    elim (cases_Bool (list_any (λ j. j == n) xs)) [
+      | inl before ↦ inl before
+      | inr new ↦
+          let last : ((y == n) || false) ≡ true = sym (ap (λ b. b || list_any (λ j. j == n) (y ∷ [])) new) ∙ sym (list_any-append (λ j. j == n) xs (y ∷ [])) ∙ h in
+          inr (eqb-true y n (sym (or-false (y == n)) ∙ last))
+    ]
 
 later_refused : (front : List CondParts) (d : Data) (c : CondParts) (ds : List Data) (f : Fault) → ArgMeans d c → ArgsRefused (front ++ c ∷ []) ds f → ArgsRefused front (d ∷ ds) f
 later_refused front d c ds f m (in_one x _ at e) = in_one x f (contains_tail d ds x at) e
 later_refused front d c ds _ m (of_two i j x y n lt at_i at_j is_x is_y) = of_two (suc i) (suc j) x y n (omega (arith, lt)) at_i at_j is_x is_y
 later_refused front d c ds _ m (with_earlier j y n at is seen) =
-    elim (seen_push front c n seen) [
+    elim (seen_push (map (λ x. x.index) front) c.index n (rw (sym (indexes_push front c)) seen)) [
       | inl before ↦ with_earlier (suc j) y n at is before
       | inr this ↦ of_two 0 (suc j) d y n (omega arith) refl at (m.index_is ∙ ap holds this) is
     ]

@@ -1,5 +1,5 @@
 -- The reading of a bundle, step by step, to the first fault.
-use Rattle.std.specs.Prelude.{ℕ, ◌==◌, nat_lt, nat_le, List, [], ◌∷◌, ◌++◌, length, bit_and, Bool, Result, Ok, Err, Option, Some, None, if◌then◌else◌}
+use Rattle.std.specs.Prelude.{ℕ, ◌==◌, nat_lt, nat_le, List, [], ◌∷◌, ◌++◌, length, map, bit_and, Bool, Result, Ok, Err, Option, Some, None, if◌then◌else◌}
 use Rattle.std.specs.Option.{ok_or}
 use Rattle.std.specs.List.{list_any}
 use Rattle.std.specs.Str.{bytes_eq}
@@ -120,7 +120,7 @@ archs_of native s = do
 unfoldable pub index_at : List CondParts → Data → Result ℕ Fault
 index_at front d = do
   i ← needed missing_key (member whole key.index d)
-  if nat_lt i 6 then (if list_any (λ c. c.index == i) front then Err repeated_index else Ok i) else Err bad_index
+  if nat_lt i 6 then (if list_any (λ j. j == i) (map (λ c. c.index) front) then Err repeated_index else Ok i) else Err bad_index
 
 unfoldable pub op_at : Data → Result Op Fault
 op_at d = do
