@@ -14,12 +14,20 @@ or_assoc a b c = same_from_bits _ _ (λ i.
 
 pub and_or : (u m n : ℕ) → bit_and u (bit_or m n) ≡ bit_or (bit_and u m) (bit_and u n)
 and_or u m n = same_from_bits _ _ (λ i.
-    rw (bit_at_and u (bit_or m n) i, bit_at_or m n i, bit_at_or (bit_and u m) (bit_and u n) i, bit_at_and u m i, bit_at_and u n i) (omega arith))
+    rw (bit_at_and u (bit_or m n) i, bit_at_or m n i, bit_at_or (bit_and u m) (bit_and u n) i, bit_at_and u m i, bit_at_and u n i)
+    (omega arith))
 
 -- two views of one number agree on the bits of both masks
 pub agree_on_both : (u m n : ℕ) → bit_and (bit_and m n) (bit_xor (bit_and u m) (bit_and u n)) ≡ 0
 agree_on_both u m n = same_from_bits _ 0 (λ i.
-    rw (bit_at_and (bit_and m n) (bit_xor (bit_and u m) (bit_and u n)) i, bit_at_and m n i, bit_at_xor (bit_and u m) (bit_and u n) i, bit_at_and u m i, bit_at_and u n i, bit_at-zero i)
+    rw (
+      bit_at_and (bit_and m n) (bit_xor (bit_and u m) (bit_and u n)) i,
+      bit_at_and m n i,
+      bit_at_xor (bit_and u m) (bit_and u n) i,
+      bit_at_and u m i,
+      bit_at_and u n i,
+      bit_at-zero i,
+    )
     (omega (arith, bit_at-lt u i, bit_at-lt m i, bit_at-lt n i)))
 
 -- a word under the whole mask is itself

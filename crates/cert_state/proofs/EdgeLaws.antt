@@ -14,15 +14,11 @@ use Rattle.cert_state.specs.declared.literal.Lit.{Lit}
 use Rattle.cert_state.specs.declared.literal.AVal.{AVal}
 use Rattle.cert_state.specs.declared.literal.AVal.TheVariants.{Unknown, Const, Masked}
 use Rattle.cert_state.specs.declared.literal.Regs.{Regs}
-use Rattle.cert_state.specs.Literals.{Holds}
+use Rattle.cert_state.specs.Literals.{Holds, all_bits}
 use Rattle.cert_state.specs.States.{HasValue}
 use Rattle.cert_state.specs.Transfer.{certain_fact, fact_by, masked_fact, operand_value, test_fact}
 use Rattle.cert_state.specs.Soundness.{FollowsFact}
 use Rattle.cert_state.proofs.BitLaws.{and_assoc, and_all}
-
--- all bits, or some
-abbrev all_bits : ℕ
-all_bits = 0xffffffff
 
 certain_is_true : (b : Bool) (r : List ℕ) → b ≡ true → IfSome (certain_fact b) (λ l. Holds l r)
 certain_is_true true r e = tt

@@ -14,7 +14,8 @@ use Rattle.cert_state.specs.Entailment.{Derives, Entails, IsDeadAt, IsDead}
 use Rattle.cert_state.proofs.BitLaws.{and_assoc, and_or, agree_on_both}
 
 -- a word under the union of its masks is the union of its data
-masks_are : (r : List ℕ) (w : ℕ) (lits : List Lit) → AllByRecursion (λ l. Holds l r) lits → bit_and (word r w) (mask_of lits w) ≡ datum_of lits w
+masks_are : (r : List ℕ) (w : ℕ) (lits : List Lit) → AllByRecursion (λ l. Holds l r) lits
+    → bit_and (word r w) (mask_of lits w) ≡ datum_of lits w
 masks_are r w [] h = and_zero_r (word r w)
 masks_are r w (In v lo hi ∷ lits) h = masks_are r w lits h.1
 masks_are r w (NotBits v m d ∷ lits) h = masks_are r w lits h.1

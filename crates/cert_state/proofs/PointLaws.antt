@@ -45,8 +45,10 @@ module _ (w u : ℕ) (small : u < 2 ^ 32) where
       let k : (max s.low lo ≤ u) × (u ≤ min s.high hi) =
       subst (λ b. IsBetween (cond b (record s { low = max s.low lo; high = min s.high hi }) s)) (eq-eqb v w e) h in
       ((omega (arith, k), omega (arith, k)), λ at whole. (omega (arith, k), omega (arith, k))))
-      (λ (ne : v ≡ w → ⊥).
-      (subst (λ b. IsBetween (cond b (record s { low = max s.low lo; high = min s.high hi }) s)) (ne_eqb v w ne) h, λ at whole. absurd (ne at)))
+      (λ (ne : v ≡ w → ⊥). (
+        subst (λ b. IsBetween (cond b (record s { low = max s.low lo; high = min s.high hi }) s)) (ne_eqb v w ne) h,
+        λ at whole. absurd (ne at),
+      ))
       (cases_eq v w)
   asks_added (Bits v m d) s free h = ⊎_elim
       (λ (e : v ≡ w).
@@ -58,7 +60,10 @@ module _ (w u : ℕ) (small : u < 2 ^ 32) where
       let same : u ≡ d = omega arith in
       ((omega arith, omega arith), λ at narrow. ap (λ x. bit_and u x) whole ∙ and_all u small ∙ same))
       (λ (part : m ≡ all_bits → ⊥). (
-        (subst (λ b. cond b (max s.low d) s.low ≤ u) (ne_eqb m all_bits part) k.0, subst (λ b. u ≤ cond b (min s.high d) s.high) (ne_eqb m all_bits part) k.1),
+        (
+          subst (λ b. cond b (max s.low d) s.low ≤ u) (ne_eqb m all_bits part) k.0,
+          subst (λ b. u ≤ cond b (min s.high d) s.high) (ne_eqb m all_bits part) k.1,
+        ),
         λ at whole. absurd (part whole),
       ))
       (cases_eq m all_bits))

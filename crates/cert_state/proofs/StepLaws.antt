@@ -139,7 +139,8 @@ module _ (regs : Regs) (lits : List Lit) (r : List ℕ) (s : Registers) (inside 
   ]
 
   -- where the run goes on with registers that are as a state says, the next ones are
-  goes : (known : Regs) (t : Registers) (j skip : ℕ) (after : Registers) → Goes j t ≡ Goes skip after → Inside known lits r t → Inside known lits r after
+  goes : (known : Regs) (t : Registers) (j skip : ℕ) (after : Registers) → Goes j t ≡ Goes skip after
+      → Inside known lits r t → Inside known lits r after
   goes known t j skip after e h = let same : t ≡ after = cc in subst (λ z. Inside known lits r z) same h
 
   -- a shift that goes on
@@ -190,4 +191,5 @@ module _ (regs : Regs) (lits : List Lit) (r : List ℕ) (s : Registers) (inside 
   by_code (Some op) i skip after rec small is e = by_operation op i skip after rec small is e
 
 pub stays_inside : (regs : Regs) (lits : List Lit) (i : Insn) → IsPlain i → StaysInside regs lits i
-stays_inside regs lits i plain r s skip after rec inside e = by_code regs lits r s inside (operation_of i.code) i skip after rec (plain-writes i plain) refl e
+stays_inside regs lits i plain r s skip after rec inside e =
+    by_code regs lits r s inside (operation_of i.code) i skip after rec (plain-writes i plain) refl e

@@ -23,7 +23,8 @@ same_number false from k d e a b = omega arith
 module _ (l : Lit) (before rest : List Lit) (e : before ≡ l ∷ rest) where
   module _ (w : ℕ) (up : Bool) (from : ℕ) where
     split : (k : ℕ) → ExcludesAt before w up from k → ExcludedBy l w up from k ⊎ ExcludesAt rest w up from k
-    split k (d, at, has) = elim (contains_split l before rest e (NotBits w all_bits d) has) [ inl is ↦ inl (d, at, is) | inr later ↦ inr (d, at, later) ]
+    split k (d, at, has) =
+        elim (contains_split l before rest e (NotBits w all_bits d) has) [ inl is ↦ inl (d, at, is) | inr later ↦ inr (d, at, later) ]
 
     here : (k : ℕ) → ExcludedBy l w up from k → ExcludesAt before w up from k
     here k (d, at, is) = (d, at, contains_here l before rest e (NotBits w all_bits d) is)

@@ -22,7 +22,9 @@ fn distance(up: bool, from: u32, number: u32) -> Option<u32>
 
 // How far from a number the one is that a literal excludes, where that is less than 64.
 fn near(literal: Lit, word: u8, up: bool, from: u32) -> Option<u32>
-    ensures { MatchOption result ((k : ℕ) → k < 64 → ¬ ExcludedBy literal word up from k) (λ k. (k < 64) × ExcludedBy literal word up from k) }
+    ensures { MatchOption result
+        ((k : ℕ) → k < 64 → ¬ ExcludedBy literal word up from k)
+        (λ k. (k < 64) × ExcludedBy literal word up from k) }
 {
     match literal {
         Lit::NotBits(w, u32::MAX, number) if w == word => distance(up, from, number),

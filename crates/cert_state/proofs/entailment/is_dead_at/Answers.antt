@@ -7,7 +7,8 @@ use Rattle.cert_state.proofs.entailment.is_dead_at.Goals as goal
 pub returns-in-Some : goal.returns-in-Some
 returns-in-Some g c =
     let known = g.S.State.known c.args.state.now in
-    let at : IsMissed known c.args.word (mask_of known c.args.word) (datum_of known c.args.word) ↔ NoneBetween c.in-Some.low c.in-Some.high c.summarize-summary.result.mask c.summarize-summary.result.datum =
+    let at : IsMissed known c.args.word (mask_of known c.args.word) (datum_of known c.args.word)
+    ↔ NoneBetween c.in-Some.low c.in-Some.high c.summarize-summary.result.mask c.summarize-summary.result.datum =
     rw (c.summarize-summary.ensures.mask, c.summarize-summary.ensures.datum)
     (missed_at known c.args.word c.in-Some.low c.in-Some.high c.in-Some.ensures (mask_of known c.args.word) (datum_of known c.args.word))
     in

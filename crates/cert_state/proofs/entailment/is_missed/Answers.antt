@@ -4,7 +4,8 @@ use Rattle.cert_state.proofs.entailment.is_missed.Goals as goal
 
 pub returns-in-Some : goal.returns-in-Some
 returns-in-Some g c =
-    let at = missed_at (g.S.State.known c.args.state.now) c.args.word c.in-Some.low c.in-Some.high c.in-Some.ensures c.args.mask c.args.datum in
+    let known = g.S.State.known c.args.state.now in
+    let at = missed_at known c.args.word c.in-Some.low c.in-Some.high c.in-Some.ensures c.args.mask c.args.datum in
     (λ t. at.1 (c.none_between.ensures.0 t), λ h. c.none_between.ensures.1 (at.0 h))
 
 pub returns-in-None : goal.returns-in-None

@@ -7,7 +7,8 @@ use Rattle.cert_state.proofs.points.excluded_run.Goals as goal
 pub returns-clause-all : goal.returns-clause-all
 returns-clause-all g c = λ k d lt at.
     let small : k < 64 = let most = trailing_le 64 (2 ^ 64 - 1 - c.excluded_near.result) in omega (arith, c.trailing_ones.ensures, most) in
-    let has = (c.excluded_near.ensures k small).0 ((low_ones c.excluded_near.result c.trailing_ones.result (omega arith) c.trailing_ones.ensures).0 k lt small) in
+    let ones = low_ones c.excluded_near.result c.trailing_ones.result (omega arith) c.trailing_ones.ensures in
+    let has = (c.excluded_near.ensures k small).0 (ones.0 k lt small) in
     subst (Excludes (g.S.State.known c.args.state.now) c.args.word) {x = has.0} (same_number c.args.up c.args.from k has.0 d has.1 at) has.2
 
 pub returns-clause-next : goal.returns-clause-next

@@ -27,14 +27,21 @@ returns-then-least-summary g c = λ u point.
 pub returns : goal.returns
 returns g c =
     let known = g.S.State.known c.args.state.now in
+    let whole = c.summarize-summary.ensures.whole in
     let free : Excludes known c.args.word c.first_free-least.result → ⊥ = c.first_free-least.ensures.free (omega arith) in
     record {
-      least = a_point known c.args.word c.summarize-summary.result c.summarize-summary.ensures.whole (omega arith) c.first_free-least.result (omega arith) (omega arith) free;
-      greatest = a_point known c.args.word c.summarize-summary.result c.summarize-summary.ensures.whole (omega arith) c.last_free.result (omega arith) (omega arith) c.last_free.ensures.free;
+      least = a_point known c.args.word c.summarize-summary.result whole (omega arith) c.first_free-least.result (omega arith) (omega arith)
+          free;
+      greatest =
+          a_point known c.args.word c.summarize-summary.result whole (omega arith) c.last_free.result (omega arith) (omega arith)
+          c.last_free.ensures.free;
       between = λ u point.
-          (let within = between known c.args.word c.summarize-summary.result c.summarize-summary.ensures.whole u point in
+          (let within = between known c.args.word c.summarize-summary.result whole u point in
           let out = point_free c.args.word u known point in (
-            elim (cases_lt u c.first_free-least.result) [ inl below ↦ absurd (out (c.first_free-least.ensures.all u within.0 below)) | inr from ↦ from ],
+            elim (cases_lt u c.first_free-least.result) [
+              | inl below ↦ absurd (out (c.first_free-least.ensures.all u within.0 below))
+              | inr from ↦ from
+            ],
             elim (cases_lt c.last_free.result u) [ inl above ↦ absurd (out (c.last_free.ensures.all u above within.1)) | inr to ↦ to ],
           ));
     }

@@ -23,7 +23,8 @@ module _ (known rest : List Lit) (w : ℕ) (s : Summary) (done : rest ≡ []) (s
   ones = ap (λ (t : Summary). t.ones) is ∙ gathered w (λ t. t.ones) bit_and (λ t lo hi. refl) (λ t m d. refl) known refl
 
   zeros : s.zeros ≡ zeros_of known w
-  zeros = ap (λ (t : Summary). t.zeros) is ∙ gathered w (λ t. t.zeros) (λ m d. bit_and m (bit_xor m d)) (λ t lo hi. refl) (λ t m d. refl) known refl
+  zeros = ap (λ (t : Summary). t.zeros) is
+      ∙ gathered w (λ t. t.zeros) (λ m d. bit_and m (bit_xor m d)) (λ t lo hi. refl) (λ t m d. refl) known refl
 
   both : bit_and s.ones s.zeros ≡ bit_and (ones_of known w) (zeros_of known w)
   both = ap (λ n. bit_and n s.zeros) ones ∙ ap (λ n. bit_and (ones_of known w) n) zeros
@@ -32,10 +33,13 @@ module _ (known rest : List Lit) (w : ℕ) (s : Summary) (done : rest ≡ []) (s
   torn = (λ ne. torn_from known w (λ e. ne (both ∙ e)), λ h e. not_torn known w h (sym both ∙ e))
 
 pub returns-clause-mask : goal.returns-clause-mask
-returns-clause-mask g c = mask (g.S.State.known c.args.state.now) _ c.args.word c.loop-literal.summary c.in_default.ensures.more c.loop-literal.invariant
+returns-clause-mask g c =
+    mask (g.S.State.known c.args.state.now) _ c.args.word c.loop-literal.summary c.in_default.ensures.more c.loop-literal.invariant
 
 pub returns-clause-datum : goal.returns-clause-datum
-returns-clause-datum g c = datum (g.S.State.known c.args.state.now) _ c.args.word c.loop-literal.summary c.in_default.ensures.more c.loop-literal.invariant
+returns-clause-datum g c =
+    datum (g.S.State.known c.args.state.now) _ c.args.word c.loop-literal.summary c.in_default.ensures.more c.loop-literal.invariant
 
 pub returns-clause-torn : goal.returns-clause-torn
-returns-clause-torn g c = torn (g.S.State.known c.args.state.now) _ c.args.word c.loop-literal.summary c.in_default.ensures.more c.loop-literal.invariant
+returns-clause-torn g c =
+    torn (g.S.State.known c.args.state.now) _ c.args.word c.loop-literal.summary c.in_default.ensures.more c.loop-literal.invariant
