@@ -1,5 +1,6 @@
 -- What a list contains, and what lists made of it contain.
-use Rattle.std.proofs.Common.{◌≡◌, ℕ, zero, suc, ◌<◌, List, [], ◌∷◌, length, map, get_or, Option, Some, None, Bool, true, ◌||◌, ◌≤◌, ◌-◌, take, drop, Bor, ◌⊎◌, inl, inr, refl, sym, ◌∙◌, ap, subst, arith}
+use Rattle.std.proofs.Common.{◌≡◌, ℕ, zero, suc, ◌<◌, List, [], ◌∷◌, length, map, get_or, Option, Some, None, Bool, true, ◌||◌, ◌≤◌, ◌-◌}
+use Rattle.std.proofs.Common.{take, drop, Bor, ◌⊎◌, inl, inr, refl, sym, ◌∙◌, ap, subst, arith}
 use Rattle.std.specs.List.{AllZip, Contains, flat_map, filter_map, cons_option, slice_get, list_any}
 use Rattle.std.specs.Str.{bytes_eq}
 use Rattle.std.proofs.lemmas.Slice.Eq.{bytes_eq-Decides}
@@ -92,7 +93,8 @@ module _ {A B : Type 0} where
         | inr later ↦ after (filter_map f zs) y (f z) (contains_filter_map f zs x y later is)
       ]
 
-  pub contains_filter_map_back : (f : A → Option B) (xs : List A) (y : B) → Contains (filter_map f xs) y → (x : A) × Contains xs x × (f x ≡ Some y)
+  pub contains_filter_map_back : (f : A → Option B) (xs : List A) (y : B) → Contains (filter_map f xs) y → (x : A) × Contains xs x
+      × (f x ≡ Some y)
   contains_filter_map_back f [] y h = absurd (contains_nil y h)
   contains_filter_map_back f (x ∷ xs) y h =
       elim (split_option (f x) (filter_map f xs) y h) [
@@ -113,14 +115,16 @@ module _ {A B : Type 0} where
         | inr later ↦ related R xs ys x p.1 later
       ]
 
-  pub related_at : (R : A → B → Type 0) (xs : List A) (ys : List B) (i : ℕ) (x : A) → AllZip R xs ys → slice_get xs i ≡ Some x → (y : B) × (slice_get ys i ≡ Some y) × R x y
+  pub related_at : (R : A → B → Type 0) (xs : List A) (ys : List B) (i : ℕ) (x : A) → AllZip R xs ys → slice_get xs i ≡ Some x → (y : B)
+      × (slice_get ys i ≡ Some y) × R x y
   related_at R [] ys i x p h = cc
   related_at R (a ∷ xs) [] i x p h = absurd p
   related_at R (a ∷ xs) (y ∷ ys) zero x p h = (y, refl, subst (λ z. R z y) (same_Some a x h) p.0)
   related_at R (a ∷ xs) (y ∷ ys) (suc i) x p h = related_at R xs ys i x p.1 h
 
   -- one list is related, where one thing is related to each member
-  pub one_related : (R : A → B → Type 0) → ((x : A) (y z : B) → R x y → R x z → y ≡ z) → (xs : List A) (ys zs : List B) → AllZip R xs ys → AllZip R xs zs → ys ≡ zs
+  pub one_related : (R : A → B → Type 0) → ((x : A) (y z : B) → R x y → R x z → y ≡ z) → (xs : List A) (ys zs : List B) → AllZip R xs ys
+      → AllZip R xs zs → ys ≡ zs
   one_related R one [] [] [] p q = refl
   one_related R one [] [] (z ∷ zs) p q = absurd q
   one_related R one [] (y ∷ ys) zs p q = absurd p
@@ -142,13 +146,16 @@ pub named_back : (names : List (List ℕ)) (name : List ℕ) → Contains names 
 named_back names name h = list_any_at (λ n. bytes_eq n name) names h.0 name h.1 ((bytes_eq-Decides (get_or names h.0 name) name).1 h.2)
 
 -- the texts behind references
-any_now : (ns : List (Bor (List ℕ))) (name : List ℕ) → list_any (λ n. bytes_eq n.now name) ns ≡ list_any (λ n. bytes_eq n name) (map (λ n. n.now) ns)
+any_now : (ns : List (Bor (List ℕ))) (name : List ℕ)
+    → list_any (λ n. bytes_eq n.now name) ns ≡ list_any (λ n. bytes_eq n name) (map (λ n. n.now) ns)
 any_now [] name = refl
 any_now (n ∷ ns) name = ap (λ b. bytes_eq n.now name || b) (any_now ns name)
 
-pub has_names : (ns names : List (Bor (List ℕ))) (name : List ℕ) (b : Bool) → ns ≡ names → b ≡ list_any (λ n. bytes_eq n.now name) ns → (b ≡ true → Contains (map (λ n. n.now) names) name) × (Contains (map (λ n. n.now) names) name → b ≡ true)
+pub has_names : (ns names : List (Bor (List ℕ))) (name : List ℕ) (b : Bool) → ns ≡ names → b ≡ list_any (λ n. bytes_eq n.now name) ns
+    → (b ≡ true → Contains (map (λ n. n.now) names) name) × (Contains (map (λ n. n.now) names) name → b ≡ true)
 has_names ns names name b same is =
-    let all : b ≡ list_any (λ n. bytes_eq n name) (map (λ n. n.now) names) = is ∙ any_now ns name ∙ ap (λ xs. list_any (λ n. bytes_eq n name) (map (λ n. n.now) xs)) same in
+    let all : b ≡ list_any (λ n. bytes_eq n name) (map (λ n. n.now) names) = is ∙ any_now ns name
+    ∙ ap (λ xs. list_any (λ n. bytes_eq n name) (map (λ n. n.now) xs)) same in
     (λ t. named (map (λ n. n.now) names) name (sym all ∙ t), λ h. all ∙ named_back (map (λ n. n.now) names) name h)
 
 pub now_first : (ns : List (Bor (List ℕ))) (d : Bor (List ℕ)) → 1 ≤ length ns → Contains (map (λ n. n.now) ns) (get_or ns 0 d).now
@@ -158,7 +165,8 @@ now_first (n ∷ ns) d h = contains_head n.now (map (λ m. m.now) ns)
 rest_is : (n : Bor (List ℕ)) (ns : List (Bor (List ℕ))) → take (length (n ∷ ns) - 1) (drop 1 (n ∷ ns)) ≡ ns
 rest_is n ns = let size : length (n ∷ ns) - 1 ≡ length ns = omega arith in ap (λ k. take k ns) size ∙ take_all (length ns) ns (omega arith)
 
-pub now_split : (ns : List (Bor (List ℕ))) (d : Bor (List ℕ)) (name : List ℕ) → Contains (map (λ n. n.now) ns) name → ((get_or ns 0 d).now ≡ name) ⊎ Contains (map (λ n. n.now) (take (length ns - 1) (drop 1 ns))) name
+pub now_split : (ns : List (Bor (List ℕ))) (d : Bor (List ℕ)) (name : List ℕ) → Contains (map (λ n. n.now) ns) name
+    → ((get_or ns 0 d).now ≡ name) ⊎ Contains (map (λ n. n.now) (take (length ns - 1) (drop 1 ns))) name
 now_split [] d name h = absurd (contains_nil name h)
 now_split (n ∷ ns) d name h =
     elim (contains_cases n.now (map (λ m. m.now) ns) name h) [
@@ -166,9 +174,11 @@ now_split (n ∷ ns) d name h =
       | inr later ↦ inr (subst (λ ms. Contains (map (λ m. m.now) ms) name) (sym (rest_is n ns)) later)
     ]
 
-pub now_rest : (ns : List (Bor (List ℕ))) (name : List ℕ) → 1 ≤ length ns → Contains (map (λ n. n.now) (take (length ns - 1) (drop 1 ns))) name → Contains (map (λ n. n.now) ns) name
+pub now_rest : (ns : List (Bor (List ℕ))) (name : List ℕ) → 1 ≤ length ns
+    → Contains (map (λ n. n.now) (take (length ns - 1) (drop 1 ns))) name → Contains (map (λ n. n.now) ns) name
 now_rest [] name some h = absurd (omega (arith, some))
-now_rest (n ∷ ns) name some h = contains_tail n.now (map (λ m. m.now) ns) name (subst (λ ms. Contains (map (λ m. m.now) ms) name) (rest_is n ns) h)
+now_rest (n ∷ ns) name some h = contains_tail n.now (map (λ m. m.now) ns) name
+    (subst (λ ms. Contains (map (λ m. m.now) ms) name) (rest_is n ns) h)
 
 pub now_none : (ns : List (Bor (List ℕ))) (name : List ℕ) → length ns < 1 → Contains (map (λ n. n.now) ns) name → ⊥
 now_none [] name short h = contains_nil name h

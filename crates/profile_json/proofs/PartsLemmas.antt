@@ -6,7 +6,8 @@ use Rattle.profile.proofs.Same.{same_cond, same_rule}
 use Rattle.profile_json.specs.Parts.{CondParts, RuleParts, cond_parts, rule_parts}
 
 cond_same : (a b : Cond) → cond_parts a ≡ cond_parts b → a ≡ b
-cond_same a b h = same_cond a b (ap (λ (p : CondParts). p.index) h) (ap (λ (p : CondParts). p.op) h) (ap (λ (p : CondParts). p.value) h) (ap (λ (p : CondParts). p.datum) h)
+cond_same a b h = same_cond a b (ap (λ (p : CondParts). p.index) h) (ap (λ (p : CondParts). p.op) h) (ap (λ (p : CondParts). p.value) h)
+    (ap (λ (p : CondParts). p.datum) h)
 
 conds_same : (xs bs : List Cond) → map cond_parts xs ≡ map cond_parts bs → xs ≡ bs
 conds_same [] [] h = refl

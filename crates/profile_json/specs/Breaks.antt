@@ -13,7 +13,9 @@ use Rattle.profile.specs.Policy.{most_rules}
 use Rattle.profile.specs.Build.{KeepsOnce}
 use Rattle.profile_json.specs.declared.action.Action.{Action}
 use Rattle.profile_json.specs.Keys as key
-use Rattle.profile_json.specs.Fault.{Fault, syntax, version, no_seccomp, wrong_type, missing_key, unknown_action, unknown_arch, native_missing, unknown_call, empty_names, errno_not_taken, errno_range, unknown_op, bad_index, repeated_index, stray_datum, overlap, unsupported_key, too_many}
+use Rattle.profile_json.specs.Fault.{Fault, syntax, version, no_seccomp, wrong_type, missing_key, unknown_action, unknown_arch}
+use Rattle.profile_json.specs.Fault.{native_missing, unknown_call, empty_names, errno_not_taken, errno_range, unknown_op, bad_index}
+use Rattle.profile_json.specs.Fault.{repeated_index, stray_datum, overlap, unsupported_key, too_many}
 use Rattle.profile_json.specs.Parts.{EntryParts, rule_parts}
 use Rattle.profile_json.specs.Lookup.{Member, missing, other_type, holds, member, or_default, object, text, whole, list}
 use Rattle.profile_json.specs.Names.{editions, action_named, takes_data, op_named, arch_named, is_known}
@@ -60,8 +62,10 @@ pub data KeysBreak (s : Data) : Fault → Type 0 where
 
 pub data ArchsBreak (s : Data) (native : Arch) : Fault → Type 0 where
   no_list : or_default [] (member list key.architectures s) ≡ None → ArchsBreak s native wrong_type
-  no_text : (ds : List Data) (d : Data) → or_default [] (member list key.architectures s) ≡ Some ds → Contains ds d → text d ≡ None → ArchsBreak s native wrong_type
-  unknown : (ds : List Data) (d : Data) (name : List ℕ) → or_default [] (member list key.architectures s) ≡ Some ds → Contains ds d → text d ≡ Some name → arch_named name ≡ None → ArchsBreak s native unknown_arch
+  no_text : (ds : List Data) (d : Data) → or_default [] (member list key.architectures s) ≡ Some ds → Contains ds d → text d ≡ None
+      → ArchsBreak s native wrong_type
+  unknown : (ds : List Data) (d : Data) (name : List ℕ) → or_default [] (member list key.architectures s) ≡ Some ds → Contains ds d
+      → text d ≡ Some name → arch_named name ≡ None → ArchsBreak s native unknown_arch
   not_native : (archs : List Arch) → ListsArchs s native archs → ¬ Contains archs native → ArchsBreak s native native_missing
 
 -- a member of `args`
@@ -79,8 +83,10 @@ pub data ArgBreaks (d : Data) : Fault → Type 0 where
 
 pub data ArgsBreak (d : Data) : Fault → Type 0 where
   no_list : or_default [] (member list key.args d) ≡ None → ArgsBreak d wrong_type
-  in_arg : (ds : List Data) (x : Data) (f : Fault) → or_default [] (member list key.args d) ≡ Some ds → Contains ds x → ArgBreaks x f → ArgsBreak d f
-  twice : (ds : List Data) (i j : ℕ) (x y : Data) (n : ℕ) → or_default [] (member list key.args d) ≡ Some ds → i < j → slice_get ds i ≡ Some x → slice_get ds j ≡ Some y
+  in_arg : (ds : List Data) (x : Data) (f : Fault) → or_default [] (member list key.args d) ≡ Some ds → Contains ds x → ArgBreaks x f
+      → ArgsBreak d f
+  twice : (ds : List Data) (i j : ℕ) (x y : Data) (n : ℕ) → or_default [] (member list key.args d) ≡ Some ds → i < j
+      → slice_get ds i ≡ Some x → slice_get ds j ≡ Some y
       → member whole key.index x ≡ holds n → member whole key.index y ≡ holds n → ArgsBreak d repeated_index
 
 pub data NamesBreak (d : Data) : Fault → Type 0 where
@@ -88,7 +94,8 @@ pub data NamesBreak (d : Data) : Fault → Type 0 where
   none : member list key.names d ≡ holds [] → NamesBreak d empty_names
   many : (ds : List Data) → member list key.names d ≡ holds ds → 128 < length ds → NamesBreak d too_many
   no_text : (ds : List Data) (x : Data) → member list key.names d ≡ holds ds → Contains ds x → text x ≡ None → NamesBreak d wrong_type
-  unknown : (ds : List Data) (x : Data) (name : List ℕ) → member list key.names d ≡ holds ds → Contains ds x → text x ≡ Some name → is_known name ≡ false → NamesBreak d (unknown_call (short_name name))
+  unknown : (ds : List Data) (x : Data) (name : List ℕ) → member list key.names d ≡ holds ds → Contains ds x → text x ≡ Some name
+      → is_known name ≡ false → NamesBreak d (unknown_call (short_name name))
 
 pub data EntryBreaks (d : Data) : Fault → Type 0 where
   no_object : object d ≡ None → EntryBreaks d wrong_type
@@ -109,9 +116,11 @@ pub record ClashUnder (machines : List Arch) (x y : EntryParts) (name : List ℕ
 pub data EntriesBreak (s : Data) (native : Arch) : Fault → Type 0 where
   no_list : or_default [] (member list key.syscalls s) ≡ None → EntriesBreak s native wrong_type
   many : (ds : List Data) → or_default [] (member list key.syscalls s) ≡ Some ds → 256 < length ds → EntriesBreak s native too_many
-  in_entry : (ds : List Data) (d : Data) (f : Fault) → or_default [] (member list key.syscalls s) ≡ Some ds → Contains ds d → EntryBreaks d f → EntriesBreak s native f
+  in_entry : (ds : List Data) (d : Data) (f : Fault) → or_default [] (member list key.syscalls s) ≡ Some ds → Contains ds d
+      → EntryBreaks d f → EntriesBreak s native f
   many_rules : (archs : List Arch) (entries : List EntryParts) (said kept : List Rule) → ListsArchs s native archs → EntriesMean s entries
-      → map rule_parts said ≡ rules_of (in_order archs) entries → KeepsOnce said kept → most_rules < length kept → EntriesBreak s native too_many
+      → map rule_parts said ≡ rules_of (in_order archs) entries → KeepsOnce said kept → most_rules < length kept
+      → EntriesBreak s native too_many
   overlapping : (archs : List Arch) (ds : List Data) (i j : ℕ) (d e : Data) (x y : EntryParts) (name : List ℕ) → ListsArchs s native archs
       → or_default [] (member list key.syscalls s) ≡ Some ds → i < j → slice_get ds i ≡ Some d → slice_get ds j ≡ Some e
       → EntryMeans d x → EntryMeans e y → ClashUnder (in_order archs) x y name → EntriesBreak s native (overlap (short_name name) i j)

@@ -13,7 +13,8 @@ use Rattle.profile_json.specs.Breaks.{Breaks}
 
 -- a bundle that means a profile breaks no rule
 abbrev pub MeaningIsUnbroken : Type 0
-MeaningIsUnbroken = (bytes : List ℕ) (t : Data) (native : Arch) (p : Policy) (f : Fault) → IsText bytes t → Means t native p → Breaks bytes native f → ⊥
+MeaningIsUnbroken = (bytes : List ℕ) (t : Data) (native : Arch) (p : Policy) (f : Fault) → IsText bytes t → Means t native p
+    → Breaks bytes native f → ⊥
 
 -- a bundle means one profile
 abbrev pub MeaningIsOne : Type 0

@@ -1,5 +1,6 @@
 -- Entries whose rules give unlike words to one record.
-use Rattle.std.proofs.Common.{◌≡◌, ◌≢◌, ℕ, List, length, map, get_or, Option, Some, None, option_map, ◌-◌, take, drop, Bool, true, false, Bor, inl, inr, refl, sym, ◌∙◌, ap, subst}
+use Rattle.std.proofs.Common.{◌≡◌, ◌≢◌, ℕ, List, length, map, get_or, Option, Some, None, option_map, ◌-◌, take, drop, Bool, true, false}
+use Rattle.std.proofs.Common.{Bor, inl, inr, refl, sym, ◌∙◌, ap, subst}
 use Rattle.std.specs.List.{Contains, Any}
 use Rattle.std.proofs.lemmas.Option.{same_Some}
 use Rattle.call_tables.specs.declared.arch.Arch.{Arch}
@@ -16,7 +17,8 @@ use Rattle.profile_json.proofs.PartsLemmas.{rule_same}
 use Rattle.profile_json.proofs.Lists.{contains_filter_map, contains_filter_map_back, contains_flat_back, now_split}
 
 -- the rules of two entries for one call, where both are at hand
-pub on_some : (x y : EntryParts) (name : List ℕ) (arch : Arch) (nr : ℕ) (a b : Rule) → Some nr ≡ number_in (table_of arch) name → rule_parts a ≡ rule_of x arch nr → rule_parts b ≡ rule_of y arch nr
+pub on_some : (x y : EntryParts) (name : List ℕ) (arch : Arch) (nr : ℕ) (a b : Rule) → Some nr ≡ number_in (table_of arch) name
+    → rule_parts a ≡ rule_of x arch nr → rule_parts b ≡ rule_of y arch nr
     → (Overlap a b → OverlapOn x y name arch) × (OverlapOn x y name arch → Overlap a b)
 on_some x y name arch nr a b at is_a is_b = (
   λ both. record { nr = nr; nr_is = sym at; first = a; first_is = is_a; second = b; second_is = is_b; both = both },
@@ -33,9 +35,11 @@ pub on_none : (x y : EntryParts) (name : List ℕ) (arch : Arch) → None ≡ nu
 on_none x y name arch at o = let no : None ≡ Some o.nr = at ∙ o.nr_is in cc
 
 -- the rule that an entry has under a name on a machine
-pub under : (machines : List Arch) (x : EntryParts) (name : List ℕ) (arch : Arch) (nr : ℕ) (r : RuleParts) → Contains machines arch → number_in (table_of arch) name ≡ Some nr → r ≡ rule_of x arch nr → Contains (rules_under machines x name) r
+pub under : (machines : List Arch) (x : EntryParts) (name : List ℕ) (arch : Arch) (nr : ℕ) (r : RuleParts) → Contains machines arch
+    → number_in (table_of arch) name ≡ Some nr → r ≡ rule_of x arch nr → Contains (rules_under machines x name) r
 under machines x name arch nr r listed at is =
-    contains_filter_map (λ a. option_map (rule_of x a) (number_in (table_of a) name)) machines arch r listed (ap (option_map (rule_of x arch)) at ∙ ap Some (sym is))
+    contains_filter_map (λ a. option_map (rule_of x a) (number_in (table_of a) name)) machines arch r listed
+    (ap (option_map (rule_of x arch)) at ∙ ap Some (sym is))
 
 -- where a rule under a name comes from
 pub record IsUnder (machines : List Arch) (x : EntryParts) (name : List ℕ) (r : RuleParts) : Type 0 where
@@ -49,19 +53,23 @@ mapped : {A B : Type 0} (f : A → B) (o : Option A) (y : B) → option_map f o 
 mapped f None y h = cc
 mapped f (Some x) y h = (x, refl, cc)
 
-pub under_back : (machines : List Arch) (x : EntryParts) (name : List ℕ) (r : RuleParts) → Contains (rules_under machines x name) r → IsUnder machines x name r
+pub under_back : (machines : List Arch) (x : EntryParts) (name : List ℕ) (r : RuleParts) → Contains (rules_under machines x name) r
+    → IsUnder machines x name r
 under_back machines x name r h =
     let at = contains_filter_map_back (λ a. option_map (rule_of x a) (number_in (table_of a) name)) machines r h in
     let parts = mapped (rule_of x at.0) (number_in (table_of at.0) name) r at.2 in
     record { arch = at.0; listed = at.1; nr = parts.0; nr_is = parts.1; is = parts.2 }
 
 -- what a search that finds an overlap has found
-pub clash_under : (machines : List Arch) (x y : EntryParts) (name : List ℕ) → x.word ≢ y.word → Contains x.names name → Contains y.names name → Any (OverlapOn x y name) machines → ClashUnder machines x y name
+pub clash_under : (machines : List Arch) (x y : EntryParts) (name : List ℕ) → x.word ≢ y.word → Contains x.names name
+    → Contains y.names name → Any (OverlapOn x y name) machines → ClashUnder machines x y name
 clash_under machines x y name unlike in_x in_y any =
     let arch = any.1 in
     let o = any.4 in
     let listed : Contains machines arch = (any.0, any.2, any.3) in
-    let words : o.first.word ≢ o.second.word = λ (same : o.first.word ≡ o.second.word). unlike (sym (ap (λ (p : RuleParts). p.word) o.first_is) ∙ same ∙ ap (λ (p : RuleParts). p.word) o.second_is) in
+    let words : o.first.word ≢ o.second.word =
+    λ (same : o.first.word ≡ o.second.word). unlike
+    (sym (ap (λ (p : RuleParts). p.word) o.first_is) ∙ same ∙ ap (λ (p : RuleParts). p.word) o.second_is) in
     record {
       in_first = in_x;
       in_second = in_y;
@@ -73,7 +81,8 @@ clash_under machines x y name unlike in_x in_y any =
     }
 
 -- rules that clash are of one call, and so of one name: a search over the names finds it
-pub must_clash : (machines : List Arch) (x y : EntryParts) (a b : Rule) → Contains (rules_of_entry machines x) (rule_parts a) → Contains (rules_of_entry machines y) (rule_parts b) → Clash a b → NoClash machines x y → ⊥
+pub must_clash : (machines : List Arch) (x y : EntryParts) (a b : Rule) → Contains (rules_of_entry machines x) (rule_parts a)
+    → Contains (rules_of_entry machines y) (rule_parts b) → Clash a b → NoClash machines x y → ⊥
 must_clash machines x y a b in_x in_y clash none =
     let m = contains_flat_back (rules_under machines x) x.names (rule_parts a) in_x in
     let n = contains_flat_back (rules_under machines y) y.names (rule_parts b) in_y in
@@ -93,14 +102,18 @@ must_clash machines x y a b in_x in_y clash none =
     let n_is : name_in (table_of p.arch) p.nr ≡ Some n.0 = (table_of-inverse p.arch n.0 p.nr).0 q_nr in
     let names : n.0 ≡ m.0 = same_Some n.0 m.0 (sym n_is ∙ m_is) in
     let b_is : rule_parts b ≡ rule_of y p.arch p.nr = q.is ∙ ap (λ s. rule_of y s q.nr) archs ∙ ap (rule_of y p.arch) nrs in
-    let o : OverlapOn x y m.0 p.arch = record { nr = p.nr; nr_is = p.nr_is; first = a; first_is = p.is; second = b; second_is = b_is; both = clash.1 } in
-    let unlike : x.word ≢ y.word = λ (same : x.word ≡ y.word). clash.0 (ap (λ (s : RuleParts). s.word) p.is ∙ same ∙ sym (ap (λ (s : RuleParts). s.word) q.is)) in
+    let o : OverlapOn x y m.0 p.arch = record
+    { nr = p.nr; nr_is = p.nr_is; first = a; first_is = p.is; second = b; second_is = b_is; both = clash.1 } in
+    let unlike : x.word ≢ y.word = λ (same : x.word ≡ y.word). clash.0
+    (ap (λ (s : RuleParts). s.word) p.is ∙ same ∙ sym (ap (λ (s : RuleParts). s.word) q.is)) in
     none unlike m.0 m.1 (subst (λ s. Contains y.names s) names n.1) (p.listed.0, p.arch, p.listed.1, p.listed.2, o)
 
 -- a name that clashes is not the first of what is left, where that one was tried, so it comes later
-pub passed_step : (machines : List Arch) (x y : EntryParts) (left : List (Bor (List ℕ))) (d : Bor (List ℕ)) (name : List ℕ) (b : Bool) → b ≡ false
+pub passed_step : (machines : List Arch) (x y : EntryParts) (left : List (Bor (List ℕ))) (d : Bor (List ℕ)) (name : List ℕ) (b : Bool)
+    → b ≡ false
     → (Contains x.names (get_or left 0 d).now × Any (OverlapOn x y (get_or left 0 d).now) machines → b ≡ true)
-    → Contains x.names name → Any (OverlapOn x y name) machines → Contains (map (λ n. n.now) left) name → Contains (map (λ n. n.now) (take (length left - 1) (drop 1 left))) name
+    → Contains x.names name → Any (OverlapOn x y name) machines → Contains (map (λ n. n.now) left) name
+    → Contains (map (λ n. n.now) (take (length left - 1) (drop 1 left))) name
 passed_step machines x y left d name b is tried in_x any at =
     elim (now_split left d name at) [
       | inl here ↦

@@ -20,29 +20,49 @@ pub if_is_some_and : {X : Type 0} (o : Option X) {P Q : X → Type 0} → IsSome
 if_is_some_and None h then = absurd h
 if_is_some_and (Some x) h then = then x h
 
-pub has_clash : (native : Arch) (machines : List Arch) (es : List EntryParts) (rules : List Rule) (e : BuildError) (i j : ℕ) → map rule_parts rules ≡ rules_of machines es → e ≡ Overlap i j → IsFirstCause native machines rules e → HasClash machines es j
+pub has_clash : (native : Arch) (machines : List Arch) (es : List EntryParts) (rules : List Rule) (e : BuildError) (i j : ℕ)
+    → map rule_parts rules ≡ rules_of machines es → e ≡ Overlap i j → IsFirstCause native machines rules e → HasClash machines es j
 has_clash native machines es rules e i j said is stands =
     let cause : Contains machines native × AreListed machines rules × (¬ AreTooMany rules) × IsFirstClash rules i j =
     subst (IsFirstCause native machines rules) is stands in
     let at : ClashAt rules i j = cause.3.clash in
-    record { said = rules; said_is = said; earlier = i; before = at.0; first = at.1; first_at = at.3; second = at.2; second_at = at.4; clash = at.5 }
+    record {
+      said = rules;
+      said_is = said;
+      earlier = i;
+      before = at.0;
+      first = at.1;
+      first_at = at.3;
+      second = at.2;
+      second_at =
+          at.4;
+      clash = at.5;
+    }
 
-pub no_foreign : (native : Arch) (machines : List Arch) (es : List EntryParts) (rules : List Rule) (e : BuildError) (i : ℕ) → map rule_parts rules ≡ rules_of machines es → e ≡ ForeignRule i → IsFirstCause native machines rules e → ⊥
+pub no_foreign : (native : Arch) (machines : List Arch) (es : List EntryParts) (rules : List Rule) (e : BuildError) (i : ℕ)
+    → map rule_parts rules ≡ rules_of machines es → e ≡ ForeignRule i → IsFirstCause native machines rules e → ⊥
 no_foreign native machines es rules e i said is stands =
     let cause : Contains machines native × IsFirstForeign machines rules i = subst (IsFirstCause native machines rules) is stands in
-    let at : (rule : Rule) × (slice_get rules i ≡ Some rule) × ¬ Contains machines rule.arch = (cause.1.rule, cause.1.at, cause.1.foreign) in
-    let here : slice_get (rules_of machines es) i ≡ Some (rule_parts at.0) = ap (λ rs. slice_get rs i) (sym said) ∙ slice_get-map rule_parts rules i ∙ ap (option_map rule_parts) at.1 in
-    let among = contains_flat_back (rules_of_entry machines) es (rule_parts at.0) (contains_at (rules_of machines es) i (rule_parts at.0) here) in
+    let at : (rule : Rule) × (slice_get rules i ≡ Some rule) × ¬ Contains machines rule.arch =
+    (cause.1.rule, cause.1.at, cause.1.foreign) in
+    let here : slice_get (rules_of machines es) i ≡ Some (rule_parts at.0) = ap (λ rs. slice_get rs i) (sym said)
+    ∙ slice_get-map rule_parts rules i ∙ ap (option_map rule_parts) at.1 in
+    let among = contains_flat_back (rules_of_entry machines) es (rule_parts at.0)
+    (contains_at (rules_of machines es) i (rule_parts at.0) here) in
     let named = contains_flat_back (rules_under machines among.0) among.0.names (rule_parts at.0) among.2 in
     let from : IsUnder machines among.0 named.0 (rule_parts at.0) = under_back machines among.0 named.0 (rule_parts at.0) named.2 in
     let arch : from.arch ≡ at.0.arch = sym (ap (λ (r : RuleParts). r.arch) from.is) in
     at.2 (subst (Contains machines) arch from.listed)
 
-pub too_many_rules : (said : Said) (native : Arch) (machines : List Arch) (rules : List Rule) (e : BuildError) → machines ≡ in_order said.archs → map rule_parts rules ≡ rules_of machines said.entries → e ≡ TooMany → IsFirstCause native machines rules e → IsNotMade said too_many
+pub too_many_rules : (said : Said) (native : Arch) (machines : List Arch) (rules : List Rule) (e : BuildError)
+    → machines ≡ in_order said.archs → map rule_parts rules ≡ rules_of machines said.entries → e ≡ TooMany
+    → IsFirstCause native machines rules e → IsNotMade said too_many
 too_many_rules said native machines rules e order are is stands =
-    let cause : Contains machines native × AreListed machines rules × AreTooMany rules = subst (IsFirstCause native machines rules) is stands in
+    let cause : Contains machines native × AreListed machines rules × AreTooMany rules =
+    subst (IsFirstCause native machines rules) is stands in
     let at : AreTooMany rules = cause.2 in
     many rules (are ∙ ap (λ ms. rules_of ms said.entries) order) at
 
-pub clash_refused : (said : Said) (machines : List Arch) (f : Fault) → machines ≡ in_order said.archs → IsOverlap machines said.entries f → IsNotMade said f
+pub clash_refused : (said : Said) (machines : List Arch) (f : Fault) → machines ≡ in_order said.archs → IsOverlap machines said.entries f
+    → IsNotMade said f
 clash_refused said machines f order is = clash f (subst (λ ms. IsOverlap ms said.entries f) order is)

@@ -1,5 +1,6 @@
 -- Which entry a rule comes from, by its place.
-use Rattle.std.proofs.Common.{◌≡◌, ℕ, zero, suc, ◌+◌, ◌-◌, ◌<◌, ◌≤◌, List, [], ◌∷◌, ◌++◌, length, Some, nat_lt, ◌⊎◌, inl, inr, refl, sym, ◌∙◌, ap, subst, arith}
+use Rattle.std.proofs.Common.{◌≡◌, ℕ, zero, suc, ◌+◌, ◌-◌, ◌<◌, ◌≤◌, List, [], ◌∷◌, ◌++◌, length, Some, nat_lt, ◌⊎◌, inl, inr, refl, sym}
+use Rattle.std.proofs.Common.{◌∙◌, ap, subst, arith}
 use Rattle.std.specs.List.{Contains, slice_get, position_from}
 use Rattle.std.proofs.lemmas.Bool.{cases_Bool, ltb-true, ltb-false}
 use Rattle.call_tables.specs.declared.arch.Arch.{Arch}
@@ -27,11 +28,13 @@ pub record IsEntryOf (machines : List Arch) (es : List EntryParts) (n place k : 
   pub entry : EntryParts
   pub entry_at : slice_get es k ≡ Some entry
   pub has : Contains (rules_of_entry machines entry) r
-  pub earlier : (i : ℕ) (q : RuleParts) → n + i < place → slice_get (rules_of machines es) i ≡ Some q → Contains (rules_of_entry machines entry) q ⊎ FromBelow machines es k q
+  pub earlier : (i : ℕ) (q : RuleParts) → n + i < place → slice_get (rules_of machines es) i ≡ Some q
+      → Contains (rules_of_entry machines entry) q ⊎ FromBelow machines es k q
 
 -- n rules came before the entries es, and the place is that of the rule at p among theirs
 pub entry_of_place : (machines : List Arch) (es : List EntryParts) (n p c : ℕ) (r : RuleParts) → slice_get (rules_of machines es) p ≡ Some r
-    → (k : ℕ) × (position_from (λ end. nat_lt (n + p) end) c (ends_after n machines es) ≡ Some (c + k)) × IsEntryOf machines es n (n + p) k r
+    → (k : ℕ) × (position_from (λ end. nat_lt (n + p) end) c (ends_after n machines es) ≡ Some (c + k))
+    × IsEntryOf machines es n (n + p) k r
 entry_of_place machines [] n p c r at = cc
 entry_of_place machines (e ∷ es) n p c r at =
     let own = rules_of_entry machines e in
@@ -40,7 +43,8 @@ entry_of_place machines (e ∷ es) n p c r at =
       | inl here ↦
           let inside : n + p < n + length own = ltb-true (n + p) (n + length own) here in
           let mine : slice_get own p ≡ Some r = sym (get_left own rest p (omega (arith, inside))) ∙ at in
-          let first : position_from (λ end. nat_lt (n + p) end) c (ends_after n machines (e ∷ es)) ≡ Some (c + 0) = rw here (ap Some (omega arith)) in (
+          let first : position_from (λ end. nat_lt (n + p) end) c (ends_after n machines (e ∷ es)) ≡ Some (c + 0) =
+          rw here (ap Some (omega arith)) in (
             0,
             first,
             record {
@@ -56,9 +60,13 @@ entry_of_place machines (e ∷ es) n p c r at =
           let theirs : slice_get rest (p - length own) ≡ Some r = sym (get_right own rest p (p - length own) split) ∙ at in
           let later = entry_of_place machines es (n + length own) (p - length own) (c + 1) r theirs in
           let same : n + length own + (p - length own) ≡ n + p = omega (arith, beyond) in
-          let found : position_from (λ end. nat_lt (n + p) end) (c + 1) (ends_after (n + length own) machines es) ≡ Some (c + 1 + later.0) = subst (λ m. position_from (λ end. nat_lt m end) (c + 1) (ends_after (n + length own) machines es) ≡ Some (c + 1 + later.0)) same later.1 in
-          let is : IsEntryOf machines es (n + length own) (n + p) later.0 r = subst (λ m. IsEntryOf machines es (n + length own) m later.0 r) same later.2 in
-          let step : position_from (λ end. nat_lt (n + p) end) c (ends_after n machines (e ∷ es)) ≡ Some (c + suc later.0) = rw past (found ∙ ap Some (omega arith)) in (
+          let found : position_from (λ end. nat_lt (n + p) end) (c + 1) (ends_after (n + length own) machines es) ≡ Some
+          (c + 1 + later.0) = subst (λ m. position_from (λ end. nat_lt m end) (c + 1) (ends_after (n + length own) machines es) ≡ Some
+          (c + 1 + later.0)) same later.1 in
+          let is : IsEntryOf machines es (n + length own) (n + p) later.0 r =
+          subst (λ m. IsEntryOf machines es (n + length own) m later.0 r) same later.2 in
+          let step : position_from (λ end. nat_lt (n + p) end) c (ends_after n machines (e ∷ es)) ≡ Some (c + suc later.0) =
+          rw past (found ∙ ap Some (omega arith)) in (
             suc later.0,
             step,
             record {
@@ -66,7 +74,14 @@ entry_of_place machines (e ∷ es) n p c r at =
               entry_at = is.entry_at;
               has = is.has;
               earlier = λ i q before got. elim (cases_Bool (nat_lt i (length own))) [
-                | inl mine ↦ inr (0, e, omega arith, refl, contains_at own i q (sym (get_left own rest i (ltb-true i (length own) mine)) ∙ got))
+                | inl mine ↦ inr (
+                  0,
+                  e,
+                  omega arith,
+                  refl,
+                  contains_at own i q
+                      (sym (get_left own rest i (ltb-true i (length own) mine)) ∙ got),
+                )
                 | inr more ↦
                     let from : length own ≤ i = ltb-false i (length own) more in
                     let apart : i ≡ length own + (i - length own) = omega (arith, from) in

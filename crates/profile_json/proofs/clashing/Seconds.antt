@@ -1,5 +1,6 @@
 -- The second of two entries that clash, by the place of its rule.
-use Rattle.std.proofs.Common.{◌≡◌, ℕ, ◌+◌, ◌<◌, ◌≤◌, List, length, map, get_or, Some, None, option_map, nat_lt, false, inl, inr, sym, ◌∙◌, ap, subst, arith}
+use Rattle.std.proofs.Common.{◌≡◌, ℕ, ◌+◌, ◌<◌, ◌≤◌, List, length, map, get_or, Some, None, option_map, nat_lt, false, inl, inr, sym, ◌∙◌}
+use Rattle.std.proofs.Common.{ap, subst, arith}
 use Rattle.std.specs.List.{Contains, slice_get, position, position_from}
 use Rattle.std.proofs.lemmas.List.{length-map}
 use Rattle.std.proofs.lemmas.Option.{same_Some, slice_get-map, slice_get_within, slice_get-get_or}
@@ -30,10 +31,12 @@ pub record IsSecond (machines : List Arch) (es : List EntryParts) (k : ℕ) : Ty
   pub y_at : slice_get es k ≡ Some y
   pub must : ((j : ℕ) → j < k → (x : EntryParts) → slice_get es j ≡ Some x → NoClash machines x y) → ⊥
 
-rule_at : (machines : List Arch) (es : List EntryParts) (said : List Rule) (i : ℕ) (r : Rule) → map rule_parts said ≡ rules_of machines es → slice_get said i ≡ Some r → slice_get (rules_of machines es) i ≡ Some (rule_parts r)
+rule_at : (machines : List Arch) (es : List EntryParts) (said : List Rule) (i : ℕ) (r : Rule) → map rule_parts said ≡ rules_of machines es
+    → slice_get said i ≡ Some r → slice_get (rules_of machines es) i ≡ Some (rule_parts r)
 rule_at machines es said i r is at = ap (λ rs. slice_get rs i) (sym is) ∙ slice_get-map rule_parts said i ∙ ap (option_map rule_parts) at
 
-pub second_of : (machines : List Arch) (es : List EntryParts) (place : ℕ) → HasClash machines es place → (k : ℕ) × (position (λ end. nat_lt place end) (ends_after 0 machines es) ≡ Some k) × IsSecond machines es k
+pub second_of : (machines : List Arch) (es : List EntryParts) (place : ℕ) → HasClash machines es place → (k : ℕ)
+    × (position (λ end. nat_lt place end) (ends_after 0 machines es) ≡ Some k) × IsSecond machines es k
 second_of machines es place h =
     let at = rule_at machines es h.said place h.second h.said_is h.second_at in
     let before = rule_at machines es h.said h.earlier h.first h.said_is h.first_at in
@@ -41,22 +44,26 @@ second_of machines es place h =
     let is : IsEntryOf machines es 0 (0 + place) found.0 (rule_parts h.second) = found.2 in
     let k : ℕ = found.0 in
     let same : 0 + place ≡ place = omega arith in
-    let here : position_from (λ end. nat_lt place end) 0 (ends_after 0 machines es) ≡ Some k = subst (λ p. position_from (λ end. nat_lt p end) 0 (ends_after 0 machines es) ≡ Some k) same (found.1 ∙ ap Some (omega arith)) in
-    let first : position (λ end. nat_lt place end) (ends_after 0 machines es) ≡ Some k = position_from-zero (λ end. nat_lt place end) (ends_after 0 machines es) ∙ here in (
+    let here : position_from (λ end. nat_lt place end) 0 (ends_after 0 machines es) ≡ Some k =
+    subst (λ p. position_from (λ end. nat_lt p end) 0 (ends_after 0 machines es) ≡ Some k) same (found.1 ∙ ap Some (omega arith)) in
+    let first : position (λ end. nat_lt place end) (ends_after 0 machines es) ≡ Some k =
+    position_from-zero (λ end. nat_lt place end) (ends_after 0 machines es) ∙ here in (
       k,
       first,
       record {
         y = is.entry;
         y_at = is.entry_at;
         must = λ none. elim (is.earlier h.earlier (rule_parts h.first) (let lt = h.before in omega (arith, lt)) before) [
-          | inl same_entry ↦ h.clash.0 (word_of_entry machines is.entry (rule_parts h.first) same_entry ∙ sym (word_of_entry machines is.entry (rule_parts h.second) is.has))
+          | inl same_entry ↦ h.clash.0 (word_of_entry machines is.entry (rule_parts h.first) same_entry
+              ∙ sym (word_of_entry machines is.entry (rule_parts h.second) is.has))
           | inr lower ↦ must_clash machines lower.1 is.entry h.first h.second lower.4 is.has h.clash (none lower.0 lower.2 lower.1 lower.3)
         ];
       },
     )
 
 -- what is read of the entries
-pub entry_read : (entries : List Entry) (i : ℕ) (e : Entry) → i < length entries → e ≡ get_or entries i e → slice_get (map entry_parts entries) i ≡ Some (entry_parts e)
+pub entry_read : (entries : List Entry) (i : ℕ) (e : Entry) → i < length entries → e ≡ get_or entries i e
+    → slice_get (map entry_parts entries) i ≡ Some (entry_parts e)
 entry_read entries i e lt is =
     slice_get-map entry_parts entries i ∙ ap (option_map entry_parts) (slice_get-get_or entries i e lt ∙ ap Some (sym is))
 
@@ -64,20 +71,23 @@ pub within : (entries : List Entry) (i : ℕ) (y : EntryParts) → slice_get (ma
 within entries i y at = let lt = slice_get_within (map entry_parts entries) i y at in omega (arith, lt, length-map entries entry_parts)
 
 -- the place that the search for the rule's entry gives
-pub chosen : (machines : List Arch) (es : List EntryParts) (ends : List ℕ) (place k : ℕ) → ends ≡ ends_after 0 machines es → HasClash machines es place → Some k ≡ position (λ end. nat_lt place end) ends → IsSecond machines es k
+pub chosen : (machines : List Arch) (es : List EntryParts) (ends : List ℕ) (place k : ℕ) → ends ≡ ends_after 0 machines es
+    → HasClash machines es place → Some k ≡ position (λ end. nat_lt place end) ends → IsSecond machines es k
 chosen machines es ends place k are h at =
     let s = second_of machines es place h in
     let same : s.0 ≡ k = same_Some s.0 k (sym s.1 ∙ ap (position (λ end. nat_lt place end)) (sym are) ∙ sym at) in
     subst (IsSecond machines es) same s.2
 
-pub none_chosen : (machines : List Arch) (es : List EntryParts) (ends : List ℕ) (place : ℕ) → ends ≡ ends_after 0 machines es → HasClash machines es place → None ≡ position (λ end. nat_lt place end) ends → ⊥
+pub none_chosen : (machines : List Arch) (es : List EntryParts) (ends : List ℕ) (place : ℕ) → ends ≡ ends_after 0 machines es
+    → HasClash machines es place → None ≡ position (λ end. nat_lt place end) ends → ⊥
 none_chosen machines es ends place are h at =
     let s = second_of machines es place h in
     let no : None ≡ Some s.0 = at ∙ ap (position (λ end. nat_lt place end)) are ∙ s.1 in
     cc
 
 -- no entry below `first` clashes with the one at k, so k is not among those
-pub before_second : (machines : List Arch) (es : List EntryParts) (k first : ℕ) (y : EntryParts) → IsSecond machines es k → slice_get es k ≡ Some y
+pub before_second : (machines : List Arch) (es : List EntryParts) (k first : ℕ) (y : EntryParts) → IsSecond machines es k
+    → slice_get es k ≡ Some y
     → ((j : ℕ) → j < first → (x : EntryParts) → slice_get es j ≡ Some x → NoClash machines x y) → first < k
 before_second machines es k first y s at none =
     let same : y ≡ s.y = same_Some y s.y (sym at ∙ s.y_at) in
@@ -88,8 +98,10 @@ before_second machines es k first y s at none =
           absurd (s.must (λ j lt x x_at. subst (λ (z : EntryParts). NoClash machines x z) same (none j (omega (arith, le, lt)) x x_at)))
     ]
 
-pub none_more : (machines : List Arch) (es : List EntryParts) (first : ℕ) (e y : EntryParts) → slice_get es first ≡ Some e → NoClash machines e y
-    → ((j : ℕ) → j < first → (x : EntryParts) → slice_get es j ≡ Some x → NoClash machines x y) → (j : ℕ) → j < first + 1 → (x : EntryParts) → slice_get es j ≡ Some x → NoClash machines x y
+pub none_more : (machines : List Arch) (es : List EntryParts) (first : ℕ) (e y : EntryParts) → slice_get es first ≡ Some e
+    → NoClash machines e y
+    → ((j : ℕ) → j < first → (x : EntryParts) → slice_get es j ≡ Some x → NoClash machines x y) → (j : ℕ) → j < first + 1
+    → (x : EntryParts) → slice_get es j ≡ Some x → NoClash machines x y
 none_more machines es first e y at here before j lt x x_at =
     elim (cases_Bool (nat_lt j first)) [
       | inl lower ↦ before j (ltb-true j first lower) x x_at

@@ -1,5 +1,6 @@
 -- Actions: what reading gives is meant, and what it refuses is broken.
-use Rattle.std.proofs.Common.{◌≡◌, ℕ, ◌≤◌, ◌<◌, List, Bool, cond, nat_le, Ok, Err, Some, None, true, false, ◌⊎◌, inl, inr, refl, sym, ◌∙◌, ap, subst, arith}
+use Rattle.std.proofs.Common.{◌≡◌, ℕ, ◌≤◌, ◌<◌, List, Bool, cond, nat_le, Ok, Err, Some, None, true, false, ◌⊎◌, inl, inr, refl, sym, ◌∙◌}
+use Rattle.std.proofs.Common.{ap, subst, arith}
 use Rattle.std.specs.Option.{ok_or}
 use Rattle.std.proofs.lemmas.Bool.{leb-true, leb-false}
 use Rattle.std.proofs.lemmas.Option.{same_Some}
@@ -12,7 +13,8 @@ use Rattle.profile_json.specs.inner.Outcome.{◌>>=◌}
 use Rattle.profile_json.specs.inner.Reading.{needed, action_at, errno_in, word_at}
 use Rattle.profile_json.specs.Meaning.{NamesAction, ErrnoMeans, none, given, WordMeans}
 use Rattle.profile_json.specs.Breaks.{ActionBreaks, action_text, action_unknown, WordBreaks, action, errno_other, not_taken, large}
-use Rattle.profile_json.proofs.reading.Steps.{bind_ok, bind_err, ok_or_ok, ok_or_err, needed_ok, needed_breaks, needed_unbroken, holds_same, ok_same, not_ok, true_false}
+use Rattle.profile_json.proofs.reading.Steps.{bind_ok, bind_err, ok_or_ok, ok_or_err, needed_ok, needed_breaks, needed_unbroken}
+use Rattle.profile_json.proofs.reading.Steps.{holds_same, ok_same, not_ok, true_false}
 
 pub action_means : (k : List ℕ) (d : Data) (a : Action) → action_at k d ≡ Ok a → NamesAction k d a
 unfolding action_at
@@ -48,12 +50,14 @@ data Errno (a : Action) (m : Member ℕ) : ℕ → Type 0 where
   no_member : m ≡ missing → Errno a m 1
   member_is : (n : ℕ) → m ≡ holds n → takes_data a ≡ true → n ≤ 4095 → Errno a m n
 
-chosen_ok : (t s : Bool) (n x : ℕ) → cond t (cond s (Ok n) (Err errno_range)) (Err errno_not_taken) ≡ Ok x → (t ≡ true) × (s ≡ true) × (n ≡ x)
+chosen_ok : (t s : Bool) (n x : ℕ) → cond t (cond s (Ok n) (Err errno_range)) (Err errno_not_taken) ≡ Ok x → (t ≡ true) × (s ≡ true)
+    × (n ≡ x)
 chosen_ok true true n x h = (refl, refl, cc)
 chosen_ok true false n x h = cc
 chosen_ok false s n x h = cc
 
-chosen_err : (t s : Bool) (n : ℕ) (e : Fault) → cond t (cond s (Ok n) (Err errno_range)) (Err errno_not_taken) ≡ Err e → ((t ≡ false) × (errno_not_taken ≡ e)) ⊎ ((s ≡ false) × (errno_range ≡ e))
+chosen_err : (t s : Bool) (n : ℕ) (e : Fault) → cond t (cond s (Ok n) (Err errno_range)) (Err errno_not_taken) ≡ Err e
+    → ((t ≡ false) × (errno_not_taken ≡ e)) ⊎ ((s ≡ false) × (errno_range ≡ e))
 chosen_err true true n e h = cc
 chosen_err true false n e h = inr (refl, cc)
 chosen_err false s n e h = inl (refl, cc)
@@ -65,7 +69,8 @@ errno_ok a (holds n) x h =
     let at = chosen_ok (takes_data a) (nat_le n 4095) n x h in
     subst (Errno a (holds n)) at.2 (member_is n refl at.0 (leb-true n 4095 at.1))
 
-errno_err : (a : Action) (m : Member ℕ) (e : Fault) → errno_in a m ≡ Err e → ((m ≡ other_type) × (wrong_type ≡ e)) ⊎ ((n : ℕ) × (m ≡ holds n) × (((takes_data a ≡ false) × (errno_not_taken ≡ e)) ⊎ ((4095 < n) × (errno_range ≡ e))))
+errno_err : (a : Action) (m : Member ℕ) (e : Fault) → errno_in a m ≡ Err e → ((m ≡ other_type) × (wrong_type ≡ e))
+    ⊎ ((n : ℕ) × (m ≡ holds n) × (((takes_data a ≡ false) × (errno_not_taken ≡ e)) ⊎ ((4095 < n) × (errno_range ≡ e))))
 errno_err a missing e h = cc
 errno_err a other_type e h = inl (refl, cc)
 errno_err a (holds n) e h =
@@ -114,7 +119,8 @@ other_no : (k : List ℕ) (d : Data) (a : Action) (n : ℕ) → ErrnoMeans k d a
 other_no k d a _ (none e) h = let both : ◌≡◌ {A = Member ℕ} missing other_type = sym e ∙ h in cc
 other_no k d a _ (given n e t l) h = let both : holds n ≡ other_type = sym e ∙ h in cc
 
-given_is : (k : List ℕ) (d : Data) (a : Action) (n x : ℕ) → ErrnoMeans k d a n → member whole k d ≡ holds x → (takes_data a ≡ true) × (x ≤ 4095) × (n ≡ x)
+given_is : (k : List ℕ) (d : Data) (a : Action) (n x : ℕ) → ErrnoMeans k d a n → member whole k d ≡ holds x → (takes_data a ≡ true)
+    × (x ≤ 4095) × (n ≡ x)
 given_is k d a _ x (none e) h = let both : ◌≡◌ {A = Member ℕ} missing (holds x) = sym e ∙ h in cc
 given_is k d a _ x (given n e t l) h = let same : n ≡ x = holds_same n x (sym e ∙ h) in (t, subst (λ y. y ≤ 4095) same l, same)
 

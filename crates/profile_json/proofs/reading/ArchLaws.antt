@@ -18,7 +18,8 @@ use Rattle.profile_json.specs.inner.Reading.{typed, each, arch_of, archs_or_nati
 use Rattle.profile_json.specs.Meaning.{NamesArch, ListsArchs}
 use Rattle.profile_json.specs.Breaks.{ArchsBreak, no_list, no_text, unknown, not_native}
 use Rattle.profile_json.proofs.Lists.{related, one_related}
-use Rattle.profile_json.proofs.reading.Steps.{bind_ok, bind_err, ok_or_ok, ok_or_err, cond_ok, cond_err, each_ok, each_err, none_some, ok_same, not_ok, true_false}
+use Rattle.profile_json.proofs.reading.Steps.{bind_ok, bind_err, ok_or_ok, ok_or_err, cond_ok, cond_err, each_ok, each_err, none_some}
+use Rattle.profile_json.proofs.reading.Steps.{ok_same, not_ok, true_false}
 
 arch_means : (d : Data) (a : Arch) → arch_of d ≡ Ok a → NamesArch d a
 unfolding arch_of
@@ -36,10 +37,12 @@ unfolding arch_of
 arch_breaks d f h =
     elim (bind_err (typed (text d)) (λ name. ok_or (arch_named name) unknown_arch) f h) [
       | inl bad ↦ (let at = ok_or_err (text d) wrong_type f bad in subst (ArchBreaks d) at.1 (has_no_text at.0))
-      | inr step ↦ (let at = ok_or_err (arch_named step.0) unknown_arch f step.2 in subst (ArchBreaks d) at.1 (is_unknown step.0 (ok_or_ok (text d) wrong_type step.0 step.1) at.0))
+      | inr step ↦ (let at = ok_or_err (arch_named step.0) unknown_arch f step.2 in subst (ArchBreaks d) at.1
+          (is_unknown step.0 (ok_or_ok (text d) wrong_type step.0 step.1) at.0))
     ]
 
-value_breaks : (s : Data) (native : Arch) (ds : List Data) (d : Data) (f : Fault) → or_default [] (member list key.architectures s) ≡ Some ds → Contains ds d → ArchBreaks d f → ArchsBreak s native f
+value_breaks : (s : Data) (native : Arch) (ds : List Data) (d : Data) (f : Fault)
+    → or_default [] (member list key.architectures s) ≡ Some ds → Contains ds d → ArchBreaks d f → ArchsBreak s native f
 value_breaks s native ds d _ at in_ds (has_no_text e) = no_text ds d at in_ds e
 value_breaks s native ds d _ at in_ds (is_unknown name e u) = unknown ds d name at in_ds e u
 
@@ -59,36 +62,57 @@ lists_native a archs h = Contains-from_any same_is a archs h
 pub native_lists : (a : Arch) (archs : List Arch) → Contains archs a → list_any (same_arch a) archs ≡ true
 native_lists a archs h = list_any_at (same_arch a) archs h.0 a h.1 (ap (same_arch a) h.2 ∙ same_self a)
 
-lists_of : (s : Data) (native : Arch) (ds : List Data) (archs : List Arch) → or_default [] (member list key.architectures s) ≡ Some ds → archs_or_native native ds ≡ Ok archs → ListsArchs s native archs
+lists_of : (s : Data) (native : Arch) (ds : List Data) (archs : List Arch) → or_default [] (member list key.architectures s) ≡ Some ds
+    → archs_or_native native ds ≡ Ok archs → ListsArchs s native archs
 lists_of s native ds archs at h =
     let step = bind_ok (each arch_of ds) (λ xs0. Ok (or_native native xs0)) archs h in
-    record { values = ds; values_are = at; named = step.0; names = each_ok arch_of NamesArch arch_means ds step.0 step.1; archs_are = sym (ok_same (or_native native step.0) archs step.2) }
+    record {
+      values = ds;
+      values_are = at;
+      named = step.0;
+      names = each_ok arch_of NamesArch arch_means ds step.0 step.1;
+      archs_are =
+          sym (ok_same (or_native native step.0) archs step.2);
+    }
 
-pub lists_archs : (s : Data) (native : Arch) (archs : List Arch) → archs_of native s ≡ Ok archs → ListsArchs s native archs × Contains archs native
+pub lists_archs : (s : Data) (native : Arch) (archs : List Arch) → archs_of native s ≡ Ok archs → ListsArchs s native archs
+    × Contains archs native
 unfolding archs_of
 lists_archs s native archs h =
-    let at_d = bind_ok (typed (or_default [] (member list key.architectures s))) (λ ds. archs_or_native native ds >>= (λ xs0. cond (list_any (same_arch native) xs0) (Ok xs0) (Err native_missing))) archs h in
-    let at_a = bind_ok (archs_or_native native at_d.0) (λ xs0. cond (list_any (same_arch native) xs0) (Ok xs0) (Err native_missing)) archs at_d.2 in
+    let at_d = bind_ok (typed (or_default [] (member list key.architectures s)))
+    (λ ds. archs_or_native native ds >>= (λ xs0. cond (list_any (same_arch native) xs0) (Ok xs0) (Err native_missing))) archs h in
+    let at_a = bind_ok (archs_or_native native at_d.0) (λ xs0. cond (list_any (same_arch native) xs0) (Ok xs0) (Err native_missing)) archs
+    at_d.2 in
     let found = cond_ok (list_any (same_arch native) at_a.0) native_missing at_a.0 archs at_a.2 in
-    let lists = lists_of s native at_d.0 at_a.0 (ok_or_ok (or_default [] (member list key.architectures s)) wrong_type at_d.0 at_d.1) at_a.1 in
-    (subst (ListsArchs s native) found.1 lists, subst (λ (xs0 : List Arch). Contains xs0 native) found.1 (lists_native native at_a.0 found.0))
+    let lists = lists_of s native at_d.0 at_a.0 (ok_or_ok (or_default [] (member list key.architectures s)) wrong_type at_d.0 at_d.1)
+    at_a.1 in (
+      subst (ListsArchs s native) found.1 lists,
+      subst (λ (xs0 : List Arch). Contains xs0 native) found.1
+          (lists_native native at_a.0 found.0),
+    )
 
 pub archs_refused : (s : Data) (native : Arch) (f : Fault) → archs_of native s ≡ Err f → ArchsBreak s native f
 unfolding archs_of
 archs_refused s native f h =
-    elim (bind_err (typed (or_default [] (member list key.architectures s))) (λ ds. archs_or_native native ds >>= (λ xs0. cond (list_any (same_arch native) xs0) (Ok xs0) (Err native_missing))) f h) [
-      | inl bad ↦ (let at = ok_or_err (or_default [] (member list key.architectures s)) wrong_type f bad in subst (ArchsBreak s native) at.1 (no_list at.0))
+    elim (bind_err (typed (or_default [] (member list key.architectures s)))
+    (λ ds. archs_or_native native ds >>= (λ xs0. cond (list_any (same_arch native) xs0) (Ok xs0) (Err native_missing))) f h) [
+      | inl bad ↦ (let at = ok_or_err (or_default [] (member list key.architectures s)) wrong_type f bad in subst (ArchsBreak s native)
+          at.1 (no_list at.0))
       | inr at_d ↦
           let values = ok_or_ok (or_default [] (member list key.architectures s)) wrong_type at_d.0 at_d.1 in
-          elim (bind_err (archs_or_native native at_d.0) (λ xs0. cond (list_any (same_arch native) xs0) (Ok xs0) (Err native_missing)) f at_d.2) [
+          elim (bind_err (archs_or_native native at_d.0) (λ xs0. cond (list_any (same_arch native) xs0) (Ok xs0) (Err native_missing)) f
+          at_d.2) [
             | inl bad ↦ elim (bind_err (each arch_of at_d.0) (λ xs0. Ok (or_native native xs0)) f bad) [
-              | inl worse ↦ (let at = each_err arch_of at_d.0 f worse in value_breaks s native at_d.0 at.0 f values at.1 (arch_breaks at.0 f at.2))
+              | inl worse ↦ (let at = each_err arch_of at_d.0 f worse in value_breaks s native at_d.0 at.0 f values at.1
+                  (arch_breaks at.0 f at.2))
               | inr step ↦ absurd (not_ok (or_native native step.0) f step.2)
             ]
             | inr at_a ↦
                 let lost = cond_err (list_any (same_arch native) at_a.0) native_missing f at_a.0 at_a.2 in
                 let lists = lists_of s native at_d.0 at_a.0 values at_a.1 in
-                subst (ArchsBreak s native) lost.1 (not_native at_a.0 lists (λ has. true_false (list_any (same_arch native) at_a.0) (native_lists native at_a.0 has) lost.0))
+                subst (ArchsBreak s native) lost.1
+                (not_native at_a.0 lists
+                (λ has. true_false (list_any (same_arch native) at_a.0) (native_lists native at_a.0 has) lost.0))
           ]
     ]
 
@@ -105,7 +129,8 @@ one_archs s native xs ys p q =
     let names : AllZip NamesArch q.values p.named = subst (λ ds. AllZip NamesArch ds p.named) values p.names in
     p.archs_are ∙ ap (or_native native) (one_related NamesArch one_arch q.values p.named q.named names q.names) ∙ sym q.archs_are
 
-pub archs_unbroken : (s : Data) (native : Arch) (archs : List Arch) (f : Fault) → ListsArchs s native archs → Contains archs native → ArchsBreak s native f → ⊥
+pub archs_unbroken : (s : Data) (native : Arch) (archs : List Arch) (f : Fault) → ListsArchs s native archs → Contains archs native
+    → ArchsBreak s native f → ⊥
 archs_unbroken s native archs _ m has (no_list e) = none_some (or_default [] (member list key.architectures s)) m.values e m.values_are
 archs_unbroken s native archs _ m has (no_text ds d at in_ds e) =
     let same : m.values ≡ ds = same_Some m.values ds (sym m.values_are ∙ at) in
@@ -116,4 +141,5 @@ archs_unbroken s native archs _ m has (unknown ds d t at in_ds e u) =
     let name = related NamesArch m.values m.named d m.names (subst (λ xs. Contains xs d) (sym same) in_ds) in
     let names : name.1.0 ≡ t = same_Some name.1.0 t (sym name.1.1 ∙ e) in
     none_some (arch_named t) name.0 u (ap arch_named (sym names) ∙ name.1.2)
-archs_unbroken s native archs _ m has (not_native others lists lost) = lost (subst (λ (xs0 : List Arch). Contains xs0 native) (one_archs s native archs others m lists) has)
+archs_unbroken s native archs _ m has (not_native others lists lost) =
+    lost (subst (λ (xs0 : List Arch). Contains xs0 native) (one_archs s native archs others m lists) has)

@@ -1,5 +1,6 @@
 -- Conditions: what reading gives is meant, and what it refuses is broken.
-use Rattle.std.proofs.Common.{◌≡◌, ◌≢◌, ℕ, ◌<◌, ◌==◌, nat_lt, List, map, bit_and, cond, Bool, Ok, Err, Some, None, IsSome, true, false, ◌⊎◌, inl, inr, refl, sym, ◌∙◌, ap, subst, arith}
+use Rattle.std.proofs.Common.{◌≡◌, ◌≢◌, ℕ, ◌<◌, ◌==◌, nat_lt, List, map, bit_and, cond, Bool, Ok, Err, Some, None, IsSome, true, false}
+use Rattle.std.proofs.Common.{◌⊎◌, inl, inr, refl, sym, ◌∙◌, ap, subst, arith}
 use Rattle.std.specs.Option.{ok_or}
 use Rattle.std.specs.List.{list_any}
 use Rattle.std.proofs.lemmas.Bool.{ltb-true, ltb-false}
@@ -17,16 +18,19 @@ use Rattle.profile_json.specs.inner.Outcome.{◌>>=◌}
 use Rattle.profile_json.specs.inner.Reading.{typed, needed, index_at, op_at, cond_of, arg_of}
 use Rattle.profile_json.specs.Meaning.{ArgMeans}
 use Rattle.profile_json.specs.Breaks.{ArgBreaks, no_object, index_whole, index_large, value_whole, second_other, op_text, op_unknown, stray}
-use Rattle.profile_json.proofs.reading.Steps.{bind_ok, bind_err, ok_or_ok, ok_or_err, cond_ok, cond_err, needed_ok, needed_breaks, needed_unbroken, object_is, object_not, is_some_not_none, holds_same, none_some, true_false}
+use Rattle.profile_json.proofs.reading.Steps.{bind_ok, bind_err, ok_or_ok, ok_or_err, cond_ok, cond_err, needed_ok, needed_breaks}
+use Rattle.profile_json.proofs.reading.Steps.{needed_unbroken, object_is, object_not, is_some_not_none, holds_same, none_some, true_false}
 
 -- ---- index
 
-index_test : (small seen : Bool) (i x : ℕ) → cond small (cond seen (Err repeated_index) (Ok i)) (Err bad_index) ≡ Ok x → (small ≡ true) × (seen ≡ false) × (i ≡ x)
+index_test : (small seen : Bool) (i x : ℕ) → cond small (cond seen (Err repeated_index) (Ok i)) (Err bad_index) ≡ Ok x → (small ≡ true)
+    × (seen ≡ false) × (i ≡ x)
 index_test true true i x h = cc
 index_test true false i x h = (refl, refl, cc)
 index_test false seen i x h = cc
 
-index_fault : (small seen : Bool) (i : ℕ) (e : Fault) → cond small (cond seen (Err repeated_index) (Ok i)) (Err bad_index) ≡ Err e → ((small ≡ false) × (bad_index ≡ e)) ⊎ ((seen ≡ true) × (repeated_index ≡ e))
+index_fault : (small seen : Bool) (i : ℕ) (e : Fault) → cond small (cond seen (Err repeated_index) (Ok i)) (Err bad_index) ≡ Err e
+    → ((small ≡ false) × (bad_index ≡ e)) ⊎ ((seen ≡ true) × (repeated_index ≡ e))
 index_fault true true i e h = inr (refl, cc)
 index_fault true false i e h = cc
 index_fault false seen i e h = inl (refl, cc)
@@ -40,20 +44,26 @@ record IsIndex (front : List CondParts) (d : Data) (i : ℕ) : Type 0 where
 index_ok : (front : List CondParts) (d : Data) (x : ℕ) → index_at front d ≡ Ok x → IsIndex front d x
 unfolding index_at
 index_ok front d x h =
-    let step = bind_ok (needed missing_key (member whole key.index d)) (λ i. cond (nat_lt i 6) (cond (list_any (λ j. j == i) (map (λ e. e.index) front)) (Err repeated_index) (Ok i)) (Err bad_index)) x h in
+    let step = bind_ok (needed missing_key (member whole key.index d))
+    (λ i. cond (nat_lt i 6) (cond (list_any (λ j. j == i) (map (λ e. e.index) front)) (Err repeated_index) (Ok i)) (Err bad_index)) x
+    h in
     let at = index_test (nat_lt step.0 6) (list_any (λ j. j == step.0) (map (λ e. e.index) front)) step.0 x step.2 in
-    let found : IsIndex front d step.0 = record { is = needed_ok missing_key (member whole key.index d) step.0 step.1; small = ltb-true step.0 6 at.0; fresh = at.1 } in
+    let found : IsIndex front d step.0 =
+    record { is = needed_ok missing_key (member whole key.index d) step.0 step.1; small = ltb-true step.0 6 at.0; fresh = at.1 } in
     subst (IsIndex front d) at.2 found
 
 -- why a member is refused: it breaks a rule, or its index stands in front
 pub data Refused (front : List CondParts) (d : Data) : Fault → Type 0 where
   alone : (f : Fault) → ArgBreaks d f → Refused front d f
-  repeated : (i : ℕ) → member whole key.index d ≡ holds i → list_any (λ j. j == i) (map (λ e. e.index) front) ≡ true → Refused front d repeated_index
+  repeated : (i : ℕ) → member whole key.index d ≡ holds i → list_any (λ j. j == i) (map (λ e. e.index) front) ≡ true
+      → Refused front d repeated_index
 
 index_err : (front : List CondParts) (d : Data) (f : Fault) → IsSome (object d) → index_at front d ≡ Err f → Refused front d f
 unfolding index_at
 index_err front d f is_object h =
-    elim (bind_err (needed missing_key (member whole key.index d)) (λ i. cond (nat_lt i 6) (cond (list_any (λ j. j == i) (map (λ e. e.index) front)) (Err repeated_index) (Ok i)) (Err bad_index)) f h) [
+    elim (bind_err (needed missing_key (member whole key.index d))
+    (λ i. cond (nat_lt i 6) (cond (list_any (λ j. j == i) (map (λ e. e.index) front)) (Err repeated_index) (Ok i)) (Err bad_index)) f
+    h) [
       | inl bad ↦ alone f (index_whole f is_object (needed_breaks (member whole key.index d) f bad))
       | inr step ↦
           let is = needed_ok missing_key (member whole key.index d) step.0 step.1 in
@@ -74,14 +84,20 @@ op_ok : (d : Data) (o : Op) → op_at d ≡ Ok o → IsOp d o
 unfolding op_at
 op_ok d o h =
     let step = bind_ok (needed missing_key (member text key.op d)) (λ name. ok_or (op_named name) unknown_op) o h in
-    record { name = step.0; is = needed_ok missing_key (member text key.op d) step.0 step.1; named = ok_or_ok (op_named step.0) unknown_op o step.2 }
+    record {
+      name = step.0;
+      is = needed_ok missing_key (member text key.op d) step.0 step.1;
+      named =
+          ok_or_ok (op_named step.0) unknown_op o step.2;
+    }
 
 op_err : (d : Data) (f : Fault) → IsSome (object d) → op_at d ≡ Err f → ArgBreaks d f
 unfolding op_at
 op_err d f is_object h =
     elim (bind_err (needed missing_key (member text key.op d)) (λ name. ok_or (op_named name) unknown_op) f h) [
       | inl bad ↦ op_text f is_object (needed_breaks (member text key.op d) f bad)
-      | inr step ↦ (let at = ok_or_err (op_named step.0) unknown_op f step.2 in subst (ArgBreaks d) at.1 (op_unknown step.0 (needed_ok missing_key (member text key.op d) step.0 step.1) at.0))
+      | inr step ↦ (let at = ok_or_err (op_named step.0) unknown_op f step.2 in subst (ArgBreaks d) at.1
+          (op_unknown step.0 (needed_ok missing_key (member text key.op d) step.0 step.1) at.0))
     ]
 
 -- ---- a member of `args`
@@ -96,13 +112,20 @@ parts_of index op value datum = record { index = index; op = op; value = value; 
 
 -- the condition that an object says, where its index is not in front
 arg_ok_in : (front : List CondParts) (d : Data) (c : CondParts) → IsSome (object d)
-    → (index_at front d >>= (λ index. needed missing_key (member whole key.value d) >>= (λ value. typed (or_default 0 (member whole key.value_two d)) >>= (λ two. op_at d >>= (λ op. cond_of index op value two))))) ≡ Ok c
+    → (index_at front d >>= (λ index. needed missing_key (member whole key.value d) >>=
+    (λ value. typed (or_default 0 (member whole key.value_two d)) >>= (λ two. op_at d >>= (λ op. cond_of index op value two))))) ≡ Ok
+    c
     → ArgMeans d c × (list_any (λ j. j == c.index) (map (λ e. e.index) front) ≡ false)
 unfolding cond_of
 arg_ok_in front d c is_object h =
-    let at_i = bind_ok (index_at front d) (λ index. needed missing_key (member whole key.value d) >>= (λ value. typed (or_default 0 (member whole key.value_two d)) >>= (λ two. op_at d >>= (λ op. cond_of index op value two)))) c h in
-    let at_v = bind_ok (needed missing_key (member whole key.value d)) (λ value. typed (or_default 0 (member whole key.value_two d)) >>= (λ two. op_at d >>= (λ op. cond_of at_i.0 op value two))) c at_i.2 in
-    let at_t = bind_ok (typed (or_default 0 (member whole key.value_two d))) (λ two. op_at d >>= (λ op. cond_of at_i.0 op at_v.0 two)) c at_v.2 in
+    let at_i = bind_ok (index_at front d)
+    (λ index. needed missing_key (member whole key.value d) >>=
+    (λ value. typed (or_default 0 (member whole key.value_two d)) >>= (λ two. op_at d >>= (λ op. cond_of index op value two)))) c h in
+    let at_v = bind_ok (needed missing_key (member whole key.value d))
+    (λ value. typed (or_default 0 (member whole key.value_two d)) >>= (λ two. op_at d >>= (λ op. cond_of at_i.0 op value two))) c
+    at_i.2 in
+    let at_t = bind_ok (typed (or_default 0 (member whole key.value_two d))) (λ two. op_at d >>= (λ op. cond_of at_i.0 op at_v.0 two)) c
+    at_v.2 in
     let at_o = bind_ok (op_at d) (λ op. cond_of at_i.0 op at_v.0 at_t.0) c at_t.2 in
     let datum : ℕ = mask_of at_o.0 at_t.0 in
     let made : CondParts = record { index = at_i.0; op = at_o.0; value = at_v.0; datum = datum } in
@@ -121,47 +144,67 @@ arg_ok_in front d c is_object h =
       op_is = op.named;
       datum_is = refl;
       no_stray = (Decides-eqb (bit_and datum (mask_of at_o.0 at_v.0)) datum).0 last.0;
-    } in
-    (subst (ArgMeans d) last.1 means, subst (λ (x : CondParts). list_any (λ j. j == x.index) (map (λ e. e.index) front) ≡ false) last.1 index.fresh)
+    } in (
+      subst (ArgMeans d) last.1 means,
+      subst (λ (x : CondParts). list_any (λ j. j == x.index) (map (λ e. e.index) front) ≡ false) last.1
+          index.fresh,
+    )
 
-pub arg_ok : (front : List CondParts) (d : Data) (c : CondParts) → arg_of front d ≡ Ok c → ArgMeans d c × (list_any (λ j. j == c.index) (map (λ e. e.index) front) ≡ false)
+pub arg_ok : (front : List CondParts) (d : Data) (c : CondParts) → arg_of front d ≡ Ok c → ArgMeans d c
+    × (list_any (λ j. j == c.index) (map (λ e. e.index) front) ≡ false)
 unfolding arg_of
 arg_ok front d c h =
-    let at = bind_ok (typed (object d)) (λ o. index_at front o >>= (λ index. needed missing_key (member whole key.value o) >>= (λ value. typed (or_default 0 (member whole key.value_two o)) >>= (λ two. op_at o >>= (λ op. cond_of index op value two))))) c h in
+    let at = bind_ok (typed (object d)) (λ o. index_at front o >>=
+    (λ index. needed missing_key (member whole key.value o) >>=
+    (λ value. typed (or_default 0 (member whole key.value_two o)) >>= (λ two. op_at o >>= (λ op. cond_of index op value two))))) c
+    h in
     let o = object_is d at.0 at.1 in
     let some : IsSome (object at.0) = subst (λ (x : Data). IsSome (object x)) o.1 o.0 in
-    subst (λ (x : Data). ArgMeans x c × (list_any (λ j. j == c.index) (map (λ e. e.index) front) ≡ false)) (sym o.1) (arg_ok_in front at.0 c some at.2)
+    subst (λ (x : Data). ArgMeans x c × (list_any (λ j. j == c.index) (map (λ e. e.index) front) ≡ false)) (sym o.1)
+    (arg_ok_in front at.0 c some at.2)
 
 arg_err_in : (front : List CondParts) (d : Data) (f : Fault) → IsSome (object d)
-    → (index_at front d >>= (λ index. needed missing_key (member whole key.value d) >>= (λ value. typed (or_default 0 (member whole key.value_two d)) >>= (λ two. op_at d >>= (λ op. cond_of index op value two))))) ≡ Err f
+    → (index_at front d >>= (λ index. needed missing_key (member whole key.value d) >>=
+    (λ value. typed (or_default 0 (member whole key.value_two d)) >>= (λ two. op_at d >>= (λ op. cond_of index op value two))))) ≡ Err
+    f
     → Refused front d f
 unfolding cond_of
 arg_err_in front d f is_object h =
-    elim (bind_err (index_at front d) (λ index. needed missing_key (member whole key.value d) >>= (λ value. typed (or_default 0 (member whole key.value_two d)) >>= (λ two. op_at d >>= (λ op. cond_of index op value two)))) f h) [
+    elim (bind_err (index_at front d) (λ index. needed missing_key (member whole key.value d) >>=
+    (λ value. typed (or_default 0 (member whole key.value_two d)) >>= (λ two. op_at d >>= (λ op. cond_of index op value two)))) f h) [
       | inl bad ↦ index_err front d f is_object bad
-      | inr at_i ↦ elim (bind_err (needed missing_key (member whole key.value d)) (λ value. typed (or_default 0 (member whole key.value_two d)) >>= (λ two. op_at d >>= (λ op. cond_of at_i.0 op value two))) f at_i.2) [
-        | inl bad ↦ alone f (value_whole f is_object (needed_breaks (member whole key.value d) f bad))
-        | inr at_v ↦ elim (bind_err (typed (or_default 0 (member whole key.value_two d))) (λ two. op_at d >>= (λ op. cond_of at_i.0 op at_v.0 two)) f at_v.2) [
-          | inl bad ↦ (let at = ok_or_err (or_default 0 (member whole key.value_two d)) wrong_type f bad in subst (Refused front d) at.1 (alone wrong_type (second_other (second_none d (member whole key.value_two d) at.0))))
-          | inr at_t ↦ elim (bind_err (op_at d) (λ op. cond_of at_i.0 op at_v.0 at_t.0) f at_t.2) [
-            | inl bad ↦ alone f (op_err d f is_object bad)
-            | inr at_o ↦
-                let datum : ℕ = mask_of at_o.0 at_t.0 in
-                let op = op_ok d at_o.0 at_o.1 in
-                let last = cond_err (bit_and datum (mask_of at_o.0 at_v.0) == datum) stray_datum f (record { index = at_i.0; op = at_o.0; value = at_v.0; datum = datum }) at_o.2 in
-                let apart : bit_and datum (mask_of at_o.0 at_v.0) ≢ datum = λ (same : bit_and datum (mask_of at_o.0 at_v.0) ≡ datum). true_false (bit_and datum (mask_of at_o.0 at_v.0) == datum) ((Decides-eqb (bit_and datum (mask_of at_o.0 at_v.0)) datum).1 same) last.0 in
-                let value = needed_ok missing_key (member whole key.value d) at_v.0 at_v.1 in
-                let second = ok_or_ok (or_default 0 (member whole key.value_two d)) wrong_type at_t.0 at_t.1 in
-                subst (Refused front d) last.1 (alone stray_datum (stray op.name at_o.0 at_v.0 at_t.0 op.is op.named value second apart))
+      | inr at_i ↦ elim (bind_err (needed missing_key (member whole key.value d))
+          (λ value. typed (or_default 0 (member whole key.value_two d)) >>= (λ two. op_at d >>= (λ op. cond_of at_i.0 op value two))) f
+          at_i.2) [
+            | inl bad ↦ alone f (value_whole f is_object (needed_breaks (member whole key.value d) f bad))
+            | inr at_v ↦ elim (bind_err (typed (or_default 0 (member whole key.value_two d)))
+                (λ two. op_at d >>= (λ op. cond_of at_i.0 op at_v.0 two)) f at_v.2) [
+                  | inl bad ↦ (let at = ok_or_err (or_default 0 (member whole key.value_two d)) wrong_type f bad in subst (Refused front d) at.1
+                      (alone wrong_type (second_other (second_none d (member whole key.value_two d) at.0))))
+                  | inr at_t ↦ elim (bind_err (op_at d) (λ op. cond_of at_i.0 op at_v.0 at_t.0) f at_t.2) [
+                    | inl bad ↦ alone f (op_err d f is_object bad)
+                    | inr at_o ↦
+                        let datum : ℕ = mask_of at_o.0 at_t.0 in
+                        let op = op_ok d at_o.0 at_o.1 in
+                        let last = cond_err (bit_and datum (mask_of at_o.0 at_v.0) == datum) stray_datum f
+                        (record { index = at_i.0; op = at_o.0; value = at_v.0; datum = datum }) at_o.2 in
+                        let apart : bit_and datum (mask_of at_o.0 at_v.0) ≢ datum =
+                        λ (same : bit_and datum (mask_of at_o.0 at_v.0) ≡ datum). true_false (bit_and datum (mask_of at_o.0 at_v.0) == datum)
+                        ((Decides-eqb (bit_and datum (mask_of at_o.0 at_v.0)) datum).1 same) last.0 in
+                        let value = needed_ok missing_key (member whole key.value d) at_v.0 at_v.1 in
+                        let second = ok_or_ok (or_default 0 (member whole key.value_two d)) wrong_type at_t.0 at_t.1 in
+                        subst (Refused front d) last.1 (alone stray_datum (stray op.name at_o.0 at_v.0 at_t.0 op.is op.named value second apart))
+                  ]
+                ]
           ]
-        ]
-      ]
     ]
 
 pub arg_err : (front : List CondParts) (d : Data) (f : Fault) → arg_of front d ≡ Err f → Refused front d f
 unfolding arg_of
 arg_err front d f h =
-    elim (bind_err (typed (object d)) (λ o. index_at front o >>= (λ index. needed missing_key (member whole key.value o) >>= (λ value. typed (or_default 0 (member whole key.value_two o)) >>= (λ two. op_at o >>= (λ op. cond_of index op value two))))) f h) [
+    elim (bind_err (typed (object d)) (λ o. index_at front o >>=
+    (λ index. needed missing_key (member whole key.value o) >>=
+    (λ value. typed (or_default 0 (member whole key.value_two o)) >>= (λ two. op_at o >>= (λ op. cond_of index op value two))))) f h) [
       | inl bad ↦ (let at = object_not d f bad in subst (Refused front d) at.1 (alone wrong_type (no_object at.0)))
       | inr at ↦
           let o = object_is d at.0 at.1 in

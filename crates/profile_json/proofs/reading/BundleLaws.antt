@@ -1,5 +1,6 @@
 -- A bundle as a whole: what is read and made is meant, and what is refused is broken.
-use Rattle.std.proofs.Common.{◌≡◌, ℕ, zero, suc, List, [], ◌∷◌, cond, Bool, Ok, Err, Option, Some, None, IfSome, IsSomeAnd, true, false, inl, inr, refl, sym, ◌∙◌, ap, subst}
+use Rattle.std.proofs.Common.{◌≡◌, ℕ, zero, suc, List, [], ◌∷◌, cond, Bool, Ok, Err, Option, Some, None, IfSome, IsSomeAnd, true, false}
+use Rattle.std.proofs.Common.{inl, inr, refl, sym, ◌∙◌, ap, subst}
 use Rattle.std.specs.List.{All, AllZip, Contains, list_any, slice_get}
 use Rattle.std.proofs.lemmas.List.Elements.{All-contains}
 use Rattle.std.proofs.lemmas.Option.{same_Some}
@@ -48,8 +49,10 @@ said word archs entries = record { default_word = word; archs = archs; entries =
 pub said_means : (s : Data) (native : Arch) (x : Said) → said_of native s ≡ Ok x → SaidMeans s native x
 unfolding said_of said
 said_means s native x h =
-    let w = bind_ok (default_of s) (λ word. refused_of s >>= (λ r. archs_of native s >>= (λ archs. entries_of s >>= (λ entries. Ok (said word archs entries))))) x h in
-    let r = bind_ok (refused_of s) (λ r. archs_of native s >>= (λ archs. entries_of s >>= (λ entries. Ok (said w.0 archs entries)))) x w.2 in
+    let w = bind_ok (default_of s) (λ word. refused_of s >>=
+    (λ r. archs_of native s >>= (λ archs. entries_of s >>= (λ entries. Ok (said word archs entries))))) x h in
+    let r = bind_ok (refused_of s) (λ r. archs_of native s >>= (λ archs. entries_of s >>= (λ entries. Ok (said w.0 archs entries)))) x
+    w.2 in
     let a = bind_ok (archs_of native s) (λ archs. entries_of s >>= (λ entries. Ok (said w.0 archs entries))) x r.2 in
     let e = bind_ok (entries_of s) (λ entries. Ok (said w.0 a.0 entries)) x a.2 in
     let archs = lists_archs s native a.0 a.1 in
@@ -70,18 +73,20 @@ entries_break s native f (in_one_entry ds d _ at in_ds e) = broken.EntriesBreak.
 pub said_breaks : (s : Data) (native : Arch) (f : Fault) → said_of native s ≡ Err f → SeccompBreaks s native f
 unfolding said_of said
 said_breaks s native f h =
-    elim (bind_err (default_of s) (λ word. refused_of s >>= (λ r. archs_of native s >>= (λ archs. entries_of s >>= (λ entries. Ok (said word archs entries))))) f h) [
+    elim (bind_err (default_of s) (λ word. refused_of s >>=
+    (λ r. archs_of native s >>= (λ archs. entries_of s >>= (λ entries. Ok (said word archs entries))))) f h) [
       | inl bad ↦ broken.SeccompBreaks.default_word f (default_breaks s f bad)
-      | inr w ↦ elim (bind_err (refused_of s) (λ r. archs_of native s >>= (λ archs. entries_of s >>= (λ entries. Ok (said w.0 archs entries)))) f w.2) [
-        | inl bad ↦ broken.SeccompBreaks.keys f (keys_break s f bad)
-        | inr r ↦ elim (bind_err (archs_of native s) (λ archs. entries_of s >>= (λ entries. Ok (said w.0 archs entries))) f r.2) [
-          | inl bad ↦ broken.SeccompBreaks.archs f (archs_refused s native f bad)
-          | inr a ↦ elim (bind_err (entries_of s) (λ entries. Ok (said w.0 a.0 entries)) f a.2) [
-            | inl bad ↦ broken.SeccompBreaks.entries f (entries_break s native f (entries_refused s f bad))
-            | inr e ↦ absurd (not_ok (said w.0 a.0 e.0) f e.2)
+      | inr w ↦ elim (bind_err (refused_of s)
+          (λ r. archs_of native s >>= (λ archs. entries_of s >>= (λ entries. Ok (said w.0 archs entries)))) f w.2) [
+            | inl bad ↦ broken.SeccompBreaks.keys f (keys_break s f bad)
+            | inr r ↦ elim (bind_err (archs_of native s) (λ archs. entries_of s >>= (λ entries. Ok (said w.0 archs entries))) f r.2) [
+              | inl bad ↦ broken.SeccompBreaks.archs f (archs_refused s native f bad)
+              | inr a ↦ elim (bind_err (entries_of s) (λ entries. Ok (said w.0 a.0 entries)) f a.2) [
+                | inl bad ↦ broken.SeccompBreaks.entries f (entries_break s native f (entries_refused s f bad))
+                | inr e ↦ absurd (not_ok (said w.0 a.0 e.0) f e.2)
+              ]
+            ]
           ]
-        ]
-      ]
     ]
 
 -- ---- machines in order
@@ -100,7 +105,8 @@ ordered machines (inr (inr e)) = ap in_order e ∙ sym e
 chosen : Bool → Bool → List Arch
 chosen x a = cond x (X86_64 ∷ cond a (Aarch64 ∷ []) []) (cond a (Aarch64 ∷ []) [])
 
-in_order_by : (xs ys : List Arch) → list_any (same_arch X86_64) xs ≡ list_any (same_arch X86_64) ys → list_any (same_arch Aarch64) xs ≡ list_any (same_arch Aarch64) ys → in_order xs ≡ in_order ys
+in_order_by : (xs ys : List Arch) → list_any (same_arch X86_64) xs ≡ list_any (same_arch X86_64) ys
+    → list_any (same_arch Aarch64) xs ≡ list_any (same_arch Aarch64) ys → in_order xs ≡ in_order ys
 unfolding chosen
 in_order_by xs ys x a = ap (λ b. chosen b (list_any (same_arch Aarch64) xs)) x ∙ ap (chosen (list_any (same_arch X86_64) ys)) a
 
@@ -112,7 +118,8 @@ test_in_order false true = (refl, refl)
 test_in_order false false = (refl, refl)
 
 -- machines in order are told by which there are
-pub one_order : (machines archs : List Arch) → InOrder machines → ((a : Arch) → Contains machines a → Contains archs a) → All (Contains machines) archs
+pub one_order : (machines archs : List Arch) → InOrder machines → ((a : Arch) → Contains machines a → Contains archs a)
+    → All (Contains machines) archs
     → machines ≡ in_order archs
 one_order machines archs order listed all =
     let agree : (a : Arch) → list_any (same_arch a) machines ≡ list_any (same_arch a) archs =
@@ -129,10 +136,12 @@ in_order_again archs =
 
 -- ---- the whole
 
-pub bundle_means : (t s : Data) (native : Arch) (x : Said) (p : Policy) → RootMeans t s → SaidMeans s native x → IsMade x native p → Means t native p
+pub bundle_means : (t s : Data) (native : Arch) (x : Said) (p : Policy) → RootMeans t s → SaidMeans s native x → IsMade x native p
+    → Means t native p
 bundle_means t s native x p root said made =
     let built = made.built in
-    let machines : p.machines ≡ in_order x.archs = one_order p.machines (in_order x.archs) built.is_profile.machines_in_order built.machines_listed built.machines_all
+    let machines : p.machines ≡ in_order x.archs =
+    one_order p.machines (in_order x.archs) built.is_profile.machines_in_order built.machines_listed built.machines_all
     ∙ in_order_again x.archs in
     record {
       seccomp = s;
@@ -155,7 +164,8 @@ bundle_means t s native x p root said made =
       };
     }
 
-entry_at : (ds : List Data) (es : List EntryParts) (i : ℕ) (e : EntryParts) → AllZip EntryMeans ds es → slice_get es i ≡ Some e → (d : Data) × (slice_get ds i ≡ Some d) × EntryMeans d e
+entry_at : (ds : List Data) (es : List EntryParts) (i : ℕ) (e : EntryParts) → AllZip EntryMeans ds es → slice_get es i ≡ Some e
+    → (d : Data) × (slice_get ds i ≡ Some d) × EntryMeans d e
 entry_at [] [] i e z h = cc
 entry_at [] (y ∷ ys) i e z h = absurd z
 entry_at (d ∷ ds) [] i e z h = absurd z
@@ -168,18 +178,25 @@ not_made_breaks s native x _ said (many rules are more) =
 not_made_breaks s native x f said (clash _ o) =
     let d = entry_at said.entries.values x.entries o.first o.x said.entries.each o.x_at in
     let e = entry_at said.entries.values x.entries o.second o.y said.entries.each o.y_at in
-    let break : EntriesBreak s native (overlap (short_name o.name) o.first o.second) = broken.EntriesBreak.overlapping x.archs said.entries.values o.first o.second d.0 e.0 o.x o.y o.name said.archs said.entries.values_are o.in_order d.1 e.1 d.2 e.2 o.clash in
+    let break : EntriesBreak s native (overlap (short_name o.name) o.first o.second) =
+    broken.EntriesBreak.overlapping x.archs said.entries.values o.first o.second d.0 e.0 o.x o.y o.name said.archs
+    said.entries.values_are o.in_order d.1 e.1 d.2 e.2 o.clash in
     broken.SeccompBreaks.entries f (subst (EntriesBreak s native) (sym o.fault_is) break)
 
 -- what each refusal of the reader says of the bytes
-pub root_fault : (bytes : List ℕ) (native : Arch) (t : Data) (o : Option Fault) → IsText bytes t → IsSomeAnd o (λ f. root_of t ≡ Err f) → IfSome o (Breaks bytes native)
+pub root_fault : (bytes : List ℕ) (native : Arch) (t : Data) (o : Option Fault) → IsText bytes t → IsSomeAnd o (λ f. root_of t ≡ Err f)
+    → IfSome o (Breaks bytes native)
 root_fault bytes native t None text h = absurd h
 root_fault bytes native t (Some f) text h = broken.in_value t f text (broken.ValueBreaks.root f (root_breaks t f h))
 
-pub said_fault : (bytes : List ℕ) (native : Arch) (t s : Data) (o : Option Fault) → IsText bytes t → RootMeans t s → IfSome o (λ f. said_of native s ≡ Err f) → IfSome o (Breaks bytes native)
+pub said_fault : (bytes : List ℕ) (native : Arch) (t s : Data) (o : Option Fault) → IsText bytes t → RootMeans t s
+    → IfSome o (λ f. said_of native s ≡ Err f) → IfSome o (Breaks bytes native)
 said_fault bytes native t s None text root h = tt
-said_fault bytes native t s (Some f) text root h = broken.in_value t f text (broken.ValueBreaks.seccomp s f root.seccomp (said_breaks s native f h))
+said_fault bytes native t s (Some f) text root h =
+    broken.in_value t f text (broken.ValueBreaks.seccomp s f root.seccomp (said_breaks s native f h))
 
-pub made_fault : (bytes : List ℕ) (native : Arch) (t s : Data) (x : Said) (o : Option Fault) → IsText bytes t → RootMeans t s → SaidMeans s native x → IfSome o (IsNotMade x) → IfSome o (Breaks bytes native)
+pub made_fault : (bytes : List ℕ) (native : Arch) (t s : Data) (x : Said) (o : Option Fault) → IsText bytes t → RootMeans t s
+    → SaidMeans s native x → IfSome o (IsNotMade x) → IfSome o (Breaks bytes native)
 made_fault bytes native t s x None text root said h = tt
-made_fault bytes native t s x (Some f) text root said h = broken.in_value t f text (broken.ValueBreaks.seccomp s f root.seccomp (not_made_breaks s native x f said h))
+made_fault bytes native t s x (Some f) text root said h =
+    broken.in_value t f text (broken.ValueBreaks.seccomp s f root.seccomp (not_made_breaks s native x f said h))

@@ -1,5 +1,6 @@
 -- Conditions on arguments of their own: there are at most six.
-use Rattle.std.proofs.Common.{◌≡◌, ℕ, zero, suc, ◌<◌, ◌≤◌, ◌==◌, List, [], ◌∷◌, ◌++◌, length, map, Bool, true, false, not, cond, refl, sym, ◌∙◌, ap, arith, inl, inr, length-append, ◌-◌, take, drop, get_or, Result, Ok}
+use Rattle.std.proofs.Common.{◌≡◌, ℕ, zero, suc, ◌<◌, ◌≤◌, ◌==◌, List, [], ◌∷◌, ◌++◌, length, map, Bool, true, false, not, cond, refl}
+use Rattle.std.proofs.Common.{sym, ◌∙◌, ap, arith, inl, inr, length-append, ◌-◌, take, drop, get_or, Result, Ok}
 use Rattle.std.specs.List.{list_any, AllByRecursion}
 use Rattle.std.proofs.lemmas.List.{map-append, length-map, map_push, take_all}
 use Rattle.std.proofs.lemmas.Bool.{cases_Bool, and_parts, or_parts, not-true}
@@ -104,23 +105,30 @@ few_below (suc n) (x ∷ xs) h b =
     omega arith
 
 -- the indexes after one more condition
-pub apart_push : (cs : List Cond) (c : Cond) → are_distinct (map (λ d. d.index) cs) ≡ true → list_any (λ j. j == c.index) (map (λ d. d.index) cs) ≡ false → are_distinct (map (λ d. d.index) (cs ++ c ∷ [])) ≡ true
+pub apart_push : (cs : List Cond) (c : Cond) → are_distinct (map (λ d. d.index) cs) ≡ true
+    → list_any (λ j. j == c.index) (map (λ d. d.index) cs) ≡ false → are_distinct (map (λ d. d.index) (cs ++ c ∷ [])) ≡ true
 apart_push cs c h e =
     rw map-append (distinct_push (map (λ d. d.index) cs) c.index h e)
 
-pub room : (cs : List Cond) (c : Cond) → are_distinct (map (λ d. d.index) cs) ≡ true → list_any (λ j. j == c.index) (map (λ d. d.index) cs) ≡ false → length cs < 6
+pub room : (cs : List Cond) (c : Cond) → are_distinct (map (λ d. d.index) cs) ≡ true
+    → list_any (λ j. j == c.index) (map (λ d. d.index) cs) ≡ false → length cs < 6
 room cs c h e =
-    let all : length (map (λ d. d.index) (cs ++ c ∷ [])) ≤ 6 = few_below 6 (map (λ d. d.index) (cs ++ c ∷ [])) (apart_push cs c h e) (in_range (cs ++ c ∷ [])) in
+    let all : length (map (λ d. d.index) (cs ++ c ∷ [])) ≤ 6 =
+    few_below 6 (map (λ d. d.index) (cs ++ c ∷ [])) (apart_push cs c h e) (in_range (cs ++ c ∷ [])) in
     omega (arith, length-map (cs ++ c ∷ []) (λ d. d.index), length-append cs (c ∷ []))
 
 -- one more member of `args`
-pub args_step : (found : List Cond) (c : Cond) (new : List Cond) (values : List Value) (first : Value) (r : Result (List CondParts) Fault) → 1 ≤ length values → first ≡ get_or values 0 first → new ≡ found ++ c ∷ []
+pub args_step : (found : List Cond) (c : Cond) (new : List Cond) (values : List Value) (first : Value) (r : Result (List CondParts) Fault)
+    → 1 ≤ length values → first ≡ get_or values 0 first → new ≡ found ++ c ∷ []
     → arg_of (map cond_parts found) (view first) ≡ Ok (cond_parts c) → args_after (map cond_parts found) (map view values) ≡ r
     → args_after (map cond_parts new) (map view (take (length values - 1) (drop 1 values))) ≡ r
 args_step found c new [] first r some at is reads before = absurd (omega (arith, some))
 args_step found c new (v ∷ vs) first r some at is reads before =
     let size : length (v ∷ vs) - 1 ≡ length vs = omega arith in
     let rest : take (length (v ∷ vs) - 1) vs ≡ vs = ap (λ n. take n vs) size ∙ take_all (length vs) vs (omega arith) in
-    let read : arg_of (map cond_parts found) (view v) ≡ Ok (cond_parts c) = ap (λ x. arg_of (map cond_parts found) (view x)) (sym at) ∙ reads in
-    let all : args_after (map cond_parts found ++ cond_parts c ∷ []) (map view vs) ≡ r = ap (λ (o : Result CondParts Fault). o >>= (λ x. args_after (map cond_parts found ++ x ∷ []) (map view vs))) (sym read) ∙ before in
-    ap (λ xs. args_after (map cond_parts new) (map view xs)) rest ∙ ap (λ xs. args_after (map cond_parts xs) (map view vs)) is ∙ ap (λ xs. args_after xs (map view vs)) (map_push cond_parts found c) ∙ all
+    let read : arg_of (map cond_parts found) (view v) ≡ Ok (cond_parts c) = ap (λ x. arg_of (map cond_parts found) (view x)) (sym at)
+    ∙ reads in
+    let all : args_after (map cond_parts found ++ cond_parts c ∷ []) (map view vs) ≡ r =
+    ap (λ (o : Result CondParts Fault). o >>= (λ x. args_after (map cond_parts found ++ x ∷ []) (map view vs))) (sym read) ∙ before in
+    ap (λ xs. args_after (map cond_parts new) (map view xs)) rest ∙ ap (λ xs. args_after (map cond_parts xs) (map view vs)) is
+    ∙ ap (λ xs. args_after xs (map view vs)) (map_push cond_parts found c) ∙ all

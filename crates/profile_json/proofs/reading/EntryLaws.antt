@@ -1,5 +1,6 @@
 -- Entries: what reading gives is meant, and what it refuses is broken.
-use Rattle.std.proofs.Common.{◌≡◌, ℕ, suc, ◌<◌, ◌==◌, nat_lt, List, [], ◌∷◌, ◌++◌, length, map, cond, ◌||◌, Ok, Err, Some, None, IsSome, true, false, ◌⊎◌, inl, inr, refl, sym, ◌∙◌, ap, subst, arith}
+use Rattle.std.proofs.Common.{◌≡◌, ℕ, suc, ◌<◌, ◌==◌, nat_lt, List, [], ◌∷◌, ◌++◌, length, map, cond, ◌||◌, Ok, Err, Some, None, IsSome}
+use Rattle.std.proofs.Common.{true, false, ◌⊎◌, inl, inr, refl, sym, ◌∙◌, ap, subst, arith}
 use Rattle.std.specs.List.{AllZip, Contains, list_any, slice_get}
 use Rattle.std.proofs.lemmas.Bool.{cases_Bool, eqb-true, ltb-true, ltb-false}
 use Rattle.std.proofs.Math.Bool.{or-false}
@@ -15,7 +16,8 @@ use Rattle.profile_json.specs.Lookup.{holds, member, or_default, object, text, w
 use Rattle.profile_json.specs.Names.{is_known}
 use Rattle.profile_json.specs.CallName.{short_name}
 use Rattle.profile_json.specs.inner.Outcome.{◌>>=◌}
-use Rattle.profile_json.specs.inner.Reading.{typed, needed, is_empty, each, arg_of, args_after, args_of, name_of, names_of, entry_word, entry_of, entries_of}
+use Rattle.profile_json.specs.inner.Reading.{typed, needed, is_empty, each, arg_of, args_after, args_of, name_of, names_of, entry_word}
+use Rattle.profile_json.specs.inner.Reading.{entry_of, entries_of}
 use Rattle.profile_json.specs.Meaning.{WordMeans, ArgMeans, ArgsMean, NamesMean, EntryMeans, EntriesMean}
 use Rattle.profile_json.specs.Breaks.{WordBreaks, ArgBreaks, ArgsBreak, NamesBreak, EntryBreaks}
 use Rattle.profile_json.specs.Breaks as broken
@@ -23,7 +25,8 @@ use Rattle.profile_json.proofs.Lists.{contains_head, contains_tail}
 use Rattle.profile_json.proofs.reading.Conditions.{distinct_push}
 use Rattle.profile_json.proofs.reading.ActionLaws.{word_means, word_breaks}
 use Rattle.profile_json.proofs.reading.ArgLaws.{Refused, alone, repeated, arg_ok, arg_err}
-use Rattle.profile_json.proofs.reading.Steps.{bind_ok, bind_err, ok_or_ok, ok_or_err, cond_ok, cond_err, guard_ok, guard_err, needed_ok, needed_breaks, object_is, object_not, each_ok, each_err, is_nil, ok_same, not_ok}
+use Rattle.profile_json.proofs.reading.Steps.{bind_ok, bind_err, ok_or_ok, ok_or_err, cond_ok, cond_err, guard_ok, guard_err, needed_ok}
+use Rattle.profile_json.proofs.reading.Steps.{needed_breaks, object_is, object_not, each_ok, each_err, is_nil, ok_same, not_ok}
 
 -- ---- the list of conditions
 
@@ -44,7 +47,13 @@ record After (front : List CondParts) (ds : List Data) (conds : List CondParts) 
 args_ok : (front : List CondParts) (ds : List Data) (conds : List CondParts) → args_after front ds ≡ Ok conds → After front ds conds
 args_ok front [] conds h =
     let same : front ≡ conds = ok_same front conds h in
-    record { own = []; all = sym same ∙ sym (append-nil front); each = tt; apart = λ p. subst (λ xs. are_distinct (map (λ x. x.index) xs) ≡ true) same p }
+    record {
+      own = [];
+      all = sym same ∙ sym (append-nil front);
+      each = tt;
+      apart =
+          λ p. subst (λ xs. are_distinct (map (λ x. x.index) xs) ≡ true) same p;
+    }
 args_ok front (d ∷ ds) conds h =
     let step = bind_ok (arg_of front d) (λ c. args_after (front ++ c ∷ []) ds) conds h in
     let arg = arg_ok front d step.0 step.1 in
@@ -59,8 +68,10 @@ args_ok front (d ∷ ds) conds h =
 -- why the members are refused
 data ArgsRefused (front : List CondParts) (ds : List Data) : Fault → Type 0 where
   in_one : (d : Data) (f : Fault) → Contains ds d → ArgBreaks d f → ArgsRefused front ds f
-  of_two : (i j : ℕ) (x y : Data) (n : ℕ) → i < j → slice_get ds i ≡ Some x → slice_get ds j ≡ Some y → member whole key.index x ≡ holds n → member whole key.index y ≡ holds n → ArgsRefused front ds repeated_index
-  with_earlier : (j : ℕ) (y : Data) (n : ℕ) → slice_get ds j ≡ Some y → member whole key.index y ≡ holds n → list_any (λ j. j == n) (map (λ c. c.index) front) ≡ true → ArgsRefused front ds repeated_index
+  of_two : (i j : ℕ) (x y : Data) (n : ℕ) → i < j → slice_get ds i ≡ Some x → slice_get ds j ≡ Some y → member whole key.index x ≡ holds n
+      → member whole key.index y ≡ holds n → ArgsRefused front ds repeated_index
+  with_earlier : (j : ℕ) (y : Data) (n : ℕ) → slice_get ds j ≡ Some y → member whole key.index y ≡ holds n
+      → list_any (λ j. j == n) (map (λ c. c.index) front) ≡ true → ArgsRefused front ds repeated_index
 
 first_refused : (front : List CondParts) (d : Data) (ds : List Data) (f : Fault) → Refused front d f → ArgsRefused front (d ∷ ds) f
 first_refused front d ds f (alone _ e) = in_one d f (contains_head d ds) e
@@ -72,13 +83,16 @@ seen_push xs y n h =
     elim (cases_Bool (list_any (λ j. j == n) xs)) [
       | inl before ↦ inl before
       | inr new ↦
-          let last : ((y == n) || false) ≡ true = sym (ap (λ b. b || list_any (λ j. j == n) (y ∷ [])) new) ∙ sym (list_any-append (λ j. j == n) xs (y ∷ [])) ∙ h in
+          let last : ((y == n) || false) ≡ true = sym (ap (λ b. b || list_any (λ j. j == n) (y ∷ [])) new)
+          ∙ sym (list_any-append (λ j. j == n) xs (y ∷ [])) ∙ h in
           inr (eqb-true y n (sym (or-false (y == n)) ∙ last))
     ]
 
-later_refused : (front : List CondParts) (d : Data) (c : CondParts) (ds : List Data) (f : Fault) → ArgMeans d c → ArgsRefused (front ++ c ∷ []) ds f → ArgsRefused front (d ∷ ds) f
+later_refused : (front : List CondParts) (d : Data) (c : CondParts) (ds : List Data) (f : Fault) → ArgMeans d c
+    → ArgsRefused (front ++ c ∷ []) ds f → ArgsRefused front (d ∷ ds) f
 later_refused front d c ds f m (in_one x _ at e) = in_one x f (contains_tail d ds x at) e
-later_refused front d c ds _ m (of_two i j x y n lt at_i at_j is_x is_y) = of_two (suc i) (suc j) x y n (omega (arith, lt)) at_i at_j is_x is_y
+later_refused front d c ds _ m (of_two i j x y n lt at_i at_j is_x is_y) =
+    of_two (suc i) (suc j) x y n (omega (arith, lt)) at_i at_j is_x is_y
 later_refused front d c ds _ m (with_earlier j y n at is seen) =
     elim (seen_push (map (λ x. x.index) front) c.index n (rw (sym (indexes_push front c)) seen)) [
       | inl before ↦ with_earlier (suc j) y n at is before
@@ -105,7 +119,8 @@ args_mean d conds h =
       apart = after.apart refl;
     }
 
-list_refused : (d : Data) (ds : List Data) (f : Fault) → or_default [] (member list key.args d) ≡ Some ds → ArgsRefused [] ds f → ArgsBreak d f
+list_refused : (d : Data) (ds : List Data) (f : Fault) → or_default [] (member list key.args d) ≡ Some ds → ArgsRefused [] ds f
+    → ArgsBreak d f
 list_refused d ds f at (in_one x _ in_ds e) = broken.in_arg ds x f at in_ds e
 list_refused d ds _ at (of_two i j x y n lt at_i at_j is_x is_y) = broken.twice ds i j x y n at lt at_i at_j is_x is_y
 list_refused d ds _ at (with_earlier j y n at_j is seen) = cc
@@ -114,8 +129,10 @@ args_break : (d : Data) (f : Fault) → args_of d ≡ Err f → ArgsBreak d f
 unfolding args_of
 args_break d f h =
     elim (bind_err (typed (or_default [] (member list key.args d))) (λ ds. args_after [] ds) f h) [
-      | inl bad ↦ (let at = ok_or_err (or_default [] (member list key.args d)) wrong_type f bad in subst (ArgsBreak d) at.1 (broken.ArgsBreak.no_list at.0))
-      | inr step ↦ list_refused d step.0 f (ok_or_ok (or_default [] (member list key.args d)) wrong_type step.0 step.1) (args_err [] step.0 f step.2)
+      | inl bad ↦ (let at = ok_or_err (or_default [] (member list key.args d)) wrong_type f bad in subst (ArgsBreak d) at.1
+          (broken.ArgsBreak.no_list at.0))
+      | inr step ↦ list_refused d step.0 f (ok_or_ok (or_default [] (member list key.args d)) wrong_type step.0 step.1)
+          (args_err [] step.0 f step.2)
     ]
 
 -- ---- names
@@ -137,7 +154,8 @@ unfolding name_of
 name_err d f h =
     elim (bind_err (typed (text d)) (λ n. cond (is_known n) (Ok n) (Err (unknown_call (short_name n)))) f h) [
       | inl bad ↦ (let at = ok_or_err (text d) wrong_type f bad in subst (NameBreaks d) at.1 (has_no_text at.0))
-      | inr step ↦ (let at = cond_err (is_known step.0) (unknown_call (short_name step.0)) f step.0 step.2 in subst (NameBreaks d) at.1 (is_unknown step.0 (ok_or_ok (text d) wrong_type step.0 step.1) at.0))
+      | inr step ↦ (let at = cond_err (is_known step.0) (unknown_call (short_name step.0)) f step.0 step.2 in subst (NameBreaks d) at.1
+          (is_unknown step.0 (ok_or_ok (text d) wrong_type step.0 step.1) at.0))
     ]
 
 not_zero : (n : ℕ) → (n == 0) ≡ false → 0 < n
@@ -146,8 +164,10 @@ not_zero n h = grind (arith, nat_tests)
 names_mean : (d : Data) (names : List (List ℕ)) → names_of d ≡ Ok names → NamesMean d names
 unfolding names_of
 names_mean d names h =
-    let step = bind_ok (needed missing_key (member list key.names d)) (λ ds. cond (is_empty ds) (Err empty_names) (cond (nat_lt 128 (length ds)) (Err too_many) (each name_of ds))) names h in
-    let some = guard_ok (is_empty step.0) empty_names (cond (nat_lt 128 (length step.0)) (Err too_many) (each name_of step.0)) names step.2 in
+    let step = bind_ok (needed missing_key (member list key.names d))
+    (λ ds. cond (is_empty ds) (Err empty_names) (cond (nat_lt 128 (length ds)) (Err too_many) (each name_of ds))) names h in
+    let some = guard_ok (is_empty step.0) empty_names (cond (nat_lt 128 (length step.0)) (Err too_many) (each name_of step.0)) names
+    step.2 in
     let few = guard_ok (nat_lt 128 (length step.0)) too_many (each name_of step.0) names some.1 in
     record {
       values = step.0;
@@ -157,14 +177,16 @@ names_mean d names h =
       each = each_ok name_of _ name_ok step.0 names few.1;
     }
 
-name_refused : (d : Data) (ds : List Data) (x : Data) (f : Fault) → member list key.names d ≡ holds ds → Contains ds x → NameBreaks x f → NamesBreak d f
+name_refused : (d : Data) (ds : List Data) (x : Data) (f : Fault) → member list key.names d ≡ holds ds → Contains ds x → NameBreaks x f
+    → NamesBreak d f
 name_refused d ds x _ at in_ds (has_no_text e) = broken.NamesBreak.no_text ds x at in_ds e
 name_refused d ds x _ at in_ds (is_unknown name e u) = broken.NamesBreak.unknown ds x name at in_ds e u
 
 names_break : (d : Data) (f : Fault) → names_of d ≡ Err f → NamesBreak d f
 unfolding names_of
 names_break d f h =
-    elim (bind_err (needed missing_key (member list key.names d)) (λ ds. cond (is_empty ds) (Err empty_names) (cond (nat_lt 128 (length ds)) (Err too_many) (each name_of ds))) f h) [
+    elim (bind_err (needed missing_key (member list key.names d))
+    (λ ds. cond (is_empty ds) (Err empty_names) (cond (nat_lt 128 (length ds)) (Err too_many) (each name_of ds))) f h) [
       | inl bad ↦ broken.NamesBreak.no_list f (needed_breaks (member list key.names d) f bad)
       | inr step ↦
           let at = needed_ok missing_key (member list key.names d) step.0 step.1 in
@@ -188,7 +210,8 @@ unfolding entry_word
 entry_word_breaks d f h = word_breaks key.action key.errno_ret d f h
 
 entry_ok_in : (d : Data) (e : EntryParts) → IsSome (object d)
-    → (names_of d >>= (λ names. entry_word d >>= (λ word. args_of d >>= (λ conds. Ok (record { names = names; conds = conds; word = word }))))) ≡ Ok e
+    → (names_of d >>= (λ names. entry_word d >>=
+    (λ word. args_of d >>= (λ conds. Ok (record { names = names; conds = conds; word = word }))))) ≡ Ok e
     → EntryMeans d e
 entry_ok_in d e is_object h =
     let make : List (List ℕ) → ℕ → List CondParts → EntryParts = λ names word conds. record { names = names; conds = conds; word = word } in
@@ -206,12 +229,16 @@ entry_ok_in d e is_object h =
 entry_means : (d : Data) (e : EntryParts) → entry_of d ≡ Ok e → EntryMeans d e
 unfolding entry_of
 entry_means d e h =
-    let at = bind_ok (typed (object d)) (λ o. names_of o >>= (λ names. entry_word o >>= (λ word. args_of o >>= (λ conds. Ok (record { names = names; conds = conds; word = word }))))) e h in
+    let at = bind_ok (typed (object d)) (λ o. names_of o >>=
+    (λ names. entry_word o >>= (λ word. args_of o >>= (λ conds. Ok (record { names = names; conds = conds; word = word }))))) e h in
     let o = object_is d at.0 at.1 in
     let some : IsSome (object at.0) = subst (λ (x : Data). IsSome (object x)) o.1 o.0 in
     subst (λ (x : Data). EntryMeans x e) (sym o.1) (entry_ok_in at.0 e some at.2)
 
-entry_err_in : (d : Data) (f : Fault) → IsSome (object d) → (names_of d >>= (λ names. entry_word d >>= (λ word. args_of d >>= (λ conds. Ok (let e : EntryParts = record { names = names; conds = conds; word = word } in e))))) ≡ Err f → EntryBreaks d f
+entry_err_in : (d : Data) (f : Fault) → IsSome (object d)
+    → (names_of d >>= (λ names. entry_word d >>=
+    (λ word. args_of d >>= (λ conds. Ok (let e : EntryParts = record { names = names; conds = conds; word = word } in e))))) ≡ Err f
+    → EntryBreaks d f
 entry_err_in d f is_object h =
     let make : List (List ℕ) → ℕ → List CondParts → EntryParts = λ names word conds. record { names = names; conds = conds; word = word } in
     elim (bind_err (names_of d) (λ names. entry_word d >>= (λ word. args_of d >>= (λ conds. Ok (make names word conds)))) f h) [
@@ -228,7 +255,9 @@ entry_err_in d f is_object h =
 entry_breaks : (d : Data) (f : Fault) → entry_of d ≡ Err f → EntryBreaks d f
 unfolding entry_of
 entry_breaks d f h =
-    elim (bind_err (typed (object d)) (λ o. names_of o >>= (λ names. entry_word o >>= (λ word. args_of o >>= (λ conds. Ok (let e : EntryParts = record { names = names; conds = conds; word = word } in e))))) f h) [
+    elim (bind_err (typed (object d)) (λ o. names_of o >>=
+    (λ names. entry_word o >>= (λ word. args_of o >>=
+    (λ conds. Ok (let e : EntryParts = record { names = names; conds = conds; word = word } in e))))) f h) [
       | inl bad ↦ (let at = object_not d f bad in subst (EntryBreaks d) at.1 (broken.EntryBreaks.no_object at.0))
       | inr at ↦
           let o = object_is d at.0 at.1 in
@@ -239,7 +268,8 @@ entry_breaks d f h =
 pub entries_mean : (s : Data) (es : List EntryParts) → entries_of s ≡ Ok es → EntriesMean s es
 unfolding entries_of
 entries_mean s es h =
-    let step = bind_ok (typed (or_default [] (member list key.syscalls s))) (λ ds. cond (nat_lt 256 (length ds)) (Err too_many) (each entry_of ds)) es h in
+    let step = bind_ok (typed (or_default [] (member list key.syscalls s)))
+    (λ ds. cond (nat_lt 256 (length ds)) (Err too_many) (each entry_of ds)) es h in
     let few = guard_ok (nat_lt 256 (length step.0)) too_many (each entry_of step.0) es step.2 in
     record {
       values = step.0;
@@ -252,13 +282,16 @@ entries_mean s es h =
 pub data EntriesRefused (s : Data) : Fault → Type 0 where
   is_no_list : or_default [] (member list key.syscalls s) ≡ None → EntriesRefused s wrong_type
   are_many : (ds : List Data) → or_default [] (member list key.syscalls s) ≡ Some ds → 256 < length ds → EntriesRefused s too_many
-  in_one_entry : (ds : List Data) (d : Data) (f : Fault) → or_default [] (member list key.syscalls s) ≡ Some ds → Contains ds d → EntryBreaks d f → EntriesRefused s f
+  in_one_entry : (ds : List Data) (d : Data) (f : Fault) → or_default [] (member list key.syscalls s) ≡ Some ds → Contains ds d
+      → EntryBreaks d f → EntriesRefused s f
 
 pub entries_refused : (s : Data) (f : Fault) → entries_of s ≡ Err f → EntriesRefused s f
 unfolding entries_of
 entries_refused s f h =
-    elim (bind_err (typed (or_default [] (member list key.syscalls s))) (λ ds. cond (nat_lt 256 (length ds)) (Err too_many) (each entry_of ds)) f h) [
-      | inl bad ↦ (let at = ok_or_err (or_default [] (member list key.syscalls s)) wrong_type f bad in subst (EntriesRefused s) at.1 (is_no_list at.0))
+    elim (bind_err (typed (or_default [] (member list key.syscalls s)))
+    (λ ds. cond (nat_lt 256 (length ds)) (Err too_many) (each entry_of ds)) f h) [
+      | inl bad ↦ (let at = ok_or_err (or_default [] (member list key.syscalls s)) wrong_type f bad in subst (EntriesRefused s) at.1
+          (is_no_list at.0))
       | inr step ↦
           let at = ok_or_ok (or_default [] (member list key.syscalls s)) wrong_type step.0 step.1 in
           elim (guard_err (nat_lt 256 (length step.0)) too_many f (each entry_of step.0) step.2) [

@@ -37,7 +37,8 @@ empty_unbroken m _ is (not_empty xs e ne) = ne (same_Some xs [] (sym e ∙ is))
 pub keys_mean : (s : Data) (u : Unit {0}) → refused_of s ≡ Ok u → KeysMean s
 unfolding refused_of
 keys_mean s u h =
-    let b = bind_ok (empty (member list key.flags s)) (λ b. empty (member text key.listener_path s) >>= (λ c. empty (member text key.listener_metadata s))) u h in
+    let b = bind_ok (empty (member list key.flags s))
+    (λ b. empty (member text key.listener_path s) >>= (λ c. empty (member text key.listener_metadata s))) u h in
     let c = bind_ok (empty (member text key.listener_path s)) (λ c. empty (member text key.listener_metadata s)) u b.2 in
     record {
       no_flags = empty_ok (member list key.flags s) b.0 b.1;
@@ -48,7 +49,8 @@ keys_mean s u h =
 pub keys_break : (s : Data) (f : Fault) → refused_of s ≡ Err f → KeysBreak s f
 unfolding refused_of
 keys_break s f h =
-    elim (bind_err (empty (member list key.flags s)) (λ b. empty (member text key.listener_path s) >>= (λ c. empty (member text key.listener_metadata s))) f h) [
+    elim (bind_err (empty (member list key.flags s))
+    (λ b. empty (member text key.listener_path s) >>= (λ c. empty (member text key.listener_metadata s))) f h) [
       | inl bad ↦ flags f (empty_err (member list key.flags s) f bad)
       | inr b ↦ elim (bind_err (empty (member text key.listener_path s)) (λ c. empty (member text key.listener_metadata s)) f b.2) [
         | inl bad ↦ path f (empty_err (member text key.listener_path s) f bad)

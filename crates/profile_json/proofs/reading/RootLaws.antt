@@ -10,9 +10,11 @@ use Rattle.profile_json.specs.Lookup.{missing, other_type, holds, member, object
 use Rattle.profile_json.specs.inner.Outcome.{◌>>=◌}
 use Rattle.profile_json.specs.inner.Reading.{typed, needed, version_of, seccomp_of, root_of}
 use Rattle.profile_json.specs.Meaning.{IsSeccomp, RootMeans}
-use Rattle.profile_json.specs.Breaks.{RootBreaks, no_object, version_text, version_other, linux_missing, linux_other, seccomp_missing, seccomp_other}
+use Rattle.profile_json.specs.Breaks.{RootBreaks, no_object, version_text, version_other, linux_missing, linux_other, seccomp_missing}
+use Rattle.profile_json.specs.Breaks.{seccomp_other}
 use Rattle.profile_json.proofs.Lists.{named, named_back}
-use Rattle.profile_json.proofs.reading.Steps.{bind_ok, bind_err, cond_ok, cond_err, needed_ok, needed_err, needed_breaks, needed_unbroken, object_is, object_not, is_some_not_none, holds_same, true_false}
+use Rattle.profile_json.proofs.reading.Steps.{bind_ok, bind_err, cond_ok, cond_err, needed_ok, needed_err, needed_breaks, needed_unbroken}
+use Rattle.profile_json.proofs.reading.Steps.{object_is, object_not, is_some_not_none, holds_same, true_false}
 
 record IsVersion (t : Data) : Type 0 where
   version : List ℕ
@@ -35,15 +37,20 @@ version_err t f is_object h =
       | inl bad ↦ version_text f is_object (needed_breaks m f bad)
       | inr step ↦
           let other = cond_err (list_any (λ e. bytes_eq e step.0) editions) version f tt step.2 in
-          let unread : ¬ Contains editions step.0 = λ has. true_false (list_any (λ e. bytes_eq e step.0) editions) (named_back editions step.0 has) other.0 in
+          let unread : ¬ Contains editions step.0 =
+          λ has. true_false (list_any (λ e. bytes_eq e step.0) editions) (named_back editions step.0 has) other.0 in
           subst (RootBreaks t) other.1 (version_other step.0 (needed_ok missing_key m step.0 step.1) unread)
     ]
 
 seccomp_ok : (t s : Data) → seccomp_of t ≡ Ok s → IsSeccomp t s
 unfolding seccomp_of
 seccomp_ok t s h =
-    let step = bind_ok (needed no_seccomp (member object key.linux t)) (λ l. needed no_seccomp (member object key.seccomp l)) s h in
-    (step.0, needed_ok no_seccomp (member object key.linux t) step.0 step.1, needed_ok no_seccomp (member object key.seccomp step.0) s step.2)
+    let step = bind_ok (needed no_seccomp (member object key.linux t)) (λ l. needed no_seccomp (member object key.seccomp l)) s h in (
+      step.0,
+      needed_ok no_seccomp (member object key.linux t) step.0 step.1,
+      needed_ok no_seccomp (member object key.seccomp step.0) s
+          step.2,
+    )
 
 seccomp_err : (t : Data) (f : Fault) → IsSome (object t) → seccomp_of t ≡ Err f → RootBreaks t f
 unfolding seccomp_of

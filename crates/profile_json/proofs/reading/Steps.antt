@@ -1,5 +1,6 @@
 -- The steps of a reading: what gave a value, and what failed.
-use Rattle.std.proofs.Common.{◌≡◌, List, [], ◌∷◌, ◌++◌, length, arith, Bool, true, false, cond, Result, Ok, Err, Option, Some, None, IsSome, ◌⊎◌, inl, inr, refl, sym, ◌∙◌, subst, rules, is_some}
+use Rattle.std.proofs.Common.{◌≡◌, List, [], ◌∷◌, ◌++◌, length, arith, Bool, true, false, cond, Result, Ok, Err, Option, Some, None}
+use Rattle.std.proofs.Common.{IsSome, ◌⊎◌, inl, inr, refl, sym, ◌∙◌, subst, rules, is_some}
 use Rattle.std.specs.List.{AllZip, Contains}
 use Rattle.std.specs.Option.{ok_or}
 use Rattle.std.proofs.lemmas.Bool.{eqb-true}
@@ -16,7 +17,8 @@ pub bind_ok : {A B : Type 0} (r : Result A Fault) (f : A → Result B Fault) (y 
 bind_ok (Ok x) f y h = (x, refl, h)
 bind_ok (Err e) f y h = cc
 
-pub bind_err : {A B : Type 0} (r : Result A Fault) (f : A → Result B Fault) (e : Fault) → (r >>= f) ≡ Err e → (r ≡ Err e) ⊎ ((x : A) × (r ≡ Ok x) × (f x ≡ Err e))
+pub bind_err : {A B : Type 0} (r : Result A Fault) (f : A → Result B Fault) (e : Fault) → (r >>= f) ≡ Err e → (r ≡ Err e)
+    ⊎ ((x : A) × (r ≡ Ok x) × (f x ≡ Err e))
 bind_err (Ok x) f e h = inr (x, refl, h)
 bind_err (Err d) f e h = inl (cc)
 
@@ -41,7 +43,8 @@ pub guard_ok : {A : Type 0} (b : Bool) (d : Fault) (r : Result A Fault) (y : A) 
 guard_ok true d r y h = cc
 guard_ok false d r y h = (refl, h)
 
-pub guard_err : {A : Type 0} (b : Bool) (d e : Fault) (r : Result A Fault) → cond b (Err d) r ≡ Err e → ((b ≡ true) × (d ≡ e)) ⊎ ((b ≡ false) × (r ≡ Err e))
+pub guard_err : {A : Type 0} (b : Bool) (d e : Fault) (r : Result A Fault) → cond b (Err d) r ≡ Err e → ((b ≡ true) × (d ≡ e))
+    ⊎ ((b ≡ false) × (r ≡ Err e))
 guard_err true d e r h = inl (refl, cc)
 guard_err false d e r h = inr (refl, h)
 
@@ -93,7 +96,8 @@ needed_ok f missing x h = cc
 needed_ok f other_type x h = cc
 needed_ok f (holds y) x h = cc
 
-pub needed_err : {A : Type 0} (f e : Fault) (m : Member A) → needed f m ≡ Err e → ((m ≡ missing) × (f ≡ e)) ⊎ ((m ≡ other_type) × (wrong_type ≡ e))
+pub needed_err : {A : Type 0} (f e : Fault) (m : Member A) → needed f m ≡ Err e → ((m ≡ missing) × (f ≡ e))
+    ⊎ ((m ≡ other_type) × (wrong_type ≡ e))
 needed_err f e missing h = inl (refl, cc)
 needed_err f e other_type h = inr (refl, cc)
 needed_err f e (holds y) h = cc

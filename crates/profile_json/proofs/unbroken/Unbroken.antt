@@ -17,7 +17,8 @@ use Rattle.profile_json.specs.Parts.{EntryParts, rule_parts}
 use Rattle.profile_json.specs.Lookup.{member, or_default, list}
 use Rattle.profile_json.specs.Rules.{in_order, rules_under, rules_of_entry, rules_of}
 use Rattle.profile_json.specs.Meaning.{none, WordMeans, EntryMeans, EntriesMean, CallsMean, Means}
-use Rattle.profile_json.specs.Breaks.{ClashUnder, EntriesBreak, no_list, many, in_entry, many_rules, overlapping, SeccompBreaks, default_word, keys, archs, entries, ValueBreaks, root, seccomp, no_value, in_value}
+use Rattle.profile_json.specs.Breaks.{ClashUnder, EntriesBreak, no_list, many, in_entry, many_rules, overlapping, SeccompBreaks}
+use Rattle.profile_json.specs.Breaks.{default_word, keys, archs, entries, ValueBreaks, root, seccomp, no_value, in_value}
 use Rattle.profile_json.specs.Laws.{MeaningIsUnbroken, MeaningIsOne, MeaningIsKept}
 use Rattle.profile_json.proofs.Lists.{contains_head, contains_at, contains_map_back, contains_flat, related, related_at, one_related}
 use Rattle.profile_json.proofs.PartsLemmas.{rule_same, rules_same}
@@ -80,7 +81,8 @@ one_kept_of _ _ _ _ (build.again xs ks x p has) (build.again ys ls y q has_y) h 
 
 -- ---- entries
 
-one_values : (s : Data) (xs ys : List Data) → or_default [] (member list key.syscalls s) ≡ Some xs → or_default [] (member list key.syscalls s) ≡ Some ys → xs ≡ ys
+one_values : (s : Data) (xs ys : List Data) → or_default [] (member list key.syscalls s) ≡ Some xs
+    → or_default [] (member list key.syscalls s) ≡ Some ys → xs ≡ ys
 one_values s xs ys p q = same_Some xs ys (sym p ∙ q)
 
 one_entries : (s : Data) (xs ys : List EntryParts) → EntriesMean s xs → EntriesMean s ys → xs ≡ ys
@@ -90,7 +92,8 @@ one_entries s xs ys m n =
 
 module _ (s : Data) (native : Arch) (p : Policy) (m : CallsMean s native p) where
   -- the meaning of a value in the list is among the entries
-  among : (ds : List Data) (i : ℕ) (d : Data) (x : EntryParts) → or_default [] (member list key.syscalls s) ≡ Some ds → slice_get ds i ≡ Some d
+  among : (ds : List Data) (i : ℕ) (d : Data) (x : EntryParts) → or_default [] (member list key.syscalls s) ≡ Some ds
+      → slice_get ds i ≡ Some d
       → EntryMeans d x → Contains m.entries x
   among ds i d x at at_i is =
       let means = m.entries_are in
@@ -112,7 +115,8 @@ module _ (s : Data) (native : Arch) (p : Policy) (m : CallsMean s native p) wher
       let back = contains_map_back rule_parts m.said (rule_parts r) (subst (λ rs. Contains rs (rule_parts r)) (sym said_is) of_all) in
       in_kept m.said p.rules m.kept r (subst (Contains m.said) (rule_same back.0 r back.2) back.1)
 
-  clash_unbroken : (x y : EntryParts) (name : List ℕ) → Contains m.entries x → Contains m.entries y → ClashUnder (in_order m.archs) x y name → ⊥
+  clash_unbroken : (x y : EntryParts) (name : List ℕ) → Contains m.entries x → Contains m.entries y
+      → ClashUnder (in_order m.archs) x y name → ⊥
   clash_unbroken x y name in_x in_y c =
       let a = rule_kept x name c.first in_x c.in_first c.first_is in
       let b = rule_kept y name c.second in_y c.in_second c.second_is in
@@ -133,8 +137,10 @@ module _ (s : Data) (native : Arch) (p : Policy) (m : CallsMean s native p) wher
   entries_unbroken _ (many_rules machines es said kept lists means is keeps long) =
       let archs_same : machines ≡ m.archs = one_archs s native machines m.archs lists m.lists_archs in
       let entries_same : es ≡ m.entries = one_entries s es m.entries means m.entries_are in
-      let rules_are : rules_of (in_order machines) es ≡ rules_of (in_order m.archs) m.entries = ap (λ listed. rules_of (in_order listed) es) archs_same ∙ ap (rules_of (in_order m.archs)) entries_same in
-      let kept_same : kept ≡ p.rules = one_kept_of said m.said kept p.rules keeps m.kept (rules_same said m.said (is ∙ rules_are ∙ sym said_is)) in
+      let rules_are : rules_of (in_order machines) es ≡ rules_of (in_order m.archs) m.entries =
+      ap (λ listed. rules_of (in_order listed) es) archs_same ∙ ap (rules_of (in_order m.archs)) entries_same in
+      let kept_same : kept ≡ p.rules = one_kept_of said m.said kept p.rules keeps m.kept
+      (rules_same said m.said (is ∙ rules_are ∙ sym said_is)) in
       let as_many : length kept ≡ length p.rules = ap length kept_same in
       let few = m.few in
       omega (arith, as_many, few, long)
@@ -146,9 +152,11 @@ module _ (s : Data) (native : Arch) (p : Policy) (m : CallsMean s native p) wher
 -- ---- the whole
 
 seccomp_unbroken : (t : Data) (native : Arch) (p : Policy) (f : Fault) (m : Means t native p) → SeccompBreaks m.seccomp native f → ⊥
-seccomp_unbroken t native p f m (default_word _ bad) = word_unbroken key.default_action key.default_errno_ret m.seccomp p.default_word f m.default_is bad
+seccomp_unbroken t native p f m (default_word _ bad) =
+    word_unbroken key.default_action key.default_errno_ret m.seccomp p.default_word f m.default_is bad
 seccomp_unbroken t native p f m (keys _ bad) = keys_unbroken m.seccomp f m.calls.keys bad
-seccomp_unbroken t native p f m (archs _ bad) = archs_unbroken m.seccomp native m.calls.archs f m.calls.lists_archs m.calls.native_listed bad
+seccomp_unbroken t native p f m (archs _ bad) =
+    archs_unbroken m.seccomp native m.calls.archs f m.calls.lists_archs m.calls.native_listed bad
 seccomp_unbroken t native p f m (entries _ bad) = entries_unbroken m.seccomp native p m.calls f bad
 
 value_unbroken : (t : Data) (native : Arch) (p : Policy) (f : Fault) → Means t native p → ValueBreaks t native f → ⊥
@@ -172,19 +180,22 @@ same_policy p q natives machines words rules =
     ap (λ n. policy_of n p.machines p.default_word p.rules) natives ∙ ap (λ ms. policy_of q.native ms p.default_word p.rules) machines
     ∙ ap (λ w. policy_of q.native q.machines w p.rules) words ∙ ap (policy_of q.native q.machines q.default_word) rules
 
-one_policy : (s : Data) (native : Arch) (p q : Policy) → p.default_word ≡ q.default_word → CallsMean s native p → CallsMean s native q → p ≡ q
+one_policy : (s : Data) (native : Arch) (p q : Policy) → p.default_word ≡ q.default_word → CallsMean s native p → CallsMean s native q
+    → p ≡ q
 one_policy s native p q words m n =
     let archs : m.archs ≡ n.archs = one_archs s native m.archs n.archs m.lists_archs n.lists_archs in
     let machines : p.machines ≡ q.machines = m.machines_are ∙ ap in_order archs ∙ sym n.machines_are in
     let entries : m.entries ≡ n.entries = one_entries s m.entries n.entries m.entries_are n.entries_are in
-    let parts : map rule_parts m.said ≡ map rule_parts n.said = m.said_is ∙ ap (λ ms. rules_of ms m.entries) machines ∙ ap (rules_of q.machines) entries ∙ sym n.said_is in
+    let parts : map rule_parts m.said ≡ map rule_parts n.said = m.said_is ∙ ap (λ ms. rules_of ms m.entries) machines
+    ∙ ap (rules_of q.machines) entries ∙ sym n.said_is in
     let rules : p.rules ≡ q.rules = one_kept_of m.said n.said p.rules q.rules m.kept n.kept (rules_same m.said n.said parts) in
     same_policy p q (m.native_is ∙ sym n.native_is) machines words rules
 
 pub meaning_is_one : MeaningIsOne
 meaning_is_one t native p q m n =
     let same : m.seccomp ≡ n.seccomp = one_seccomp t m.seccomp n.seccomp m.root.seccomp n.root.seccomp in
-    let word : WordMeans key.default_action key.default_errno_ret n.seccomp p.default_word = subst (λ d. WordMeans key.default_action key.default_errno_ret d p.default_word) same m.default_is in
+    let word : WordMeans key.default_action key.default_errno_ret n.seccomp p.default_word =
+    subst (λ d. WordMeans key.default_action key.default_errno_ret d p.default_word) same m.default_is in
     let words = one_word key.default_action key.default_errno_ret n.seccomp p.default_word q.default_word word n.default_is in
     one_policy n.seccomp native p q words (subst (λ d. CallsMean d native p) same m.calls) n.calls
 

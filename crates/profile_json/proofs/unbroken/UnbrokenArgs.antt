@@ -1,5 +1,6 @@
 -- Conditions that are meant: there is one meaning, and it breaks no rule.
-use Rattle.std.proofs.Common.{◌≡◌, ℕ, zero, suc, ◌<◌, ◌==◌, not, List, [], ◌∷◌, map, Some, option_map, true, refl, sym, ◌∙◌, ap, subst, arith}
+use Rattle.std.proofs.Common.{◌≡◌, ℕ, zero, suc, ◌<◌, ◌==◌, not, List, [], ◌∷◌, map, Some, option_map, true, refl, sym, ◌∙◌, ap, subst}
+use Rattle.std.proofs.Common.{arith}
 use Rattle.std.specs.List.{AllZip, Contains, list_any, slice_get}
 use Rattle.std.proofs.lemmas.Bool.Decides.{Decides-eqb}
 use Rattle.std.proofs.lemmas.Bool.{and_parts, not-true, or_right}
@@ -26,7 +27,8 @@ cond_of index op value datum = record { index = index; op = op; value = value; d
 same_cond : (a b : CondParts) → a.index ≡ b.index → a.op ≡ b.op → a.value ≡ b.value → a.datum ≡ b.datum → a ≡ b
 unfolding cond_of
 same_cond a b ei eo ev ed =
-    ap (λ i. cond_of i a.op a.value a.datum) ei ∙ ap (λ o. cond_of b.index o a.value a.datum) eo ∙ ap (λ v. cond_of b.index b.op v a.datum) ev ∙ ap (cond_of b.index b.op b.value) ed
+    ap (λ i. cond_of i a.op a.value a.datum) ei ∙ ap (λ o. cond_of b.index o a.value a.datum) eo
+    ∙ ap (λ v. cond_of b.index b.op v a.datum) ev ∙ ap (cond_of b.index b.op b.value) ed
 
 pub one_arg : (d : Data) (a b : CondParts) → ArgMeans d a → ArgMeans d b → a ≡ b
 one_arg d a b m n =
@@ -57,10 +59,12 @@ distinct_twice (x ∷ xs) (suc i) (suc j) n h lt at_i at_j =
     let parts = and_parts (not (list_any (λ z. z == x) xs)) (are_distinct xs) h in
     distinct_twice xs i j n parts.1 (omega arith) at_i at_j
 
-index_at : (ds : List Data) (cs : List CondParts) (i : ℕ) (x : Data) (n : ℕ) → AllZip ArgMeans ds cs → slice_get ds i ≡ Some x → member whole key.index x ≡ holds n → slice_get (map (λ c. c.index) cs) i ≡ Some n
+index_at : (ds : List Data) (cs : List CondParts) (i : ℕ) (x : Data) (n : ℕ) → AllZip ArgMeans ds cs → slice_get ds i ≡ Some x
+    → member whole key.index x ≡ holds n → slice_get (map (λ c. c.index) cs) i ≡ Some n
 index_at ds cs i x n each at is =
     let c = related_at ArgMeans ds cs i x each at in
-    slice_get-map (λ e. e.index) cs i ∙ ap (option_map (λ (e : CondParts). e.index)) c.1 ∙ ap Some (holds_same c.0.index n (sym c.2.index_is ∙ is))
+    slice_get-map (λ e. e.index) cs i ∙ ap (option_map (λ (e : CondParts). e.index)) c.1
+    ∙ ap Some (holds_same c.0.index n (sym c.2.index_is ∙ is))
 
 pub args_unbroken : (d : Data) (cs : List CondParts) (f : Fault) → ArgsMean d cs → ArgsBreak d f → ⊥
 args_unbroken d cs _ m (no_list e) = none_some (or_default [] (member list key.args d)) m.values e m.values_are
@@ -72,7 +76,8 @@ args_unbroken d cs _ m (twice ds i j x y n at lt at_i at_j is_x is_y) =
     let same : ds ≡ m.values = same_Some ds m.values (sym at ∙ m.values_are) in
     let in_x : slice_get m.values i ≡ Some x = ap (λ xs. slice_get xs i) (sym same) ∙ at_i in
     let in_y : slice_get m.values j ≡ Some y = ap (λ xs. slice_get xs j) (sym same) ∙ at_j in
-    distinct_twice (map (λ c. c.index) cs) i j n m.apart lt (index_at m.values cs i x n m.each in_x is_x) (index_at m.values cs j y n m.each in_y is_y)
+    distinct_twice (map (λ c. c.index) cs) i j n m.apart lt (index_at m.values cs i x n m.each in_x is_x)
+    (index_at m.values cs j y n m.each in_y is_y)
 
 pub one_args : (d : Data) (xs ys : List CondParts) → ArgsMean d xs → ArgsMean d ys → xs ≡ ys
 one_args d xs ys m n =

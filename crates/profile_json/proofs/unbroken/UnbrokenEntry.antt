@@ -68,7 +68,8 @@ entry_of ns cs w = record { names = ns; conds = cs; word = w }
 
 same_entry : (x y : EntryParts) → x.names ≡ y.names → x.conds ≡ y.conds → x.word ≡ y.word → x ≡ y
 unfolding entry_of
-same_entry x y en ec ew = ap (λ ns. entry_of ns x.conds x.word) en ∙ ap (λ cs. entry_of y.names cs x.word) ec ∙ ap (entry_of y.names y.conds) ew
+same_entry x y en ec ew = ap (λ ns. entry_of ns x.conds x.word) en ∙ ap (λ cs. entry_of y.names cs x.word) ec
+    ∙ ap (entry_of y.names y.conds) ew
 
 pub one_entry : (d : Data) (x y : EntryParts) → EntryMeans d x → EntryMeans d y → x ≡ y
 one_entry d x y m n =

@@ -29,7 +29,8 @@ pub record OverlapOn (x y : EntryParts) (name : List ℕ) (arch : Arch) : Type 0
 
 -- no name of both has such rules with unlike words
 abbrev pub NoClash : List Arch → EntryParts → EntryParts → Type 0
-NoClash machines x y = x.word ≢ y.word → (name : List ℕ) → Contains x.names name → Contains y.names name → Any (OverlapOn x y name) machines → ⊥
+NoClash machines x y = x.word ≢ y.word → (name : List ℕ) → Contains x.names name → Contains y.names name
+    → Any (OverlapOn x y name) machines → ⊥
 
 -- the rule at this place overlaps an earlier one, with another word
 pub record HasClash (machines : List Arch) (es : List EntryParts) (place : ℕ) : Type 0 where

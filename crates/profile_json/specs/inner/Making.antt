@@ -18,5 +18,6 @@ pub record IsMade (said : Said) (native : Arch) (p : Policy) : Type 0 where
 
 -- why no profile is made of them
 pub data IsNotMade (said : Said) : Fault → Type 0 where
-  many : (rules : List Rule) → map rule_parts rules ≡ rules_of (in_order said.archs) said.entries → AreTooMany rules → IsNotMade said too_many
+  many : (rules : List Rule) → map rule_parts rules ≡ rules_of (in_order said.archs) said.entries → AreTooMany rules
+      → IsNotMade said too_many
   clash : (f : Fault) → IsOverlap (in_order said.archs) said.entries f → IsNotMade said f

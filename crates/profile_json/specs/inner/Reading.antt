@@ -1,5 +1,6 @@
 -- The reading of a bundle, step by step, to the first fault.
-use Rattle.std.specs.Prelude.{ℕ, ◌==◌, nat_lt, nat_le, List, [], ◌∷◌, ◌++◌, length, map, bit_and, Bool, Result, Ok, Err, Option, Some, None, if◌then◌else◌}
+use Rattle.std.specs.Prelude.{ℕ, ◌==◌, nat_lt, nat_le, List, [], ◌∷◌, ◌++◌, length, map, bit_and, Bool, Result, Ok, Err, Option, Some}
+use Rattle.std.specs.Prelude.{None, if◌then◌else◌}
 use Rattle.std.specs.Option.{ok_or}
 use Rattle.std.specs.List.{list_any}
 use Rattle.std.specs.Str.{bytes_eq}
@@ -9,7 +10,9 @@ use Rattle.profile.specs.declared.conditions.Op.{Op}
 use Rattle.profile.specs.Operator.{mask_of}
 use Rattle.profile_json.specs.declared.action.Action.{Action}
 use Rattle.profile_json.specs.Keys as key
-use Rattle.profile_json.specs.Fault.{Fault, version, no_seccomp, wrong_type, missing_key, unknown_action, unknown_arch, native_missing, unknown_call, empty_names, errno_not_taken, errno_range, unknown_op, bad_index, repeated_index, stray_datum, unsupported_key, too_many}
+use Rattle.profile_json.specs.Fault.{Fault, version, no_seccomp, wrong_type, missing_key, unknown_action, unknown_arch, native_missing}
+use Rattle.profile_json.specs.Fault.{unknown_call, empty_names, errno_not_taken, errno_range, unknown_op, bad_index, repeated_index}
+use Rattle.profile_json.specs.Fault.{stray_datum, unsupported_key, too_many}
 use Rattle.profile_json.specs.Parts.{CondParts, EntryParts}
 use Rattle.profile_json.specs.Lookup.{Member, missing, other_type, holds, member, or_default, object, text, whole, list}
 use Rattle.profile_json.specs.Names.{editions, action_named, takes_data, word_of, op_named, arch_named, is_known}

@@ -10,22 +10,30 @@ use Rattle.profile_json.proofs.bundle.profile_of.Goals as goal
 pub overlap_of-requires-clause-clash : goal.overlap_of-requires-clause-clash
 overlap_of-requires-clause-clash c =
     let entries = ap (map entry_parts) (c.deref-2.ensures.value ∙ sym c.deref-in-Err-Overlap.ensures.value) in
-    has_clash c.args.native c.machines_of-machines.result.now (map entry_parts c.deref-in-Err-Overlap.result.now) c.in_ok-list.field-0.list.items c.in-Err-Overlap.field-0 c.in-Err-Overlap.field-0-0 c.in-Err-Overlap.place
-    (c.in_ok-list.ensures.said ∙ ap (rules_of c.machines_of-machines.result.now) entries) c.in-Err-Overlap.field-0-is c.in-Err-Overlap.ensures.err
+    has_clash c.args.native c.machines_of-machines.result.now (map entry_parts c.deref-in-Err-Overlap.result.now)
+    c.in_ok-list.field-0.list.items c.in-Err-Overlap.field-0 c.in-Err-Overlap.field-0-0 c.in-Err-Overlap.place
+    (c.in_ok-list.ensures.said ∙ ap (rules_of c.machines_of-machines.result.now) entries) c.in-Err-Overlap.field-0-is
+    c.in-Err-Overlap.ensures.err
 
 pub returns-in-Err-Overlap-clause-err : goal.returns-in-Err-Overlap-clause-err
 returns-in-Err-Overlap-clause-err c =
     let order = c.machines_of-machines.ensures ∙ ap in_order c.deref.ensures.value in
     let entries = ap (map entry_parts) c.deref-in-Err-Overlap.ensures.value in
-    if_is_some_and (fault_of c.overlap_of.result) c.overlap_of.ensures (λ f is. clash_refused (said_parts c.args.said.now) c.machines_of-machines.result.now f order (subst (λ (es : List EntryParts). IsOverlap c.machines_of-machines.result.now es f) entries is))
+    if_is_some_and (fault_of c.overlap_of.result) c.overlap_of.ensures
+    (λ f is. clash_refused (said_parts c.args.said.now) c.machines_of-machines.result.now f order
+    (subst (λ (es : List EntryParts). IsOverlap c.machines_of-machines.result.now es f) entries is))
 
 pub returns-in-Err-TooMany-clause-err : goal.returns-in-Err-TooMany-clause-err
 returns-in-Err-TooMany-clause-err c =
     let order = c.machines_of-machines.ensures ∙ ap in_order c.deref.ensures.value in
     let entries = ap (map entry_parts) c.deref-2.ensures.value in
-    too_many_rules (said_parts c.args.said.now) c.args.native c.machines_of-machines.result.now c.in_ok-list.field-0.list.items c.in-Err-TooMany.field-0 order
-    (c.in_ok-list.ensures.said ∙ ap (rules_of c.machines_of-machines.result.now) entries) c.in-Err-TooMany.field-0-is c.in-Err-TooMany.ensures.err
+    too_many_rules (said_parts c.args.said.now) c.args.native c.machines_of-machines.result.now c.in_ok-list.field-0.list.items
+    c.in-Err-TooMany.field-0 order
+    (c.in_ok-list.ensures.said ∙ ap (rules_of c.machines_of-machines.result.now) entries) c.in-Err-TooMany.field-0-is
+    c.in-Err-TooMany.ensures.err
 
 pub unreachable-requires-in-Err-ForeignRule : goal.unreachable-requires-in-Err-ForeignRule
 unreachable-requires-in-Err-ForeignRule c =
-    no_foreign c.args.native c.machines_of-machines.result.now (map entry_parts c.deref-2.result.now) c.in_ok-list.field-0.list.items c.in-Err-ForeignRule.field-0 c.in-Err-ForeignRule.field-0-0 c.in_ok-list.ensures.said c.in-Err-ForeignRule.field-0-is c.in-Err-ForeignRule.ensures.err
+    no_foreign c.args.native c.machines_of-machines.result.now (map entry_parts c.deref-2.result.now) c.in_ok-list.field-0.list.items
+    c.in-Err-ForeignRule.field-0 c.in-Err-ForeignRule.field-0-0 c.in_ok-list.ensures.said c.in-Err-ForeignRule.field-0-is
+    c.in-Err-ForeignRule.ensures.err

@@ -16,7 +16,8 @@ loop-c-preserved g c = λ plain.
     let step = printed_past_char left rest c.in-Some.c so_far.3 c.in-Some.ensures.steps.0 in (
       so_far.0 ++ one,
       has_written_append _ _ _ _ _ _ so_far.1 (search rules),
-      append_assoc so_far.0 one (printed rest) ∙ ap (λ x. so_far.0 ++ (x ++ printed rest)) c.printed_char.ensures ∙ ap (λ x. so_far.0 ++ x) (sym step) ∙ so_far.2,
+      append_assoc so_far.0 one (printed rest) ∙ ap (λ x. so_far.0 ++ (x ++ printed rest)) c.printed_char.ensures
+          ∙ ap (λ x. so_far.0 ++ x) (sym step) ∙ so_far.2,
       IsUtf8-past_char left rest c.in-Some.c so_far.3 c.in-Some.ensures.steps.0,
     )
 

@@ -7,7 +7,8 @@ use Rattle.profile_json.specs.CallName.{printed}
 use Rattle.profile_json.proofs.fault.write_call.Given as goal
 
 abbrev pub invariant-loop-c : goal.invariant-loop-c
-invariant-loop-c g l = IsPlainFormatter l.fn.f → (done : List ℕ) × HasWritten g.W.Write.write_str_gives l.fn.f done l.f × (done ++ printed (chars_rest l.left) ≡ codes " " ++ printed l.fn.name) × IsUtf8 (chars_rest l.left)
+invariant-loop-c g l = IsPlainFormatter l.fn.f → (done : List ℕ) × HasWritten g.W.Write.write_str_gives l.fn.f done l.f
+    × (done ++ printed (chars_rest l.left) ≡ codes " " ++ printed l.fn.name) × IsUtf8 (chars_rest l.left)
 
 abbrev pub decreases-loop-c : goal.decreases-loop-c
 decreases-loop-c g l = length (chars_rest l.left)

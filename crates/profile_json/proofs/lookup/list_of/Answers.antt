@@ -6,4 +6,5 @@ use Rattle.profile_json.proofs.reading.Looking.{elements-items_of}
 use Rattle.profile_json.proofs.lookup.list_of.Goals as goal
 
 pub returns-in-Some : goal.returns-in-Some
-returns-in-Some c = ap (λ o. typed (option_map elements o)) (sym c.in-Some.ensures) ∙ ap Ok (elements-items_of (map view c.in-Some.values.now.items) ∙ ap (map view) (sym c.as_slice.ensures.value))
+returns-in-Some c = ap (λ o. typed (option_map elements o)) (sym c.in-Some.ensures)
+    ∙ ap Ok (elements-items_of (map view c.in-Some.values.now.items) ∙ ap (map view) (sym c.as_slice.ensures.value))

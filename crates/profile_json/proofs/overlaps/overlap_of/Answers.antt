@@ -5,22 +5,27 @@ use Rattle.profile_json.proofs.clashing.Seconds.{chosen, none_chosen, within, en
 use Rattle.profile_json.proofs.overlaps.overlap_of.Goals as goal
 
 pub unreachable-requires : goal.unreachable-requires
-unreachable-requires c = none_chosen c.args.machines.now (map entry_parts c.args.entries.now) c.args.ends.now c.args.place c.requires.ends_are c.requires.clash c.in_default.ensures
+unreachable-requires c = none_chosen c.args.machines.now (map entry_parts c.args.entries.now) c.args.ends.now c.args.place
+    c.requires.ends_are c.requires.clash c.in_default.ensures
 
 pub unreachable-requires-in_default-get : goal.unreachable-requires-in_default-get
 unreachable-requires-in_default-get c =
-    let is = chosen c.args.machines.now (map entry_parts c.args.entries.now) c.args.ends.now c.args.place c.in-Some.second c.requires.ends_are c.requires.clash c.in-Some.ensures in
-    past_all c.in-Some.second (length c.args.entries.now) (within c.args.entries.now c.in-Some.second is.y is.y_at) c.in_default-get.ensures.lookup.0
+    let is = chosen c.args.machines.now (map entry_parts c.args.entries.now) c.args.ends.now c.args.place c.in-Some.second
+    c.requires.ends_are c.requires.clash c.in-Some.ensures in
+    past_all c.in-Some.second (length c.args.entries.now) (within c.args.entries.now c.in-Some.second is.y is.y_at)
+    c.in_default-get.ensures.lookup.0
 
 pub returns-in-Some-clash_of : goal.returns-in-Some-clash_of
 returns-in-Some-clash_of c =
-    let is = chosen c.args.machines.now (map entry_parts c.args.entries.now) c.args.ends.now c.args.place c.in-Some.second c.requires.ends_are c.requires.clash c.in-Some.ensures in
+    let is = chosen c.args.machines.now (map entry_parts c.args.entries.now) c.args.ends.now c.args.place c.in-Some.second
+    c.requires.ends_are c.requires.clash c.in-Some.ensures in
     let inside = within c.args.entries.now c.in-Some.second is.y is.y_at in
     let y_at = entry_read c.args.entries.now c.in-Some.second c.in-Some-get.later.now inside c.in-Some-get.ensures.lookup.1 in
     record {
       first = c.loop-first.first;
       second = c.in-Some.second;
-      in_order = before_second c.args.machines.now (map entry_parts c.args.entries.now) c.in-Some.second c.loop-first.first (entry_parts c.in-Some-get.later.now) is y_at c.loop-first.invariant;
+      in_order = before_second c.args.machines.now (map entry_parts c.args.entries.now) c.in-Some.second c.loop-first.first
+          (entry_parts c.in-Some-get.later.now) is y_at c.loop-first.invariant;
       x = entry_parts c.index-entries-first.result;
       x_at = entry_read c.args.entries.now c.loop-first.first c.index-entries-first.result c.loop-first-test.true c.index-entries-first.is;
       y = entry_parts c.in-Some-get.later.now;
@@ -32,14 +37,19 @@ returns-in-Some-clash_of c =
 
 pub loop-first-preserved : goal.loop-first-preserved
 loop-first-preserved c =
-    let x_at = entry_read c.args.entries.now c.loop-first.first c.index-entries-first.result c.loop-first-test.true c.index-entries-first.is in
-    none_more c.args.machines.now (map entry_parts c.args.entries.now) c.loop-first.first (entry_parts c.index-entries-first.result) (entry_parts c.in-Some-get.later.now) x_at c.in_default-clash_of.ensures.none c.loop-first.invariant
+    let x_at = entry_read c.args.entries.now c.loop-first.first c.index-entries-first.result c.loop-first-test.true
+    c.index-entries-first.is in
+    none_more c.args.machines.now (map entry_parts c.args.entries.now) c.loop-first.first (entry_parts c.index-entries-first.result)
+    (entry_parts c.in-Some-get.later.now) x_at c.in_default-clash_of.ensures.none c.loop-first.invariant
 
 pub unreachable-requires-2 : goal.unreachable-requires-2
 unreachable-requires-2 c =
-    let is = chosen c.args.machines.now (map entry_parts c.args.entries.now) c.args.ends.now c.args.place c.in-Some.second c.requires.ends_are c.requires.clash c.in-Some.ensures in
+    let is = chosen c.args.machines.now (map entry_parts c.args.entries.now) c.args.ends.now c.args.place c.in-Some.second
+    c.requires.ends_are c.requires.clash c.in-Some.ensures in
     let inside = within c.args.entries.now c.in-Some.second is.y is.y_at in
     let y_at = entry_read c.args.entries.now c.in-Some.second c.in-Some-get.later.now inside c.in-Some-get.ensures.lookup.1 in
-    let order : c.loop-first.first < c.in-Some.second = before_second c.args.machines.now (map entry_parts c.args.entries.now) c.in-Some.second c.loop-first.first (entry_parts c.in-Some-get.later.now) is y_at c.loop-first.invariant in
+    let order : c.loop-first.first < c.in-Some.second =
+    before_second c.args.machines.now (map entry_parts c.args.entries.now) c.in-Some.second c.loop-first.first
+    (entry_parts c.in-Some-get.later.now) is y_at c.loop-first.invariant in
     let all = c.loop-first-test.false in
     absurd (omega (arith, order, inside, all))

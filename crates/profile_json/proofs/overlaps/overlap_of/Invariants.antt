@@ -6,4 +6,5 @@ use Rattle.profile_json.specs.inner.Clashes.{NoClash}
 use Rattle.profile_json.proofs.overlaps.overlap_of.Given as goal
 
 abbrev pub invariant-loop-first : goal.invariant-loop-first
-invariant-loop-first l = (j : ℕ) → j < l.first → (x : EntryParts) → slice_get (map entry_parts l.entries) j ≡ Some x → NoClash l.machines x (entry_parts l.later)
+invariant-loop-first l = (j : ℕ) → j < l.first → (x : EntryParts) → slice_get (map entry_parts l.entries) j ≡ Some x
+    → NoClash l.machines x (entry_parts l.later)

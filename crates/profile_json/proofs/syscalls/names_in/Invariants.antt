@@ -4,7 +4,8 @@ use Rattle.profile_json.specs.inner.Reading.{name_of, each, with_front}
 use Rattle.profile_json.proofs.syscalls.names_in.Given as goal
 
 abbrev pub invariant-loop-values : goal.invariant-loop-values
-invariant-loop-values l = with_front (map (λ n. n.now) l.found.items) (each name_of (map view l.values)) ≡ each name_of (map view l.initial.values)
+invariant-loop-values l = with_front (map (λ n. n.now) l.found.items) (each name_of (map view l.values)) ≡ each name_of
+    (map view l.initial.values)
 
 abbrev pub decreases-loop-values : goal.decreases-loop-values
 decreases-loop-values l = length l.values
