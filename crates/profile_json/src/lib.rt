@@ -18,8 +18,6 @@ mod root;
 mod rules;
 mod said;
 mod syscalls;
-#[cfg(test)]
-mod tests;
 
 pub use bundle::{Bundle, read_bundle};
 pub use fault::ProfileError;

@@ -1,6 +1,6 @@
 -- Conditions: what reading gives is meant, and what it refuses is broken.
-use Rattle.std.proofs.Common.{◌≡◌, ◌≢◌, ℕ, ◌<◌, ◌==◌, nat_lt, List, map, bit_and, cond, Bool, Ok, Err, Some, None, IsSome, true, false}
-use Rattle.std.proofs.Common.{◌⊎◌, inl, inr, refl, sym, ◌∙◌, ap, subst, arith}
+use Rattle.std.proofs.Common.{◌≡◌, ◌≢◌, ℕ, ◌<◌, ◌==◌, nat_lt, List, map, bit_and, cond, Bool, Result, Ok, Err, Some, None, IsSome, true}
+use Rattle.std.proofs.Common.{false, ◌⊎◌, inl, inr, refl, sym, ◌∙◌, ap, subst, arith}
 use Rattle.std.specs.Option.{ok_or}
 use Rattle.std.specs.List.{list_any}
 use Rattle.std.proofs.lemmas.Bool.{ltb-true, ltb-false}
@@ -23,6 +23,10 @@ use Rattle.profile_json.proofs.reading.Steps.{needed_unbroken, object_is, object
 
 -- ---- index
 
+abbrev new_index : List CondParts → ℕ → Result ℕ Fault
+new_index front i =
+    cond (nat_lt i 6) (cond (list_any (λ j. j == i) (map (λ e. e.index) front)) (Err repeated_index) (Ok i)) (Err bad_index)
+
 index_test : (small seen : Bool) (i x : ℕ) → cond small (cond seen (Err repeated_index) (Ok i)) (Err bad_index) ≡ Ok x → (small ≡ true)
     × (seen ≡ false) × (i ≡ x)
 index_test true true i x h = cc
@@ -44,9 +48,7 @@ record IsIndex (front : List CondParts) (d : Data) (i : ℕ) : Type 0 where
 index_ok : (front : List CondParts) (d : Data) (x : ℕ) → index_at front d ≡ Ok x → IsIndex front d x
 unfolding index_at
 index_ok front d x h =
-    let step = bind_ok (needed missing_key (member whole key.index d))
-    (λ i. cond (nat_lt i 6) (cond (list_any (λ j. j == i) (map (λ e. e.index) front)) (Err repeated_index) (Ok i)) (Err bad_index)) x
-    h in
+    let step = bind_ok (needed missing_key (member whole key.index d)) (new_index front) x h in
     let at = index_test (nat_lt step.0 6) (list_any (λ j. j == step.0) (map (λ e. e.index) front)) step.0 x step.2 in
     let found : IsIndex front d step.0 =
     record { is = needed_ok missing_key (member whole key.index d) step.0 step.1; small = ltb-true step.0 6 at.0; fresh = at.1 } in
@@ -61,9 +63,7 @@ pub data Refused (front : List CondParts) (d : Data) : Fault → Type 0 where
 index_err : (front : List CondParts) (d : Data) (f : Fault) → IsSome (object d) → index_at front d ≡ Err f → Refused front d f
 unfolding index_at
 index_err front d f is_object h =
-    elim (bind_err (needed missing_key (member whole key.index d))
-    (λ i. cond (nat_lt i 6) (cond (list_any (λ j. j == i) (map (λ e. e.index) front)) (Err repeated_index) (Ok i)) (Err bad_index)) f
-    h) [
+    elim (bind_err (needed missing_key (member whole key.index d)) (new_index front) f h) [
       | inl bad ↦ alone f (index_whole f is_object (needed_breaks (member whole key.index d) f bad))
       | inr step ↦
           let is = needed_ok missing_key (member whole key.index d) step.0 step.1 in
@@ -110,22 +110,28 @@ second_none d (holds n) h = cc
 parts_of : ℕ → Op → ℕ → ℕ → CondParts
 parts_of index op value datum = record { index = index; op = op; value = value; datum = datum }
 
+-- what is read after the second value, the value, and the index
+abbrev after_second : Data → ℕ → ℕ → ℕ → Result CondParts Fault
+after_second d index value two = op_at d >>= (λ op. cond_of index op value two)
+
+abbrev after_value : Data → ℕ → ℕ → Result CondParts Fault
+after_value d index value = typed (or_default 0 (member whole key.value_two d)) >>= after_second d index value
+
+abbrev after_index : Data → ℕ → Result CondParts Fault
+after_index d index = needed missing_key (member whole key.value d) >>= after_value d index
+
+abbrev of_object : List CondParts → Data → Result CondParts Fault
+of_object front d = index_at front d >>= after_index d
+
 -- the condition that an object says, where its index is not in front
 arg_ok_in : (front : List CondParts) (d : Data) (c : CondParts) → IsSome (object d)
-    → (index_at front d >>= (λ index. needed missing_key (member whole key.value d) >>=
-    (λ value. typed (or_default 0 (member whole key.value_two d)) >>= (λ two. op_at d >>= (λ op. cond_of index op value two))))) ≡ Ok
-    c
+    → of_object front d ≡ Ok c
     → ArgMeans d c × (list_any (λ j. j == c.index) (map (λ e. e.index) front) ≡ false)
 unfolding cond_of
 arg_ok_in front d c is_object h =
-    let at_i = bind_ok (index_at front d)
-    (λ index. needed missing_key (member whole key.value d) >>=
-    (λ value. typed (or_default 0 (member whole key.value_two d)) >>= (λ two. op_at d >>= (λ op. cond_of index op value two)))) c h in
-    let at_v = bind_ok (needed missing_key (member whole key.value d))
-    (λ value. typed (or_default 0 (member whole key.value_two d)) >>= (λ two. op_at d >>= (λ op. cond_of at_i.0 op value two))) c
-    at_i.2 in
-    let at_t = bind_ok (typed (or_default 0 (member whole key.value_two d))) (λ two. op_at d >>= (λ op. cond_of at_i.0 op at_v.0 two)) c
-    at_v.2 in
+    let at_i = bind_ok (index_at front d) (after_index d) c h in
+    let at_v = bind_ok (needed missing_key (member whole key.value d)) (after_value d at_i.0) c at_i.2 in
+    let at_t = bind_ok (typed (or_default 0 (member whole key.value_two d))) (after_second d at_i.0 at_v.0) c at_v.2 in
     let at_o = bind_ok (op_at d) (λ op. cond_of at_i.0 op at_v.0 at_t.0) c at_t.2 in
     let datum : ℕ = mask_of at_o.0 at_t.0 in
     let made : CondParts = record { index = at_i.0; op = at_o.0; value = at_v.0; datum = datum } in
@@ -154,57 +160,46 @@ pub arg_ok : (front : List CondParts) (d : Data) (c : CondParts) → arg_of fron
     × (list_any (λ j. j == c.index) (map (λ e. e.index) front) ≡ false)
 unfolding arg_of
 arg_ok front d c h =
-    let at = bind_ok (typed (object d)) (λ o. index_at front o >>=
-    (λ index. needed missing_key (member whole key.value o) >>=
-    (λ value. typed (or_default 0 (member whole key.value_two o)) >>= (λ two. op_at o >>= (λ op. cond_of index op value two))))) c
-    h in
+    let at = bind_ok (typed (object d)) (of_object front) c h in
     let o = object_is d at.0 at.1 in
     let some : IsSome (object at.0) = subst (λ (x : Data). IsSome (object x)) o.1 o.0 in
     subst (λ (x : Data). ArgMeans x c × (list_any (λ j. j == c.index) (map (λ e. e.index) front) ≡ false)) (sym o.1)
     (arg_ok_in front at.0 c some at.2)
 
 arg_err_in : (front : List CondParts) (d : Data) (f : Fault) → IsSome (object d)
-    → (index_at front d >>= (λ index. needed missing_key (member whole key.value d) >>=
-    (λ value. typed (or_default 0 (member whole key.value_two d)) >>= (λ two. op_at d >>= (λ op. cond_of index op value two))))) ≡ Err
-    f
+    → of_object front d ≡ Err f
     → Refused front d f
 unfolding cond_of
 arg_err_in front d f is_object h =
-    elim (bind_err (index_at front d) (λ index. needed missing_key (member whole key.value d) >>=
-    (λ value. typed (or_default 0 (member whole key.value_two d)) >>= (λ two. op_at d >>= (λ op. cond_of index op value two)))) f h) [
+    elim (bind_err (index_at front d) (after_index d) f h) [
       | inl bad ↦ index_err front d f is_object bad
-      | inr at_i ↦ elim (bind_err (needed missing_key (member whole key.value d))
-          (λ value. typed (or_default 0 (member whole key.value_two d)) >>= (λ two. op_at d >>= (λ op. cond_of at_i.0 op value two))) f
-          at_i.2) [
-            | inl bad ↦ alone f (value_whole f is_object (needed_breaks (member whole key.value d) f bad))
-            | inr at_v ↦ elim (bind_err (typed (or_default 0 (member whole key.value_two d)))
-                (λ two. op_at d >>= (λ op. cond_of at_i.0 op at_v.0 two)) f at_v.2) [
-                  | inl bad ↦ (let at = ok_or_err (or_default 0 (member whole key.value_two d)) wrong_type f bad in subst (Refused front d) at.1
-                      (alone wrong_type (second_other (second_none d (member whole key.value_two d) at.0))))
-                  | inr at_t ↦ elim (bind_err (op_at d) (λ op. cond_of at_i.0 op at_v.0 at_t.0) f at_t.2) [
-                    | inl bad ↦ alone f (op_err d f is_object bad)
-                    | inr at_o ↦
-                        let datum : ℕ = mask_of at_o.0 at_t.0 in
-                        let op = op_ok d at_o.0 at_o.1 in
-                        let last = cond_err (bit_and datum (mask_of at_o.0 at_v.0) == datum) stray_datum f
-                        (record { index = at_i.0; op = at_o.0; value = at_v.0; datum = datum }) at_o.2 in
-                        let apart : bit_and datum (mask_of at_o.0 at_v.0) ≢ datum =
-                        λ (same : bit_and datum (mask_of at_o.0 at_v.0) ≡ datum). true_false (bit_and datum (mask_of at_o.0 at_v.0) == datum)
-                        ((Decides-eqb (bit_and datum (mask_of at_o.0 at_v.0)) datum).1 same) last.0 in
-                        let value = needed_ok missing_key (member whole key.value d) at_v.0 at_v.1 in
-                        let second = ok_or_ok (or_default 0 (member whole key.value_two d)) wrong_type at_t.0 at_t.1 in
-                        subst (Refused front d) last.1 (alone stray_datum (stray op.name at_o.0 at_v.0 at_t.0 op.is op.named value second apart))
-                  ]
-                ]
+      | inr at_i ↦ elim (bind_err (needed missing_key (member whole key.value d)) (after_value d at_i.0) f at_i.2) [
+        | inl bad ↦ alone f (value_whole f is_object (needed_breaks (member whole key.value d) f bad))
+        | inr at_v ↦ elim (bind_err (typed (or_default 0 (member whole key.value_two d))) (after_second d at_i.0 at_v.0) f at_v.2) [
+          | inl bad ↦ (let at = ok_or_err (or_default 0 (member whole key.value_two d)) wrong_type f bad in subst (Refused front d) at.1
+              (alone wrong_type (second_other (second_none d (member whole key.value_two d) at.0))))
+          | inr at_t ↦ elim (bind_err (op_at d) (λ op. cond_of at_i.0 op at_v.0 at_t.0) f at_t.2) [
+            | inl bad ↦ alone f (op_err d f is_object bad)
+            | inr at_o ↦
+                let datum : ℕ = mask_of at_o.0 at_t.0 in
+                let op = op_ok d at_o.0 at_o.1 in
+                let last = cond_err (bit_and datum (mask_of at_o.0 at_v.0) == datum) stray_datum f
+                (record { index = at_i.0; op = at_o.0; value = at_v.0; datum = datum }) at_o.2 in
+                let apart : bit_and datum (mask_of at_o.0 at_v.0) ≢ datum =
+                λ (same : bit_and datum (mask_of at_o.0 at_v.0) ≡ datum). true_false (bit_and datum (mask_of at_o.0 at_v.0) == datum)
+                ((Decides-eqb (bit_and datum (mask_of at_o.0 at_v.0)) datum).1 same) last.0 in
+                let value = needed_ok missing_key (member whole key.value d) at_v.0 at_v.1 in
+                let second = ok_or_ok (or_default 0 (member whole key.value_two d)) wrong_type at_t.0 at_t.1 in
+                subst (Refused front d) last.1 (alone stray_datum (stray op.name at_o.0 at_v.0 at_t.0 op.is op.named value second apart))
           ]
+        ]
+      ]
     ]
 
 pub arg_err : (front : List CondParts) (d : Data) (f : Fault) → arg_of front d ≡ Err f → Refused front d f
 unfolding arg_of
 arg_err front d f h =
-    elim (bind_err (typed (object d)) (λ o. index_at front o >>=
-    (λ index. needed missing_key (member whole key.value o) >>=
-    (λ value. typed (or_default 0 (member whole key.value_two o)) >>= (λ two. op_at o >>= (λ op. cond_of index op value two))))) f h) [
+    elim (bind_err (typed (object d)) (of_object front) f h) [
       | inl bad ↦ (let at = object_not d f bad in subst (Refused front d) at.1 (alone wrong_type (no_object at.0)))
       | inr at ↦
           let o = object_is d at.0 at.1 in

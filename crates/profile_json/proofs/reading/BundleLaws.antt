@@ -1,6 +1,6 @@
 -- A bundle as a whole: what is read and made is meant, and what is refused is broken.
-use Rattle.std.proofs.Common.{◌≡◌, ℕ, zero, suc, List, [], ◌∷◌, cond, Bool, Ok, Err, Option, Some, None, IfSome, IsSomeAnd, true, false}
-use Rattle.std.proofs.Common.{inl, inr, refl, sym, ◌∙◌, ap, subst}
+use Rattle.std.proofs.Common.{◌≡◌, ℕ, zero, suc, List, [], ◌∷◌, cond, Bool, Result, Ok, Err, Option, Some, None, IfSome, IsSomeAnd, true}
+use Rattle.std.proofs.Common.{false, inl, inr, refl, sym, ◌∙◌, ap, subst}
 use Rattle.std.specs.List.{All, AllZip, Contains, list_any, slice_get}
 use Rattle.std.proofs.lemmas.List.Elements.{All-contains}
 use Rattle.std.proofs.lemmas.Option.{same_Some}
@@ -46,14 +46,22 @@ default_breaks s f h = word_breaks key.default_action key.default_errno_ret s f 
 said : ℕ → List Arch → List EntryParts → Said
 said word archs entries = record { default_word = word; archs = archs; entries = entries }
 
+-- what is read after the machines, the refused keys, and the default word
+after_archs : Data → ℕ → List Arch → Result Said Fault
+after_archs s word archs = entries_of s >>= (λ entries. Ok (said word archs entries))
+
+after_keys : Arch → Data → ℕ → Unit {0} → Result Said Fault
+after_keys native s word r = archs_of native s >>= after_archs s word
+
+after_default : Arch → Data → ℕ → Result Said Fault
+after_default native s word = refused_of s >>= after_keys native s word
+
 pub said_means : (s : Data) (native : Arch) (x : Said) → said_of native s ≡ Ok x → SaidMeans s native x
-unfolding said_of said
+unfolding said_of said after_default after_keys after_archs
 said_means s native x h =
-    let w = bind_ok (default_of s) (λ word. refused_of s >>=
-    (λ r. archs_of native s >>= (λ archs. entries_of s >>= (λ entries. Ok (said word archs entries))))) x h in
-    let r = bind_ok (refused_of s) (λ r. archs_of native s >>= (λ archs. entries_of s >>= (λ entries. Ok (said w.0 archs entries)))) x
-    w.2 in
-    let a = bind_ok (archs_of native s) (λ archs. entries_of s >>= (λ entries. Ok (said w.0 archs entries))) x r.2 in
+    let w = bind_ok (default_of s) (after_default native s) x h in
+    let r = bind_ok (refused_of s) (after_keys native s w.0) x w.2 in
+    let a = bind_ok (archs_of native s) (after_archs s w.0) x r.2 in
     let e = bind_ok (entries_of s) (λ entries. Ok (said w.0 a.0 entries)) x a.2 in
     let archs = lists_archs s native a.0 a.1 in
     let means : SaidMeans s native (said w.0 a.0 e.0) = record {
@@ -71,22 +79,20 @@ entries_break s native _ (are_many ds at e) = broken.EntriesBreak.many ds at e
 entries_break s native f (in_one_entry ds d _ at in_ds e) = broken.EntriesBreak.in_entry ds d f at in_ds e
 
 pub said_breaks : (s : Data) (native : Arch) (f : Fault) → said_of native s ≡ Err f → SeccompBreaks s native f
-unfolding said_of said
+unfolding said_of said after_default after_keys after_archs
 said_breaks s native f h =
-    elim (bind_err (default_of s) (λ word. refused_of s >>=
-    (λ r. archs_of native s >>= (λ archs. entries_of s >>= (λ entries. Ok (said word archs entries))))) f h) [
+    elim (bind_err (default_of s) (after_default native s) f h) [
       | inl bad ↦ broken.SeccompBreaks.default_word f (default_breaks s f bad)
-      | inr w ↦ elim (bind_err (refused_of s)
-          (λ r. archs_of native s >>= (λ archs. entries_of s >>= (λ entries. Ok (said w.0 archs entries)))) f w.2) [
-            | inl bad ↦ broken.SeccompBreaks.keys f (keys_break s f bad)
-            | inr r ↦ elim (bind_err (archs_of native s) (λ archs. entries_of s >>= (λ entries. Ok (said w.0 archs entries))) f r.2) [
-              | inl bad ↦ broken.SeccompBreaks.archs f (archs_refused s native f bad)
-              | inr a ↦ elim (bind_err (entries_of s) (λ entries. Ok (said w.0 a.0 entries)) f a.2) [
-                | inl bad ↦ broken.SeccompBreaks.entries f (entries_break s native f (entries_refused s f bad))
-                | inr e ↦ absurd (not_ok (said w.0 a.0 e.0) f e.2)
-              ]
-            ]
+      | inr w ↦ elim (bind_err (refused_of s) (after_keys native s w.0) f w.2) [
+        | inl bad ↦ broken.SeccompBreaks.keys f (keys_break s f bad)
+        | inr r ↦ elim (bind_err (archs_of native s) (after_archs s w.0) f r.2) [
+          | inl bad ↦ broken.SeccompBreaks.archs f (archs_refused s native f bad)
+          | inr a ↦ elim (bind_err (entries_of s) (λ entries. Ok (said w.0 a.0 entries)) f a.2) [
+            | inl bad ↦ broken.SeccompBreaks.entries f (entries_break s native f (entries_refused s f bad))
+            | inr e ↦ absurd (not_ok (said w.0 a.0 e.0) f e.2)
           ]
+        ]
+      ]
     ]
 
 -- ---- machines in order

@@ -1,5 +1,5 @@
 -- Entries: what reading gives is meant, and what it refuses is broken.
-use Rattle.std.proofs.Common.{◌≡◌, ℕ, suc, ◌<◌, ◌==◌, nat_lt, List, [], ◌∷◌, ◌++◌, length, map, cond, ◌||◌, Ok, Err, Some, None, IsSome}
+use Rattle.std.proofs.Common.{◌≡◌, ℕ, suc, ◌<◌, ◌==◌, nat_lt, List, [], ◌∷◌, ◌++◌, length, map, cond, ◌||◌, Result, Ok, Err, Some, None, IsSome}
 use Rattle.std.proofs.Common.{true, false, ◌⊎◌, inl, inr, refl, sym, ◌∙◌, ap, subst, arith}
 use Rattle.std.specs.List.{AllZip, Contains, list_any, slice_get}
 use Rattle.std.proofs.lemmas.Bool.{cases_Bool, eqb-true, ltb-true, ltb-false}
@@ -209,55 +209,56 @@ entry_word_breaks : (d : Data) (f : Fault) → entry_word d ≡ Err f → WordBr
 unfolding entry_word
 entry_word_breaks d f h = word_breaks key.action key.errno_ret d f h
 
-entry_ok_in : (d : Data) (e : EntryParts) → IsSome (object d)
-    → (names_of d >>= (λ names. entry_word d >>=
-    (λ word. args_of d >>= (λ conds. Ok (record { names = names; conds = conds; word = word }))))) ≡ Ok e
-    → EntryMeans d e
+parts : List (List ℕ) → ℕ → List CondParts → EntryParts
+parts names word conds = record { names = names; conds = conds; word = word }
+
+-- what is read after the word and the names
+after_word : Data → List (List ℕ) → ℕ → Result EntryParts Fault
+after_word d names word = args_of d >>= (λ conds. Ok (parts names word conds))
+
+after_names : Data → List (List ℕ) → Result EntryParts Fault
+after_names d names = entry_word d >>= after_word d names
+
+entry_ok_in : (d : Data) (e : EntryParts) → IsSome (object d) → (names_of d >>= after_names d) ≡ Ok e → EntryMeans d e
+unfolding after_names after_word parts
 entry_ok_in d e is_object h =
-    let make : List (List ℕ) → ℕ → List CondParts → EntryParts = λ names word conds. record { names = names; conds = conds; word = word } in
-    let at_n = bind_ok (names_of d) (λ names. entry_word d >>= (λ word. args_of d >>= (λ conds. Ok (make names word conds)))) e h in
-    let at_w = bind_ok (entry_word d) (λ word. args_of d >>= (λ conds. Ok (make at_n.0 word conds))) e at_n.2 in
-    let at_c = bind_ok (args_of d) (λ conds. Ok (make at_n.0 at_w.0 conds)) e at_w.2 in
-    let means : EntryMeans d (make at_n.0 at_w.0 at_c.0) = record {
+    let at_n = bind_ok (names_of d) (after_names d) e h in
+    let at_w = bind_ok (entry_word d) (after_word d at_n.0) e at_n.2 in
+    let at_c = bind_ok (args_of d) (λ conds. Ok (parts at_n.0 at_w.0 conds)) e at_w.2 in
+    let means : EntryMeans d (parts at_n.0 at_w.0 at_c.0) = record {
       is_object = is_object;
       names = names_mean d at_n.0 at_n.1;
       word_is = entry_word_means d at_w.0 at_w.1;
       args = args_mean d at_c.0 at_c.1;
     } in
-    subst (EntryMeans d) (ok_same (make at_n.0 at_w.0 at_c.0) e at_c.2) means
+    subst (EntryMeans d) (ok_same (parts at_n.0 at_w.0 at_c.0) e at_c.2) means
 
 entry_means : (d : Data) (e : EntryParts) → entry_of d ≡ Ok e → EntryMeans d e
-unfolding entry_of
+unfolding entry_of after_names after_word parts
 entry_means d e h =
-    let at = bind_ok (typed (object d)) (λ o. names_of o >>=
-    (λ names. entry_word o >>= (λ word. args_of o >>= (λ conds. Ok (record { names = names; conds = conds; word = word }))))) e h in
+    let at = bind_ok (typed (object d)) (λ o. names_of o >>= after_names o) e h in
     let o = object_is d at.0 at.1 in
     let some : IsSome (object at.0) = subst (λ (x : Data). IsSome (object x)) o.1 o.0 in
     subst (λ (x : Data). EntryMeans x e) (sym o.1) (entry_ok_in at.0 e some at.2)
 
-entry_err_in : (d : Data) (f : Fault) → IsSome (object d)
-    → (names_of d >>= (λ names. entry_word d >>=
-    (λ word. args_of d >>= (λ conds. Ok (let e : EntryParts = record { names = names; conds = conds; word = word } in e))))) ≡ Err f
-    → EntryBreaks d f
+entry_err_in : (d : Data) (f : Fault) → IsSome (object d) → (names_of d >>= after_names d) ≡ Err f → EntryBreaks d f
+unfolding after_names after_word
 entry_err_in d f is_object h =
-    let make : List (List ℕ) → ℕ → List CondParts → EntryParts = λ names word conds. record { names = names; conds = conds; word = word } in
-    elim (bind_err (names_of d) (λ names. entry_word d >>= (λ word. args_of d >>= (λ conds. Ok (make names word conds)))) f h) [
+    elim (bind_err (names_of d) (after_names d) f h) [
       | inl bad ↦ broken.names f is_object (names_break d f bad)
-      | inr at_n ↦ elim (bind_err (entry_word d) (λ word. args_of d >>= (λ conds. Ok (make at_n.0 word conds))) f at_n.2) [
+      | inr at_n ↦ elim (bind_err (entry_word d) (after_word d at_n.0) f at_n.2) [
         | inl bad ↦ broken.word f is_object (entry_word_breaks d f bad)
-        | inr at_w ↦ elim (bind_err (args_of d) (λ conds. Ok (make at_n.0 at_w.0 conds)) f at_w.2) [
+        | inr at_w ↦ elim (bind_err (args_of d) (λ conds. Ok (parts at_n.0 at_w.0 conds)) f at_w.2) [
           | inl bad ↦ broken.args f is_object (args_break d f bad)
-          | inr at_c ↦ absurd (not_ok (make at_n.0 at_w.0 at_c.0) f at_c.2)
+          | inr at_c ↦ absurd (not_ok (parts at_n.0 at_w.0 at_c.0) f at_c.2)
         ]
       ]
     ]
 
 entry_breaks : (d : Data) (f : Fault) → entry_of d ≡ Err f → EntryBreaks d f
-unfolding entry_of
+unfolding entry_of after_names after_word parts
 entry_breaks d f h =
-    elim (bind_err (typed (object d)) (λ o. names_of o >>=
-    (λ names. entry_word o >>= (λ word. args_of o >>=
-    (λ conds. Ok (let e : EntryParts = record { names = names; conds = conds; word = word } in e))))) f h) [
+    elim (bind_err (typed (object d)) (λ o. names_of o >>= after_names o) f h) [
       | inl bad ↦ (let at = object_not d f bad in subst (EntryBreaks d) at.1 (broken.EntryBreaks.no_object at.0))
       | inr at ↦
           let o = object_is d at.0 at.1 in
