@@ -4,7 +4,7 @@ use Rattle.std.specs.Prelude.{bit_and}
 use Rattle.cert_state.specs.declared.literal.Lit.{Lit}
 use Rattle.cert_state.specs.declared.literal.Lit.TheVariants.{In, Bits, NotBits}
 use Rattle.cert_state.specs.Points.{IsMissed, IsRange, NoneBetween}
-use Rattle.cert_state.specs.Entailment.{IsExcluded, IsInside, IsOnePoint}
+use Rattle.cert_state.specs.Entailment.{IsExcluded, IsBounded, IsOnePoint}
 use Rattle.cert_state.specs.inner.Exclusion.{IsSuch}
 use Rattle.cert_state.proofs.ListLaws.{contains_split, contains_here, contains_later}
 
@@ -24,8 +24,8 @@ module _ (ls : List Lit) (w lo hi : ℕ) (range : IsRange ls w lo hi) where
     λ none. record { lo = lo; hi = hi; range = range; missed = none },
   )
 
-  pub inside_at : (a b : ℕ) → IsInside ls w a b ↔ ((a ≤ lo) × (hi ≤ b))
-  inside_at a b = (
+  pub bounded_at : (a b : ℕ) → IsBounded ls w a b ↔ ((a ≤ lo) × (hi ≤ b))
+  bounded_at a b = (
     λ h. let s = same h.lo h.hi h.range in let from = h.from in let to = h.to in (omega (arith, s, from), omega (arith, s, to)),
     λ h. record { lo = lo; hi = hi; range = range; from = h.0; to = h.1 },
   )

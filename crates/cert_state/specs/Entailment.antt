@@ -9,7 +9,7 @@ abbrev pub Differ : ℕ → ℕ → ℕ → ℕ → Type 0
 Differ m d n e = bit_and (bit_and m n) (bit_xor d e) ≢ 0
 
 -- the points of w lie from a to b
-pub record IsInside (lits : List Lit) (w a b : ℕ) : Type 0 where
+pub record IsBounded (lits : List Lit) (w a b : ℕ) : Type 0 where
   pub lo : ℕ
   pub hi : ℕ
   pub range : IsRange lits w lo hi
@@ -32,7 +32,7 @@ pub record IsExcluded (lits : List Lit) (w m d : ℕ) : Type 0 where
 
 -- what the literals of a word give of it
 abbrev pub Derives : List Lit → Lit → Type 0
-Derives lits (In w a b) = IsInside lits w a b
+Derives lits (In w a b) = IsBounded lits w a b
 Derives lits (Bits w m d) = AreKnown lits w m d ⊎ IsOnePoint lits w m d
 Derives lits (NotBits w m d) = Differ (mask_of lits w) (datum_of lits w) m d ⊎ (IsExcluded lits w m d ⊎ IsMissed lits w m d)
 

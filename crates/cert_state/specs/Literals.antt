@@ -1,8 +1,11 @@
--- What may be known of a word of a record.
-use Rattle.std.specs.Prelude.{◌≡◌, ◌≢◌, ℕ, ◌<◌, ◌≤◌, ◌^◌, List, bit_and}
+-- What may be known of a word of a record, and of a register.
+use Rattle.std.specs.Prelude.{⊤, length, All, ◌≡◌, ◌≢◌, ℕ, ◌<◌, ◌≤◌, ◌^◌, List, bit_and}
 use Rattle.call_record.specs.Words.{word}
 use Rattle.cert_state.specs.declared.literal.Lit.{Lit}
 use Rattle.cert_state.specs.declared.literal.Lit.TheVariants.{In, Bits, NotBits}
+use Rattle.cert_state.specs.declared.literal.AVal.{AVal}
+use Rattle.cert_state.specs.declared.literal.AVal.TheVariants.{Unknown, Const, Masked}
+use Rattle.cert_state.specs.declared.literal.Regs.{Regs}
 
 -- the mask of all bits
 abbrev pub all_bits : ℕ
@@ -14,6 +17,19 @@ abbrev pub IsLit : Lit → Type 0
 IsLit (In w lo hi) = (w < 16) × (lo < 2 ^ 32) × (hi < 2 ^ 32)
 IsLit (Bits w m d) = (w < 16) × (m < 2 ^ 32) × (bit_and d m ≡ d)
 IsLit (NotBits w m d) = (w < 16) × (m < 2 ^ 32) × (bit_and d m ≡ d)
+
+-- the word is one of the record's sixteen, and the numbers have 32 bits
+abbrev pub IsValue : AVal → Type 0
+IsValue Unknown = ⊤
+IsValue (Const c) = c < 2 ^ 32
+IsValue (Masked w m) = (w < 16) × (m < 2 ^ 32)
+
+-- each is such a value, and there are sixteen scratch words
+pub record AreValues (regs : Regs) : Type 0 where
+  pub a : IsValue regs.a
+  pub x : IsValue regs.x
+  pub sixteen : length regs.scratch ≡ 16
+  pub scratch : All IsValue regs.scratch
 
 -- the word of which a literal speaks
 abbrev pub index_of : Lit → ℕ

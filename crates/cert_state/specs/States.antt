@@ -1,5 +1,5 @@
 -- What may be known of the registers, and where what is known is so.
-use Rattle.std.specs.Prelude.{◌≡◌, ℕ, ◌<◌, ◌^◌, ⊤, List, All, Option, Some, None, IfSome, length, slice_get, bit_and}
+use Rattle.std.specs.Prelude.{◌≡◌, ℕ, List, All, Option, Some, None, IfSome, length, slice_get, bit_and}
 use Rattle.call_record.specs.Words.{word}
 use Rattle.bpf_insn.specs.Machine.{Registers, kept}
 use Rattle.cert_state.specs.declared.literal.Lit.{Lit}
@@ -7,19 +7,6 @@ use Rattle.cert_state.specs.declared.literal.AVal.{AVal}
 use Rattle.cert_state.specs.declared.literal.AVal.TheVariants.{Unknown, Const, Masked}
 use Rattle.cert_state.specs.declared.literal.Regs.{Regs}
 use Rattle.cert_state.specs.Literals.{Holds}
-
--- the word is one of the record's sixteen, and the numbers have 32 bits
-abbrev pub IsValue : AVal → Type 0
-IsValue Unknown = ⊤
-IsValue (Const c) = c < 2 ^ 32
-IsValue (Masked w m) = (w < 16) × (m < 2 ^ 32)
-
--- each is such a value, and there are sixteen scratch words
-pub record AreValues (regs : Regs) : Type 0 where
-  pub a : IsValue regs.a
-  pub x : IsValue regs.x
-  pub sixteen : length regs.scratch ≡ 16
-  pub scratch : All IsValue regs.scratch
 
 -- the number that a value states, on a record
 abbrev pub number_of : AVal → List ℕ → Option ℕ

@@ -2,7 +2,7 @@
 ghost use Rattle.std.specs.Prelude.{◌≡◌, ◌↔◌, ℕ, IsTrue, Contains};
 ghost use Rattle.cert_state.specs.declared.literal.Lit.TheVariants.{In, Bits, NotBits};
 ghost use Rattle.cert_state.specs.Points.{AreKnown, IsMissed, NoneBetween, datum_of, mask_of};
-ghost use Rattle.cert_state.specs.Entailment.{Derives, Differ, Entails, IsDead, IsDeadAt, IsExcluded, IsInside, IsOnePoint};
+ghost use Rattle.cert_state.specs.Entailment.{Derives, Differ, Entails, IsDead, IsDeadAt, IsExcluded, IsBounded, IsOnePoint};
 ghost use Rattle.cert_state.specs.inner.Exclusion.{IsSuch};
 
 use crate::literal::Lit;
@@ -70,8 +70,8 @@ fn is_missed<S: State>(state: &S, word: u8, mask: u32, datum: u32) -> bool
 }
 
 // Whether the points lie from `low` to `high`.
-fn is_inside<S: State>(state: &S, word: u8, low: u32, high: u32) -> bool
-    ensures { IsTrue result ↔ IsInside (S.known state.now) word low high }
+fn is_bounded<S: State>(state: &S, word: u8, low: u32, high: u32) -> bool
+    ensures { IsTrue result ↔ IsBounded (S.known state.now) word low high }
 {
     match range(state, word) {
         Some((least, greatest)) => low <= least && greatest <= high,
@@ -113,7 +113,7 @@ pub fn entails<S: State>(state: &S, literal: &Lit) -> bool
         return true;
     }
     match *literal {
-        Lit::In(w, low, high) => is_inside(state, w, low, high),
+        Lit::In(w, low, high) => is_bounded(state, w, low, high),
         Lit::Bits(w, m, d) => are_known(state, w, m, d) || is_one_point(state, w, m, d),
         Lit::NotBits(w, m, d) => {
             differ(state, w, m, d) || is_excluded(state, w, m, d) || is_missed(state, w, m, d)

@@ -1,4 +1,5 @@
 use Rattle.std.proofs.Common.{rules, ◌≡◌, inl, inr}
+use Rattle.std.specs.Prelude.{Contains}
 use Rattle.cert_state.proofs.ListLaws.{contains_split, contains_later}
 use Rattle.cert_state.proofs.entailment.states.Goals as goal
 
@@ -6,7 +7,7 @@ pub loop-literal-preserved : goal.loop-literal-preserved
 loop-literal-preserved g c =
     let differ : c.in-Some.literal ≡ c.args.wanted.now → ⊥ = search rules in (
       λ h. elim (contains_split c.in-Some.literal _ _ c.in-Some.ensures.more c.args.wanted.now (c.loop-literal.invariant.0 h)) [
-        | inl is ↦ absurd (differ is)
+        | inl is ↦ absurd {A = Contains (g.S.State.rest c.args.state.now c.in-Some.next) c.args.wanted.now} (differ is)
         | inr later ↦ later
       ],
       λ h. c.loop-literal.invariant.1 (contains_later c.in-Some.literal _ _ c.in-Some.ensures.more c.args.wanted.now h),
