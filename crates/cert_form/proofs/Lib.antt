@@ -1,0 +1,16 @@
+pub mod ChainLaws
+pub mod ChainedAgain
+pub mod ChainedLaws
+pub mod ChainedFaults
+pub mod PartLaws
+pub mod PlaceLaws
+pub mod ReadLaws
+pub mod ScratchLaws
+pub mod SpelledLaws
+pub mod StandLaws
+pub mod TailLaws
+pub mod WalkLaws
+pub mod ListedLaws
+pub mod ListedAgain
+pub mod SpellingLaws
+pub mod ViewLaws

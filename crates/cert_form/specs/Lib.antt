@@ -1,0 +1,7 @@
+pub mod Nodes
+pub mod Spelling
+pub mod Reading
+pub mod Faults
+pub mod Views
+pub mod Fault
+pub mod inner

@@ -1,0 +1,18 @@
+//! The bytes of a certificate, and the nodes that they spell.
+#![tactic(auto)]
+
+mod chained;
+mod fault;
+mod judge;
+mod law;
+mod lent;
+mod listed;
+mod node;
+mod part;
+mod view;
+
+pub use fault::FormError;
+pub use law::certificates_have_no_fault;
+pub use lent::NodeView;
+pub use node::{ChainNode, Kind, Node};
+pub use view::CertView;
