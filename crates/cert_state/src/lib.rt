@@ -1,7 +1,9 @@
 //! What is known where an execution of a program stands, and what follows from it.
 //!
 //! A [`State`] says what A, X and the scratch words hold, and lends [`Lit`]s, each of which is known of a
-//! word of the record. Nothing here takes memory.
+//! word of the record. [`transfer`] and [`edge_fact`] say what is known after an instruction, [`entails`]
+//! what else is known, [`range`] from where to where a word may lie, and [`dead`] that no record is left.
+//! The functions with `is_sound` in their names promise that all this is true. Nothing here takes memory.
 #![tactic(auto)]
 
 mod after;

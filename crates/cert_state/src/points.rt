@@ -1,4 +1,6 @@
 //! The least and the greatest point of a word, without memory.
+//!
+//! Where excluded numbers crowd at an end, each walk over the literals steps past 64 of them.
 ghost use Rattle.std.specs.Prelude.{◌≡◌, ◌↔◌, ◌<◌, ◌≤◌, ◌^◌, ℕ, MatchOption};
 ghost use Rattle.std.specs.Int.{bit_at};
 ghost use Rattle.cert_state.specs.Points.{HasNoPoint, IsRange};
