@@ -15,37 +15,43 @@ pub enum CompileError {
 
 impl CompileError {
     ghost use Rattle.std.specs.Prelude.{◌≡◌};
-    ghost use Rattle.rule_compile.specs.CompileError.{name_of, number_of};
+    ghost use Rattle.rule_compile.specs.Fault.{label_of};
 
-    /// The number by which the error is told.
-    pub fn number(self) -> u32
-        ensures { result ≡ number_of self }
+    // The number and the name by which it is told.
+    fn label(self) -> (u32, &'static str)
+        ensures number { result.0 ≡ (label_of self).0 }
+        ensures name { result.1.now ≡ (label_of self).1 }
     {
         match self {
-            CompileError::TooLong => 1,
-            CompileError::OutOfMemory => 9,
+            CompileError::TooLong => (1, "TooLong"),
+            CompileError::OutOfMemory => (9, "OutOfMemory"),
         }
     }
 
-    /// The name of the error, which it is printed by.
-    pub fn name(self) -> &'static str
-        ensures { result.now ≡ name_of self }
+    /// The number by which the error is told.
+    pub fn number(self) -> u32
+        ensures { result ≡ (label_of self).0 }
     {
-        match self {
-            CompileError::TooLong => "TooLong",
-            CompileError::OutOfMemory => "OutOfMemory",
-        }
+        self.label().0
+    }
+
+    /// The name of the error.
+    pub fn name(self) -> &'static str
+        ensures { result.now ≡ (label_of self).1 }
+    {
+        self.label().1
     }
 }
 
 impl fmt::Display for CompileError {
     ghost use Rattle.std.specs.Prelude.{Some};
-    ghost use Rattle.rule_compile.specs.CompileError.{name_of};
+    ghost use Rattle.rule_compile.specs.Fault.{text_of};
 
-    ghost output = { λ e. Some (name_of e) };
+    ghost output = { λ fault. Some (text_of fault) };
 
     fn fmt<W: fmt::Write>(&self, f: &mut fmt::Formatter<W>) -> fmt::Result {
-        f.write_str(self.name())
+        let (number, name) = self.label();
+        write!(f, "{number} {name}")
     }
 }
 

@@ -1,12 +1,10 @@
 //! Records to run filters on.
 ghost use Rattle.std.specs.Prelude.{◌<◌};
 
-use crate::tests::profiles::calls;
 use call_record::Record;
 use call_tables::Arch;
 use profile::Profile;
 use std::alloc::{AllocError, Global};
-use std::test::Fail;
 
 /// The parts that records are made of.
 #[derive(Drop)]
@@ -19,10 +17,13 @@ pub struct Grid {
 impl Grid {
     /// The grid of a profile: both machines and none; each call of a table, and the numbers on both
     /// sides of the least x32 call; each argument that a condition names, or all where none does.
-    pub fn of(alloc: Global, profile: &Profile) -> Result<Grid, Fail> {
-        let mut numbers = calls(alloc, Arch::X86_64)?;
-        numbers.extend_from_slice(&calls(alloc, Arch::Aarch64)?)?;
-        numbers.extend_from_slice(&[0x3fff_ffff, 0x4000_0000])?;
+    pub fn of(alloc: Global, profile: &Profile) -> Result<Grid, AllocError> {
+        let mut numbers = vec![in alloc; 0x3fff_ffff, 0x4000_0000]?;
+        for nr in 0..1024 {
+            if Arch::ALL.iter().any(|arch| arch.name(nr).is_some()) {
+                numbers.push(nr)?;
+            }
+        }
         Ok(Grid {
             tokens: [Arch::X86_64.token(), Arch::Aarch64.token(), 0],
             numbers,
@@ -31,17 +32,7 @@ impl Grid {
     }
 }
 
-/// The record of these parts.
-pub fn record(nr: u32, arch: u32, args: [u64; 6]) -> Record {
-    Record {
-        nr,
-        arch,
-        ip: 0,
-        args,
-    }
-}
-
-/// Each pair of words as one argument, and zeros as the others.
+// Each pair of words as one argument, and zeros as the others.
 fn arguments(alloc: Global, profile: &Profile) -> Result<Vec<[u64; 6]>, AllocError> {
     let halves = halves(alloc, profile)?;
     let plain = profile.rules().iter().all(|rule| rule.conds.is_empty());
@@ -54,7 +45,7 @@ fn arguments(alloc: Global, profile: &Profile) -> Result<Vec<[u64; 6]>, AllocErr
     Ok(all)
 }
 
-/// Whether some condition is on the argument.
+// Whether some condition is on the argument.
 fn names_argument(profile: &Profile, index: u8) -> bool {
     profile
         .rules()
@@ -62,7 +53,7 @@ fn names_argument(profile: &Profile, index: u8) -> bool {
         .any(|rule| rule.conds.iter().any(|cond| cond.index == index))
 }
 
-/// Adds the arguments where one is a pair of words, and the others are 0.
+// Adds the arguments where one is a pair of words, and the others are 0.
 fn place_pairs(all: &mut Vec<[u64; 6]>, index: u8, halves: &[u32]) -> Result<(), AllocError>
     requires { index < 6 }
 {
@@ -76,7 +67,7 @@ fn place_pairs(all: &mut Vec<[u64; 6]>, index: u8, halves: &[u32]) -> Result<(),
     Ok(())
 }
 
-/// The words 0, 1 and the greatest, and the words of conditions with their neighbours.
+// The words 0, 1 and the greatest, and the words of conditions with their neighbours.
 fn halves(alloc: Global, profile: &Profile) -> Result<Vec<u32>, AllocError> {
     let mut halves = vec![in alloc; 0, 1, u32::MAX]?;
     for rule in profile.rules() {
@@ -88,7 +79,7 @@ fn halves(alloc: Global, profile: &Profile) -> Result<Vec<u32>, AllocError> {
     Ok(halves)
 }
 
-/// Adds both words of a number, and their neighbours, where they are new.
+// Adds both words of a number, and their neighbours, where they are new.
 fn add_words(halves: &mut Vec<u32>, number: u64) -> Result<(), AllocError> {
     for word in [(number >> 32) as u32, (number % (1 << 32)) as u32] {
         for near in [word.wrapping_sub(1), word, word.wrapping_add(1)] {

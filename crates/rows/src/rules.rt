@@ -1,0 +1,146 @@
+//! Rules of profiles.
+
+use crate::tell::tell;
+use crate::text::{expanded, machine, machine_name, narrow, number, verdict_word};
+use anyhow::{Context, Result, bail};
+use arrayvec::ArrayVec;
+use call_record::Word;
+use call_tables::Arch;
+use profile::{Cond, Op, Profile, Rule, overlap};
+use std::alloc::Global;
+use std::fmt::Write;
+
+/// Adds the answer to a question on conditions and rules.
+pub fn answer(out: &mut String, alloc: Global, word: &str, rest: &str) -> Result<()> {
+    match word {
+        "condition" => match condition(rest)? {
+            Some(_) => tell(out, "a condition"),
+            None => tell(out, "none"),
+        },
+        "overlap" => overlaps(out, rest),
+        "build" => build(out, alloc, expanded(alloc, rest)?.as_str()),
+        _ => bail!("no word of this program"),
+    }
+}
+
+const OPS: [(&str, Op); 7] = [
+    ("NE", Op::Ne),
+    ("LT", Op::Lt),
+    ("LE", Op::Le),
+    ("EQ", Op::Eq),
+    ("GE", Op::Ge),
+    ("GT", Op::Gt),
+    ("MASKED_EQ", Op::MaskedEq),
+];
+
+fn op_of(word: &str) -> Result<Op> {
+    let found = OPS.iter().find(|(name, _)| *name == word);
+    Ok(found.context("an operator")?.1)
+}
+
+fn op_name(op: Op) -> &'static str {
+    match OPS.iter().find(|(_, other)| *other == op) {
+        Some((name, _)) => *name,
+        None => "?",
+    }
+}
+
+// The condition `INDEX OP VALUE DATUM`, where a missing datum is 0.
+fn condition(text: &str) -> Result<Option<Cond>> {
+    let mut words = text.split_whitespace();
+    let index = u8::try_from(number(words.next().unwrap_or(""))?)?;
+    let op = op_of(words.next().unwrap_or(""))?;
+    let value = number(words.next().unwrap_or(""))?;
+    let datum = number(words.next().unwrap_or("0"))?;
+    Ok(Cond::new(index, op, value, datum))
+}
+
+// A rule under conditions with commas between.
+fn rule(arch: Arch, nr: u32, text: &str, word: Word) -> Result<Rule> {
+    let mut conds = ArrayVec::new();
+    for part in text.split(',').filter(|part| !part.is_empty()) {
+        conds.try_push(condition(part)?.context("a condition")?)?;
+    }
+    Rule::new(arch, nr, conds, word).context("a rule")
+}
+
+// Whether rules under these conditions overlap, asked both ways round.
+fn overlaps(out: &mut String, text: &str) -> Result<()> {
+    let (one, other) = text.split_once('/').context("two lists of conditions")?;
+    let one = rule(Arch::X86_64, 135, one, Word::ALLOW)?;
+    let other = rule(Arch::X86_64, 135, other, Word::TRAP)?;
+    match (overlap(&one, &other), overlap(&other, &one)) {
+        (true, true) => tell(out, "yes"),
+        (false, false) => tell(out, "no"),
+        _ => tell(out, "it depends on the order"),
+    }
+}
+
+// The profile of `NATIVE MACHINE,.. WORD; RULE; ..`.
+fn build(out: &mut String, alloc: Global, text: &str) -> Result<()> {
+    let mut parts = text.split(';');
+    let mut words = parts.next().unwrap_or("").split_whitespace();
+    let native = machine(words.next().unwrap_or(""))?;
+    let mut archs = Vec::new(alloc);
+    for name in words.next().unwrap_or("").split(',') {
+        archs.push(machine(name)?)?;
+    }
+    let default_word = verdict_word(words.next().unwrap_or(""))?;
+    let mut rules = Vec::new(alloc);
+    for part in parts.filter(|part| !part.is_empty()) {
+        rules.push(read_rule(part.trim())?)?;
+    }
+    match Profile::build(alloc, native, &archs, default_word, rules) {
+        Ok(profile) => tell_profile(out, alloc, &profile),
+        Err(e) => tell(out, e),
+    }
+}
+
+// The rule `MACHINE NUMBER WORD CONDS`.
+fn read_rule(text: &str) -> Result<Rule> {
+    let mut words = text.splitn(4, ' ');
+    let arch = machine(words.next().unwrap_or(""))?;
+    let nr = narrow(words.next().unwrap_or(""))?;
+    let word = verdict_word(words.next().unwrap_or(""))?;
+    rule(arch, nr, words.next().unwrap_or(""), word)
+}
+
+/// Adds the parts of a profile: machines, default word and rules, or just their number where they are many.
+pub fn tell_profile(out: &mut String, alloc: Global, profile: &Profile) -> Result<()> {
+    let mut line = String::new(alloc);
+    for arch in profile.machines() {
+        write!(line, " {}", machine_name(*arch))?;
+    }
+    let native = machine_name(profile.native());
+    let default_word = profile.default_word();
+    tell(
+        out,
+        format_args!("native {native}, machines{line}, default {default_word}"),
+    )?;
+    let rules = profile.rules();
+    if rules.len() > 9 {
+        return tell(out, format_args!("{} rules", rules.len()));
+    }
+    for rule in rules {
+        tell_rule(out, alloc, rule)?;
+    }
+    Ok(())
+}
+
+fn tell_rule(out: &mut String, alloc: Global, rule: &Rule) -> Result<()> {
+    let mut line = format!(in alloc; "{} {} {}", machine_name(rule.arch), rule.nr, rule.word)?;
+    for (i, cond) in rule.conds.iter().enumerate() {
+        let comma = if i > 0 { "," } else { "" };
+        write!(
+            line,
+            "{comma} {} {} {:#x}",
+            cond.index,
+            op_name(cond.op),
+            cond.value
+        )?;
+        if cond.op == Op::MaskedEq {
+            write!(line, " {:#x}", cond.datum)?;
+        }
+    }
+    tell(out, line.as_str())
+}

@@ -1,0 +1,24 @@
+//! Sessions of the program.
+
+use crate::shelf::Shelf;
+use crate::tell::{tell, tell_lines};
+use anyhow::Result;
+use cli::{ToWrite, dispatch};
+use std::alloc::Global;
+
+/// Runs the program on the words after its name, and adds what it writes and its status.
+pub fn session(out: &mut String, alloc: Global, shelf: &mut Shelf, line: &str) -> Result<()> {
+    let mut words = Vec::new(alloc);
+    for word in line.split_whitespace().skip(1) {
+        words.push(if word == "''" { "" } else { word })?;
+    }
+    let mut lines = ToWrite::new(Vec::new(alloc));
+    let mut faults = ToWrite::new(Vec::new(alloc));
+    let status = dispatch(alloc, &words, shelf, &mut lines, &mut faults);
+    tell_lines(out, str::from_utf8(&lines.writer)?)?;
+    if !faults.writer.is_empty() {
+        tell(out, "on standard error:")?;
+        tell_lines(out, str::from_utf8(&faults.writer)?)?;
+    }
+    tell(out, format_args!("status {status}"))
+}

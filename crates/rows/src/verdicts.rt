@@ -1,0 +1,75 @@
+//! Words of verdicts, and records of calls.
+
+use crate::bytes::tell_bytes;
+use crate::tell::tell;
+use crate::text::{call, number, record, verdict_word};
+use anyhow::{Context, Result, bail, ensure};
+use call_record::{Ends, Record, Word, least_below, lets_through, strictest};
+use std::alloc::Global;
+use std::fmt::Write;
+
+/// Adds the answer to a question on words and records.
+pub fn answer(out: &mut String, alloc: Global, word: &str, rest: &str) -> Result<()> {
+    match word {
+        "strictest" => strictest_of(out, alloc, rest),
+        "effect" => effect(out, verdict_word(rest)?),
+        "record" => tell_record(out, alloc, rest),
+        "least" => least(out, rest),
+        _ => bail!("no word of this program"),
+    }
+}
+
+// The strictest of words, the newest filter's first.
+fn strictest_of(out: &mut String, alloc: Global, text: &str) -> Result<()> {
+    let mut newest_first = Vec::new(alloc);
+    for word in text.split_whitespace() {
+        newest_first.push(verdict_word(word)?)?;
+    }
+    tell(out, strictest(&newest_first))
+}
+
+// What becomes of a call with this word.
+fn effect(out: &mut String, word: Word) -> Result<()> {
+    let ends = match word.ends() {
+        Ends::Nothing => "",
+        Ends::Task => ", the task ends",
+        Ends::Group => ", the group ends",
+    };
+    match word.errno() {
+        Some(errno) => tell(out, format_args!("not carried out, answers {errno}{ends}")),
+        None if lets_through(word) => tell(out, format_args!("carried out{ends}")),
+        None => tell(out, format_args!("not carried out{ends}")),
+    }
+}
+
+// The bytes of the record `POINTER NUMBER MACHINE ARGUMENT ..`, and the words of the record that they spell.
+fn tell_record(out: &mut String, alloc: Global, text: &str) -> Result<()> {
+    let (pointer, rest) = text.split_once(' ').context("a pointer and a call")?;
+    let Record { nr, arch, args, .. } = call(rest)?;
+    let bytes = record(nr, arch, number(pointer)?, args).to_bytes();
+    tell_bytes(out, alloc, &bytes)?;
+    tell_words(out, alloc, &Record::from_bytes(&bytes))
+}
+
+fn tell_words(out: &mut String, alloc: Global, record: &Record) -> Result<()> {
+    let mut line = String::new(alloc);
+    for i in 0..16 {
+        write!(line, " {:#x}", record.word(i))?;
+    }
+    tell(out, format_args!("words{line}"))
+}
+
+// The least number of so many bits, at least FROM, with these data under the mask.
+fn least(out: &mut String, text: &str) -> Result<()> {
+    let mut parts = [0; 4];
+    for (place, word) in parts.iter_mut().zip(text.split(' ')) {
+        *place = number(word)?;
+    }
+    let [bits, from, mask, datum] = parts;
+    let bits = u32::try_from(bits)?;
+    ensure!(bits <= 64, "numbers of {bits} bits");
+    match least_below(bits, from, mask, datum) {
+        Some(least) => tell(out, format_args!("{least:#x}")),
+        None => tell(out, "none"),
+    }
+}
