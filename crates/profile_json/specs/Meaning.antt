@@ -1,4 +1,4 @@
--- What a bundle means (OCI Runtime Specification 1.0.2, config-linux, Seccomp).
+-- What a bundle means (OCI Runtime Specification 1.0.2 and 1.1.0, config-linux, Seccomp).
 use Rattle.std.specs.Prelude.{◌≡◌, ℕ, ◌<◌, ◌≤◌, List, [], length, map, bit_and, true, Some, IsSome}
 use Rattle.std.specs.List.{AllZip, Contains}
 use Rattle.std.specs.Str.{IsUtf8}

@@ -1,5 +1,5 @@
-//! Reads the seccomp part of a bundle (OCI Runtime Specification 1.0.2, config-linux, Seccomp) into
-//! a profile, or says why it refuses it.
+//! Reads the seccomp part of a bundle (OCI Runtime Specification 1.0.2 and 1.1.0, config-linux,
+//! Seccomp) into a profile, or says why it refuses it.
 #![tactic(auto)]
 
 mod action;
