@@ -78,6 +78,20 @@ chosen machines es ends place k are h at =
     let same : s.0 ≡ k = same_Some s.0 k (sym s.1 ∙ ap (position (λ end. nat_lt place end)) (sym are) ∙ sym at) in
     subst (IsSecond machines es) same s.2
 
+-- what is known of the later entry, once it is at hand
+pub record IsLater (machines : List Arch) (entries : List Entry) (k : ℕ) (later : Entry) : Type 0 where
+  pub second : IsSecond machines (map entry_parts entries) k
+  pub inside : k < length entries
+  pub at : slice_get (map entry_parts entries) k ≡ Some (entry_parts later)
+
+pub later_of : (machines : List Arch) (entries : List Entry) (ends : List ℕ) (place k : ℕ) (later : Entry)
+    → ends ≡ ends_after 0 machines (map entry_parts entries) → HasClash machines (map entry_parts entries) place
+    → Some k ≡ position (λ end. nat_lt place end) ends → later ≡ get_or entries k later → IsLater machines entries k later
+later_of machines entries ends place k later are h at is =
+    let second = chosen machines (map entry_parts entries) ends place k are h at in
+    let inside = within entries k second.y second.y_at in
+    record { second = second; inside = inside; at = entry_read entries k later inside is }
+
 pub none_chosen : (machines : List Arch) (es : List EntryParts) (ends : List ℕ) (place : ℕ) → ends ≡ ends_after 0 machines es
     → HasClash machines es place → None ≡ position (λ end. nat_lt place end) ends → ⊥
 none_chosen machines es ends place are h at =
