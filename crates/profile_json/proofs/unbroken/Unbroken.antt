@@ -1,16 +1,15 @@
 -- A bundle that means a profile breaks no rule.
-use Rattle.std.proofs.Common.{◌≡◌, ℕ, List, [], ◌∷◌, ◌++◌, length, map, Some, inl, inr, refl, sym, ◌∙◌, ap, subst, arith}
+use Rattle.std.proofs.Common.{◌≡◌, ℕ, List, [], ◌∷◌, length, map, Some, sym, ◌∙◌, ap, subst, arith}
 use Rattle.std.specs.Prelude.{codes}
 use Rattle.std.specs.List.{AllZip, Contains, slice_get}
-use Rattle.std.proofs.lemmas.List.Elements.{Contains-append_left, Contains-push, Contains-push_cases}
 use Rattle.serde_json.specs.Read.{read}
 use Rattle.std.proofs.lemmas.Option.{same_Some}
 use Rattle.serde_json.specs.Data.{Data}
 use Rattle.call_tables.specs.declared.arch.Arch.{Arch}
 use Rattle.profile.specs.declared.rules.Rule.{Rule}
 use Rattle.profile.specs.Policy.{Policy}
-use Rattle.profile.specs.Build.{KeepsOnce}
-use Rattle.profile.specs.Build as build
+use Rattle.profile.proofs.KeptLaws.{in_kept}
+use Rattle.profile.proofs.OneBuilt.{one_kept_of, same_policy}
 use Rattle.profile_json.specs.Keys as key
 use Rattle.profile_json.specs.Fault.{Fault}
 use Rattle.profile_json.specs.Parts.{EntryParts, rule_parts}
@@ -28,56 +27,6 @@ use Rattle.profile_json.proofs.reading.ActionLaws.{word_unbroken, one_word}
 use Rattle.profile_json.proofs.reading.KeyLaws.{keys_unbroken}
 use Rattle.profile_json.proofs.reading.ArchLaws.{one_archs, archs_unbroken}
 use Rattle.profile_json.proofs.unbroken.UnbrokenEntry.{entry_unbroken, one_entry}
-
--- ---- rules that are kept
-
-in_kept : (rules kept : List Rule) → KeepsOnce rules kept → (x : Rule) → Contains rules x → Contains kept x
-in_kept _ _ build.none x c = c
-in_kept _ _ (build.first rules kept rule h new) x c =
-    elim (Contains-push_cases rules rule x c) [
-      | inl before ↦ Contains-append_left kept (rule ∷ []) x (in_kept rules kept h x before)
-      | inr same ↦ subst (Contains (kept ++ rule ∷ [])) same (Contains-push kept rule)
-    ]
-in_kept _ _ (build.again rules kept rule h has) x c =
-    elim (Contains-push_cases rules rule x c) [
-      | inl before ↦ in_kept rules kept h x before
-      | inr same ↦ subst (Contains kept) same (in_kept rules kept h rule has)
-    ]
-
-module _ {A : Type 0} where
-  not_empty : (xs : List A) (x : A) → [] ≡ xs ++ x ∷ [] → ⊥
-  not_empty [] x h = cc
-  not_empty (y ∷ ys) x h = cc
-
-  last_parts : (xs ys : List A) (x y : A) → xs ++ x ∷ [] ≡ ys ++ y ∷ [] → (xs ≡ ys) × (x ≡ y)
-  last_parts [] [] x y h = (refl, cc)
-  last_parts [] (b ∷ ys) x y h = let rest : [] ≡ ys ++ y ∷ [] = cc in absurd (not_empty ys y rest)
-  last_parts (a ∷ xs) [] x y h = let rest : [] ≡ xs ++ x ∷ [] = cc in absurd (not_empty xs x rest)
-  last_parts (a ∷ xs) (b ∷ ys) x y h =
-      let head : a ≡ b = cc in
-      let tail : xs ++ x ∷ [] ≡ ys ++ y ∷ [] = cc in
-      let rest = last_parts xs ys x y tail in
-      let front : xs ≡ ys = rest.0 in
-      (cc, rest.1)
-
-one_kept_of : (xs ys ks ls : List Rule) → KeepsOnce xs ks → KeepsOnce ys ls → xs ≡ ys → ks ≡ ls
-one_kept_of _ _ _ _ build.none build.none h = refl
-one_kept_of _ _ _ _ build.none (build.first ys ls y q new) h = absurd (not_empty ys y h)
-one_kept_of _ _ _ _ build.none (build.again ys ls y q has) h = absurd (not_empty ys y h)
-one_kept_of _ _ _ _ (build.first xs ks x p new) build.none h = absurd (not_empty xs x (sym h))
-one_kept_of _ _ _ _ (build.first xs ks x p new) (build.first ys ls y q new_y) h =
-    let parts = last_parts xs ys x y h in
-    let front : ks ≡ ls = one_kept_of xs ys ks ls p q parts.0 in
-    let last : x ≡ y = parts.1 in
-    cc
-one_kept_of _ _ _ _ (build.first xs ks x p new) (build.again ys ls y q has) h =
-    let parts = last_parts xs ys x y h in
-    absurd (new (subst (λ zs. Contains zs x) (sym parts.0) (subst (Contains ys) (sym parts.1) has)))
-one_kept_of _ _ _ _ (build.again xs ks x p has) build.none h = absurd (not_empty xs x (sym h))
-one_kept_of _ _ _ _ (build.again xs ks x p has) (build.first ys ls y q new) h =
-    let parts = last_parts xs ys x y h in
-    absurd (new (subst (λ zs. Contains zs y) parts.0 (subst (Contains xs) parts.1 has)))
-one_kept_of _ _ _ _ (build.again xs ks x p has) (build.again ys ls y q has_y) h = one_kept_of xs ys ks ls p q (last_parts xs ys x y h).0
 
 -- ---- entries
 
@@ -170,15 +119,6 @@ meaning_is_unbroken bytes t native p f is m (in_value u _ is_u bad) =
     value_unbroken t native p f m (subst (λ d. ValueBreaks d native f) (same_Some u t (sym is_u.1 ∙ is.1)) bad)
 
 -- ---- one meaning
-
-policy_of : Arch → List Arch → ℕ → List Rule → Policy
-policy_of native machines word rules = record { native = native; machines = machines; default_word = word; rules = rules }
-
-same_policy : (p q : Policy) → p.native ≡ q.native → p.machines ≡ q.machines → p.default_word ≡ q.default_word → p.rules ≡ q.rules → p ≡ q
-unfolding policy_of
-same_policy p q natives machines words rules =
-    ap (λ n. policy_of n p.machines p.default_word p.rules) natives ∙ ap (λ ms. policy_of q.native ms p.default_word p.rules) machines
-    ∙ ap (λ w. policy_of q.native q.machines w p.rules) words ∙ ap (policy_of q.native q.machines q.default_word) rules
 
 one_policy : (s : Data) (native : Arch) (p q : Policy) → p.default_word ≡ q.default_word → CallsMean s native p → CallsMean s native q
     → p ≡ q
