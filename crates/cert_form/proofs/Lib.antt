@@ -14,3 +14,4 @@ pub mod ListedLaws
 pub mod ListedAgain
 pub mod SpellingLaws
 pub mod ViewLaws
+pub mod WriteLaws

@@ -1,10 +1,11 @@
 -- Stated scratch words: what is judged sound is spelled so, and what is spelled is read and is not bad.
-use Rattle.std.proofs.Common.{◌≡◌, ℕ, zero, suc, ◌+◌, ◌*◌, ◌/◌, ◌%◌, ◌<◌, ◌≤◌, ◌^◌, Bool, true, false, cond, eqb, List, [], ◌∷◌, ◌++◌}
+use Rattle.std.proofs.Common.{drop, get_or, ◌≡◌, ℕ, zero, suc, ◌+◌, ◌-◌, ◌*◌, ◌/◌, ◌%◌, ◌<◌, ◌≤◌, ◌^◌, Bool, true, false, cond, eqb, List}
+use Rattle.std.proofs.Common.{[], ◌∷◌, ◌++◌}
 use Rattle.std.proofs.Common.{length, refl, ap, sym, ◌∙◌, subst, arith}
-use Rattle.std.specs.Prelude.{◌≢◌, All, slice_index}
+use Rattle.std.specs.Prelude.{replicate, ◌≢◌, All, slice_index}
 use Rattle.std.specs.List.{flat_map, AllByRecursion}
 use Rattle.std.proofs.lemmas.Bool.{ne_eqb}
-use Rattle.std.proofs.lemmas.List.{length-append}
+use Rattle.std.proofs.lemmas.List.{length-append, drop_more}
 use Rattle.std.proofs.lemmas.List.Elements.{All-from_recursion}
 use Rattle.byteorder.specs.Endian.{little_bytes}
 use Rattle.cert_state.specs.declared.literal.AVal.{AVal}
@@ -294,3 +295,44 @@ scratch_not_bad bytes at (Masked w m ∷ vs) end s h k less bad =
       ones_more (1 + 2 * stated_bits vs) (length vs),
       ap (λ s. ones s (length vs)) (later_bits 1 (stated_bits vs) (omega arith)),
     )) bad
+
+-- ---- the bits of the words from one on
+
+stated_part : (n : ℕ) (vs : List AVal) → stated_bits (drop n vs) ≤ stated_bits vs
+stated_part zero vs = omega arith
+stated_part (suc n) [] = omega arith
+stated_part (suc n) (v ∷ vs) = omega (arith, stated_part n vs)
+
+pub one_bit_more : (vs : List AVal) (i : ℕ) (d : AVal) → length vs ≡ 16 → i < 16
+    → stated_bits (drop (16 - (i + 1)) vs) ≡ 2 * stated_bits (drop (16 - i) vs) + bit_of (get_or vs (15 - i) d)
+one_bit_more vs i d sixteen h =
+    let here : 16 - (i + 1) ≡ 15 - i = omega arith in
+    let next : 15 - i + 1 ≡ 16 - i = omega (arith, h) in
+    ap (λ k. stated_bits (drop k vs)) here
+    ∙ (ap stated_bits (drop_more vs (15 - i) d (omega (arith, sixteen, h)))
+    ∙ (ap (λ k. bit_of (get_or vs (15 - i) d) + 2 * stated_bits (drop k vs)) next ∙ omega arith))
+
+pub bits_fit : (vs : List AVal) (i : ℕ) → length vs ≡ 16 → stated_bits (drop i vs) < 2 ^ 16
+bits_fit vs i sixteen = omega (arith, stated_part i vs, stated_below vs sixteen)
+
+-- no bit, no stated value
+pub none_from_bits : (vs : List AVal) → stated_bits vs ≡ 0 → vs ≡ replicate (length vs) Unknown
+none_from_bits [] e = refl
+none_from_bits (Unknown ∷ vs) e = ap (λ (ws : List AVal). Unknown ∷ ws) (none_from_bits vs (omega (arith, e)))
+none_from_bits (Const c ∷ vs) e = absurd (omega (arith, e))
+none_from_bits (Masked w m ∷ vs) e = absurd (omega (arith, e))
+
+-- how many bytes they take
+pub ones_few : (bits n : ℕ) → ones bits n ≤ n
+unfolding ones
+ones_few bits zero = omega arith
+ones_few bits (suc n) = omega (arith, ones_few (bits / 2) n)
+
+pub length-scratch : (vs : List AVal) → length vs ≡ 16 → length (scratch vs) ≡ 2 + 6 * ones (stated_bits vs) 16
+length-scratch vs sixteen =
+    omega (
+      arith,
+      length-append (little_bytes 2 (stated_bits vs)) (flat_map if_stated vs),
+      length-stated vs,
+      ap (λ k. ones (stated_bits vs) k) sixteen,
+    )

@@ -1,6 +1,7 @@
 //! The bytes of a certificate, and the nodes that they spell.
 #![tactic(auto)]
 
+mod chain_writing;
 mod chained;
 mod fault;
 mod judge;
@@ -9,10 +10,14 @@ mod lent;
 mod listed;
 mod node;
 mod part;
+mod put;
 mod view;
+mod writing;
 
+pub use chain_writing::write_chained;
 pub use fault::FormError;
 pub use law::certificates_have_no_fault;
 pub use lent::NodeView;
 pub use node::{ChainNode, Kind, Node};
 pub use view::CertView;
+pub use writing::write;

@@ -7,7 +7,7 @@ use Rattle.cert_state.specs.Literals.{IsLit, IsValue}
 use Rattle.cert_form.specs.declared.fault.FormError.{FormError}
 use Rattle.cert_form.specs.declared.fault.FormError.TheVariants.{BadMagic, BadVersion, Truncated, BadNode, BadCount, Trailing, OutOfMemory}
 use Rattle.cert_form.specs.Faults.{IsBadStated, IsBadListed}
-use Rattle.cert_form.specs.Nodes.{literals}
+use Rattle.cert_form.specs.Nodes.{PlainNode, literals}
 use Rattle.cert_form.specs.Spelling.{magic, value, literal, tail, kind_number, entry, chain_node, node, scratch, if_stated, stated_bits}
 use Rattle.cert_form.specs.Spelling.{nothing_stated, IsKind, IsEntry, IsChainNode, IsNode}
 use Rattle.cert_form.specs.Reading.{short_at, long_at, value_at, literal_at, kind_at, tail_length, version_of, node_count, chain_count}
@@ -135,3 +135,8 @@ pub record IsTopOfFile (bytes : List ℕ) : Type 0 where
   pub known : version_of bytes ≤ 3
   pub some : 1 ≤ node_count bytes
   pub few : node_count bytes ≤ 16384
+
+-- what form 1 can say: no scratch value is stated, and the literals are few
+pub record IsPlain (n : PlainNode) : Type 0 where
+  pub no_scratch : stated_bits n.regs.scratch ≡ 0
+  pub few : length n.known ≤ 512

@@ -1,0 +1,149 @@
+-- Nodes that are written, one after another.
+use Rattle.std.proofs.Common.{Bool, true, false, inl, inr, cond, eqb, drop, ◌≡◌, ℕ, ◌+◌, ◌<◌, ◌≤◌, List, [], ◌∷◌, ◌++◌, All, length, take}
+use Rattle.std.proofs.Common.{map, get_or, refl, ap, sym, ◌∙◌, subst, arith}
+use Rattle.std.specs.List.{flat_map, AllByRecursion}
+use Rattle.std.proofs.lemmas.List.{length-map, get_or-map, map_more, flat_map_more, length-append, append_assoc, drop_more}
+use Rattle.std.proofs.lemmas.List.Elements.{All-push, All-from_recursion}
+use Rattle.std.specs.Prelude.{◌⊎◌, replicate}
+use Rattle.std.proofs.lemmas.Bool.{eqb-true}
+use Rattle.cert_state.specs.declared.literal.Lit.{Lit}
+use Rattle.cert_state.specs.declared.literal.AVal.{AVal}
+use Rattle.cert_state.specs.declared.literal.AVal.TheVariants.{Unknown}
+use Rattle.cert_form.specs.Nodes.{PlainNode, said}
+use Rattle.byteorder.specs.Endian.{little_bytes}
+use Rattle.cert_form.specs.declared.node.ChainNode.{ChainNode}
+use Rattle.cert_form.specs.Reading.{tail_length}
+use Rattle.cert_form.specs.Spelling.{value, scratch, tail, kind_number, chain_node, offsets}
+use Rattle.cert_form.proofs.PartLaws.{length-value}
+use Rattle.cert_form.proofs.TailLaws.{length-tail}
+use Rattle.cert_form.specs.Spelling.{listed, chained, stated_bits, nothing_stated, IsNode, SpellsListed, IsChainNode, SpellsChained, Spells}
+use Rattle.cert_form.specs.Writing.{IsMeant, IsChainMeant, AreMeant, version_for}
+use Rattle.cert_form.specs.inner.Standing.{IsPlain}
+use Rattle.cert_form.proofs.ScratchLaws.{none_from_bits}
+
+-- what holds of all that a view shows holds of each
+pub of_item : {X Y : Type 0} (P : Y → Type 0) (f : X → Y) (xs : List X) (i : ℕ) (x : X) → i < length xs → x ≡ get_or xs i x
+    → All P (map f xs) → P (f x)
+of_item P f xs i x h e all =
+    subst P (get_or-map f xs i x (f x) h ∙ ap f (sym e)) (all i (f x) (subst (λ n. i < n) (sym (length-map xs f)) h))
+
+pub one_more : {X Y : Type 0} (f : X → Y) (xs : List X) (i : ℕ) (x : X) → i < length xs → x ≡ get_or xs i x
+    → map f (take (i + 1) xs) ≡ map f (take i xs) ++ f x ∷ []
+one_more f xs i x h e = map_more f xs i x h ∙ ap (λ y. map f (take i xs) ++ f y ∷ []) (sym e)
+
+pub written_more : {X Y : Type 0} (f : X → Y) (spell : Y → List ℕ) (xs : List X) (i : ℕ) (x : X) (old now new : List ℕ) → i < length xs
+    → x ≡ get_or xs i x
+    → now ≡ old ++ flat_map spell (map f (take i xs)) → new ≡ now ++ spell (f x) → new ≡ old ++ flat_map spell (map f (take (i + 1) xs))
+written_more f spell xs i x old now new h e so_far one =
+    one ∙ (ap (λ (t : List ℕ). t ++ spell (f x)) so_far
+    ∙ (flat_map_more spell old (map f (take i xs)) (f x) ∙ ap (λ ys. old ++ flat_map spell ys) (sym (one_more f xs i x h e))))
+
+pub all_more : {X Y : Type 0} (P : Y → Type 0) (f : X → Y) (xs : List X) (i : ℕ) (x : X) → i < length xs → x ≡ get_or xs i x
+    → All P (map f (take i xs)) → P (f x) → All P (map f (take (i + 1) xs))
+all_more P f xs i x h e all one k d =
+    subst (λ ys. k < length ys → P (get_or ys k d)) (sym (one_more f xs i x h e)) (All-push P (map f (take i xs)) (f x) all one k d)
+
+-- ---- form 1
+
+no_scratch : (vs : List AVal) → length vs ≡ 16 → stated_bits vs ≡ 0 → vs ≡ nothing_stated
+no_scratch vs sixteen none = none_from_bits vs none ∙ ap (λ k. replicate k Unknown) sixteen
+
+pub spelled_listed : (bytes : List ℕ) (ns : List PlainNode) → bytes ≡ listed ns → length bytes ≤ 4194304 → 1 ≤ length ns → length ns ≤ 16384
+    → All IsPlain ns → All IsMeant ns → SpellsListed bytes ns
+spelled_listed bytes ns spelled short some few plain meant = record {
+  spelled = spelled;
+  short = short;
+  some = some;
+  few = few;
+  nodes = λ k d h. whole (get_or ns k d) (plain k d h) (meant k d h);
+} where
+  whole : (n : PlainNode) → IsPlain n → IsMeant n → IsNode n
+  whole n p m = record {
+    kind = m.kind;
+    pc = m.pc;
+    values = m.values;
+    no_scratch = no_scratch n.regs.scratch m.values.sixteen p.no_scratch;
+    few = p.few;
+    literals = m.literals;
+  }
+
+-- ---- forms 2 and 3
+
+pub length-chained : (version : ℕ) (n : ChainNode)
+    → length (chain_node version n) ≡ 20 + length (cond (eqb version 3) (scratch n.regs.scratch) []) + tail_length (kind_number n.kind)
+length-chained version n =
+    let a1 : List ℕ = kind_number n.kind ∷ 0 ∷ little_bytes 2 n.pc in
+    let a2 : List ℕ = a1 ++ value n.regs.a in
+    let a3 : List ℕ = a2 ++ value n.regs.x in
+    let w : List ℕ = cond (eqb version 3) (scratch n.regs.scratch) [] in
+    let a4 : List ℕ = a3 ++ w in
+    let a5 : List ℕ = a4 ++ little_bytes 4 n.chain in
+    omega (
+      arith,
+      length-append a5 (tail n.kind),
+      length-append a4 (little_bytes 4 n.chain),
+      length-append a3 w,
+      length-append a2 (value n.regs.x),
+      length-append a1 (value n.regs.a),
+      length-value n.regs.a,
+      length-value n.regs.x,
+      length-tail n.kind,
+    )
+
+-- one offset more
+pub offset_more : (version at : ℕ) (ns : List ChainNode) (i : ℕ) (d : ChainNode) (now new all : List ℕ) → i < length ns
+    → now ++ offsets version at (drop i ns) ≡ all → new ≡ now ++ little_bytes 4 at
+    → new ++ offsets version (at + length (chain_node version (get_or ns i d))) (drop (i + 1) ns) ≡ all
+offset_more version at ns i d now new all h so_far one =
+    let n : ChainNode = get_or ns i d in
+    let next : List ℕ = offsets version (at + length (chain_node version n)) (drop (i + 1) ns) in
+    ap (λ (t : List ℕ). t ++ next) one
+    ∙ (append_assoc now (little_bytes 4 at) next
+    ∙ (ap (λ ms. now ++ offsets version at ms) (sym (drop_more ns i d h)) ∙ so_far))
+
+-- form 2 states no scratch value
+none_stated : (ns : List ChainNode) → version_for ns ≡ 2 → AllByRecursion (λ n. stated_bits n.regs.scratch ≡ 0) ns
+none_stated [] e = tt
+none_stated (n ∷ ns) e = by_test (eqb (stated_bits n.regs.scratch) 0) refl e (none_stated ns) where
+  by_test : (b : Bool) → eqb (stated_bits n.regs.scratch) 0 ≡ b → cond b (version_for ns) 3 ≡ 2
+      → (version_for ns ≡ 2 → AllByRecursion (λ m. stated_bits m.regs.scratch ≡ 0) ns)
+      → AllByRecursion (λ m. stated_bits m.regs.scratch ≡ 0) (n ∷ ns)
+  by_test true t two rest = (eqb-true (stated_bits n.regs.scratch) 0 t, rest two)
+  by_test false t two rest = absurd (omega (arith, two))
+
+two_or_three : (ns : List ChainNode) → (version_for ns ≡ 2) ⊎ (version_for ns ≡ 3)
+two_or_three [] = inl refl
+two_or_three (n ∷ ns) = by_test (eqb (stated_bits n.regs.scratch) 0) (two_or_three ns) where
+  by_test : (b : Bool) → (version_for ns ≡ 2) ⊎ (version_for ns ≡ 3) → (cond b (version_for ns) 3 ≡ 2) ⊎ (cond b (version_for ns) 3 ≡ 3)
+  by_test true rest = rest
+  by_test false rest = inr refl
+
+pub spelled_chained : (bytes : List ℕ) (es : List (ℕ × Lit)) (ns : List ChainNode) → bytes ≡ chained (version_for ns) es ns
+    → length bytes ≤ 4194304
+    → 1 ≤ length ns → length ns ≤ 16384 → length es ≤ 65536 → AreMeant es ns → SpellsChained (version_for ns) bytes es ns
+spelled_chained bytes es ns spelled short some few few_entries meant = record {
+  spelled = spelled;
+  short = short;
+  some = some;
+  few = few;
+  few_entries = few_entries;
+  entries = meant.entries;
+  nodes = λ k d h. whole (get_or ns k d) (meant.nodes k d h)
+      (λ two. All-from_recursion (λ n. stated_bits n.regs.scratch ≡ 0) ns (none_stated ns two) k d h);
+} where
+  whole : (n : ChainNode) → IsChainMeant es n → (version_for ns ≡ 2 → stated_bits n.regs.scratch ≡ 0) → IsChainNode (version_for ns) es n
+  whole n m none = record {
+    kind = m.kind;
+    pc = m.pc;
+    values = m.values;
+    no_scratch = λ two. no_scratch n.regs.scratch m.values.sixteen (none two);
+    chain = m.chain;
+    few = m.few;
+  }
+
+pub spells_chained : (bytes : List ℕ) (es : List (ℕ × Lit)) (ns : List ChainNode) → SpellsChained (version_for ns) bytes es ns
+    → Spells bytes (map (said es) ns)
+spells_chained bytes es ns s = by_form (two_or_three ns) where
+  by_form : (version_for ns ≡ 2) ⊎ (version_for ns ≡ 3) → Spells bytes (map (said es) ns)
+  by_form (inl two) = inr (inl (record { es = es; cs = ns; spells = subst (λ v. SpellsChained v bytes es ns) two s; same = refl }))
+  by_form (inr three) = inr (inr (record { es = es; cs = ns; spells = subst (λ v. SpellsChained v bytes es ns) three s; same = refl }))

@@ -1,0 +1,64 @@
+-- When nodes are written, and why they are not.
+use Rattle.std.specs.Prelude.{◌≡◌, ◌<◌, ◌≤◌, ◌^◌, ◌⊎◌, ⊤, ℕ, ◌==◌, if◌then◌else◌, List, [], ◌∷◌, All, length, map}
+use Rattle.cert_state.specs.declared.literal.Lit.{Lit}
+use Rattle.cert_state.specs.Literals.{IsLit, AreValues}
+use Rattle.cert_form.specs.declared.fault.FormError.{FormError}
+use Rattle.cert_form.specs.declared.fault.FormError.TheVariants.{BadMagic, BadVersion, Truncated, BadNode, BadCount, Trailing, OutOfMemory}
+use Rattle.cert_form.specs.declared.node.ChainNode.{ChainNode}
+use Rattle.cert_form.specs.declared.node.Node.{Node}
+use Rattle.cert_form.specs.Nodes.{PlainNode, literals}
+use Rattle.cert_form.specs.Spelling.{IsKind, AreEntries, listed, chained, stated_bits, nothing_stated}
+
+-- what a node says that has its own list of literals
+abbrev pub plain : Node → PlainNode
+plain n = record { kind = n.kind; pc = n.pc; regs = n.regs; known = n.lits.items }
+
+abbrev pub plains : List Node → List PlainNode
+plains ns = map plain ns
+
+-- its literals and values are such, which is for its maker to see to
+pub record IsMeant (n : PlainNode) : Type 0 where
+  pub kind : IsKind n.kind
+  pub pc : n.pc < 2 ^ 16
+  pub values : AreValues n.regs
+  pub literals : All IsLit n.known
+
+-- the same for entries and nodes of chains: each parent is earlier, a chain is none or an entry's, and
+-- it has at most 512 literals
+pub record IsChainMeant (es : List (ℕ × Lit)) (n : ChainNode) : Type 0 where
+  pub kind : IsKind n.kind
+  pub pc : n.pc < 2 ^ 16
+  pub values : AreValues n.regs
+  pub chain : n.chain ≤ length es
+  pub few : length (literals es n.chain) ≤ 512
+
+pub record AreMeant (es : List (ℕ × Lit)) (ns : List ChainNode) : Type 0 where
+  pub entries : AreEntries es
+  pub nodes : All (IsChainMeant es) ns
+
+-- form 3 is for nodes of which one states a scratch value
+abbrev pub version_for : List ChainNode → ℕ
+version_for [] = 2
+version_for (n ∷ ns) = if stated_bits n.regs.scratch == 0 then version_for ns else 3
+
+-- why nodes are not written in form 1: a limit, a stated scratch value, or memory
+abbrev pub Refused : FormError → List PlainNode → Type 0
+Refused BadCount ns =
+    (length ns ≡ 0) ⊎ ((16384 < length ns) ⊎ ((All (λ n. length n.known ≤ 512) ns → ⊥) ⊎ (4194304 < length (listed ns))))
+Refused BadNode ns = All (λ n. n.regs.scratch ≡ nothing_stated) ns → ⊥
+Refused OutOfMemory ns = ⊤
+Refused BadMagic ns = ⊥
+Refused BadVersion ns = ⊥
+Refused Truncated ns = ⊥
+Refused Trailing ns = ⊥
+
+-- why entries and nodes are not written in form 2 or 3: a limit, or memory
+abbrev pub ChainsRefused : FormError → List (ℕ × Lit) → List ChainNode → Type 0
+ChainsRefused BadCount es ns =
+    (length ns ≡ 0) ⊎ ((16384 < length ns) ⊎ ((65536 < length es) ⊎ (4194304 < length (chained (version_for ns) es ns))))
+ChainsRefused OutOfMemory es ns = ⊤
+ChainsRefused BadNode es ns = ⊥
+ChainsRefused BadMagic es ns = ⊥
+ChainsRefused BadVersion es ns = ⊥
+ChainsRefused Truncated es ns = ⊥
+ChainsRefused Trailing es ns = ⊥
