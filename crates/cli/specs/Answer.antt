@@ -30,12 +30,16 @@ abbrev pub is_verdict : Answer → Bool
 is_verdict (Verdict v) = true
 is_verdict other = false
 
--- the line that says it, which ends by a line feed
+-- what ends a line
+abbrev pub line_feed : ℕ
+line_feed = 10
+
+-- the line that says it
 abbrev pub line_of : Answer → List ℕ
-line_of (Verdict v) = word.text_of v ++ 10 ∷ []
-line_of NoRecord = codes "refused record" ++ 10 ∷ []
-line_of (NoProgram e) = codes "refused view " ++ view.text_of e ++ 10 ∷ []
-line_of (Refusal e) = codes "refused kernel " ++ kernel.text_of e ++ 10 ∷ []
+line_of (Verdict v) = word.text_of v ++ line_feed ∷ []
+line_of NoRecord = codes "refused record" ++ line_feed ∷ []
+line_of (NoProgram e) = codes "refused view " ++ view.text_of e ++ line_feed ∷ []
+line_of (Refusal e) = codes "refused kernel " ++ kernel.text_of e ++ line_feed ∷ []
 
 -- what was written is the line of the answer, and the call tells whether that is a word
 pub record WritesAnswer {S : Type 0} (held : S → Option (List ℕ)) (failures : S → ℕ) (old new : S) (filter rec : List ℕ) (result : Result Bool ExportFault) : Type 0 where

@@ -1,7 +1,8 @@
 //! The words of a command line of `ccell`. It is a crate of its own since a check of clap's calls takes minutes.
 #![tactic(auto)]
 
-ghost use Rattle.std.specs.Prelude.{◌≡◌, ◌↔◌, IsTrue, Some, Any, slice_get, IsErrOf};
+ghost use Rattle.std.specs.Prelude.{◌↔◌, IsTrue, Any, IsErrOf};
+ghost use Rattle.command_line.specs.Words.{IsDashed};
 
 use clap::error::ErrorKind;
 use clap::{Arg, Command, Error};
@@ -53,20 +54,20 @@ fn command<'a>(alloc: Global) -> Result<Command<'a>, AllocError> {
 
 // Whether a word begins with `-`.
 fn is_dashed(word: &str) -> bool
-    ensures { IsTrue result ↔ (slice_get word.now 0 ≡ Some 45) }
+    ensures { IsTrue result ↔ IsDashed word.now }
 {
     word.as_bytes().first() == Some(&b'-')
 }
 
 fn has_dashed(words: &[&str]) -> bool
-    ensures { IsTrue result ↔ Any (λ word. slice_get word.now 0 ≡ Some 45) words.now }
+    ensures { IsTrue result ↔ Any (λ word. IsDashed word.now) words.now }
 {
     words.iter().any(|word| is_dashed(word))
 }
 
 /// The order that words give. A word that begins with `-` is never part of one.
 pub fn read_words<'a>(alloc: Global, words: &'a [&'a str]) -> Result<Order<'a>, Misuse>
-    ensures dashed { Any (λ word. slice_get word.now 0 ≡ Some 45) words.entry.now → IsErrOf result Misuse.Usage }
+    ensures dashed { Any (λ word. IsDashed word.now) words.entry.now → IsErrOf result Misuse.Usage }
 {
     if has_dashed(words) {
         return Err(Misuse::Usage);

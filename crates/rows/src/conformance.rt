@@ -23,9 +23,13 @@ pub fn tell_size(out: &mut String, alloc: Global, profile: &Profile) -> Result<(
     }
 }
 
-/// Adds whether the filter of the profile is accepted and answers on each record of a grid what the profile says.
+/// Adds whether the filter of the profile is accepted and answers on each record of a grid what the profile says, or why
+/// there is none.
 pub fn tell_agreement(out: &mut String, alloc: Global, profile: &Profile) -> Result<()> {
-    let filter = compile(alloc, profile)?;
+    let filter = match compile(alloc, profile) {
+        Ok(filter) => filter,
+        Err(e) => return tell(out, e),
+    };
     let program = Program::view(&filter)?;
     let accepted = accept(&program)?;
     let grid = Grid::of(alloc, profile)?;

@@ -7,7 +7,7 @@ ghost use Rattle.bpf_insn.specs.Bytes.{insns_of, view_fault};
 ghost use Rattle.bpf_insn.specs.declared.code.Operation.TheVariants.{Compute, LoadWord, ReturnK};
 ghost use Rattle.bpf_insn.specs.declared.code.Arithmetic.TheVariants.{And};
 ghost use Rattle.bpf_insn.specs.declared.code.Operand.TheVariants.{K};
-ghost use Rattle.rule_compile.specs.Code.{Grows, HasExits, IsIn, IsStart, insn_of};
+ghost use Rattle.rule_compile.specs.inner.Code.{Grows, HasExits, IsIn, IsStart, insn_of};
 
 use crate::fault::CompileError;
 use crate::label::{Exits, Label};

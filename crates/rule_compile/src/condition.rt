@@ -3,7 +3,7 @@
 //! A filter sees an argument of 64 bits as two words. Two numbers compare as their high words do
 //! where these differ, and else as their low words do.
 ghost use Rattle.std.specs.Prelude.{◌≡◌, ◌+◌, ◌*◌, ◌^◌, ◌<◌, IfOk, OnOk};
-ghost use Rattle.rule_compile.specs.Code.{Grows, HasExits, IsIn, IsStart};
+ghost use Rattle.rule_compile.specs.inner.Code.{Grows, HasExits, IsIn, IsStart};
 
 use crate::assembler::Assembler;
 use crate::fault::CompileError;

@@ -1,7 +1,7 @@
 //! The filter of a profile.
 ghost use Rattle.std.specs.Prelude.{◌≡◌, ◌≤◌, None, length, OnOk, IfOk};
 ghost use Rattle.bpf_insn.specs.Bytes.{view_fault};
-ghost use Rattle.rule_compile.specs.Code.{Grows, IsIn, IsStart};
+ghost use Rattle.rule_compile.specs.inner.Code.{Grows, IsIn, IsStart};
 
 use crate::assembler::Assembler;
 use crate::fault::CompileError;
