@@ -2,7 +2,11 @@
 ghost use Rattle.std.specs.Prelude.{◌≡◌};
 ghost use Rattle.bpf_asm.specs.inner.Reading.{fields_of, insn_of, line_at};
 
-use crate::arguments::{Arguments, Part, read_arguments, split};
+use crate::arguments::Arguments::{Four, Nothing, One, Three};
+use crate::arguments::Part::{
+    Address, Constant, Decimal, Hexadecimal, RegisterA, RegisterX, Scratch,
+};
+use crate::arguments::{Arguments, read_arguments, split};
 use crate::fault::LineFault;
 use crate::listing::form;
 use crate::mnemonic::Mnemonic;
@@ -40,63 +44,36 @@ impl Fields {
         ensures { result ≡ fields_of mnemonic arguments }
     {
         let fields = match (mnemonic, arguments) {
-            (Mnemonic::Ld, Arguments::One(Part::Address(k))) => Fields::plain(
-                Operation::LoadWord,
-                k,
-            ),
-            (Mnemonic::Ld, Arguments::One(Part::Scratch(k))) => {
-                Fields::plain(Operation::LoadScratch, k)
+            (Mnemonic::Ld, One(Address(k))) => Fields::plain(Operation::LoadWord, k),
+            (Mnemonic::Ld, One(Scratch(k))) => Fields::plain(Operation::LoadScratch, k),
+            (Mnemonic::Ldx, One(Scratch(k))) => Fields::plain(Operation::LoadScratchX, k),
+            (Mnemonic::St, One(Scratch(k))) => Fields::plain(Operation::Store, k),
+            (Mnemonic::Stx, One(Scratch(k))) => Fields::plain(Operation::StoreX, k),
+            (Mnemonic::Ld, One(Constant(k))) => Fields::plain(Operation::SetA, k),
+            (Mnemonic::Ldx, One(Constant(k))) => Fields::plain(Operation::SetX, k),
+            (Mnemonic::Ret, One(Constant(k))) => Fields::plain(Operation::ReturnK, k),
+            (Mnemonic::Ret, One(RegisterA)) => Fields::plain(Operation::ReturnA, Some(0)),
+            (Mnemonic::Ja, One(Decimal(k))) => Fields::plain(Operation::Jump, k),
+            (Mnemonic::Branch(test), Three(Constant(k), Decimal(jt), Decimal(jf))) => {
+                Fields::branch(Operation::Branch(test, Operand::K), k, jt, jf)
             }
-            (Mnemonic::Ldx, Arguments::One(Part::Scratch(k))) => {
-                Fields::plain(Operation::LoadScratchX, k)
+            (Mnemonic::Branch(test), Three(RegisterX, Decimal(jt), Decimal(jf))) => {
+                Fields::branch(Operation::Branch(test, Operand::X), Some(0), jt, jf)
             }
-            (Mnemonic::St, Arguments::One(Part::Scratch(k))) => Fields::plain(Operation::Store, k),
-            (Mnemonic::Stx, Arguments::One(Part::Scratch(k))) => Fields::plain(
-                Operation::StoreX,
-                k,
-            ),
-            (Mnemonic::Ld, Arguments::One(Part::Constant(k))) => Fields::plain(Operation::SetA, k),
-            (Mnemonic::Ldx, Arguments::One(Part::Constant(k))) => Fields::plain(Operation::SetX, k),
-            (Mnemonic::Ret, Arguments::One(Part::Constant(k))) => Fields::plain(
-                Operation::ReturnK,
-                k,
-            ),
-            (Mnemonic::Ret, Arguments::One(Part::RegisterA)) => {
-                Fields::plain(Operation::ReturnA, Some(0))
-            }
-            (Mnemonic::Ja, Arguments::One(Part::Decimal(k))) => Fields::plain(Operation::Jump, k),
-            (
-                Mnemonic::Branch(test),
-                Arguments::Three(Part::Constant(k), Part::Decimal(jt), Part::Decimal(jf)),
-            ) => Fields::branch(Operation::Branch(test, Operand::K), k, jt, jf),
-            (
-                Mnemonic::Branch(test),
-                Arguments::Three(Part::RegisterX, Part::Decimal(jt), Part::Decimal(jf)),
-            ) => Fields::branch(Operation::Branch(test, Operand::X), Some(0), jt, jf),
-            (Mnemonic::Compute(arithmetic), Arguments::One(Part::Constant(k))) => {
+            (Mnemonic::Compute(arithmetic), One(Constant(k))) => {
                 Fields::plain(Operation::Compute(arithmetic, Operand::K), k)
             }
-            (Mnemonic::Compute(arithmetic), Arguments::One(Part::RegisterX)) => {
+            (Mnemonic::Compute(arithmetic), One(RegisterX)) => {
                 Fields::plain(Operation::Compute(arithmetic, Operand::X), Some(0))
             }
-            (Mnemonic::Lsh, Arguments::One(Part::Constant(k))) => {
-                Fields::plain(Operation::ShiftLeft, k)
+            (Mnemonic::Lsh, One(Constant(k))) => Fields::plain(Operation::ShiftLeft, k),
+            (Mnemonic::Rsh, One(Constant(k))) => Fields::plain(Operation::ShiftRight, k),
+            (Mnemonic::Neg, Nothing) => Fields::plain(Operation::Negate, Some(0)),
+            (Mnemonic::Tax, Nothing) => Fields::plain(Operation::CopyToX, Some(0)),
+            (Mnemonic::Txa, Nothing) => Fields::plain(Operation::CopyToA, Some(0)),
+            (Mnemonic::Raw, Four(Hexadecimal(code), Decimal(jt), Decimal(jf), Hexadecimal(k))) => {
+                Fields { code, jt, jf, k }
             }
-            (Mnemonic::Rsh, Arguments::One(Part::Constant(k))) => {
-                Fields::plain(Operation::ShiftRight, k)
-            }
-            (Mnemonic::Neg, Arguments::Nothing) => Fields::plain(Operation::Negate, Some(0)),
-            (Mnemonic::Tax, Arguments::Nothing) => Fields::plain(Operation::CopyToX, Some(0)),
-            (Mnemonic::Txa, Arguments::Nothing) => Fields::plain(Operation::CopyToA, Some(0)),
-            (
-                Mnemonic::Raw,
-                Arguments::Four(
-                    Part::Hexadecimal(code),
-                    Part::Decimal(jt),
-                    Part::Decimal(jf),
-                    Part::Hexadecimal(k),
-                ),
-            ) => Fields { code, jt, jf, k },
             _ => return None,
         };
         Some(fields)
