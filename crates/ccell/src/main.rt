@@ -6,7 +6,8 @@ mod words;
 
 use crate::disk::Disk;
 use crate::words::words_of;
-use cli::{Stop, ToWrite, dispatch, report};
+use cli::{Stop, dispatch, report};
+use export::ToWrite;
 use std::alloc::{AllocError, Global};
 use std::process::ExitCode;
 

@@ -1,2 +1,1 @@
-pub mod SinkLemmas
 mod AnswerLaws

@@ -8,8 +8,8 @@ use Rattle.bpf_insn.specs.Machine.{verdict_of}
 use Rattle.bpf_insn.specs.Fault as view
 use Rattle.kernel_check.specs.Accepted.{IsAccepted, IsRefusal}
 use Rattle.kernel_check.specs.Fault as kernel
-use Rattle.cli.specs.Sink.{Writes}
-use Rattle.cli.specs.declared.fault.ExportFault.{ExportFault}
+use Rattle.export.specs.Sink.{Writes}
+use Rattle.export.specs.declared.fault.ExportFault.{ExportFault}
 use Rattle.cli.specs.declared.answer.Answer.{Answer}
 use Rattle.cli.specs.declared.answer.Answer.TheVariants.{Verdict, NoRecord, NoProgram, Refusal}
 

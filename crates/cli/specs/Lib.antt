@@ -1,4 +1,3 @@
-pub mod Sink
 pub mod Answer
 pub mod Stop
 pub mod Fault

@@ -2,8 +2,8 @@
 use Rattle.std.specs.Prelude.{ℕ}
 use Rattle.command_line.specs.declared.Misuse.{Misuse}
 use Rattle.command_line.specs.declared.Misuse.TheVariants as misuse
-use Rattle.cli.specs.declared.fault.ExportFault.{ExportFault}
-use Rattle.cli.specs.declared.fault.ExportFault.TheVariants as fault
+use Rattle.export.specs.declared.fault.ExportFault.{ExportFault}
+use Rattle.export.specs.declared.fault.ExportFault.TheVariants as fault
 use Rattle.cli.specs.declared.stops.Stop.{Stop}
 use Rattle.cli.specs.declared.stops.Stop.TheVariants.{Usage, CannotRead, Write, OutOfMemory}
 

@@ -1,62 +1,6 @@
-//! Why bytes were not read or not written.
+//! Why a file was not read.
 use std::error::Error;
 use std::fmt;
-
-/// Why bytes were not all written.
-#[derive(Clone, Copy, Debug, PartialEq, Eq)]
-pub enum ExportFault {
-    /// The sink failed after it took so many bytes.
-    Write { out: u64 },
-    /// There is not enough memory.
-    OutOfMemory,
-}
-
-impl ExportFault {
-    ghost use Rattle.std.specs.Prelude.{◌≡◌};
-    ghost use Rattle.cli.specs.Fault.{export_label_of};
-
-    // The number and the name by which it is told.
-    fn label(self) -> (u32, &'static str)
-        ensures number { result.0 ≡ (export_label_of self).0 }
-        ensures name { result.1.now ≡ (export_label_of self).1 }
-    {
-        match self {
-            ExportFault::Write { .. } => (1, "Write"),
-            ExportFault::OutOfMemory => (9, "OutOfMemory"),
-        }
-    }
-
-    /// The number by which the fault is told.
-    pub fn number(self) -> u32
-        ensures { result ≡ (export_label_of self).0 }
-    {
-        self.label().0
-    }
-
-    /// The name of the fault.
-    pub fn name(self) -> &'static str
-        ensures { result.now ≡ (export_label_of self).1 }
-    {
-        self.label().1
-    }
-}
-
-impl fmt::Display for ExportFault {
-    ghost use Rattle.std.specs.Prelude.{Some};
-    ghost use Rattle.cli.specs.Fault.{export_text_of};
-
-    ghost output = { λ fault. Some (export_text_of fault) };
-
-    fn fmt<W: fmt::Write>(&self, f: &mut fmt::Formatter<W>) -> fmt::Result {
-        let (number, name) = self.label();
-        match *self {
-            ExportFault::Write { out } => write!(f, "{number} {name} {out}"),
-            ExportFault::OutOfMemory => write!(f, "{number} {name}"),
-        }
-    }
-}
-
-impl Error for ExportFault {}
 
 /// Why a file was not read.
 #[derive(Clone, Copy, Debug, PartialEq, Eq)]
@@ -69,12 +13,12 @@ pub enum FileFault {
 
 impl FileFault {
     ghost use Rattle.std.specs.Prelude.{◌≡◌};
-    ghost use Rattle.cli.specs.Fault.{file_label_of};
+    ghost use Rattle.cli.specs.Fault.{label_of};
 
     // The number and the name by which it is told.
     fn label(self) -> (u32, &'static str)
-        ensures number { result.0 ≡ (file_label_of self).0 }
-        ensures name { result.1.now ≡ (file_label_of self).1 }
+        ensures number { result.0 ≡ (label_of self).0 }
+        ensures name { result.1.now ≡ (label_of self).1 }
     {
         match self {
             FileFault::CannotRead => (1, "CannotRead"),
@@ -84,14 +28,14 @@ impl FileFault {
 
     /// The number by which the fault is told.
     pub fn number(self) -> u32
-        ensures { result ≡ (file_label_of self).0 }
+        ensures { result ≡ (label_of self).0 }
     {
         self.label().0
     }
 
     /// The name of the fault.
     pub fn name(self) -> &'static str
-        ensures { result.now ≡ (file_label_of self).1 }
+        ensures { result.now ≡ (label_of self).1 }
     {
         self.label().1
     }
@@ -99,9 +43,9 @@ impl FileFault {
 
 impl fmt::Display for FileFault {
     ghost use Rattle.std.specs.Prelude.{Some};
-    ghost use Rattle.cli.specs.Fault.{file_text_of};
+    ghost use Rattle.cli.specs.Fault.{text_of};
 
-    ghost output = { λ fault. Some (file_text_of fault) };
+    ghost output = { λ fault. Some (text_of fault) };
 
     fn fmt<W: fmt::Write>(&self, f: &mut fmt::Formatter<W>) -> fmt::Result {
         let (number, name) = self.label();

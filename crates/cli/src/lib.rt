@@ -7,16 +7,14 @@ mod files;
 mod law;
 mod line;
 mod program;
-mod sink;
 mod stops;
 #[cfg(test)]
 mod tests;
 
 pub use answer::{Answer, answer_to};
-pub use fault::{ExportFault, FileFault};
+pub use fault::FileFault;
 pub use files::Files;
 pub use law::one_answer;
 pub use line::verdict_line;
 pub use program::dispatch;
-pub use sink::{Failed, Sink, ToWrite};
 pub use stops::{Stop, report};

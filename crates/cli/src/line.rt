@@ -1,13 +1,12 @@
 //! The line of `ccell verdict`.
 ghost use Rattle.std.specs.Prelude.{◌≡◌, ◌≤◌, ◌+◌, ◌++◌, length};
 ghost use Rattle.arrayvec.specs.ArrayVec.{array_vec_len};
-ghost use Rattle.cli.specs.Fault.{label_text};
+ghost use Rattle.export.specs.Fault.{label_text};
 ghost use Rattle.cli.specs.Answer.{WritesAnswer, line_of};
 
 use crate::answer::{Answer, answer_to};
-use crate::fault::ExportFault;
-use crate::sink::{Sink, write_all};
 use arrayvec::ArrayVec;
+use export::{ExportFault, Sink, write_all};
 
 const ROOM: usize = 64;
 

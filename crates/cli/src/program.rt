@@ -4,9 +4,9 @@ ghost use Rattle.std.specs.Prelude.{◌≤◌};
 use crate::fault::FileFault;
 use crate::files::Files;
 use crate::line::verdict_line;
-use crate::sink::Sink;
 use crate::stops::{Stop, report};
 use command_line::{Order, read_words};
+use export::Sink;
 use std::alloc::Global;
 
 fn read<'a>(alloc: Global, files: &mut impl Files, name: &'a str) -> Result<Vec<u8>, Stop<'a>> {

@@ -2,10 +2,9 @@
 ghost use Rattle.std.specs.Prelude.{◌≡◌};
 ghost use Rattle.cli.specs.Stop.{status_of};
 
-use crate::fault::ExportFault;
-use crate::sink::{Sink, write_all};
 use arrayvec::ArrayString;
 use command_line::Misuse;
+use export::{ExportFault, Sink, write_all};
 use std::fmt;
 use std::fmt::Write;
 use thiserror::Error;

@@ -2,7 +2,7 @@
 use crate::fault::FileFault;
 use crate::files::Files;
 use crate::program::dispatch;
-use crate::sink::ToWrite;
+use export::ToWrite;
 use std::alloc::Global;
 use std::io;
 use std::test::Fail;

@@ -3,7 +3,8 @@
 use crate::shelf::Shelf;
 use crate::tell::{tell, tell_lines};
 use anyhow::Result;
-use cli::{ToWrite, dispatch};
+use cli::dispatch;
+use export::ToWrite;
 use std::alloc::Global;
 
 /// Runs the program on the words after its name, and adds what it writes and its status.

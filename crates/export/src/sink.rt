@@ -1,18 +1,15 @@
 //! Where bytes go.
 ghost use Rattle.std.specs.Prelude.{◌≡◌, ◌≤◌, ◌<◌, ℕ, List, Option, IfOk, length, if◌then◌else◌};
 ghost use Rattle.std.specs.Io.KnownBytes.{WriteAppends};
-ghost use Rattle.cli.specs.Sink.{Writes};
+ghost use Rattle.export.specs.Sink.{Writes};
 
-use crate::fault::ExportFault;
+use crate::fault::{ExportFault, Failed};
 use std::io;
-
-/// A read or a write that failed.
-#[derive(Clone, Copy, Debug, PartialEq, Eq)]
-pub struct Failed;
 
 /// What takes bytes.
 pub trait Sink {
-    ghost use Rattle.cli.specs.Sink.{one_more, is_failure};
+    ghost use Rattle.export.specs.Failures.{one_more};
+    ghost use Rattle.export.specs.Sink.{is_failure};
 
     /// The bytes that it holds, where its writer tells them.
     ghost held: { Self → Option (List ℕ) };
@@ -69,7 +66,7 @@ impl<W: io::Write + Drop> Sink for ToWrite<W> {
 }
 
 /// Writes all of the bytes, or says how many were written. A call that failed is not tried again.
-pub(crate) fn write_all<S: Sink>(bytes: &[u8], sink: &mut S) -> Result<(), ExportFault>
+pub fn write_all<S: Sink>(bytes: &[u8], sink: &mut S) -> Result<(), ExportFault>
     ensures { Writes S.held S.failures sink.old sink.new bytes.now result }
 {
     let mut out = 0;

@@ -1,6 +1,6 @@
 use Rattle.std.proofs.Common.{◌≡◌, ◌≤◌, ◌-◌, length, take}
 use Rattle.std.specs.Io.KnownBytes.{Appends}
-use Rattle.cli.proofs.sink.write_all.Given as goal
+use Rattle.export.proofs.sink.write_all.Given as goal
 
 abbrev pub invariant-write : goal.invariant-write
 invariant-write g l = record {
