@@ -1,0 +1,225 @@
+-- What is known of a record settles the word that the profile says of it.
+use Rattle.std.proofs.Common.{◌≡◌, ◌≢◌, ℕ, ◌+◌, ◌*◌, ◌/◌, ◌%◌, ◌^◌, ◌<◌, ◌≤◌, Bool, true, false, List, sym, refl, ap, ◌∙◌, subst, inl, inr, arith}
+use Rattle.std.specs.Prelude.{bit_and, slice_index, slice_index_or, All, Any, Contains}
+use Rattle.std.proofs.lemmas.Nat.{and_block, and_le_l}
+use Rattle.std.specs.Int.Bits.{and_mask}
+use Rattle.std.proofs.lemmas.List.Elements.{All-contains}
+use Rattle.cert_check.proofs.Elements.{each_of}
+use Rattle.std.proofs.lemmas.Bool.{cases_eq, ltb-true, ltb-false, leb-true, leb-false, lt-ltb, le-ltb, le-leb, lt-leb}
+use Rattle.std.proofs.lemmas.Bool.Decides.{not_from_Decides}
+use Rattle.call_record.specs.Words.{IsRecord, word, argument}
+use Rattle.call_tables.specs.declared.arch.Arch.{Arch}
+use Rattle.call_tables.specs.declared.arch.Arch.TheVariants.{X86_64}
+use Rattle.call_tables.specs.Arch.{token_of}
+use Rattle.call_tables.proofs.ArchLaws.{token_of-same}
+use Rattle.profile.specs.declared.conditions.Op.{Op}
+use Rattle.profile.specs.declared.conditions.Op.TheVariants.{Ne, Lt, Le, Eq, Ge, Gt, MaskedEq}
+use Rattle.profile.specs.declared.rules.Rule.{Rule}
+use Rattle.profile.specs.Operator.{Compares}
+use Rattle.profile.specs.Condition.{Meets}
+use Rattle.profile.specs.Rule.{Matches}
+use Rattle.profile.specs.Policy.{Policy, IsNative, IsClear, Says}
+use Rattle.profile.specs.Said.{compares}
+use Rattle.profile.proofs.SaidLaws.{Decides-compares}
+use Rattle.cert_state.specs.declared.literal.Lit.{Lit}
+use Rattle.cert_state.specs.declared.literal.Lit.TheVariants.{In, Bits, NotBits}
+use Rattle.cert_state.specs.Literals.{all_bits, Holds, Meets as IsMet}
+use Rattle.cert_state.specs.Points.{IsPoint}
+use Rattle.cert_state.specs.Entailment.{Entails}
+use Rattle.cert_state.proofs.KnownLaws.{entailed_is_true}
+use Rattle.cert_state.proofs.BitLaws.{and_all}
+use Rattle.cert_check.specs.Agree.{HasBits, LacksBits, AtBothEnds, all_64_bits, IsYesBy, IsNoBy, IsYesRule, IsNoRule, RulesAgree, MachineAgrees, ListedAgrees, Agrees}
+
+-- a number of two halves under a mask, half by half
+masked_halves : (l h m : ℕ) → l < 2 ^ 32 → bit_and (l + 2 ^ 32 * h) m ≡ bit_and h (m / 2 ^ 32) * 2 ^ 32 + bit_and l (m % 2 ^ 32)
+masked_halves l h m small =
+    let e : l + 2 ^ 32 * h ≡ h * 2 ^ 32 + l = omega arith in
+    let f : m ≡ (m / 2 ^ 32) * 2 ^ 32 + m % 2 ^ 32 = omega arith in
+    let below : m % 2 ^ 32 < 2 ^ 32 = omega arith in
+    ap (λ n. bit_and n m) e ∙ ap (λ n. bit_and (h * 2 ^ 32 + l) n) f ∙ and_block 32 h (m / 2 ^ 32) l (m % 2 ^ 32) small below
+
+-- a number is one of two halves alone
+quotient : (q t d : ℕ) → t < 2 ^ 32 → q * 2 ^ 32 + t ≡ d → (q ≡ d / 2 ^ 32) × (t ≡ d % 2 ^ 32)
+quotient q t d small e = (omega arith, omega arith)
+
+fits : (l h : ℕ) → l < 2 ^ 32 → h < 2 ^ 32 → (l + 2 ^ 32 * h) % 2 ^ 64 ≡ l + 2 ^ 32 * h
+fits l h low high = omega arith
+
+-- the comparisons by order
+abbrev IsOrder : Op → Type 0
+IsOrder Ne = ⊥
+IsOrder Eq = ⊥
+IsOrder MaskedEq = ⊥
+IsOrder _ = Unit {0}
+
+-- what an order answers at both ends it answers between, whatever the datum
+monotone : (op : Op) (value datum low u high : ℕ) (b : Bool) → IsOrder op → low ≤ u → u ≤ high
+    → compares op value 0 low ≡ b → compares op value 0 high ≡ b → compares op value datum u ≡ b
+monotone Ne value datum low u high b o l h p q = absurd o
+monotone Eq value datum low u high b o l h p q = absurd o
+monotone MaskedEq value datum low u high b o l h p q = absurd o
+monotone Lt value datum low u high true o l h p q = let k = ltb-true high value q in lt-ltb u value (omega arith)
+monotone Lt value datum low u high false o l h p q = let k = ltb-false low value p in le-ltb u value (omega arith)
+monotone Le value datum low u high true o l h p q = let k = leb-true high value q in le-leb u value (omega arith)
+monotone Le value datum low u high false o l h p q = let k = leb-false low value p in lt-leb u value (omega arith)
+monotone Ge value datum low u high true o l h p q = let k = leb-true value low p in le-leb value u (omega arith)
+monotone Ge value datum low u high false o l h p q = let k = leb-false value high q in lt-leb value u (omega arith)
+monotone Gt value datum low u high true o l h p q = let k = ltb-true value low p in lt-ltb value u (omega arith)
+monotone Gt value datum low u high false o l h p q = let k = ltb-false value high q in le-ltb value u (omega arith)
+
+module _ (r : List ℕ) (rec : IsRecord r) (known : List Lit) (so : All (λ l. Holds l r) known) where
+  -- a word of the record is one of its points
+  point : (w : ℕ) → IsPoint known w (slice_index r w)
+  point w = (rec.words w, λ k d lt e n. subst (λ v. IsMet (slice_index_or known k d) (slice_index r v)) e (so k d lt))
+
+  half_low : (j : ℕ) → slice_index r (4 + 2 * j) < 2 ^ 32
+  half_low j = rec.words (4 + 2 * j)
+
+  has_bits_sound : (j m d : ℕ) → HasBits known j m d → bit_and (argument r j) m ≡ d
+  has_bits_sound j m d h =
+      let high = entailed_is_true r rec known so (Bits (5 + 2 * j) (m / 2 ^ 32) (d / 2 ^ 32)) h.0 in
+      let low = entailed_is_true r rec known so (Bits (4 + 2 * j) (m % 2 ^ 32) (d % 2 ^ 32)) h.1 in
+      let e : (d / 2 ^ 32) * 2 ^ 32 + d % 2 ^ 32 ≡ d = omega arith in
+      masked_halves (slice_index r (4 + 2 * j)) (slice_index r (5 + 2 * j)) m (half_low j)
+      ∙ ap (λ n. n * 2 ^ 32 + bit_and (slice_index r (4 + 2 * j)) (m % 2 ^ 32)) high
+      ∙ ap (λ n. (d / 2 ^ 32) * 2 ^ 32 + n) low ∙ e
+
+  lacks_bits_sound : (j m d : ℕ) → LacksBits known j m d → bit_and (argument r j) m ≢ d
+  lacks_bits_sound j m d (inl h) = λ is.
+      let differ = entailed_is_true r rec known so (NotBits (5 + 2 * j) (m / 2 ^ 32) (d / 2 ^ 32)) h in
+      let e = sym (masked_halves (slice_index r (4 + 2 * j)) (slice_index r (5 + 2 * j)) m (half_low j)) ∙ is in
+      let small = and_le_l (slice_index r (4 + 2 * j)) (m % 2 ^ 32) in
+      let below = half_low j in
+      differ (quotient (bit_and (slice_index r (5 + 2 * j)) (m / 2 ^ 32)) (bit_and (slice_index r (4 + 2 * j)) (m % 2 ^ 32)) d (omega (arith, small, below)) e).0
+  lacks_bits_sound j m d (inr h) = λ is.
+      let differ = entailed_is_true r rec known so (NotBits (4 + 2 * j) (m % 2 ^ 32) (d % 2 ^ 32)) h in
+      let e = sym (masked_halves (slice_index r (4 + 2 * j)) (slice_index r (5 + 2 * j)) m (half_low j)) ∙ is in
+      let small = and_le_l (slice_index r (4 + 2 * j)) (m % 2 ^ 32) in
+      let below = half_low j in
+      differ (quotient (bit_and (slice_index r (5 + 2 * j)) (m / 2 ^ 32)) (bit_and (slice_index r (4 + 2 * j)) (m % 2 ^ 32)) d (omega (arith, small, below)) e).1
+
+  whole : (j : ℕ) → bit_and (argument r j) all_64_bits ≡ argument r j
+  whole j = and_mask (argument r j) 64 ∙ fits (slice_index r (4 + 2 * j)) (slice_index r (5 + 2 * j)) (rec.words (4 + 2 * j)) (rec.words (5 + 2 * j))
+
+  -- the argument lies between the numbers at both ends
+  ends : (j : ℕ) (op : Op) (value : ℕ) (b : Bool) (h : AtBothEnds known j op value b)
+      → (h.low + 2 ^ 32 * h.low_above ≤ argument r j) × (argument r j ≤ h.high + 2 ^ 32 * h.high_above)
+  ends j op value b h =
+      let l = h.range.between (slice_index r (4 + 2 * j)) (point (4 + 2 * j)) in
+      let k = h.range_above.between (slice_index r (5 + 2 * j)) (point (5 + 2 * j)) in
+      (omega (arith, l, k), omega (arith, l, k))
+
+  ends_sound : (op : Op) (j value datum : ℕ) (b : Bool) → IsOrder op → AtBothEnds known j op value b → compares op value datum (argument r j) ≡ b
+  ends_sound op j value datum b o h =
+      let at = ends j op value b h in
+      monotone op value datum (h.low + 2 ^ 32 * h.low_above) (argument r j) (h.high + 2 ^ 32 * h.high_above) b o at.0 at.1 h.at_low h.at_high
+
+  -- an order that is yes, and one that is no
+  order_yes : (op : Op) (j value datum : ℕ) → IsOrder op → AtBothEnds known j op value true → Compares op value datum (argument r j)
+  order_yes op j value datum o h = (Decides-compares op value datum (argument r j)).0 (ends_sound op j value datum true o h)
+
+  order_no : (op : Op) (j value datum : ℕ) → IsOrder op → AtBothEnds known j op value false → Compares op value datum (argument r j) → ⊥
+  order_no op j value datum o h = not_from_Decides _ (Decides-compares op value datum (argument r j)) (ends_sound op j value datum false o h)
+
+  yes_by : (op : Op) (j value datum : ℕ) → IsYesBy op known j value datum → Compares op value datum (argument r j)
+  yes_by Ne j value datum h = λ e. lacks_bits_sound j all_64_bits value h (whole j ∙ e)
+  yes_by Eq j value datum h = sym (whole j) ∙ has_bits_sound j all_64_bits value h
+  yes_by MaskedEq j value datum h = has_bits_sound j value datum h
+  yes_by Lt j value datum h = order_yes Lt j value datum tt h
+  yes_by Le j value datum h = order_yes Le j value datum tt h
+  yes_by Ge j value datum h = order_yes Ge j value datum tt h
+  yes_by Gt j value datum h = order_yes Gt j value datum tt h
+
+  no_by : (op : Op) (j value datum : ℕ) → IsNoBy op known j value datum → Compares op value datum (argument r j) → ⊥
+  no_by Ne j value datum h = λ differ. differ (sym (whole j) ∙ has_bits_sound j all_64_bits value h)
+  no_by Eq j value datum h = λ e. lacks_bits_sound j all_64_bits value h (whole j ∙ e)
+  no_by MaskedEq j value datum h = lacks_bits_sound j value datum h
+  no_by Lt j value datum h = order_no Lt j value datum tt h
+  no_by Le j value datum h = order_no Le j value datum tt h
+  no_by Ge j value datum h = order_no Ge j value datum tt h
+  no_by Gt j value datum h = order_no Gt j value datum tt h
+
+  -- a word that is known whole
+  word_is : (w n : ℕ) → Entails known (Bits w all_bits n) → slice_index r w ≡ n
+  word_is w n h = sym (and_all (slice_index r w) (rec.words w)) ∙ entailed_is_true r rec known so (Bits w all_bits n) h
+
+  word_is_not : (w n : ℕ) → Entails known (NotBits w all_bits n) → slice_index r w ≢ n
+  word_is_not w n h = λ e. entailed_is_true r rec known so (NotBits w all_bits n) h (and_all (slice_index r w) (rec.words w) ∙ e)
+
+  yes_rule : (rule : Rule) → word r 1 ≡ token_of rule.arch → IsYesRule known rule → Matches rule r
+  yes_rule rule machine h = record {
+    machine = machine;
+    number = word_is 0 rule.nr h.0;
+    conditions = each_of (λ c. Meets c (argument r c.index)) rule.conds.items (λ c has. yes_by c.op c.index c.value c.datum (h.1 c has));
+  }
+
+  no_rule : (rule : Rule) → IsNoRule known rule → Matches rule r → ⊥
+  no_rule rule (inl h, not_yes) m = word_is_not 0 rule.nr h m.number
+  no_rule rule (inr (c, has, denied), not_yes) m =
+      no_by c.op c.index c.value c.datum denied.0 (All-contains (λ d. Meets d (argument r d.index)) rule.conds.items c m.conditions has)
+
+  module _ (policy : Policy) (v : ℕ) (clear : IsClear policy.rules) (h : Agrees policy known v) where
+    -- a rule that matches has the word, where the record's machine agrees
+    rule_agrees : (rule : Rule) → Contains policy.rules rule → Matches rule r → RulesAgree policy known v rule.arch → v ≡ rule.word
+    rule_agrees rule has m (inl (sure, of, holds, e)) =
+        sym e ∙ clear r rec sure rule of.stands has (yes_rule sure (m.machine ∙ ap token_of (sym of.is_for)) holds) m
+    rule_agrees rule has m (inr (none, default, each)) =
+        elim (each rule (record { stands = has; is_for = refl })) [ inl denied ↦ absurd (no_rule rule denied m) | inr e ↦ sym e ]
+
+    -- where none matches, the default is the word
+    default_agrees : (arch : Arch) → word r 1 ≡ token_of arch → All (λ rule. ¬ Matches rule r) policy.rules → RulesAgree policy known v arch → v ≡ policy.default_word
+    default_agrees arch machine none (inl (sure, of, holds, e)) =
+        absurd (All-contains (λ rule. ¬ Matches rule r) policy.rules sure none of.stands (yes_rule sure (machine ∙ ap token_of (sym of.is_for)) holds))
+    default_agrees arch machine none (inr (no_yes, default, each)) = sym default
+
+    -- a listed machine whose token the record has agrees
+    machine_agrees : (arch : Arch) → Contains policy.machines arch → word r 1 ≡ token_of arch → MachineAgrees policy known v arch
+    machine_agrees arch listed machine =
+        elim (All-contains (ListedAgrees policy known v) policy.machines arch h.machines listed) [ inl other ↦ absurd (word_is_not 1 (token_of arch) other machine) | inr agrees ↦ agrees ]
+
+    -- where the number is no x32 number its rules agree
+    rules_agree : (arch : Arch) → IsNative policy r → Contains policy.machines arch → word r 1 ≡ token_of arch → RulesAgree policy known v arch
+    rules_agree arch native listed machine =
+        elim (machine_agrees arch listed machine).rules [
+          | inl (is, above) ↦
+              let low = native.no_x32 (machine ∙ ap token_of is) in
+              let high = entailed_is_true r rec known so (In 0 0x40000000 all_bits) above in
+              absurd (omega (arith, low, high.0))
+          | inr agrees ↦ agrees
+        ]
+
+    -- the record's machine, where it is listed
+    listed_machine : Any (λ a. word r 1 ≡ token_of a) policy.machines → (arch : Arch) × Contains policy.machines arch × (word r 1 ≡ token_of arch)
+    listed_machine (k, arch, inside, at, machine) = (arch, (k, inside, at), machine)
+
+    foreign_agrees : (¬ IsNative policy r) → v ≡ 0
+    foreign_agrees alien = elim h.foreign [
+      | inr zero ↦ zero
+      | inl (arch, listed, token) ↦
+          let machine : word r 1 ≡ token_of arch = word_is 1 (token_of arch) token in
+          let some : Any (λ a. word r 1 ≡ token_of a) policy.machines = (listed.0, arch, listed.1, listed.2, machine) in
+          elim (cases_eq (word r 1) (token_of X86_64)) [
+            | inr other ↦ absurd (alien (record { listed = some; no_x32 = λ e. absurd (other e) }))
+            | inl is ↦
+                let same : arch ≡ X86_64 = token_of-same arch X86_64 (sym machine ∙ is) in
+                elim ((machine_agrees arch listed machine).foreign_numbers same) [
+                  | inr zero ↦ zero
+                  | inl low ↦
+                      let at = entailed_is_true r rec known so (In 0 0 0x3fffffff) low in
+                      absurd (alien (record { listed = some; no_x32 = λ _. omega (arith, at.1) }))
+                ]
+          ]
+    ]
+
+    -- what agrees is what the profile says
+    pub agrees_sound : Says policy r v
+    agrees_sound = record {
+      foreign = foreign_agrees;
+      matched = λ native rule has m.
+          let at = listed_machine native.listed in
+          let same : at.0 ≡ rule.arch = token_of-same at.0 rule.arch (sym at.2 ∙ m.machine) in
+          rule_agrees rule has m (subst (RulesAgree policy known v) same (rules_agree at.0 native at.1 at.2));
+      unmatched = λ native none.
+          let at = listed_machine native.listed in
+          default_agrees at.0 at.2 none (rules_agree at.0 native at.1 at.2);
+    }

@@ -1,0 +1,29 @@
+-- Elements of a list.
+use Rattle.std.proofs.Common.{◌≡◌, ℕ, Bool, List, [], ◌∷◌, ◌++◌, Some}
+use Rattle.std.specs.Prelude.{slice_get, All, Contains, IsTrue, ◌↔◌}
+use Rattle.std.proofs.lemmas.List.Elements.{All-contains_itself, All-weaker, All-nil, All-cons, All-head, All-tail}
+use Rattle.std.proofs.lemmas.Option.{slice_get_within, get_or_from_slice_get}
+
+-- what holds of each element
+pub each_of : {X : Type 0} (P : X → Type 0) (xs : List X) → ((x : X) → Contains xs x → P x) → All P xs
+each_of P xs h = All-weaker (Contains xs) P (λ x has. h x has) xs (All-contains_itself xs)
+
+-- what stands at a place is an element
+pub contains_at : {X : Type 0} (xs : List X) (k : ℕ) (x : X) → slice_get xs k ≡ Some x → Contains xs x
+contains_at xs k x at = (k, slice_get_within xs k x at, get_or_from_slice_get xs k x x at)
+
+-- one element, and two
+pub all_one : {X : Type 0} (P : X → Type 0) (x : X) (b : Bool) → (IsTrue b ↔ P x) → (IsTrue b ↔ All P (x ∷ []))
+all_one P x b h = (λ t. All-cons P x [] (h.0 t) (All-nil P), λ all. h.1 (All-head P x [] all))
+
+pub all_two : {X : Type 0} (P : X → Type 0) (x y : X) (b : Bool) → P x → (IsTrue b ↔ P y) → (IsTrue b ↔ All P (x ∷ y ∷ []))
+all_two P x y b first h =
+    (λ t. All-cons P x (y ∷ []) first (All-cons P y [] (h.0 t) (All-nil P)), λ all. h.1 (All-head P y [] (All-tail P x (y ∷ []) all)))
+
+pub all_none : {X : Type 0} (P : X → Type 0) (x : X) (xs : List X) (b : Bool) → (IsTrue b → ⊥) → (P x → ⊥) → (IsTrue b ↔ All P (x ∷ xs))
+all_none P x xs b untrue never = (λ t. absurd (untrue t), λ all. absurd (never (All-head P x xs all)))
+
+-- what holds of each element of two lists in a row holds of each of the second
+pub all_after : {X : Type 0} (P : X → Type 0) (xs ys : List X) → All P (xs ++ ys) → All P ys
+all_after P [] ys h = h
+all_after P (x ∷ xs) ys h = all_after P xs ys (All-tail P x (xs ++ ys) h)

@@ -1,0 +1,10 @@
+pub mod Elements
+pub mod Agreement
+pub mod Follow
+pub mod Right
+pub mod SoFar
+pub mod RulesLaws
+pub mod JudgedLaws
+pub mod NodeLaws
+pub mod FirstLaws
+pub mod CheckLaws

@@ -1,0 +1,9 @@
+use Rattle.std.proofs.Common.{ℕ, ◌<◌}
+use Rattle.std.specs.Prelude.{slice_index_or}
+use Rattle.call_tables.specs.declared.arch.Arch.{Arch}
+use Rattle.cert_check.specs.Agree.{ListedAgrees}
+use Rattle.cert_check.proofs.agree.all_agree.Given as goal
+
+abbrev pub invariant-loop-arch : goal.invariant-loop-arch
+invariant-loop-arch g l =
+    (k : ℕ) (d : Arch) → k < l.arch-index → ListedAgrees l.profile (g.S.State.known l.state) l.word (slice_index_or l.machines k d)

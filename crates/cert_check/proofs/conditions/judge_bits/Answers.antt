@@ -1,0 +1,5 @@
+use Rattle.std.proofs.Common.{◌≡◌, true, false, refl}
+use Rattle.cert_check.proofs.conditions.judge_bits.Goals as goal
+
+pub returns-then-lacks_bits : goal.returns-then-lacks_bits
+returns-then-lacks_bits g c = (c.if-lacks_bits.ensures.0 refl, λ h. let e : false ≡ true = c.if-has_bits.ensures.1 h in cc)

@@ -1,0 +1,7 @@
+use Rattle.kernel_check.specs.Lent.{accepted_insns}
+use Rattle.cert_form.specs.Views.{nodes_of}
+use Rattle.cert_check.specs.inner.Broken.{KeepBefore}
+use Rattle.cert_check.proofs.nodes.check_nodes.Given as goal
+
+abbrev pub invariant-loop-i : goal.invariant-loop-i
+invariant-loop-i l = KeepBefore l.profile (accepted_insns l.accepted) (nodes_of l.view) l.i

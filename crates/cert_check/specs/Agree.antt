@@ -1,0 +1,105 @@
+-- Where what is known of a record settles the word that a profile says of it. Arguments have 64 bits, and what is
+-- known is of their halves: the low half of argument j is word 4 + 2 * j, the high half the word after it.
+use Rattle.std.specs.Prelude.{◌≡◌, ℕ, ◌+◌, ◌*◌, ◌/◌, ◌%◌, ◌^◌, ◌⊎◌, Bool, true, false, List, All, Contains}
+use Rattle.call_tables.specs.declared.arch.Arch.{Arch}
+use Rattle.call_tables.specs.declared.arch.Arch.TheVariants.{X86_64}
+use Rattle.call_tables.specs.Arch.{token_of}
+use Rattle.profile.specs.declared.conditions.Op.{Op}
+use Rattle.profile.specs.declared.conditions.Op.TheVariants.{Ne, Lt, Le, Eq, Ge, Gt, MaskedEq}
+use Rattle.profile.specs.declared.conditions.Cond.{Cond}
+use Rattle.profile.specs.declared.rules.Rule.{Rule}
+use Rattle.profile.specs.Policy.{Policy}
+use Rattle.profile.specs.Said.{compares}
+use Rattle.cert_state.specs.declared.literal.Lit.{Lit}
+use Rattle.cert_state.specs.declared.literal.Lit.TheVariants.{In, Bits, NotBits}
+use Rattle.cert_state.specs.Literals.{all_bits}
+use Rattle.cert_state.specs.Points.{IsRange}
+use Rattle.cert_state.specs.Entailment.{Entails}
+
+-- argument j has the datum d under the mask m: both halves have theirs
+abbrev pub HasBits : List Lit → ℕ → ℕ → ℕ → Type 0
+HasBits known j m d =
+    Entails known (Bits (5 + 2 * j) (m / 2 ^ 32) (d / 2 ^ 32)) × Entails known (Bits (4 + 2 * j) (m % 2 ^ 32) (d % 2 ^ 32))
+
+-- it has another: one half has
+abbrev pub LacksBits : List Lit → ℕ → ℕ → ℕ → Type 0
+LacksBits known j m d =
+    Entails known (NotBits (5 + 2 * j) (m / 2 ^ 32) (d / 2 ^ 32)) ⊎ Entails known (NotBits (4 + 2 * j) (m % 2 ^ 32) (d % 2 ^ 32))
+
+-- a comparison has this answer at the least and at the greatest number that argument j may be
+pub record AtBothEnds (known : List Lit) (j : ℕ) (op : Op) (value : ℕ) (answer : Bool) : Type 0 where
+  pub low : ℕ
+  pub high : ℕ
+  pub low_above : ℕ
+  pub high_above : ℕ
+  pub range : IsRange known (4 + 2 * j) low high
+  pub range_above : IsRange known (5 + 2 * j) low_above high_above
+  pub at_low : compares op value 0 (low + 2 ^ 32 * low_above) ≡ answer
+  pub at_high : compares op value 0 (high + 2 ^ 32 * high_above) ≡ answer
+
+abbrev pub all_64_bits : ℕ
+all_64_bits = 0xffffffffffffffff
+
+abbrev pub IsYesBy : Op → List Lit → ℕ → ℕ → ℕ → Type 0
+IsYesBy Eq known j value datum = HasBits known j all_64_bits value
+IsYesBy Ne known j value datum = LacksBits known j all_64_bits value
+IsYesBy MaskedEq known j value datum = HasBits known j value datum
+IsYesBy Lt known j value datum = AtBothEnds known j Lt value true
+IsYesBy Le known j value datum = AtBothEnds known j Le value true
+IsYesBy Ge known j value datum = AtBothEnds known j Ge value true
+IsYesBy Gt known j value datum = AtBothEnds known j Gt value true
+
+abbrev pub IsNoBy : Op → List Lit → ℕ → ℕ → ℕ → Type 0
+IsNoBy Eq known j value datum = LacksBits known j all_64_bits value
+IsNoBy Ne known j value datum = HasBits known j all_64_bits value
+IsNoBy MaskedEq known j value datum = LacksBits known j value datum
+IsNoBy Lt known j value datum = AtBothEnds known j Lt value false
+IsNoBy Le known j value datum = AtBothEnds known j Le value false
+IsNoBy Ge known j value datum = AtBothEnds known j Ge value false
+IsNoBy Gt known j value datum = AtBothEnds known j Gt value false
+
+-- a condition is yes, or no; what meets both is yes, and what meets none is open
+abbrev pub IsYes : List Lit → Cond → Type 0
+IsYes known c = IsYesBy c.op known c.index c.value c.datum
+
+abbrev pub IsNo : List Lit → Cond → Type 0
+IsNo known c = IsNoBy c.op known c.index c.value c.datum × (IsYes known c → ⊥)
+
+-- so a rule: yes where the number is known to be its own and each condition is yes, no where the number is known
+-- to be another or a condition is no
+abbrev pub IsYesRule : List Lit → Rule → Type 0
+IsYesRule known rule =
+    Entails known (Bits 0 all_bits rule.nr) × ((c : Cond) → Contains rule.conds.items c → IsYes known c)
+
+abbrev pub IsNoRule : List Lit → Rule → Type 0
+IsNoRule known rule =
+    (Entails known (NotBits 0 all_bits rule.nr) ⊎ ((c : Cond) × Contains rule.conds.items c × IsNo known c))
+    × (IsYesRule known rule → ⊥)
+
+-- a rule of the profile for the machine
+pub record IsRuleOf (policy : Policy) (arch : Arch) (rule : Rule) : Type 0 where
+  pub stands : Contains policy.rules rule
+  pub is_for : rule.arch ≡ arch
+
+-- the rules of a machine agree with v: a rule that is yes has the word v; or none is yes, the default is v, and each
+-- rule that is not no has the word v
+abbrev pub RulesAgree : Policy → List Lit → ℕ → Arch → Type 0
+RulesAgree policy known v arch =
+    ((rule : Rule) × IsRuleOf policy arch rule × IsYesRule known rule × (rule.word ≡ v))
+    ⊎ (((rule : Rule) → IsRuleOf policy arch rule → IsYesRule known rule → ⊥)
+    × (policy.default_word ≡ v)
+    × ((rule : Rule) → IsRuleOf policy arch rule → IsNoRule known rule ⊎ (rule.word ≡ v)))
+
+-- a machine agrees with v: v is 0 where an x32 number is possible, and its rules agree unless the number is one
+pub record MachineAgrees (policy : Policy) (known : List Lit) (v : ℕ) (arch : Arch) : Type 0 where
+  pub foreign_numbers : arch ≡ X86_64 → Entails known (In 0 0 0x3fffffff) ⊎ (v ≡ 0)
+  pub rules : ((arch ≡ X86_64) × Entails known (In 0 0x40000000 all_bits)) ⊎ RulesAgree policy known v arch
+
+-- a listed machine is known to be another than the record's, or agrees
+abbrev pub ListedAgrees : Policy → List Lit → ℕ → Arch → Type 0
+ListedAgrees policy known v arch = Entails known (NotBits 1 all_bits (token_of arch)) ⊎ MachineAgrees policy known v arch
+
+-- the profile agrees with v: v is 0 where a foreign record is possible, and each machine agrees that is possible
+pub record Agrees (policy : Policy) (known : List Lit) (v : ℕ) : Type 0 where
+  pub foreign : ((arch : Arch) × Contains policy.machines arch × Entails known (Bits 1 all_bits (token_of arch))) ⊎ (v ≡ 0)
+  pub machines : All (ListedAgrees policy known v) policy.machines

@@ -1,0 +1,4 @@
+-- Mirrors of private code.
+pub mod Judged
+pub mod Ways
+pub mod Broken

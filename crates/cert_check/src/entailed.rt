@@ -1,0 +1,118 @@
+//! Whether what is known on an edge gives what its node says.
+ghost use Rattle.std.specs.Prelude.{ℕ, ◌≡◌, ◌<◌, ◌↔◌, IsTrue, All, slice_get, Some, slice_index_or, length};
+ghost use Rattle.cert_state.specs.declared.literal.AVal.{AVal as TheValue};
+ghost use Rattle.cert_state.specs.declared.literal.AVal.TheVariants.{Unknown};
+ghost use Rattle.cert_state.specs.Entailment.{Entails, IsDead};
+ghost use Rattle.cert_form.specs.declared.node.Kind.TheVariants as kind;
+ghost use Rattle.cert_form.specs.Views.{nodes_of, says};
+ghost use Rattle.cert_check.specs.Rules.{Allows, Carries};
+ghost use Rattle.cert_check.specs.inner.Broken.{CarriesTo};
+ghost use Rattle.cert_check.specs.inner.Ways.{edge_list, edge_of};
+
+use crate::edges::{Way, Ways};
+use cert_form::{CertView, Kind, NodeView};
+use cert_state::{AVal, State, With, dead, entails};
+
+// Whether a node may say this of a register of which that is known.
+fn allows(there: AVal, here: AVal) -> bool
+    ensures { IsTrue result ↔ Allows there here }
+{
+    there == AVal::Unknown || there == here
+}
+
+// Whether a node may say this of the scratch words.
+fn allows_scratch(there: &[AVal; 16], here: &[AVal; 16]) -> bool
+    ensures { IsTrue result ↔ ((j : ℕ) (v : TheValue) → slice_get there.now j ≡ Some v
+        → Allows v (slice_index_or here.now j Unknown)) }
+{
+    for j in 0..16_usize {
+        if !allows(there[j], here[j]) {
+            return false;
+        }
+    }
+    true
+}
+
+// Whether a state gives each literal that a node says.
+fn entails_all<S: State, T: State>(state: &S, node: &T) -> bool
+    ensures { IsTrue result ↔ All (Entails (S.known state.now)) (T.known node.now) }
+{
+    let mut at = node.start();
+    while let Some((literal, next)) = node.next(at) {
+        if !entails(state, &literal) {
+            return false;
+        }
+        at = next;
+    }
+    true
+}
+
+// Whether what is known on a way gives what its node says.
+fn carries(node: &NodeView<'_>, way: &Way, there: &NodeView<'_>) -> bool
+    ensures { IsTrue result ↔ Carries (says node.now).known (edge_of way.now) (says there.now) }
+{
+    let regs = there.regs();
+    if !allows(regs.a, way.regs.a) {
+        return false;
+    }
+    if !allows(regs.x, way.regs.x) {
+        return false;
+    }
+    if !allows_scratch(&regs.scratch, &way.regs.scratch) {
+        return false;
+    }
+    let known = With {
+        state: node,
+        more: way.fact,
+    };
+    entails_all(&known, there)
+}
+
+// Whether what is known on a way gives what the node there says.
+fn carries_to(view: &CertView<'_>, node: &NodeView<'_>, way: &Way) -> bool
+    requires { way.now.to < length (nodes_of view.now) }
+    ensures { IsTrue result ↔ CarriesTo (nodes_of view.now) (says node.now) (edge_of way.now) }
+{
+    carries(node, way, &view.node(way.to as usize))
+}
+
+// Whether each way carries what its node says.
+fn all_carry(view: &CertView<'_>, node: &NodeView<'_>, ways: &Ways) -> bool
+    requires { All (λ e. e.to < length (nodes_of view.now)) (edge_list ways.now) }
+    ensures { IsTrue result ↔ All (CarriesTo (nodes_of view.now) (says node.now)) (edge_list ways.now) }
+{
+    match ways {
+        Ways::Nowhere => true,
+        Ways::One(way) => carries_to(view, node, way),
+        Ways::Two(first, second) => {
+            if !carries_to(view, node, first) {
+                return false;
+            }
+            carries_to(view, node, second)
+        }
+    }
+}
+
+// Whether a node, if it is dead, can hold no record.
+fn dead_is_dead(node: &NodeView<'_>) -> bool
+    ensures { IsTrue result ↔ ((says node.now).kind ≡ kind.Dead → IsDead (says node.now).known) }
+{
+    match node.kind() {
+        Kind::Dead => dead(node),
+        Kind::Step(_, _) => true,
+        Kind::Split(_, _, _, _) => true,
+        Kind::Return => true,
+    }
+}
+
+/// Whether each way carries what its node says, and a dead node can hold no record.
+pub(crate) fn entail_is_kept(view: &CertView<'_>, node: &NodeView<'_>, ways: &Ways) -> bool
+    requires { All (λ e. e.to < length (nodes_of view.now)) (edge_list ways.now) }
+    ensures { IsTrue result ↔ All (CarriesTo (nodes_of view.now) (says node.now)) (edge_list ways.now)
+        × ((says node.now).kind ≡ kind.Dead → IsDead (says node.now).known) }
+{
+    if !all_carry(view, node, ways) {
+        return false;
+    }
+    dead_is_dead(node)
+}

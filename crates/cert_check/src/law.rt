@@ -1,0 +1,6 @@
+ghost use Rattle.cert_check.specs.Right.{ValidIsRight};
+
+/// A valid certificate of an accepted program makes the program right for a clear profile.
+pub fn valid_is_right()
+    ensures { ValidIsRight }
+{}

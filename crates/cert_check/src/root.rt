@@ -1,0 +1,29 @@
+//! The root.
+ghost use Rattle.std.specs.Prelude.{◌↔◌, ◌<◌, IsTrue, length};
+ghost use Rattle.cert_form.specs.Views.{nodes_of};
+ghost use Rattle.cert_check.specs.Rules.{RootRule};
+
+use cert_form::CertView;
+use cert_state::{AVal, State};
+
+/// Whether node 0 stands at position 0, knows no literal, A and X are 0, and no scratch word is stated.
+pub(crate) fn root_is_kept(view: &CertView<'_>) -> bool
+    requires { 0 < length (nodes_of view.now) }
+    ensures { IsTrue result ↔ RootRule (nodes_of view.now) }
+{
+    let root = view.node(0);
+    let regs = root.regs();
+    if root.pc() != 0 {
+        return false;
+    }
+    if root.next(root.start()).is_some() {
+        return false;
+    }
+    if regs.a != AVal::Const(0) {
+        return false;
+    }
+    if regs.x != AVal::Const(0) {
+        return false;
+    }
+    regs.scratch.iter().all(|value| *value == AVal::Unknown)
+}
