@@ -1,7 +1,4 @@
 //! Why bytes were not read or not written.
-ghost use Rattle.export.specs.declared.fault.ExportFault.TheVariants.{OutOfMemory};
-
-use std::alloc::AllocError;
 use std::error::Error;
 use std::fmt;
 
@@ -64,13 +61,3 @@ impl fmt::Display for ExportFault {
 }
 
 impl Error for ExportFault {}
-
-impl From<AllocError> for ExportFault {
-    ghost use Rattle.std.specs.Prelude.{◌≡◌};
-
-    ghost from_gives = { λ _ e. e ≡ OutOfMemory };
-
-    fn from(_error: AllocError) -> ExportFault {
-        ExportFault::OutOfMemory
-    }
-}

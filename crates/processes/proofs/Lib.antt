@@ -1,1 +1,3 @@
 pub mod AttachedLaws
+pub mod FilterLemmas
+pub mod Lists

@@ -11,8 +11,9 @@ use Rattle.bpf_insn.specs.declared.instruction.Insn.{Insn}
 use Rattle.processes.specs.declared.outcome.End.TheVariants as end
 use Rattle.processes.specs.declared.outcome.Outcome.{Outcome}
 use Rattle.processes.specs.declared.outcome.Outcome.TheVariants.{Done, Failed, Absent, Denied, NoTask}
-use Rattle.processes.specs.Calls.{Row, arg}
-use Rattle.processes.specs.Calls.Row.{NewTask, NewThread, Execve, Exit, ExitGroup, Kill, GetPid, GetTid, GetParent, Load, NoLoad, Plain, Missing}
+use Rattle.processes.specs.Calls.{arg}
+use Rattle.processes.specs.declared.row.Row.{Row}
+use Rattle.processes.specs.declared.row.Row.TheVariants.{NewTask, NewThread, Execve, Exit, ExitGroup, Kill, GetPid, GetTid, GetParent, Load, NoLoad, Plain, Missing}
 use Rattle.processes.specs.Calls as calls
 use Rattle.processes.specs.Attached.{Attached}
 use Rattle.processes.specs.Attached.Attached.{NoBytes, Refused, Taken}

@@ -5,3 +5,5 @@ pub mod Attached
 pub mod Kernel
 pub mod Begin
 pub mod Views
+pub mod First
+pub mod inner

@@ -1,0 +1,11 @@
+use Rattle.std.proofs.Common.{ap, ◌∙◌, sym}
+use Rattle.std.specs.Prelude.{option_and_then, option_map, slice_get}
+use Rattle.processes.specs.Tasks.{is_task}
+use Rattle.processes.specs.inner.Table.{process_of}
+use Rattle.processes.proofs.Lists.{find_at_position}
+use Rattle.processes.proofs.tasks.index_of.Goals as goal
+
+pub returns-clause-found : goal.returns-clause-found
+returns-clause-found c =
+    find_at_position process_of (is_task c.args.number) c.args.tasks.now
+    ∙ ap (option_and_then (λ i. option_map process_of (slice_get c.args.tasks.now i))) (sym c.position_of.ensures)

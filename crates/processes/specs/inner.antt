@@ -1,0 +1,3 @@
+-- Mirrors of private code.
+pub mod Loads
+pub mod Table

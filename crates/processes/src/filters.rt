@@ -1,0 +1,183 @@
+//! The filters of a task.
+ghost use Rattle.std.specs.Prelude.{◌≡◌, ◌+◌, ◌≤◌, ◌∷◌, [], ◌++◌, IfOk, length, map, nat_eq};
+ghost use Rattle.std.specs.Cmp.Lexicographic.{pointwise};
+ghost use Rattle.kernel_check.specs.Lent.{accepted_insns};
+
+use bpf_interp::verdict;
+use call_record::{Record, Word, stricter};
+use kernel_check::{Accepted, AcceptedBuf};
+use std::alloc::{AllocError, Global};
+use std::marker::Model;
+
+/// A filter, with its load number in the container.
+#[derive(Drop)]
+pub(crate) struct Loaded {
+    pub(crate) load: u32,
+    pub(crate) program: AcceptedBuf,
+}
+
+impl Loaded {
+    ghost use Rattle.processes.specs.inner.Loads.{filter_of};
+
+    fn copied(&self, alloc: Global) -> Result<Loaded, AllocError>
+        ensures { IfOk result (λ copy. copy ≡ self.now) }
+    {
+        let program = AcceptedBuf::copy_of(alloc, &self.program.as_accepted())?;
+        Ok(Loaded {
+            load: self.load,
+            program,
+        })
+    }
+
+    // The word that the filter gives.
+    fn word(&self, rec: &Record) -> Word
+        ensures { result ≡ (filter_of self.now).judge.word rec.now }
+    {
+        verdict(&self.program.as_accepted(), rec)
+    }
+
+    // For how many instructions the filter counts beside a further one.
+    fn size(&self) -> u32
+        ensures size { result ≡ length self.now.program + 4 }
+        ensures small { result ≤ 4100 }
+    {
+        self.program.as_accepted().program().len() as u32 + 4
+    }
+}
+
+/// The filters of a task, the newest first.
+#[derive(Drop)]
+pub(crate) struct Filters {
+    list: Vec<Loaded>,
+}
+
+impl Model for Filters {
+    ghost use Rattle.std.specs.Prelude.{◌≤◌, List};
+    ghost use Rattle.processes.specs.declared.filters.Loaded.{Loaded as Kept};
+    ghost use Rattle.processes.specs.inner.Loads.{total_size};
+
+    ghost Value = { List Kept };
+
+    ghost view = { λ filters. filters.list.items };
+
+    ghost invariant = { λ filters. total_size filters.list.items ≤ 32772 };
+}
+
+impl Filters {
+    ghost use Rattle.processes.specs.Kernel.{is_oldest_part};
+    ghost use Rattle.call_record.specs.Verdict.{strictest_of};
+    ghost use Rattle.processes.specs.inner.Loads.{filter_of, filters_of, loads_of, total_size};
+
+    /// The first filter alone.
+    pub(crate) fn first(alloc: Global, program: &Accepted<'_>) -> Result<Filters, AllocError>
+        ensures { IfOk result (λ filters. filters
+            ≡ record { load = 0; program = accepted_insns program.now } ∷ []) }
+    {
+        let program = AcceptedBuf::copy_of(alloc, program)?;
+        let mut list = Vec::with_capacity(alloc, 1)?;
+        list.push(Loaded { load: 0, program })?;
+        Ok(Filters { list })
+    }
+
+    /// A copy.
+    pub(crate) fn copied(&self, alloc: Global) -> Result<Filters, AllocError>
+        ensures { IfOk result (λ copy. copy ≡ self.now) }
+    {
+        let list = copied_onto(
+            Vec::with_capacity(alloc, self.list.len())?,
+            alloc,
+            &self.list,
+        )?;
+        Ok(Filters { list })
+    }
+
+    /// A copy with a further filter in front.
+    pub(crate) fn with_newer(
+        &self,
+        alloc: Global,
+        load: u32,
+        program: &Accepted<'_>,
+    ) -> Result<Filters, AllocError>
+        requires { length (accepted_insns program.now) + total_size self.now ≤ 32768 }
+        ensures { IfOk result (λ filters. filters
+            ≡ record { load = load; program = accepted_insns program.now } ∷ self.now) }
+    {
+        let program = AcceptedBuf::copy_of(alloc, program)?;
+        let mut list = Vec::with_capacity(alloc, self.list.len() + 1)?;
+        list.push(Loaded { load, program })?;
+        let list = copied_onto(list, alloc, &self.list)?;
+        Ok(Filters { list })
+    }
+
+    /// How many filters there are.
+    pub(crate) fn len(&self) -> u32
+        ensures { result ≡ length self.now }
+    {
+        self.list.len() as u32
+    }
+
+    /// For how many instructions the filters count beside a further one.
+    pub(crate) fn size(&self) -> u32
+        ensures { result ≡ total_size self.now }
+    {
+        total_size(&self.list)
+    }
+
+    /// The strictest word that the filters give.
+    pub(crate) fn verdict(&self, rec: &Record) -> Word
+        ensures { result ≡ strictest_of (map (λ f. f.judge.word rec.now) (filters_of self.now)) }
+    {
+        self.list.iter().rev().fold(Word::ALLOW, |older, filter| {
+            stricter(filter.word(rec), older)
+        })
+    }
+
+    /// Whether these are what is left of others after their newest are dropped.
+    pub(crate) fn is_oldest_part_of(&self, newer: &Filters) -> bool
+        ensures { result ≡ is_oldest_part (loads_of self.now) (loads_of newer.now) }
+    {
+        let spare = newer.list.len().saturating_sub(self.list.len());
+        same_loads(&self.list, &newer.list[spare..])
+    }
+}
+
+ghost use Rattle.processes.specs.inner.Loads.{loads_of as loads, total_size as total};
+
+// A list with copies of these behind it.
+fn copied_onto(
+    mut list: Vec<Loaded>,
+    alloc: Global,
+    filters: &[Loaded],
+) -> Result<Vec<Loaded>, AllocError>
+    ensures { IfOk result (λ all. all.items ≡ list.items ++ filters.now) }
+{
+    for filter in filters {
+        list.push(filter.copied(alloc)?)?;
+    }
+    Ok(list)
+}
+
+// For how many instructions filters count.
+fn total_size(list: &[Loaded]) -> u32
+    requires { total list.now ≤ 32772 }
+    ensures { result ≡ total list.now }
+{
+    list.iter().map(|filter| filter.size()).sum()
+}
+
+// Whether two lists have the same load numbers.
+fn same_loads(mut left: &[Loaded], mut right: &[Loaded]) -> bool
+    ensures { result ≡ pointwise nat_eq (loads left.entry.now) (loads right.entry.now) }
+{
+    while let [filter, rest @ ..] = left {
+        let [other, more @ ..] = right else {
+            return false;
+        };
+        if filter.load != other.load {
+            return false;
+        }
+        left = rest;
+        right = more;
+    }
+    right.is_empty()
+}

@@ -1,0 +1,148 @@
+//! The rows of the table of calls: what the kernel knows of a record before any task is looked at.
+ghost use Rattle.std.specs.Prelude.{◌≡◌, option_copied};
+ghost use Rattle.processes.specs.Calls.{call_beside, entries, prctl_row, row_by, row_of, seccomp_row};
+
+use call_record::Record;
+use call_tables::Arch;
+
+/// The calls that the kernel tells from one another.
+#[derive(Clone, Copy, Debug, PartialEq, Eq)]
+pub enum Call {
+    /// fork and vfork.
+    Fork,
+    Clone,
+    Execve,
+    Exit,
+    ExitGroup,
+    Kill,
+    GetPid,
+    GetTid,
+    GetParent,
+    Seccomp,
+    Prctl,
+    /// A call that the kernel lacks, though the machine's table has it.
+    Lacking,
+    /// Any other call that the machine has.
+    Plain,
+}
+
+/// The names of these calls.
+pub(crate) const NAMED: &[(&str, Call)] = &[
+    ("fork", Call::Fork),
+    ("vfork", Call::Fork),
+    ("clone", Call::Clone),
+    ("execve", Call::Execve),
+    ("exit", Call::Exit),
+    ("exit_group", Call::ExitGroup),
+    ("kill", Call::Kill),
+    ("getpid", Call::GetPid),
+    ("gettid", Call::GetTid),
+    ("getppid", Call::GetParent),
+    ("seccomp", Call::Seccomp),
+    ("prctl", Call::Prctl),
+    ("clone3", Call::Lacking),
+];
+
+/// A row of the table of calls.
+#[derive(Clone, Copy, Debug, PartialEq, Eq)]
+pub enum Row {
+    /// fork, vfork, and clone of a task with a group of its own.
+    NewTask,
+    /// clone of a thread.
+    NewThread,
+    Execve,
+    Exit,
+    ExitGroup,
+    Kill,
+    GetPid,
+    GetTid,
+    GetParent,
+    /// seccomp or prctl with a filter, for the caller alone, or for all tasks of its group.
+    Load { for_all: bool },
+    /// Any other seccomp or prctl.
+    NoLoad,
+    /// Any other call that the machine has.
+    Plain,
+    /// The kernel has no such call.
+    Missing,
+}
+
+// The call beside the first such name.
+fn find_call(mut table: &[(&str, Call)], name: &str) -> Call
+    ensures { result ≡ call_beside (entries table.entry.now) name.now }
+{
+    while let [entry, rest @ ..] = table {
+        if entry.0 == name {
+            return entry.1;
+        }
+        table = rest;
+    }
+    Call::Plain
+}
+
+// The row of a seccomp call.
+fn seccomp_row(rec: &Record) -> Row
+    ensures { result ≡ seccomp_row rec.now }
+{
+    if rec.args[0] != 1 {
+        return Row::NoLoad;
+    }
+    match rec.args[1] {
+        0 => Row::Load { for_all: false },
+        1 => Row::Load { for_all: true },
+        _ => Row::NoLoad,
+    }
+}
+
+// The row of a prctl call.
+fn prctl_row(rec: &Record) -> Row
+    ensures { result ≡ prctl_row rec.now }
+{
+    if rec.args[0] != 22 {
+        return Row::NoLoad;
+    }
+    if rec.args[1] != 2 {
+        return Row::NoLoad;
+    }
+    Row::Load { for_all: false }
+}
+
+// The row of a record of this call.
+fn row_by(call: Call, rec: &Record) -> Row
+    ensures { result ≡ row_by call rec.now }
+{
+    match call {
+        Call::Fork => Row::NewTask,
+        Call::Clone => {
+            if rec.args[0] & 0x10000 == 0 {
+                Row::NewTask
+            } else {
+                Row::NewThread
+            }
+        }
+        Call::Execve => Row::Execve,
+        Call::Exit => Row::Exit,
+        Call::ExitGroup => Row::ExitGroup,
+        Call::Kill => Row::Kill,
+        Call::GetPid => Row::GetPid,
+        Call::GetTid => Row::GetTid,
+        Call::GetParent => Row::GetParent,
+        Call::Seccomp => seccomp_row(rec),
+        Call::Prctl => prctl_row(rec),
+        Call::Lacking => Row::Missing,
+        Call::Plain => Row::Plain,
+    }
+}
+
+/// The row of a record on a machine.
+pub(crate) fn row_of(native: Arch, rec: &Record) -> Row
+    ensures { result ≡ row_of native rec.now }
+{
+    if rec.arch != native.token() {
+        return Row::Missing;
+    }
+    match native.name(rec.nr) {
+        None => Row::Missing,
+        Some(name) => row_by(find_call(NAMED, name), rec),
+    }
+}
