@@ -2,11 +2,11 @@
 
 use crate::conformance::{tell_agreement, tell_size};
 use crate::rules::tell_profile;
-use crate::tell::tell;
-use crate::text::{call, expanded, machine};
 use anyhow::{Context, Result, bail};
 use profile::Profile;
 use profile_json::{Bundle, ProfileError, read_bundle};
+use row_parts::tell::tell;
+use row_parts::text::{call, expanded, machine};
 use std::alloc::Global;
 use std::collections::BTreeMap;
 

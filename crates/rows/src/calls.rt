@@ -1,9 +1,9 @@
 //! The tables of calls.
 
-use crate::tell::tell;
-use crate::text::{machine_name, narrow};
 use anyhow::{Result, bail};
 use call_tables::Arch;
+use row_parts::tell::tell;
+use row_parts::text::{machine_name, narrow};
 
 /// Adds the answer to a question on machines and calls.
 pub fn answer(out: &mut String, word: &str, rest: &str) -> Result<()> {

@@ -1,14 +1,14 @@
 //! Compiled filters beside their profiles. Nothing is promised of what they answer, so it is tried on many records.
 
 use crate::grid::Grid;
-use crate::tell::tell;
-use crate::text::record;
 use anyhow::Result;
 use bpf_insn::Program;
 use bpf_interp::verdict;
 use call_record::Record;
 use kernel_check::{Accepted, accept};
 use profile::Profile;
+use row_parts::tell::tell;
+use row_parts::text::record;
 use rule_compile::compile;
 use std::alloc::Global;
 

@@ -1,13 +1,13 @@
 //! Filters: their listings, the kernel's check and their verdicts.
 
-use crate::bytes::{bytes, tell_bytes};
-use crate::tell::{tell, tell_lines};
-use crate::text::{call, expanded};
 use anyhow::{Context, Result, bail};
 use bpf_asm::{assemble, disassemble};
 use bpf_insn::{Insn, Program};
 use bpf_interp::verdict_counted;
 use kernel_check::{AcceptedBuf, accept};
+use row_parts::bytes::{bytes, tell_bytes};
+use row_parts::tell::{tell, tell_lines};
+use row_parts::text::{call, expanded};
 use std::alloc::Global;
 use std::fmt::Write;
 

@@ -26,22 +26,18 @@
 #![tactic(auto)]
 
 mod bundles;
-mod bytes;
 mod calls;
 mod conformance;
 mod filters;
 mod grid;
 mod rules;
-mod session;
-mod shelf;
-mod tell;
-mod text;
 mod verdicts;
 
 use crate::bundles::Bundles;
 use crate::filters::Filters;
-use crate::shelf::Shelf;
 use anyhow::{Context, Result};
+use row_parts::session;
+use row_parts::shelf::Shelf;
 use std::alloc::Global;
 use std::{env, fs};
 

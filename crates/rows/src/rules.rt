@@ -1,12 +1,12 @@
 //! Rules of profiles.
 
-use crate::tell::tell;
-use crate::text::{expanded, machine, machine_name, narrow, number, verdict_word};
 use anyhow::{Context, Result, bail};
 use arrayvec::ArrayVec;
 use call_record::Word;
 use call_tables::Arch;
 use profile::{Cond, Op, Profile, Rule, overlap};
+use row_parts::tell::tell;
+use row_parts::text::{expanded, machine, machine_name, narrow, number, verdict_word};
 use std::alloc::Global;
 use std::fmt::Write;
 

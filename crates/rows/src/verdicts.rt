@@ -1,10 +1,10 @@
 //! Words of verdicts, and records of calls.
 
-use crate::bytes::tell_bytes;
-use crate::tell::tell;
-use crate::text::{call, number, record, verdict_word};
 use anyhow::{Context, Result, bail, ensure};
 use call_record::{Ends, Record, Word, least_below, lets_through, strictest};
+use row_parts::bytes::tell_bytes;
+use row_parts::tell::tell;
+use row_parts::text::{call, number, record, verdict_word};
 use std::alloc::Global;
 use std::fmt::Write;
 
