@@ -1,0 +1,167 @@
+//! Whether what is known settles a condition, and of which words that is known.
+ghost use Rattle.std.specs.Prelude.{◌<◌};
+
+use crate::split::Split;
+use crate::words::Words;
+use cert_state::{Lit, State, entails, range};
+use profile::{Cond, Op};
+
+/// How far a condition or a rule is settled.
+#[derive(Clone, Copy)]
+pub(crate) enum Judged {
+    /// It is met, by what is known of these words.
+    Yes(Words),
+    /// It is not met, by what is known of these words.
+    No(Words),
+    /// It may be either. The split settles more.
+    Open(Split),
+}
+
+// Half of an argument: a word with a mask and a datum, or with a number.
+#[derive(Clone, Copy)]
+struct Half {
+    word: u8,
+    mask: u32,
+    datum: u32,
+}
+
+fn low(number: u64) -> u32 {
+    (number % (1 << 32)) as u32
+}
+
+fn high(number: u64) -> u32 {
+    (number >> 32) as u32
+}
+
+fn whole(high: u32, low: u32) -> u64 {
+    u64::from(high) << 32 | u64::from(low)
+}
+
+// Whether half of an argument has its bits.
+fn judge_half<S: State>(state: &S, half: Half) -> Judged {
+    let Half { word, mask, datum } = half;
+    if entails(state, &Lit::Bits(word, mask, datum)) {
+        Judged::Yes(Words::of(word))
+    } else if entails(state, &Lit::NotBits(word, mask, datum)) {
+        Judged::No(Words::of(word))
+    } else {
+        Judged::Open(Split::bits(word, mask, datum))
+    }
+}
+
+// Whether both halves have their bits.
+fn judge_bits<S: State>(state: &S, above: Half, below: Half) -> Judged {
+    let below = judge_half(state, below);
+    match judge_half(state, above) {
+        Judged::No(words) => Judged::No(words),
+        Judged::Yes(words) => match below {
+            Judged::Yes(more) => Judged::Yes(words.and(more)),
+            other => other,
+        },
+        Judged::Open(split) => match below {
+            Judged::No(words) => Judged::No(words),
+            _ => Judged::Open(split),
+        },
+    }
+}
+
+// Whether an argument has these bits under a mask.
+fn judge_masked<S: State>(state: &S, word: u8, mask: u64, datum: u64) -> Judged
+    requires { word < 16 }
+{
+    let above = Half {
+        word: word + 1,
+        mask: high(mask),
+        datum: high(datum),
+    };
+    let below = Half {
+        word,
+        mask: low(mask),
+        datum: low(datum),
+    };
+    judge_bits(state, above, below)
+}
+
+fn not(judged: Judged) -> Judged {
+    match judged {
+        Judged::Yes(words) => Judged::No(words),
+        Judged::No(words) => Judged::Yes(words),
+        Judged::Open(split) => Judged::Open(split),
+    }
+}
+
+// Where the low word is cut, given that the high word is the value's.
+fn cut_low(word: u8, op: Op, value: u32) -> Option<Split> {
+    match op {
+        Op::Lt | Op::Ge => Split::at(word, value),
+        _ => Split::above(word, value),
+    }
+}
+
+// Whether a comparison by order has one answer at both ends.
+fn judge_order<S: State>(state: &S, word: u8, cond: &Cond) -> Judged
+    requires { word < 16 }
+{
+    let (least, greatest) = range(state, word).unwrap_or((0, u32::MAX));
+    let (from, to) = range(state, word + 1).unwrap_or((0, u32::MAX));
+    let at_least = cond.holds(whole(from, least));
+    let at_most = cond.holds(whole(to, greatest));
+    if at_least != at_most {
+        let split = cut(word, cond, from, to);
+        return Judged::Open(split.unwrap_or(Split::bits(word, u32::MAX, low(cond.value))));
+    }
+    // It is settled by the high word alone where the low word may be any.
+    let alone = cond.holds(whole(from, 0)) == cond.holds(whole(to, u32::MAX));
+    let words = if alone {
+        Words::of(word + 1)
+    } else {
+        Words::of(word + 1).and(Words::of(word))
+    };
+    if at_least {
+        Judged::Yes(words)
+    } else {
+        Judged::No(words)
+    }
+}
+
+// Where an argument is cut whose high word lies from one number to another.
+fn cut(word: u8, cond: &Cond, from: u32, to: u32) -> Option<Split>
+    requires { word < 16 }
+{
+    let value = high(cond.value);
+    if from < value {
+        Split::at(word + 1, value)
+    } else if value < to {
+        Split::above(word + 1, value)
+    } else {
+        cut_low(word, cond.op, low(cond.value))
+    }
+}
+
+/// Whether a condition is met.
+pub(crate) fn judge_condition<S: State>(state: &S, cond: &Cond) -> Judged {
+    let word = 4 + 2 * cond.index;
+    match cond.op {
+        Op::Eq => judge_masked(state, word, u64::MAX, cond.value),
+        Op::Ne => not(judge_masked(state, word, u64::MAX, cond.value)),
+        Op::MaskedEq => judge_masked(state, word, cond.value, cond.datum),
+        Op::Lt | Op::Le | Op::Ge | Op::Gt => judge_order(state, word, cond),
+    }
+}
+
+/// Whether all conditions are met.
+pub(crate) fn judge_conditions<S: State>(state: &S, conds: &[Cond]) -> Judged {
+    let mut words = Words::NONE;
+    let mut open = None;
+    for cond in conds {
+        match judge_condition(state, cond) {
+            Judged::Yes(more) => words = words.and(more),
+            Judged::No(by) => return Judged::No(by),
+            Judged::Open(split) => open = open.or(Some(split)),
+        }
+    }
+    match open {
+        Some(split) => Judged::Open(split),
+        None => Judged::Yes(words),
+    }
+}

@@ -1,0 +1,96 @@
+//! Why there is no certificate.
+
+use cert_form::FormError;
+use std::alloc::{AllocError, AllocFailed};
+use std::error::Error;
+use std::fmt;
+
+/// Why no certificate is made.
+#[derive(Clone, Copy, Debug, PartialEq, Eq)]
+pub enum CertifyError {
+    /// The kernel refuses the filter at this position, or it was not found that the return there gives the profile's word.
+    Undecided(u32),
+    /// The certificate is larger than a certificate may be.
+    TooLarge,
+    /// There is not enough memory.
+    OutOfMemory,
+}
+
+impl CertifyError {
+    ghost use Rattle.std.specs.Prelude.{◌≡◌};
+    ghost use Rattle.certify.specs.Fault.{label_of};
+
+    // The number and the name by which it is told.
+    fn label(self) -> (u32, &'static str)
+        ensures number { result.0 ≡ (label_of self).0 }
+        ensures name { result.1.now ≡ (label_of self).1 }
+    {
+        match self {
+            CertifyError::Undecided(_) => (1, "Undecided"),
+            CertifyError::TooLarge => (2, "TooLarge"),
+            CertifyError::OutOfMemory => (9, "OutOfMemory"),
+        }
+    }
+
+    /// The number by which the error is told.
+    pub fn number(self) -> u32
+        ensures { result ≡ (label_of self).0 }
+    {
+        self.label().0
+    }
+
+    /// The name of the error.
+    pub fn name(self) -> &'static str
+        ensures { result.now ≡ (label_of self).1 }
+    {
+        self.label().1
+    }
+}
+
+impl fmt::Display for CertifyError {
+    ghost use Rattle.std.specs.Prelude.{Some};
+    ghost use Rattle.certify.specs.Fault.{text_of};
+
+    ghost output = { λ fault. Some (text_of fault) };
+
+    fn fmt<W: fmt::Write>(&self, f: &mut fmt::Formatter<W>) -> fmt::Result {
+        let (number, name) = self.label();
+        match *self {
+            CertifyError::Undecided(pc) => write!(f, "{number} {name} pc {pc}"),
+            CertifyError::TooLarge => write!(f, "{number} {name}"),
+            CertifyError::OutOfMemory => write!(f, "{number} {name}"),
+        }
+    }
+}
+
+impl Error for CertifyError {}
+
+impl From<AllocError> for CertifyError {
+    ghost use Rattle.std.specs.Prelude.{◌≡◌};
+    ghost use Rattle.certify.specs.declared.fault.CertifyError.TheVariants.{OutOfMemory};
+
+    ghost from_gives = { λ _ e. e ≡ OutOfMemory };
+
+    fn from(_error: AllocError) -> CertifyError {
+        CertifyError::OutOfMemory
+    }
+}
+
+impl<T: Drop> From<AllocFailed<T>> for CertifyError {
+    ghost use Rattle.std.specs.Prelude.{◌≡◌};
+    ghost use Rattle.certify.specs.declared.fault.CertifyError.TheVariants.{OutOfMemory};
+
+    ghost from_gives = { λ _ e. e ≡ OutOfMemory };
+
+    fn from(_error: AllocFailed<T>) -> CertifyError {
+        CertifyError::OutOfMemory
+    }
+}
+
+/// The error that a refusal to write is: the certificate breaks a limit, or memory ran out.
+pub(crate) fn unwritten(error: FormError) -> CertifyError {
+    match error {
+        FormError::OutOfMemory => CertifyError::OutOfMemory,
+        _ => CertifyError::TooLarge,
+    }
+}

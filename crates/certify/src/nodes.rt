@@ -1,0 +1,188 @@
+//! The nodes of a certificate, made from its last to its first.
+
+use crate::chains::Chains;
+use crate::essence::add_need;
+use crate::fault::{CertifyError, unwritten};
+use crate::uses::are_so;
+use crate::words::BEGINNING;
+use cert_form::{ChainNode, Kind, write_chained};
+use cert_state::{Listed, Lit, Regs, State, entails};
+use std::alloc::{AllocError, Global};
+
+/// The most nodes of a certificate.
+pub(crate) const MAX_NODES: usize = 16384;
+
+/// Stands for no node.
+const NOBODY: u32 = u32::MAX;
+
+// How many nodes of a position are tried.
+const TRIES: usize = 64;
+
+/// Where a path stands, with the fact of the way that it came.
+#[derive(Clone, Copy)]
+pub(crate) struct Place {
+    pub(crate) pc: u16,
+    pub(crate) regs: Regs,
+    pub(crate) fact: Option<Lit>,
+}
+
+/// Nodes, numbered from 0 in the order in which they were made. A node follows from later ones alone.
+#[derive(Drop)]
+pub(crate) struct Nodes {
+    alloc: Global,
+    nodes: Vec<ChainNode>,
+    // For each node the one made before it at its position, and for each position the last one.
+    before: Vec<u32>,
+    latest: Vec<u32>,
+    chains: Chains,
+}
+
+impl Nodes {
+    /// No nodes, of a program of so many instructions.
+    pub(crate) fn new(alloc: Global, insns: usize) -> Result<Nodes, AllocError> {
+        let latest = vec![in alloc; NOBODY; insns]?;
+        Ok(Nodes {
+            alloc,
+            nodes: Vec::new(alloc),
+            before: Vec::new(alloc),
+            latest,
+            chains: Chains::new(alloc),
+        })
+    }
+
+    /// How many there are.
+    pub(crate) fn len(&self) -> usize {
+        self.nodes.len()
+    }
+
+    /// Adds a node that states this, and answers its number.
+    pub(crate) fn add(
+        &mut self,
+        kind: Kind,
+        pc: u16,
+        regs: Regs,
+        literals: &[Lit],
+    ) -> Result<u32, CertifyError> {
+        let count = self.nodes.len();
+        if count >= MAX_NODES {
+            return Err(CertifyError::TooLarge);
+        }
+        let number = count as u32;
+        let chain = self.chains.of(literals)?;
+        let before = match self.latest.get_mut(pc as usize) {
+            Some(latest) => std::mem::replace(latest, number),
+            None => NOBODY,
+        };
+        self.before.push(before)?;
+        self.nodes.push(ChainNode {
+            kind,
+            pc,
+            regs,
+            chain,
+        })?;
+        Ok(number)
+    }
+
+    // Whether a state entails the literals of a chain.
+    fn follow<S: State>(&self, state: &S, chain: u32) -> bool {
+        let mut left = chain;
+        for _ in 0..512 {
+            let Some((parent, literal)) = self.chains.last(left) else {
+                return true;
+            };
+            if !entails(state, &literal) {
+                return false;
+            }
+            left = parent;
+        }
+        self.chains.last(left).is_none()
+    }
+
+    /// The last node that stands at a place and states nothing that is not known there.
+    pub(crate) fn find(&self, place: &Place, known: &[Lit]) -> Option<u32> {
+        let state = Listed {
+            regs: place.regs,
+            lits: known,
+            more: place.fact,
+        };
+        let mut number = *self.latest.get(place.pc as usize)?;
+        for _ in 0..TRIES {
+            let node = self.nodes.get(number as usize)?;
+            if are_so(&node.regs, &place.regs) && self.follow(&state, node.chain) {
+                return Some(number);
+            }
+            number = *self.before.get(number as usize)?;
+        }
+        None
+    }
+
+    /// What a node states of the registers.
+    pub(crate) fn regs(&self, number: u32) -> Option<Regs> {
+        Some(self.nodes.get(number as usize)?.regs)
+    }
+
+    /// Adds what has to be known before a way with this fact to a node, of which this is known.
+    pub(crate) fn add_needs(
+        &self,
+        needs: &mut Vec<Lit>,
+        known: &[Lit],
+        fact: Option<Lit>,
+        number: u32,
+    ) -> Result<(), AllocError> {
+        let chain = match self.nodes.get(number as usize) {
+            Some(node) => node.chain,
+            None => 0,
+        };
+        for literal in &self.chains.literals(self.alloc, chain)? {
+            add_need(needs, known, fact, *literal)?;
+        }
+        Ok(())
+    }
+
+    /// The certificate: the last node comes first.
+    pub(crate) fn written(&self) -> Result<Vec<u8>, CertifyError> {
+        let mut turned = Vec::new(self.alloc);
+        for node in self.nodes.iter().rev() {
+            let regs = if turned.is_empty() {
+                BEGINNING
+            } else {
+                node.regs
+            };
+            turned.push(ChainNode {
+                kind: turned_kind(node.kind, self.nodes.len()),
+                regs,
+                ..*node
+            })?;
+        }
+        write_chained(self.alloc, self.chains.entries(), &turned).map_err(unwritten)
+    }
+}
+
+// The number of a node where so many nodes are counted from the last.
+fn turned_number(number: u32, count: usize) -> u32 {
+    if number == NOBODY {
+        return NOBODY;
+    }
+    (count as u64)
+        .saturating_sub(1 + u64::from(number))
+        .min(0xffff_ffff) as u32
+}
+
+fn turned_kind(kind: Kind, count: usize) -> Kind {
+    match kind {
+        Kind::Step(a, b) => Kind::Step(turned_number(a, count), turned_number(b, count)),
+        Kind::Split(first, second, a, b) => Kind::Split(
+            first,
+            second,
+            turned_number(a, count),
+            turned_number(b, count),
+        ),
+        Kind::Return => Kind::Return,
+        Kind::Dead => Kind::Dead,
+    }
+}
+
+/// A step with one way on.
+pub(crate) fn one_way(node: u32) -> Kind {
+    Kind::Step(node, NOBODY)
+}

@@ -1,0 +1,316 @@
+//! The walk over the paths of a filter, which makes the nodes of its certificate.
+//!
+//! It goes down each path to its return and makes the nodes on the way back. So what a node states is what the nodes
+//! after it need, and a later path ends at the first node of which it knows all that is stated.
+ghost use Rattle.bpf_insn.specs.Causes.{IsPlain};
+
+use crate::essence::{contradiction, essence, of_word};
+use crate::fault::CertifyError;
+use crate::nodes::{MAX_NODES, Nodes, Place, one_way};
+use crate::position::insn_at;
+use crate::settle::{Outcome, settle};
+use crate::split::Split;
+use crate::uses::Uses;
+use crate::words::{BEGINNING, NOTHING, knowing, word_of};
+use bpf_insn::{Insn, Operation};
+use call_record::Word;
+use cert_form::Kind;
+use cert_state::{AVal, Listed, Lit, Regs, edge_fact, entails, transfer};
+use kernel_check::Accepted;
+use profile::Profile;
+use std::alloc::Global;
+
+// A node is entered, and each of its ways is gone.
+const MAX_TURNS: usize = 3 * MAX_NODES;
+
+// How it goes on from a node.
+#[derive(Clone, Copy)]
+enum Way {
+    // Over the instruction.
+    Step,
+    // At the same place, with one literal or the other.
+    Cut(Split),
+}
+
+// A node to be made, once those are found that follow it.
+#[derive(Clone, Copy)]
+struct Visit {
+    pc: u16,
+    regs: Regs,
+    way: Way,
+    // How many literals were known before the fact of the way to it.
+    known: usize,
+    first: Option<u32>,
+    second: Option<u32>,
+}
+
+/// A walk that has come so far.
+#[derive(Drop)]
+pub(crate) struct Walk<'a> {
+    alloc: Global,
+    profile: &'a Profile,
+    program: Accepted<'a>,
+    // What is known on the path, and the nodes on it that are still to be made.
+    trail: Vec<Lit>,
+    visits: Vec<Visit>,
+    nodes: Nodes,
+}
+
+fn undecided(pc: u16) -> CertifyError {
+    CertifyError::Undecided(u32::from(pc))
+}
+
+// The position after so many instructions are skipped.
+fn after(pc: u16, skipped: u32) -> u16 {
+    let skipped = u16::try_from(skipped).unwrap_or(u16::MAX);
+    pc.saturating_add(1).saturating_add(skipped)
+}
+
+// The places that a branch leads to, first that where it is not taken.
+fn branches(pc: u16, regs: Regs, insn: &Insn) -> (Place, Option<Place>) {
+    let state = Listed {
+        regs,
+        ..knowing(&[])
+    };
+    let not_taken = Place {
+        pc: after(pc, u32::from(insn.jf)),
+        regs,
+        fact: edge_fact(&state, insn, false),
+    };
+    let taken = Place {
+        pc: after(pc, u32::from(insn.jt)),
+        regs,
+        fact: edge_fact(&state, insn, true),
+    };
+    (not_taken, Some(taken))
+}
+
+// The places that an instruction leads to.
+fn steps(pc: u16, regs: Regs, insn: &Insn) -> (Place, Option<Place>)
+    requires { IsPlain insn.now }
+{
+    let state = Listed {
+        regs,
+        ..knowing(&[])
+    };
+    let skipped = match insn.operation() {
+        Some(Operation::Branch(_, _)) => return branches(pc, regs, insn),
+        Some(Operation::Jump) => insn.k,
+        _ => 0,
+    };
+    let next = Place {
+        pc: after(pc, skipped),
+        regs: transfer(&state, insn),
+        fact: None,
+    };
+    (next, None)
+}
+
+impl Visit {
+    // The places that follow.
+    fn places(&self, insn: &Insn) -> (Place, Option<Place>)
+        requires { IsPlain insn.now }
+    {
+        let Visit { pc, regs, way, .. } = *self;
+        match way {
+            Way::Step => steps(pc, regs, insn),
+            Way::Cut(split) => {
+                let first = Place {
+                    pc,
+                    regs,
+                    fact: Some(split.first),
+                };
+                let second = Place {
+                    pc,
+                    regs,
+                    fact: Some(split.second),
+                };
+                (first, Some(second))
+            }
+        }
+    }
+
+    // What the node is, with the nodes that follow.
+    fn kind(&self, first: u32, second: Option<u32>) -> Kind {
+        match (self.way, second) {
+            (Way::Cut(split), Some(second)) => {
+                Kind::Split(split.first, split.second, first, second)
+            }
+            (Way::Step, Some(second)) => Kind::Step(second, first),
+            (_, None) => one_way(first),
+        }
+    }
+}
+
+impl<'a> Walk<'a> {
+    /// A walk that begins.
+    pub(crate) fn new(
+        alloc: Global,
+        profile: &'a Profile,
+        program: Accepted<'a>,
+    ) -> Result<Walk<'a>, CertifyError> {
+        let nodes = Nodes::new(alloc, program.program().len())?;
+        Ok(Walk {
+            alloc,
+            profile,
+            program,
+            trail: Vec::new(alloc),
+            visits: Vec::new(alloc),
+            nodes,
+        })
+    }
+
+    /// The certificate, once all paths are gone.
+    pub(crate) fn run(mut self) -> Result<Vec<u8>, CertifyError> {
+        let root = Place {
+            pc: 0,
+            regs: BEGINNING,
+            fact: None,
+        };
+        let mut found = self.enter(&root)?;
+        for _ in 0..MAX_TURNS {
+            let Some(visit) = self.visits.pop() else {
+                return self.nodes.written();
+            };
+            found = self.advance(visit, found)?;
+        }
+        Err(CertifyError::TooLarge)
+    }
+
+    // Goes a way from a node, or makes it where all are gone. A node that was found at the end of the last way, or
+    // made, is answered.
+    fn advance(&mut self, visit: Visit, found: Option<u32>) -> Result<Option<u32>, CertifyError> {
+        let Some(insn) = insn_at(&self.program, visit.pc) else {
+            return Err(undecided(visit.pc));
+        };
+        let (first, second) = visit.places(&insn);
+        let visit = match visit.first {
+            None => Visit {
+                first: found,
+                ..visit
+            },
+            Some(_) => Visit {
+                second: found,
+                ..visit
+            },
+        };
+        match (visit.first, visit.second, second) {
+            (None, _, _) => self.go(visit, &first),
+            (Some(_), None, Some(place)) => self.go(visit, &place),
+            (Some(node), None, None) => self.leave(&visit, &insn, node),
+            (Some(node), Some(_), _) => self.leave(&visit, &insn, node),
+        }
+    }
+
+    fn go(&mut self, visit: Visit, place: &Place) -> Result<Option<u32>, CertifyError> {
+        self.visits.push(visit)?;
+        self.enter(place)
+    }
+
+    // Makes the node.
+    fn leave(&mut self, visit: &Visit, insn: &Insn, node: u32) -> Result<Option<u32>, CertifyError>
+        requires { IsPlain insn.now }
+    {
+        let (first, second) = visit.places(insn);
+        let mut needs = Vec::new(self.alloc);
+        let mut uses = self.uses_of(node);
+        self.nodes
+            .add_needs(&mut needs, &self.trail, first.fact, node)?;
+        if let (Some(place), Some(other)) = (second, visit.second) {
+            uses = uses.and(self.uses_of(other));
+            self.nodes
+                .add_needs(&mut needs, &self.trail, place.fact, other)?;
+        }
+        let uses = match visit.way {
+            Way::Step => uses.before(insn),
+            Way::Cut(_) => uses,
+        };
+        self.trail.truncate(visit.known);
+        let kind = visit.kind(node, visit.second);
+        let number = self
+            .nodes
+            .add(kind, visit.pc, uses.keep(&visit.regs), &needs)?;
+        Ok(Some(number))
+    }
+
+    fn uses_of(&self, node: u32) -> Uses {
+        match self.nodes.regs(node) {
+            Some(regs) => Uses::of(&regs),
+            None => Uses::NONE,
+        }
+    }
+
+    // Comes to a place. A node that is there already, or ends the path, is answered.
+    fn enter(&mut self, place: &Place) -> Result<Option<u32>, CertifyError> {
+        if let Some(number) = self.nodes.find(place, &self.trail) {
+            return Ok(Some(number));
+        }
+        let known = self.trail.len();
+        let against = self.learn(place.fact)?;
+        if !against.is_empty() {
+            self.trail.truncate(known);
+            let number = self.nodes.add(Kind::Dead, place.pc, NOTHING, &against)?;
+            return Ok(Some(number));
+        }
+        let Some(insn) = insn_at(&self.program, place.pc) else {
+            return Err(undecided(place.pc));
+        };
+        match (insn.operation(), place.regs.a) {
+            (Some(Operation::ReturnK), _) => self.end(place, known, Word(insn.k), Uses::NONE),
+            (Some(Operation::ReturnA), AVal::Const(word)) => {
+                self.end(place, known, Word(word), Uses::NONE.before(&insn))
+            }
+            (Some(Operation::ReturnA), _) => Err(undecided(place.pc)),
+            _ => self.wait(place, known, Way::Step),
+        }
+    }
+
+    // Adds a fact that is new, and answers what contradicts it, together with it.
+    fn learn(&mut self, fact: Option<Lit>) -> Result<Vec<Lit>, CertifyError> {
+        let Some(fact) = fact else {
+            return Ok(Vec::new(self.alloc));
+        };
+        if entails(&knowing(&self.trail), &fact) {
+            return Ok(Vec::new(self.alloc));
+        }
+        self.trail.push(fact)?;
+        let own = of_word(self.alloc, &self.trail, word_of(fact))?;
+        Ok(contradiction(self.alloc, own)?)
+    }
+
+    // Puts a node off until those that follow it are made.
+    fn wait(&mut self, place: &Place, known: usize, way: Way) -> Result<Option<u32>, CertifyError> {
+        if self.visits.len() >= MAX_NODES {
+            return Err(CertifyError::TooLarge);
+        }
+        self.visits.push(Visit {
+            pc: place.pc,
+            regs: place.regs,
+            way,
+            known,
+            first: None,
+            second: None,
+        })?;
+        Ok(None)
+    }
+
+    // Comes to a return.
+    fn end(
+        &mut self,
+        place: &Place,
+        known: usize,
+        word: Word,
+        uses: Uses,
+    ) -> Result<Option<u32>, CertifyError> {
+        match settle(self.profile, &knowing(&self.trail), word) {
+            Outcome::Settled(words) => {
+                let literals = essence(self.alloc, &self.trail, words)?;
+                self.trail.truncate(known);
+                let regs = uses.keep(&place.regs);
+                Ok(Some(self.nodes.add(Kind::Return, place.pc, regs, &literals)?))
+            }
+            Outcome::Cut(split) => self.wait(place, known, Way::Cut(split)),
+            Outcome::Undecided => Err(undecided(place.pc)),
+        }
+    }
+}
