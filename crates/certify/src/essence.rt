@@ -69,6 +69,17 @@ pub(crate) fn add_need(
     add_essence(kept, lits, word_of(need))
 }
 
+/// That a word is one number, where that follows and is not stated.
+pub(crate) fn only_number(lits: &[Lit], word: u8) -> Option<Lit> {
+    let (least, greatest) = range(&knowing(lits), word)?;
+    let literal = Lit::Bits(word, u32::MAX, least);
+    if least == greatest && !lits.contains(&literal) {
+        Some(literal)
+    } else {
+        None
+    }
+}
+
 /// The literals of one word.
 pub(crate) fn of_word(alloc: Global, lits: &[Lit], word: u8) -> Result<Vec<Lit>, AllocError> {
     let mut own = Vec::new(alloc);

@@ -59,73 +59,73 @@ impl Uses {
         }
     }
 
+    // The same with A, if something else matters.
+    fn with_a(self, matters: bool) -> Uses {
+        Uses {
+            a: self.a || matters,
+            ..self
+        }
+    }
+
+    fn with_x(self, matters: bool) -> Uses {
+        Uses {
+            x: self.x || matters,
+            ..self
+        }
+    }
+
+    fn with_slot(self, slot: u16, matters: bool) -> Uses {
+        Uses {
+            scratch: if matters {
+                self.scratch | slot
+            } else {
+                self.scratch
+            },
+            ..self
+        }
+    }
+
+    fn without_a(self) -> Uses {
+        Uses { a: false, ..self }
+    }
+
+    fn without_x(self) -> Uses {
+        Uses { x: false, ..self }
+    }
+
+    fn without_slot(self, slot: u16) -> Uses {
+        Uses {
+            scratch: self.scratch & !slot,
+            ..self
+        }
+    }
+
     /// What matters before an instruction, if this does after it.
     pub(crate) fn before(self, insn: &Insn) -> Uses {
         let slot = bit(insn.k);
-        match insn.operation() {
-            None => self,
-            Some(Operation::LoadWord | Operation::SetA) => Uses { a: false, ..self },
-            Some(Operation::SetX) => Uses { x: false, ..self },
-            Some(Operation::LoadScratch) => Uses {
-                a: false,
-                scratch: if self.a {
-                    self.scratch | slot
-                } else {
-                    self.scratch
-                },
-                ..self
-            },
-            Some(Operation::LoadScratchX) => Uses {
-                x: false,
-                scratch: if self.x {
-                    self.scratch | slot
-                } else {
-                    self.scratch
-                },
-                ..self
-            },
-            Some(Operation::Store) => Uses {
-                a: self.a || self.scratch & slot != 0,
-                scratch: self.scratch & !slot,
-                ..self
-            },
-            Some(Operation::StoreX) => Uses {
-                x: self.x || self.scratch & slot != 0,
-                scratch: self.scratch & !slot,
-                ..self
-            },
-            Some(Operation::Compute(_, Operand::X)) => Uses {
-                x: self.x || self.a,
-                ..self
-            },
-            Some(Operation::CopyToX) => Uses {
-                a: self.a || self.x,
-                x: false,
-                ..self
-            },
-            Some(Operation::CopyToA) => Uses {
-                x: self.x || self.a,
-                a: false,
-                ..self
-            },
-            Some(Operation::ReturnK) => Uses::NONE,
-            Some(Operation::ReturnA) => Uses {
-                a: true,
-                ..Uses::NONE
-            },
-            Some(Operation::Branch(_, Operand::K)) => Uses { a: true, ..self },
-            Some(Operation::Branch(_, Operand::X)) => Uses {
-                a: true,
-                x: true,
-                ..self
-            },
-            Some(
-                Operation::Compute(_, Operand::K)
-                | Operation::ShiftLeft
-                | Operation::ShiftRight
-                | Operation::Negate
-                | Operation::Jump,
-            ) => self,
+        let stored = self.scratch & slot != 0;
+        let Some(operation) = insn.operation() else {
+            return self;
+        };
+        match operation {
+            Operation::LoadWord | Operation::SetA => self.without_a(),
+            Operation::SetX => self.without_x(),
+            Operation::LoadScratch => self.without_a().with_slot(slot, self.a),
+            Operation::LoadScratchX => self.without_x().with_slot(slot, self.x),
+            Operation::Store => self.without_slot(slot).with_a(stored),
+            Operation::StoreX => self.without_slot(slot).with_x(stored),
+            Operation::CopyToX => self.without_x().with_a(self.x),
+            Operation::CopyToA => self.without_a().with_x(self.a),
+            Operation::Compute(_, Operand::X) => self.with_x(self.a),
+            Operation::Branch(_, Operand::K) => self.with_a(true),
+            Operation::Branch(_, Operand::X) => self.with_a(true).with_x(true),
+            Operation::ReturnA => Uses::NONE.with_a(true),
+            Operation::ReturnK => Uses::NONE,
+            Operation::Compute(_, Operand::K)
+            | Operation::ShiftLeft
+            | Operation::ShiftRight
+            | Operation::Negate
+            | Operation::Jump => self,
         }
     }
 

@@ -4,7 +4,7 @@
 //! after it need, and a later path ends at the first node of which it knows all that is stated.
 ghost use Rattle.bpf_insn.specs.Causes.{IsPlain};
 
-use crate::essence::{contradiction, essence, of_word};
+use crate::essence::{contradiction, essence, of_word, only_number};
 use crate::fault::CertifyError;
 use crate::nodes::{MAX_NODES, Nodes, Place, one_way};
 use crate::position::insn_at;
@@ -20,8 +20,8 @@ use kernel_check::Accepted;
 use profile::Profile;
 use std::alloc::Global;
 
-// A node is entered, and each of its ways is gone.
-const MAX_TURNS: usize = 3 * MAX_NODES;
+// Each node is come back to at most three times: at first, and after each of its ways.
+const MAX_TURNS: usize = 4 * MAX_NODES;
 
 // How it goes on from a node.
 #[derive(Clone, Copy)]
@@ -265,7 +265,7 @@ impl<'a> Walk<'a> {
         }
     }
 
-    // Adds a fact that is new, and answers what contradicts it, together with it.
+    // Adds a fact that is new, and answers literals that contradict each other, if some do now.
     fn learn(&mut self, fact: Option<Lit>) -> Result<Vec<Lit>, CertifyError> {
         let Some(fact) = fact else {
             return Ok(Vec::new(self.alloc));
@@ -274,7 +274,11 @@ impl<'a> Walk<'a> {
             return Ok(Vec::new(self.alloc));
         }
         self.trail.push(fact)?;
-        let own = of_word(self.alloc, &self.trail, word_of(fact))?;
+        let mut own = of_word(self.alloc, &self.trail, word_of(fact))?;
+        if let Some(literal) = only_number(&own, word_of(fact)) {
+            self.trail.push(literal)?;
+            own.push(literal)?;
+        }
         Ok(contradiction(self.alloc, own)?)
     }
 
