@@ -1,9 +1,11 @@
 -- Rules are clear where none clashes with an earlier one.
-use Rattle.std.proofs.Common.{◌≡◌, ℕ, ◌+◌, ◌<◌, inl, inr, List, [], ◌∷◌, ◌++◌, length, take, get_or, Some, sym, ◌∙◌, ap, subst, arith}
+use Rattle.std.proofs.Common.{◌≡◌, ℕ, zero, suc, ◌+◌, ◌<◌, inl, inr, List, [], ◌∷◌, ◌++◌, length, take, get_or, Some}
+use Rattle.std.proofs.Common.{refl, sym, ◌∙◌, ap, subst, arith}
 use Rattle.std.specs.List.{All, HoldsAt}
 use Rattle.std.proofs.lemmas.Bool.{cases_eq, cases_lt}
 use Rattle.std.proofs.lemmas.List.{take_more, get_or-take, length-take-le}
 use Rattle.std.proofs.lemmas.List.Elements.{All-contains, Contains-push_cases}
+use Rattle.std.specs.Prelude.{slice_get}
 use Rattle.std.proofs.lemmas.Option.{get_or_from_slice_get, slice_get-get_or}
 use Rattle.call_record.specs.Words.{IsRecord}
 use Rattle.profile.specs.declared.rules.Rule.{Rule}
@@ -79,3 +81,26 @@ pub clear_next : (rules earlier : List Rule) (j : ℕ) (b : Rule) → earlier �
 clear_next rules earlier j b is lt at clear none =
     let more : take (j + 1) rules ≡ take j rules ++ b ∷ [] = take_more rules j b lt ∙ ap (λ (y : Rule). take j rules ++ y ∷ []) (sym at) in
     subst IsClear (sym more) (clear_more (take j rules) b clear (subst (All (λ a. ¬ Clash a b)) is none))
+
+-- ---- no rule clashes with an earlier one
+
+rule_there : (rules : List Rule) (j : ℕ) → j < length rules → (b : Rule) × (slice_get rules j ≡ Some b)
+rule_there [] j lt = absurd (omega (arith, lt))
+rule_there (x ∷ xs) zero lt = (x, refl)
+rule_there (x ∷ xs) (suc j) lt = rule_there xs j (omega (arith, lt))
+
+none_before : (rules : List Rule) (j : ℕ) (b : Rule) → j < length rules → slice_get rules j ≡ Some b
+    → ¬ ((i : ℕ) × ClashAt rules i j) → All (λ a. ¬ Clash a b) (take j rules)
+none_before rules j b lt at none k d in-earlier clash =
+    let few : length (take j rules) ≡ j = length-take-le j rules (omega (arith, lt)) in
+    let below : k < j = omega (arith, few, in-earlier) in
+    let same : get_or (take j rules) k d ≡ get_or rules k d = get_or-take j rules k d below in
+    let at-k : slice_get rules k ≡ Some (get_or rules k d) = slice_get-get_or rules k d (omega (arith, below, lt)) in
+    none (k, (below, get_or rules k d, b, at-k, at, subst (λ (a : Rule). Clash a b) same clash))
+
+pub clear_still : (rules : List Rule) (j : ℕ) → j < length rules → IsClear (take j rules) → ¬ ((i : ℕ) × ClashAt rules i j)
+    → IsClear (take (j + 1) rules)
+clear_still rules j lt clear none =
+    let there = rule_there rules j lt in
+    clear_next rules (take j rules) j there.0 refl lt (sym (get_or_from_slice_get rules j there.0 there.0 there.1)) clear
+    (none_before rules j there.0 lt there.1 none)

@@ -101,7 +101,7 @@ module _ {X : Type 0} where
 suc_or : (k n : ℕ) → k < n + 1 → (k < n) ⊎ (k ≡ n)
 suc_or k n lt = elim (cases_lt k n) [ inl below ↦ inl below | inr past ↦ inr (omega arith) ]
 
-push_length : {X : Type 0} (xs : List X) (x : X) → length (xs ++ x ∷ []) ≡ length xs + 1
+pub push_length : {X : Type 0} (xs : List X) (x : X) → length (xs ++ x ∷ []) ≡ length xs + 1
 push_length xs x = omega (arith, length-append xs (x ∷ []))
 
 -- a rule that is not kept yet is kept at the next place

@@ -11,3 +11,5 @@ pub mod Clashing
 pub mod OneBuilt
 pub mod BuildLaws
 pub mod MachineLaws
+pub mod Walks
+pub mod IndexLaws

@@ -1,7 +1,6 @@
 -- The word that a profile says, from a rule that matches, and where none does.
-use Rattle.std.proofs.Common.{◌≡◌, ℕ, ◌<◌, ◌≤◌, List, length, take, get_or, refl, sym, subst}
+use Rattle.std.proofs.Common.{◌≡◌, ℕ, ◌<◌, List, length, get_or, refl, sym, subst}
 use Rattle.std.specs.List.{All}
-use Rattle.std.proofs.lemmas.List.{take_all}
 use Rattle.profile.specs.declared.rules.Rule.{Rule}
 use Rattle.profile.specs.Rule.{Matches}
 use Rattle.call_record.specs.Words.{IsRecord}
@@ -15,12 +14,9 @@ says_match p r i x clear is_r native lt at m = record {
   unmatched = λ _ none. absurd (none i x lt (subst (λ (y : Rule). Matches y r) at m));
 }
 
-pub says_default : (p : Policy) (r : List ℕ) (i : ℕ) → IsNative p r → length p.rules ≤ i → All (λ rule. ¬ Matches rule r) (take i p.rules)
-    → Says p r p.default_word
-says_default p r i native le none =
-    let all : All (λ rule. ¬ Matches rule r) p.rules = subst (All (λ rule. ¬ Matches rule r)) (take_all i p.rules le) none in
-    record {
-      foreign = λ no. absurd (no native);
-      matched = λ _ rule has hit. absurd (all has.0 rule has.1 (subst (λ (y : Rule). Matches y r) (sym has.2) hit));
-      unmatched = λ _ _. refl;
-    }
+pub says_default : (p : Policy) (r : List ℕ) → IsNative p r → All (λ rule. ¬ Matches rule r) p.rules → Says p r p.default_word
+says_default p r native none = record {
+  foreign = λ no. absurd (no native);
+  matched = λ _ rule has hit. absurd (none has.0 rule has.1 (subst (λ (y : Rule). Matches y r) (sym has.2) hit));
+  unmatched = λ _ _. refl;
+}

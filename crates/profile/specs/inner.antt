@@ -1,2 +1,3 @@
 pub mod Kept
 pub mod Meeting
+pub mod Places

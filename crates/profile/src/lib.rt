@@ -11,6 +11,7 @@ mod clashes;
 mod conditions;
 mod distinct;
 mod fault;
+mod index;
 mod machines;
 mod meets;
 mod overlaps;

@@ -9,6 +9,7 @@ ghost use Rattle.profile.specs.Build.{BuildingIsOne};
 use crate::clashes::first_clash;
 use crate::distinct::{Kept, keep_once};
 use crate::fault::BuildError;
+use crate::index::Index;
 use crate::machines::{first_foreign, in_order, lists};
 use crate::rules::Rule;
 use call_record::{Record, Word};
@@ -23,10 +24,12 @@ pub struct Profile {
     machines: &'static [Arch],
     default_word: Word,
     rules: Vec<Rule>,
+    index: Index,
 }
 
 impl Model for Profile {
     ghost use Rattle.profile.specs.Policy.{Policy, IsProfile};
+    ghost use Rattle.profile.specs.inner.Places.{IsIndexOf};
 
     ghost Value = { Policy };
 
@@ -42,7 +45,7 @@ impl Model for Profile {
       machines = p.machines.now;
       default_word = p.default_word;
       rules = p.rules.items;
-    }) };
+    }) × IsIndexOf p.rules.items p.index };
 }
 
 impl Profile {
@@ -72,8 +75,12 @@ impl Profile {
         if let Some(place) = first_foreign(archs, &rules) {
             return Err(BuildError::ForeignRule(place));
         }
-        let Kept { rules, places } = keep_once(alloc, rules)?;
-        if let Some((first, second)) = first_clash(&rules) {
+        let Kept {
+            rules,
+            places,
+            index,
+        } = keep_once(alloc, rules)?;
+        if let Some((first, second)) = first_clash(&rules, &index) {
             return Err(BuildError::Overlap(places[first], places[second]));
         }
         Ok(Profile {
@@ -81,6 +88,7 @@ impl Profile {
             machines: in_order(archs),
             default_word,
             rules,
+            index,
         })
     }
 
@@ -122,10 +130,13 @@ impl Profile {
         if !self.is_native(call) {
             return Word::KILL_THREAD;
         }
-        for rule in &self.rules {
+        let mut next = self.index.latest(call.arch, call.nr);
+        while let Some(place) = next {
+            let rule = &self.rules[place];
             if rule.matches(call) {
                 return rule.word;
             }
+            next = self.index.earlier(place);
         }
         self.default_word
     }

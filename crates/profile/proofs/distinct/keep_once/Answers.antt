@@ -5,6 +5,7 @@ use Rattle.std.proofs.lemmas.Iterator.Consumers.{YieldsList-turn, YieldsList-end
 use Rattle.profile.specs.declared.rules.Rule.{Rule}
 use Rattle.profile.specs.Policy.{most_rules}
 use Rattle.profile.specs.Build.{AreTooMany}
+use Rattle.profile.specs.inner.Places.{IsIndexOf}
 use Rattle.profile.proofs.KeptLaws.{keeps_none, keeps_first, keeps_again, keeps_same, too_many}
 use Rattle.profile.proofs.Turns.{IsTurn, turn_of, road_of, length-enumerate}
 use Rattle.profile.proofs.distinct.keep_once.Goals as goal
@@ -14,8 +15,13 @@ loop-place-init c = record {
   kept =
       keeps_same [] [] [] c.new-rules.result.items [] c.new-places.result.items (λ _. []) c.new-rules.ensures.items
       c.new-places.ensures.items keeps_none;
+  index = subst (λ (xs : List Rule). IsIndexOf xs c.new-index.result) (sym c.new-rules.ensures.items) c.new-index.ensures;
   few = omega (arith, ap length c.new-rules.ensures.items);
 }
+
+pub contains-requires : goal.contains-requires
+contains-requires c =
+    subst (λ (xs : List Rule). IsIndexOf xs c.loop-place.index) (sym c.deref.ensures.value) c.loop-place.invariant.index
 
 pub loop-place-preserved-then-contains : goal.loop-place-preserved-then-contains
 loop-place-preserved-then-contains c =
@@ -36,6 +42,7 @@ loop-place-preserved-then-contains c =
       kept =
           keeps_same _ _ _ _ _ _ turn.next (λ _. rules) (λ _. places)
           (keeps_again (take (length been) given) rules places rule c.loop-place.invariant.kept has);
+      index = c.loop-place.invariant.index;
       few = c.loop-place.invariant.few;
     }
 
@@ -80,12 +87,15 @@ loop-place-preserved c =
     let missed : c.contains.result ≡ false = c.if-contains.false in
     cc in
     let at : c.in-Some.place ≡ length before = turn.place_is ∙ sym (length-take-le (length been) given (omega (arith, turn.within))) in
-    let rules-are : c.push.new.self.items ≡ rules ++ rule ∷ [] = c.in_ok-push.ensures.items in
-    let places-are : c.push-in-loop-place.new.self.items ≡ places ++ length before ∷ [] =
-    c.in_ok-push-2.ensures.items ∙ ap (λ (k : ℕ). places ++ k ∷ []) at in
+    let rules-are : c.push-in-loop-place.new.self.items ≡ rules ++ rule ∷ [] = c.in_ok-push-2.ensures.items in
+    let places-are : c.push-in-loop-place-2.new.self.items ≡ places ++ length before ∷ [] =
+    c.in_ok-push-3.ensures.items ∙ ap (λ (k : ℕ). places ++ k ∷ []) at in
     record {
       kept =
           keeps_same _ _ _ _ _ _ turn.next rules-are places-are (keeps_first before rules places rule c.loop-place.invariant.kept new);
+      index =
+          subst (λ (xs : List Rule). IsIndexOf xs c.push.new.self) (sym rules-are)
+          (c.in_ok-push.ensures rules c.loop-place.invariant.index);
       few =
           omega (
             arith,

@@ -3,6 +3,7 @@ use Rattle.std.proofs.lemmas.List.{get_or_default}
 use Rattle.profile.specs.declared.rules.Rule.{Rule}
 use Rattle.profile.specs.declared.fault.BuildError.TheVariants.{Overlap}
 use Rattle.profile.specs.Policy.{IsClear}
+use Rattle.profile.specs.inner.Places.{IsIndexOf}
 use Rattle.profile.specs.Build.{AreListed, IsFirstForeign, IsFirstCause}
 use Rattle.profile.proofs.Clashing.{first_clash_in}
 use Rattle.profile.proofs.BuildLaws.{not_kept, overlapping, profile_of}
@@ -68,9 +69,15 @@ returns-in_err-rules-clause-err c =
     (subst (AreListed c.args.archs.now) c.deref.ensures.value c.in_default.ensures.none) c.in_err-rules.ensures.err in
     search (rules, cause)
 
+pub first_clash-requires : goal.first_clash-requires
+first_clash-requires c =
+    subst (λ (xs : List Rule). IsIndexOf xs c.in_ok-rules.field-0.index) (sym c.deref-2.ensures.value) c.in_ok-rules.ensures.index
+
 pub invariant_of-result : goal.invariant_of-result
-invariant_of-result c =
-    profile_of _ c.args.archs.now c.args.rules.items (c.lists.ensures.0 c.if-not-lists.false) c.in_order.ensures.ordered
-    c.in_order.ensures.all (subst (AreListed c.args.archs.now) c.deref.ensures.value c.in_default.ensures.none)
-    c.in_ok-rules.ensures.ok.once c.in_ok-rules.ensures.few
-    (subst IsClear c.deref-2.ensures.value c.in_default-first_clash.ensures.none)
+invariant_of-result c = (
+  profile_of _ c.args.archs.now c.args.rules.items (c.lists.ensures.0 c.if-not-lists.false) c.in_order.ensures.ordered
+      c.in_order.ensures.all (subst (AreListed c.args.archs.now) c.deref.ensures.value c.in_default.ensures.none)
+      c.in_ok-rules.ensures.ok.once c.in_ok-rules.ensures.few
+      (subst IsClear c.deref-2.ensures.value c.in_default-first_clash.ensures.none),
+  c.in_ok-rules.ensures.index,
+)
