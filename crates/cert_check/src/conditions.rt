@@ -5,7 +5,7 @@ ghost use Rattle.cert_check.specs.Agree.{AtBothEnds, HasBits, IsNo, IsYes, Lacks
 ghost use Rattle.cert_check.specs.inner.Judged.{AreEnds, AreYes, ConditionsSoFar, IsJudged, IsOrder, SomeIsNo};
 
 use crate::judged::Judged;
-use cert_state::{Lit, State, entails, range};
+use cert_state::{Facts, Lit, State};
 use profile::{Cond, Op};
 
 // The word of the low half of an argument. The high half is the word after it.
@@ -25,75 +25,75 @@ const fn halves(number: u64) -> (u32, u32)
 }
 
 // Whether an argument is known to have these bits under a mask.
-fn has_bits<S: State>(state: &S, index: u8, mask: u64, datum: u64) -> bool
+fn has_bits<S: State>(facts: &Facts<'_, S>, index: u8, mask: u64, datum: u64) -> bool
     requires { index < 6 }
-    ensures { IsTrue result ↔ HasBits (S.known state.now) index mask datum }
+    ensures { IsTrue result ↔ HasBits (S.known facts.now.state.now) index mask datum }
 {
     let word = low_word(index);
     let (mask, mask_above) = halves(mask);
     let (datum, datum_above) = halves(datum);
-    if !entails(state, &Lit::Bits(word + 1, mask_above, datum_above)) {
+    if !facts.entails(&Lit::Bits(word + 1, mask_above, datum_above)) {
         return false;
     }
-    entails(state, &Lit::Bits(word, mask, datum))
+    facts.entails(&Lit::Bits(word, mask, datum))
 }
 
 // Whether it is known to have others.
-fn lacks_bits<S: State>(state: &S, index: u8, mask: u64, datum: u64) -> bool
+fn lacks_bits<S: State>(facts: &Facts<'_, S>, index: u8, mask: u64, datum: u64) -> bool
     requires { index < 6 }
-    ensures { IsTrue result ↔ LacksBits (S.known state.now) index mask datum }
+    ensures { IsTrue result ↔ LacksBits (S.known facts.now.state.now) index mask datum }
 {
     let word = low_word(index);
     let (mask, mask_above) = halves(mask);
     let (datum, datum_above) = halves(datum);
-    if entails(state, &Lit::NotBits(word + 1, mask_above, datum_above)) {
+    if facts.entails(&Lit::NotBits(word + 1, mask_above, datum_above)) {
         return true;
     }
-    entails(state, &Lit::NotBits(word, mask, datum))
+    facts.entails(&Lit::NotBits(word, mask, datum))
 }
 
 // Whether an argument has these bits.
-fn judge_bits<S: State>(state: &S, index: u8, mask: u64, datum: u64) -> Judged
+fn judge_bits<S: State>(facts: &Facts<'_, S>, index: u8, mask: u64, datum: u64) -> Judged
     requires { index < 6 }
-    ensures { let known = S.known state.now in IsJudged (HasBits known index mask datum)
+    ensures { let known = S.known facts.now.state.now in IsJudged (HasBits known index mask datum)
         (LacksBits known index mask datum × (HasBits known index mask datum → ⊥)) result }
 {
-    if has_bits(state, index, mask, datum) {
+    if has_bits(facts, index, mask, datum) {
         return Judged::Yes;
     }
-    if lacks_bits(state, index, mask, datum) {
+    if lacks_bits(facts, index, mask, datum) {
         return Judged::No;
     }
     Judged::Open
 }
 
 // Whether an argument is another number.
-fn judge_other<S: State>(state: &S, index: u8, value: u64) -> Judged
+fn judge_other<S: State>(facts: &Facts<'_, S>, index: u8, value: u64) -> Judged
     requires { index < 6 }
-    ensures { let known = S.known state.now in IsJudged (LacksBits known index 0xffffffffffffffff value)
+    ensures { let known = S.known facts.now.state.now in IsJudged (LacksBits known index 0xffffffffffffffff value)
         (HasBits known index 0xffffffffffffffff value × (LacksBits known index 0xffffffffffffffff value → ⊥)) result }
 {
-    if lacks_bits(state, index, u64::MAX, value) {
+    if lacks_bits(facts, index, u64::MAX, value) {
         return Judged::Yes;
     }
-    if has_bits(state, index, u64::MAX, value) {
+    if has_bits(facts, index, u64::MAX, value) {
         return Judged::No;
     }
     Judged::Open
 }
 
 // The least and the greatest number that an argument may be.
-fn ends<S: State>(state: &S, index: u8) -> Option<(u64, u64)>
+fn ends<S: State>(facts: &Facts<'_, S>, index: u8) -> Option<(u64, u64)>
     requires { index < 6 }
-    ensures { let known = S.known state.now in MatchOption result
+    ensures { let known = S.known facts.now.state.now in MatchOption result
         (HasNoPoint known (4 + 2 * index) ⊎ HasNoPoint known (5 + 2 * index))
         (λ ends. AreEnds known index ends.0 ends.1) }
 {
     let word = low_word(index);
-    let Some((least, greatest)) = range(state, word) else {
+    let Some((least, greatest)) = facts.range(word) else {
         return None;
     };
-    let Some((least_above, greatest_above)) = range(state, word + 1) else {
+    let Some((least_above, greatest_above)) = facts.range(word + 1) else {
         return None;
     };
     let low = u64::from(least) + (1 << 32) * u64::from(least_above);
@@ -102,13 +102,13 @@ fn ends<S: State>(state: &S, index: u8) -> Option<(u64, u64)>
 }
 
 // Whether a comparison by order has one answer at both ends.
-fn judge_order<S: State>(state: &S, cond: &Cond) -> Judged
+fn judge_order<S: State>(facts: &Facts<'_, S>, cond: &Cond) -> Judged
     requires { IsOrder cond.now.op }
-    ensures { let known = S.known state.now in IsJudged (AtBothEnds known cond.now.index cond.now.op cond.now.value true)
+    ensures { let known = S.known facts.now.state.now in IsJudged (AtBothEnds known cond.now.index cond.now.op cond.now.value true)
         (AtBothEnds known cond.now.index cond.now.op cond.now.value false
         × (AtBothEnds known cond.now.index cond.now.op cond.now.value true → ⊥)) result }
 {
-    let Some((low, high)) = ends(state, cond.index) else {
+    let Some((low, high)) = ends(facts, cond.index) else {
         return Judged::Open;
     };
     if cond.holds(low) {
@@ -125,8 +125,8 @@ fn judge_order<S: State>(state: &S, cond: &Cond) -> Judged
 }
 
 // Whether a condition is settled.
-fn judge_condition<S: State>(state: &S, cond: &Cond) -> Judged
-    ensures { IsJudged (IsYes (S.known state.now) cond.now) (IsNo (S.known state.now) cond.now) result }
+fn judge_condition<S: State>(facts: &Facts<'_, S>, cond: &Cond) -> Judged
+    ensures { IsJudged (IsYes (S.known facts.now.state.now) cond.now) (IsNo (S.known facts.now.state.now) cond.now) result }
 {
     let Cond {
         index,
@@ -136,20 +136,20 @@ fn judge_condition<S: State>(state: &S, cond: &Cond) -> Judged
         ..
     } = *cond;
     match op {
-        Op::Eq => judge_bits(state, index, u64::MAX, value),
-        Op::MaskedEq => judge_bits(state, index, value, datum),
-        Op::Ne => judge_other(state, index, value),
-        Op::Lt | Op::Le | Op::Ge | Op::Gt => judge_order(state, cond),
+        Op::Eq => judge_bits(facts, index, u64::MAX, value),
+        Op::MaskedEq => judge_bits(facts, index, value, datum),
+        Op::Ne => judge_other(facts, index, value),
+        Op::Lt | Op::Le | Op::Ge | Op::Gt => judge_order(facts, cond),
     }
 }
 
 /// Whether conditions are all yes, or one is no.
-pub(crate) fn judge_conditions<S: State>(state: &S, conds: &[Cond]) -> Judged
-    ensures { IsJudged (AreYes (S.known state.now) conds.now) (SomeIsNo (S.known state.now) conds.now) result }
+pub(crate) fn judge_conditions<S: State>(facts: &Facts<'_, S>, conds: &[Cond]) -> Judged
+    ensures { IsJudged (AreYes (S.known facts.now.state.now) conds.now) (SomeIsNo (S.known facts.now.state.now) conds.now) result }
 {
     let mut all_yes = true;
     for cond in conds {
-        match judge_condition(state, cond) {
+        match judge_condition(facts, cond) {
             Judged::Yes => {}
             Judged::No => return Judged::No,
             Judged::Open => all_yes = false,

@@ -10,7 +10,7 @@ use crate::agree::agrees;
 use bpf_insn::{Insn, Operation};
 use call_record::Word;
 use cert_form::{Kind, NodeView};
-use cert_state::{AVal, Regs, State};
+use cert_state::{AVal, Facts, Regs, State};
 use profile::Profile;
 
 // The word that a return gives, where it is known.
@@ -34,7 +34,7 @@ fn returns(profile: &Profile, insn: &Insn, node: &NodeView<'_>) -> bool
     let Some(word) = word_of(insn, &node.regs()) else {
         return false;
     };
-    agrees(profile, node, Word(word))
+    agrees(profile, &Facts::of(node), Word(word))
 }
 
 /// Whether a node, if it is a return, returns the profile's word at its instruction.

@@ -7,3 +7,4 @@ pub mod ListLaws
 pub mod WindowLaws
 pub mod SummaryLaws
 pub mod RangeLaws
+pub mod GatheredLaws

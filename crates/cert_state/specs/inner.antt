@@ -1,3 +1,4 @@
 pub mod Summary
 pub mod Window
 pub mod Exclusion
+pub mod Gathered

@@ -12,7 +12,7 @@ use crate::summary::summarize;
 use call_record::least_below;
 
 // Whether a literal is stated.
-fn states<S: State>(state: &S, wanted: &Lit) -> bool
+pub(crate) fn states<S: State>(state: &S, wanted: &Lit) -> bool
     ensures { IsTrue result ↔ Contains (S.known state.now) wanted.now }
 {
     let mut at = state.start();
@@ -36,7 +36,7 @@ fn excludes(literal: Lit, word: u8, mask: u32, datum: u32) -> bool
 }
 
 // Whether one of the literals does.
-fn is_excluded<S: State>(state: &S, word: u8, mask: u32, datum: u32) -> bool
+pub(crate) fn is_excluded<S: State>(state: &S, word: u8, mask: u32, datum: u32) -> bool
     ensures { IsTrue result ↔ IsExcluded (S.known state.now) word mask datum }
 {
     let mut at = state.start();
@@ -50,7 +50,7 @@ fn is_excluded<S: State>(state: &S, word: u8, mask: u32, datum: u32) -> bool
 }
 
 // Whether no number from `low` to `high` has the datum under the mask.
-fn none_between(low: u32, high: u32, mask: u32, datum: u32) -> bool
+pub(crate) fn none_between(low: u32, high: u32, mask: u32, datum: u32) -> bool
     ensures { IsTrue result ↔ NoneBetween low high mask datum }
 {
     match least_below(32, low as u64, mask as u64, datum as u64) {

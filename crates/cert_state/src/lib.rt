@@ -8,6 +8,7 @@
 
 mod after;
 mod entailment;
+mod gathered;
 mod laws;
 mod literal;
 mod points;
@@ -16,6 +17,7 @@ mod summary;
 
 pub use after::{edge_fact, transfer};
 pub use entailment::{dead, entails};
+pub use gathered::Facts;
 pub use laws::{dead_is_sound, edge_fact_is_sound, entails_is_sound, transfer_is_sound};
 pub use literal::{AVal, Lit, Regs};
 pub use points::range;

@@ -5,7 +5,7 @@ use Rattle.cert_check.proofs.agree.agrees.Goals as goal
 
 pub returns : goal.returns
 returns g c =
-    let known = g.S.State.known c.args.state.now in
+    let known = g.S.State.known c.args.facts.now.state.now in
     let P = ListedAgrees c.args.profile.now known c.args.word in
     let same = c.machines.ensures.machines in (
       λ t. record { foreign = c.if-not-foreign_agrees.ensures.0 refl; machines = subst (All P) same (c.all_agree.ensures.0 t) },

@@ -6,4 +6,4 @@ use Rattle.cert_check.proofs.agree.all_agree.Given as goal
 
 abbrev pub invariant-loop-arch : goal.invariant-loop-arch
 invariant-loop-arch g l =
-    (k : ℕ) (d : Arch) → k < l.arch-index → ListedAgrees l.profile (g.S.State.known l.state) l.word (slice_index_or l.machines k d)
+    (k : ℕ) (d : Arch) → k < l.arch-index → ListedAgrees l.profile (g.S.State.known l.facts.state.now) l.word (slice_index_or l.machines k d)

@@ -10,7 +10,7 @@ use Rattle.cert_check.proofs.agree.foreign_agrees.Goals as goal
 
 pub returns : goal.returns
 returns g c =
-    let known = g.S.State.known c.args.state.now in
+    let known = g.S.State.known c.args.facts.now.state.now in
     let P : Arch → Type 0 = λ a. Entails known (Bits 1 all_bits (token_of a)) in
     let same = c.machines.ensures.machines in (
       λ t. let some = subst (Any P) same (c.is_listed.ensures.0 t) in inl (some.1, (some.0, some.2, some.3), some.4),

@@ -16,7 +16,7 @@ returns-in-Settles g c =
 
 pub loop-rule-preserved : goal.loop-rule-preserved
 loop-rule-preserved g c =
-    let known = g.S.State.known c.args.state.now in
+    let known = g.S.State.known c.args.facts.now.state.now in
     let rules = c.rules-rule-items.result.now in
     let n = c.loop-rule.rule-index in
     let rule = c.rule-item.result in
@@ -36,7 +36,7 @@ loop-rule-preserved g c =
 
 pub returns-then-others : goal.returns-then-others
 returns-then-others g c =
-    let known = g.S.State.known c.args.state.now in
+    let known = g.S.State.known c.args.facts.now.state.now in
     let policy = c.args.profile.now in
     let same = c.rules-rule-items.ensures.rules in
     let size = ap length same in
@@ -46,7 +46,7 @@ returns-then-others g c =
 
 pub returns : goal.returns
 returns g c =
-    let known = g.S.State.known c.args.state.now in
+    let known = g.S.State.known c.args.facts.now.state.now in
     let policy = c.args.profile.now in
     let same = c.rules-rule-items.ensures.rules in
     let size = ap length same in

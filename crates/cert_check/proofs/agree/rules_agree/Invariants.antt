@@ -2,4 +2,4 @@ use Rattle.cert_check.specs.inner.Judged.{RulesSoFar}
 use Rattle.cert_check.proofs.agree.rules_agree.Given as goal
 
 abbrev pub invariant-loop-rule : goal.invariant-loop-rule
-invariant-loop-rule g l = RulesSoFar (g.S.State.known l.state) l.word l.arch l.rule-items l.rule-index l.others
+invariant-loop-rule g l = RulesSoFar (g.S.State.known l.facts.state.now) l.word l.arch l.rule-items l.rule-index l.others

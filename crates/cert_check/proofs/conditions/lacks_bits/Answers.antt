@@ -5,7 +5,7 @@ use Rattle.cert_check.proofs.conditions.lacks_bits.Goals as goal
 
 pub returns : goal.returns
 returns g c =
-    let known = g.S.State.known c.args.state.now in
+    let known = g.S.State.known c.args.facts.now.state.now in
     let j = c.args.index in
     let word = c.low_word-word.ensures in
     let mask = c.halves-mask.ensures.low in

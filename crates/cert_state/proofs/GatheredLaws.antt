@@ -1,0 +1,50 @@
+-- What follows of a word, by what was gathered of it.
+use Rattle.std.proofs.Common.{◌≡◌, ℕ, ◌≤◌, List, sym, subst, arith, inl, inr, ◌↔◌}
+use Rattle.std.specs.Prelude.{bit_and}
+use Rattle.std.proofs.lemmas.Bool.{cases_lt}
+use Rattle.cert_state.specs.declared.literal.Lit.{Lit}
+use Rattle.cert_state.specs.declared.gathered.WordFacts.{WordFacts}
+use Rattle.cert_state.specs.Points.{AreKnown, IsMissed, IsWithin, NoneBetween, datum_of, mask_of}
+use Rattle.cert_state.specs.Entailment.{Differ, IsBounded, IsOnePoint}
+use Rattle.cert_state.specs.inner.Gathered.{AreFactsOf}
+use Rattle.cert_state.proofs.RangeLaws.{bounded_at, missed_at, one_point_at}
+
+module _ (ls : List Lit) (w : ℕ) (f : WordFacts) (so : AreFactsOf ls w f) where
+  pub bounded_by : (a b : ℕ) → IsBounded ls w a b ↔ ((f.low ≤ f.high) × (a ≤ f.low) × (f.high ≤ b))
+  bounded_by a b = (
+    λ h. elim (cases_lt f.high f.low) [
+      | inl above ↦ absurd (so.none above h.lo h.range.least)
+      | inr le ↦ (let at = (bounded_at ls w f.low f.high (so.range le) a b).0 h in (le, at.0, at.1))
+    ],
+    λ h. (bounded_at ls w f.low f.high (so.range h.0) a b).1 (h.1, h.2),
+  )
+
+  pub one_by : (m d : ℕ) → IsOnePoint ls w m d ↔ ((f.low ≡ f.high) × (bit_and f.low m ≡ d))
+  one_by m d = (
+    λ h. elim (cases_lt f.high f.low) [
+      | inl above ↦ absurd (so.none above h.point h.range.least)
+      | inr le ↦ (one_point_at ls w f.low f.high (so.range le) m d).0 h
+    ],
+    λ h. let same = h.0 in (one_point_at ls w f.low f.high (so.range (omega (arith, same))) m d).1 h,
+  )
+
+  pub missed_by : (m d : ℕ) → IsMissed ls w m d ↔ ((f.low ≤ f.high) × NoneBetween f.low f.high m d)
+  missed_by m d = (
+    λ h. elim (cases_lt f.high f.low) [
+      | inl above ↦ absurd (so.none above h.lo h.range.least)
+      | inr le ↦ (le, (missed_at ls w f.low f.high (so.range le) m d).0 h)
+    ],
+    λ h. (missed_at ls w f.low f.high (so.range h.0) m d).1 h.1,
+  )
+
+  pub known_by : (m d : ℕ) → AreKnown ls w m d ↔ (IsWithin m f.mask × (bit_and f.datum m ≡ d))
+  known_by m d = (
+    λ h. (subst (IsWithin m) (sym so.mask) h.within, subst (λ x. bit_and x m ≡ d) (sym so.datum) h.datum),
+    λ h. record { within = subst (IsWithin m) so.mask h.0; datum = subst (λ x. bit_and x m ≡ d) so.datum h.1 },
+  )
+
+  pub differ_by : (m d : ℕ) → Differ (mask_of ls w) (datum_of ls w) m d ↔ Differ f.mask f.datum m d
+  differ_by m d = (
+    λ h. subst (λ x. Differ x f.datum m d) (sym so.mask) (subst (λ x. Differ (mask_of ls w) x m d) (sym so.datum) h),
+    λ h. subst (λ x. Differ x (datum_of ls w) m d) so.mask (subst (λ x. Differ f.mask x m d) so.datum h),
+  )

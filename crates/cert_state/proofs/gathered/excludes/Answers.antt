@@ -1,0 +1,53 @@
+use Rattle.std.proofs.Common.{◌≡◌, true, false, refl, inl, inr}
+use Rattle.cert_state.proofs.GatheredLaws.{differ_by, missed_by}
+use Rattle.cert_state.proofs.gathered.excludes.Goals as goal
+
+pub returns-then-differs : goal.returns-then-differs
+returns-then-differs g c =
+    let at = differ_by (g.S.State.known c.args.state.now) c.args.word c.args.facts.now c.requires c.args.mask c.args.datum in
+    (λ t. inr (inl (at.1 (c.if-differs.ensures.0 refl))), λ h. refl)
+
+pub returns-then-misses : goal.returns-then-misses
+returns-then-misses g c =
+    let at = missed_by (g.S.State.known c.args.state.now) c.args.word c.args.facts.now c.requires c.args.mask c.args.datum in
+    (λ t. inr (inr (inr (at.1 (c.if-misses.ensures.0 refl)))), λ h. refl)
+
+pub returns-then-facts : goal.returns-then-facts
+returns-then-facts g c =
+    let known = g.S.State.known c.args.state.now in
+    let differ = differ_by known c.args.word c.args.facts.now c.requires c.args.mask c.args.datum in
+    let missed = missed_by known c.args.word c.args.facts.now c.requires c.args.mask c.args.datum in (
+      λ t. let e : false ≡ true = t in cc,
+      λ h. elim h [
+        | inl has ↦ absurd (c.requires.free c.if-facts.true c.args.mask c.args.datum has)
+        | inr derived ↦
+            elim derived [
+              | inl other ↦ absurd (let e : false ≡ true = c.if-differs.ensures.1 (differ.0 other) in cc)
+              | inr derived ↦
+                  elim derived [
+                    | inl out ↦ absurd (c.requires.free c.if-facts.true out.mask out.datum out.stated)
+                    | inr none ↦ absurd (let e : false ≡ true = c.if-misses.ensures.1 (missed.0 none) in cc)
+                  ]
+            ]
+      ],
+    )
+
+pub returns : goal.returns
+returns g c =
+    let known = g.S.State.known c.args.state.now in
+    let differ = differ_by known c.args.word c.args.facts.now c.requires c.args.mask c.args.datum in
+    let missed = missed_by known c.args.word c.args.facts.now c.requires c.args.mask c.args.datum in (
+      λ t. inl (c.states.ensures.0 t),
+      λ h. elim h [
+        | inl has ↦ c.states.ensures.1 has
+        | inr derived ↦
+            elim derived [
+              | inl other ↦ absurd (let e : false ≡ true = c.if-differs.ensures.1 (differ.0 other) in cc)
+              | inr derived ↦
+                  elim derived [
+                    | inl out ↦ absurd (let e : false ≡ true = c.if-is_excluded.ensures.1 out in cc)
+                    | inr none ↦ absurd (let e : false ≡ true = c.if-misses.ensures.1 (missed.0 none) in cc)
+                  ]
+            ]
+      ],
+    )

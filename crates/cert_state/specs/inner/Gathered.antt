@@ -1,0 +1,48 @@
+-- What was gathered of a word, and of each.
+use Rattle.std.specs.Prelude.{◌≡◌, ◌≢◌, ℕ, ◌<◌, ◌≤◌, ⊤, true, List, Contains, bit_and, slice_index_or}
+use Rattle.std.proofs.Props.{props}
+use Rattle.cert_state.specs.declared.literal.Lit.{Lit}
+use Rattle.cert_state.specs.declared.literal.Lit.TheVariants.{In, Bits, NotBits}
+use Rattle.cert_state.specs.declared.gathered.WordFacts.{WordFacts}
+use Rattle.cert_state.specs.Literals.{Meets}
+use Rattle.cert_state.specs.Points.{AreKnown, HasNoPoint, IsRange, IsWithin, datum_of, mask_of}
+
+-- a literal, if it is a Bits of w, says no more than a mask and a datum
+abbrev pub Follows : ℕ → ℕ → ℕ → Lit → Type 0
+Follows w mask datum (Bits v m d) = v ≡ w → IsWithin m mask × (bit_and datum m ≡ d)
+Follows w mask datum (In v lo hi) = ⊤
+Follows w mask datum (NotBits v m d) = ⊤
+
+-- a literal is no NotBits of w
+abbrev pub IsOther : ℕ → Lit → Type 0
+IsOther w (NotBits v m d) = v ≢ w
+IsOther w (In v lo hi) = ⊤
+IsOther w (Bits v m d) = ⊤
+
+-- what was gathered of w is what the literals say of it
+pub record AreFactsOf (lits : List Lit) (w : ℕ) (facts : WordFacts) : Type 0 where
+  pub range : facts.low ≤ facts.high → IsRange lits w facts.low facts.high
+  pub none : facts.high < facts.low → HasNoPoint lits w
+  pub mask : facts.mask ≡ mask_of lits w
+  pub datum : facts.datum ≡ datum_of lits w
+  pub whole : facts.whole ≡ true → (m d : ℕ) → Contains lits (Bits w m d) → AreKnown lits w m d
+  pub free : facts.free ≡ true → (m d : ℕ) → Contains lits (NotBits w m d) → ⊥
+
+-- and so of each of the sixteen words
+abbrev pub AreGathered : List Lit → List WordFacts → Type 0
+AreGathered lits words = (w : ℕ) (facts : WordFacts) → w < 16 → AreFactsOf lits w (slice_index_or words w facts)
+
+-- all of this has at most one proof
+Meets-prop : (l : Lit) (u : ℕ) → IsProp (Meets l u)
+Meets-prop (In w lo hi) u = hlevel props
+Meets-prop (Bits w m d) u = hlevel props
+Meets-prop (NotBits w m d) u = hlevel props
+
+IsRange-prop : (lits : List Lit) (w lo hi : ℕ) → IsProp (IsRange lits w lo hi)
+IsRange-prop lits w lo hi = hlevel (props, Meets-prop)
+
+AreFactsOf-prop : (lits : List Lit) (w : ℕ) (facts : WordFacts) → IsProp (AreFactsOf lits w facts)
+AreFactsOf-prop lits w facts = hlevel (props, IsRange-prop)
+
+pub AreGathered-prop : (lits : List Lit) (words : List WordFacts) → IsProp (AreGathered lits words)
+AreGathered-prop lits words = hlevel (props, AreFactsOf-prop)

@@ -1,0 +1,289 @@
+//! What a state says of each word, gathered once for a state that is asked often.
+ghost use Rattle.std.specs.Prelude.{◌≡◌, ◌↔◌, ◌<◌, ◌≤◌, IsTrue, All, bit_and};
+ghost use Rattle.cert_state.specs.declared.literal.Lit.TheVariants.{In, Bits, NotBits};
+ghost use Rattle.cert_state.specs.declared.gathered.WordFacts.{WordFacts as TheFacts};
+ghost use Rattle.cert_state.specs.Points.{HasNoPoint, IsRange, IsWithin, NoneBetween};
+ghost use Rattle.cert_state.specs.Entailment.{Differ, Entails};
+ghost use Rattle.cert_state.specs.inner.Gathered.{AreFactsOf, AreGathered, AreGathered-prop, Follows, IsOther};
+
+use crate::entailment::{is_excluded, none_between, states};
+use crate::literal::Lit;
+use crate::points::range;
+use crate::state::State;
+use crate::summary::summarize;
+
+/// What the literals of one word say of it.
+#[derive(Clone, Copy)]
+struct WordFacts {
+    /// Its least and its greatest point. Where it has none, the first is above the second.
+    low: u32,
+    high: u32,
+    /// The union of the masks of its `Bits`, and of their data.
+    mask: u32,
+    datum: u32,
+    /// Whether each of its `Bits` follows from these two.
+    whole: bool,
+    /// Whether none of its literals is a `NotBits`.
+    free: bool,
+}
+
+// What is known of a word of which no literal speaks.
+const NOTHING: WordFacts = WordFacts {
+    low: 0,
+    high: u32::MAX,
+    mask: 0,
+    datum: 0,
+    whole: true,
+    free: true,
+};
+
+// Whether a literal, if it is a `Bits` of the word, follows from the union of masks and that of data.
+fn follows(literal: Lit, word: u8, mask: u32, datum: u32) -> bool
+    ensures { IsTrue result ↔ Follows word mask datum literal }
+{
+    match literal {
+        Lit::Bits(w, m, d) => {
+            if w != word {
+                return true;
+            }
+            m & mask == m && datum & m == d
+        }
+        Lit::In(_, _, _) => true,
+        Lit::NotBits(_, _, _) => true,
+    }
+}
+
+// Whether each one does.
+fn all_follow<S: State>(state: &S, word: u8, mask: u32, datum: u32) -> bool
+    ensures { IsTrue result ↔ All (Follows word mask datum) (S.known state.now) }
+{
+    let mut at = state.start();
+    while let Some((literal, next)) = state.next(at) {
+        if !follows(literal, word, mask, datum) {
+            return false;
+        }
+        at = next;
+    }
+    true
+}
+
+// Whether a literal is no `NotBits` of the word.
+fn is_other(literal: Lit, word: u8) -> bool
+    ensures { IsTrue result ↔ IsOther word literal }
+{
+    match literal {
+        Lit::NotBits(w, _, _) => w != word,
+        Lit::In(_, _, _) => true,
+        Lit::Bits(_, _, _) => true,
+    }
+}
+
+// Whether none is.
+fn all_other<S: State>(state: &S, word: u8) -> bool
+    ensures { IsTrue result ↔ All (IsOther word) (S.known state.now) }
+{
+    let mut at = state.start();
+    while let Some((literal, next)) = state.next(at) {
+        if !is_other(literal, word) {
+            return false;
+        }
+        at = next;
+    }
+    true
+}
+
+// The least and the greatest point of a word, or two numbers of which the first is above the second.
+fn ends_of<S: State>(state: &S, word: u8) -> (u32, u32)
+    ensures some { result.0 ≤ result.1 → IsRange (S.known state.now) word result.0 result.1 }
+    ensures none { result.1 < result.0 → HasNoPoint (S.known state.now) word }
+{
+    match range(state, word) {
+        Some(ends) => ends,
+        None => (1, 0),
+    }
+}
+
+// What a state says of a word.
+fn facts_of<S: State>(state: &S, word: u8) -> WordFacts
+    ensures { AreFactsOf (S.known state.now) word result }
+{
+    let summary = summarize(state, word);
+    let (low, high) = ends_of(state, word);
+    WordFacts {
+        low,
+        high,
+        mask: summary.mask,
+        datum: summary.datum,
+        whole: all_follow(state, word, summary.mask, summary.datum),
+        free: all_other(state, word),
+    }
+}
+
+// What a state says of each word.
+fn gather<S: State>(state: &S) -> [WordFacts; 16]
+    ensures { AreGathered (S.known state.now) result }
+{
+    let mut words = [NOTHING; 16];
+    for i in 0..16_usize {
+        words[i] = facts_of(state, i as u8);
+    }
+    words
+}
+
+// Whether the points of a word lie from `low` to `high`.
+fn lies(facts: &WordFacts, low: u32, high: u32) -> bool
+    ensures { IsTrue result ↔ (facts.now.low ≤ facts.now.high) × (low ≤ facts.now.low) × (facts.now.high ≤ high) }
+{
+    facts.low <= facts.high && low <= facts.low && facts.high <= high
+}
+
+// Whether a literal `In` of a word follows.
+fn bounds<S: State>(state: &S, facts: &WordFacts, word: u8, low: u32, high: u32) -> bool
+    requires { AreFactsOf (S.known state.now) word facts.now }
+    ensures { IsTrue result ↔ Entails (S.known state.now) (In word low high) }
+{
+    if lies(facts, low, high) {
+        return true;
+    }
+    states(state, &Lit::In(word, low, high))
+}
+
+// Whether the `Bits` of a word say the datum under the mask.
+fn says(facts: &WordFacts, mask: u32, datum: u32) -> bool
+    ensures { IsTrue result ↔ IsWithin mask facts.now.mask × (bit_and facts.now.datum mask ≡ datum) }
+{
+    mask & facts.mask == mask && facts.datum & mask == datum
+}
+
+// Whether a word has just one point, with the datum under the mask.
+fn is_one(facts: &WordFacts, mask: u32, datum: u32) -> bool
+    ensures { IsTrue result ↔ (facts.now.low ≡ facts.now.high) × (bit_and facts.now.low mask ≡ datum) }
+{
+    facts.low == facts.high && facts.low & mask == datum
+}
+
+// Whether a literal `Bits` of a word follows.
+fn fixes<S: State>(state: &S, facts: &WordFacts, word: u8, mask: u32, datum: u32) -> bool
+    requires { AreFactsOf (S.known state.now) word facts.now }
+    ensures { IsTrue result ↔ Entails (S.known state.now) (Bits word mask datum) }
+{
+    if says(facts, mask, datum) {
+        return true;
+    }
+    if is_one(facts, mask, datum) {
+        return true;
+    }
+    if facts.whole {
+        return false;
+    }
+    states(state, &Lit::Bits(word, mask, datum))
+}
+
+// Whether the `Bits` of a word say another datum on a bit of the mask.
+fn differs(facts: &WordFacts, mask: u32, datum: u32) -> bool
+    ensures { IsTrue result ↔ Differ facts.now.mask facts.now.datum mask datum }
+{
+    facts.mask & mask & (facts.datum ^ datum) != 0
+}
+
+// Whether no number from `low` to `high` has the datum under the mask. For a mask of all bits this is a comparison.
+fn none_in(low: u32, high: u32, mask: u32, datum: u32) -> bool
+    ensures { IsTrue result ↔ NoneBetween low high mask datum }
+{
+    if mask == u32::MAX {
+        return datum < low || high < datum;
+    }
+    none_between(low, high, mask, datum)
+}
+
+// Whether a word has points, and no number among them has the datum under the mask.
+fn misses(facts: &WordFacts, mask: u32, datum: u32) -> bool
+    ensures { IsTrue result ↔ (facts.now.low ≤ facts.now.high) × NoneBetween facts.now.low facts.now.high mask datum }
+{
+    if facts.low > facts.high {
+        return false;
+    }
+    none_in(facts.low, facts.high, mask, datum)
+}
+
+// Whether a literal `NotBits` of a word follows.
+fn excludes<S: State>(state: &S, facts: &WordFacts, word: u8, mask: u32, datum: u32) -> bool
+    requires { AreFactsOf (S.known state.now) word facts.now }
+    ensures { IsTrue result ↔ Entails (S.known state.now) (NotBits word mask datum) }
+{
+    if differs(facts, mask, datum) {
+        return true;
+    }
+    if misses(facts, mask, datum) {
+        return true;
+    }
+    if facts.free {
+        return false;
+    }
+    if is_excluded(state, word, mask, datum) {
+        return true;
+    }
+    states(state, &Lit::NotBits(word, mask, datum))
+}
+
+/// A state with what it says of each word, gathered once: most questions cost a few comparisons, where [`entails`]
+/// walks over the literals.
+///
+/// [`entails`]: crate::entails
+#[derive(Drop)]
+pub struct Facts<'a, S: State> {
+    pub state: &'a S,
+    words: [WordFacts; 16],
+    ghost gathered: { AreGathered (S.known state.now) words } by { AreGathered-prop (S.known state.now) words },
+}
+
+impl<'a, S: State> Facts<'a, S> {
+    ghost use Rattle.std.specs.Prelude.{◌≡◌, ◌↔◌, ◌<◌, IsTrue, MatchOption};
+    ghost use Rattle.cert_state.specs.Literals.{index_of};
+    ghost use Rattle.cert_state.specs.Points.{HasNoPoint, IsRange};
+    ghost use Rattle.cert_state.specs.Entailment.{Entails};
+    ghost use Rattle.cert_state.specs.inner.Gathered.{AreFactsOf};
+
+    /// What a state says of each word.
+    pub fn of(state: &'a S) -> Facts<'a, S>
+        ensures { result.state.now ≡ state.now }
+    {
+        Facts {
+            state,
+            words: gather(state),
+        }
+    }
+
+    // What was gathered of a word.
+    fn of_word(&self, word: u8) -> WordFacts
+        requires { word < 16 }
+        ensures { AreFactsOf (S.known self.now.state.now) word result }
+    {
+        self.words[word as usize]
+    }
+
+    /// Whether a literal of one of the record's words follows from those of the state.
+    pub fn entails(&self, literal: &Lit) -> bool
+        requires { index_of literal.now < 16 }
+        ensures { IsTrue result ↔ Entails (S.known self.now.state.now) literal.now }
+    {
+        match *literal {
+            Lit::In(w, low, high) => bounds(self.state, &self.of_word(w), w, low, high),
+            Lit::Bits(w, m, d) => fixes(self.state, &self.of_word(w), w, m, d),
+            Lit::NotBits(w, m, d) => excludes(self.state, &self.of_word(w), w, m, d),
+        }
+    }
+
+    /// The least and the greatest point of a word, if it has one.
+    pub fn range(&self, word: u8) -> Option<(u32, u32)>
+        requires { word < 16 }
+        ensures { let known = S.known self.now.state.now in
+            MatchOption result (HasNoPoint known word) (λ p. IsRange known word p.0 p.1) }
+    {
+        let facts = self.of_word(word);
+        if facts.low > facts.high {
+            return None;
+        }
+        Some((facts.low, facts.high))
+    }
+}
