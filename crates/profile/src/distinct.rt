@@ -66,5 +66,8 @@ fn contains(rules: &[Rule], index: &Index, rule: &Rule) -> bool
 fn same(a: &Rule, b: &Rule) -> bool
     ensures { IsTrue result ↔ (a.now ≡ b.now) }
 {
+    if a.word != b.word {
+        return false;
+    }
     a == b
 }

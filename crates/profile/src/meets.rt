@@ -3,16 +3,23 @@ ghost use Rattle.std.specs.Prelude.{◌≡◌, ◌<◌, ◌≤◌, ◌^◌, ◌�
 ghost use Rattle.profile.specs.Condition.{Meets};
 ghost use Rattle.profile.specs.inner.Meeting.{HaveCommon, IsOnePiece};
 
-use crate::conditions::Cond;
+use crate::conditions::{Cond, Op};
 use call_record::least_from;
 
 /// Whether one number meets both conditions.
 ///
-/// A comparison with x changes its answer only at x and at x + 1. So where some number meets both,
-/// so does the least number with the bits of both from the greatest of the five starts below it.
+/// Only one number meets an equation. Else a comparison with x changes its answer only at x and at
+/// x + 1, so where some number meets both, so does the least number with the bits of both from the
+/// greatest of the five starts below it.
 pub(crate) fn meet(a: &Cond, b: &Cond) -> bool
     ensures { IsTrue result ↔ HaveCommon a.now b.now }
 {
+    if a.op == Op::Eq {
+        return b.holds(a.value);
+    }
+    if b.op == Op::Eq {
+        return a.holds(b.value);
+    }
     if a.datum & b.op.mask(b.value) != b.datum & a.op.mask(a.value) {
         return false;
     }

@@ -1,9 +1,9 @@
 //! Whether one record matches two rules.
 ghost use Rattle.std.specs.Prelude.{◌≡◌, ◌↔◌, IsTrue, All};
 ghost use Rattle.profile.specs.Rule.{Overlap};
-ghost use Rattle.profile.specs.inner.Meeting.{CanOverlap, HaveCommon};
+ghost use Rattle.profile.specs.inner.Meeting.{AllHaveCommon, CanOverlap, HaveCommon};
 
-use crate::conditions::Cond;
+use crate::conditions::{Cond, Op};
 use crate::meets::meet;
 use crate::rules::Rule;
 
@@ -24,6 +24,9 @@ fn can_overlap(a: &Rule, b: &Rule) -> bool
     if a.arch != b.arch {
         return false;
     }
+    if ask_unlike(a.conds.as_slice(), b.conds.as_slice()) {
+        return false;
+    }
     if !all_meet(a.conds.as_slice(), b.conds.as_slice()) {
         return false;
     }
@@ -31,6 +34,34 @@ fn can_overlap(a: &Rule, b: &Rule) -> bool
         return false;
     }
     all_meet(b.conds.as_slice(), b.conds.as_slice())
+}
+
+// Whether conditions at one place ask for unlike numbers. Most rules for one call do, and are told
+// apart by this look alone.
+fn ask_unlike(a: &[Cond], b: &[Cond]) -> bool
+    ensures { IsTrue result → ¬ AllHaveCommon a.now b.now }
+{
+    for place in 0..a.len().min(b.len()) {
+        if are_unlike(&a[place], &b[place]) {
+            return true;
+        }
+    }
+    false
+}
+
+fn are_unlike(a: &Cond, b: &Cond) -> bool
+    ensures { IsTrue result → (a.now.index ≡ b.now.index) × ¬ HaveCommon a.now b.now }
+{
+    if a.index != b.index {
+        return false;
+    }
+    if a.op != Op::Eq {
+        return false;
+    }
+    if b.op != Op::Eq {
+        return false;
+    }
+    a.value != b.value
 }
 
 fn all_meet(a: &[Cond], b: &[Cond]) -> bool

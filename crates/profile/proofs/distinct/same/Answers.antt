@@ -1,4 +1,4 @@
-use Rattle.std.proofs.Common.{◌≡◌, true, sym, ◌∙◌}
+use Rattle.std.proofs.Common.{sym, ◌∙◌}
 use Rattle.profile.proofs.Same.{equal_rule_decides}
 use Rattle.profile.proofs.distinct.same.Goals as goal
 
