@@ -1,5 +1,8 @@
 -- Words of a command line.
-use Rattle.std.specs.Prelude.{ℕ, ◌≡◌, List, Some, slice_get}
+use Rattle.std.specs.Prelude.{ℕ, ◌≡◌, List, if◌then◌else◌, Option, Some, None, slice_get, codes}
+use Rattle.std.specs.Str.{bytes_eq}
+use Rattle.call_tables.specs.declared.arch.Arch.{Arch}
+use Rattle.call_tables.specs.declared.arch.Arch.TheVariants.{X86_64, Aarch64}
 
 abbrev pub hyphen : ℕ
 hyphen = 45
@@ -7,3 +10,7 @@ hyphen = 45
 -- the word begins with a hyphen
 abbrev pub IsDashed : List ℕ → Type 0
 IsDashed word = slice_get word 0 ≡ Some hyphen
+
+-- the machine of that name
+unfoldable pub machine_called : List ℕ → Option Arch
+machine_called word = if bytes_eq word (codes "x86-64") then Some X86_64 else if bytes_eq word (codes "aarch64") then Some Aarch64 else None

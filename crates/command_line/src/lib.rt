@@ -1,18 +1,30 @@
 //! The words of a command line of `ccell`. It is a crate of its own since a check of clap's calls takes minutes.
 #![tactic(auto)]
 
-ghost use Rattle.std.specs.Prelude.{◌↔◌, IsTrue, Any, IsErrOf};
-ghost use Rattle.command_line.specs.Words.{IsDashed};
+ghost use Rattle.std.specs.Prelude.{◌≡◌, ◌↔◌, IsTrue, Any, IsErrOf};
+ghost use Rattle.command_line.specs.Words.{IsDashed, machine_called};
 
+use call_tables::Arch;
 use clap::error::ErrorKind;
-use clap::{Arg, Command, Error};
+use clap::{Arg, ArgMatches, Command, Error};
 use std::alloc::{AllocError, Global};
 
 /// What the words after the program's name ask for.
 #[derive(Clone, Copy, Debug, PartialEq, Eq)]
 pub enum Order<'a> {
     /// The word that a filter answers to a record, both given as names of files.
-    Verdict { filter: &'a str, record: &'a str },
+    Verdict {
+        filter: &'a str,
+        record: &'a str,
+    },
+    /// Whether a certificate shows that a filter answers what a bundle says, read for a native machine. The last three
+    /// are given as names of files.
+    Check {
+        native: Arch,
+        bundle: &'a str,
+        filter: &'a str,
+        certificate: &'a str,
+    },
 }
 
 /// Why words are no order. A call for help is no order either.
@@ -37,19 +49,45 @@ impl From<Error> for Misuse {
     }
 }
 
+/// The machine that a word calls by its name, `x86-64` or `aarch64`.
+#[tactic(auto, unfolding(crate::specs::Words::machine_called))]
+pub fn machine_named(word: &str) -> Option<Arch>
+    ensures { result ≡ machine_called word.now }
+{
+    if word == "x86-64" {
+        return Some(Arch::X86_64);
+    }
+    if word == "aarch64" {
+        return Some(Arch::Aarch64);
+    }
+    None
+}
+
 fn word<'a>(alloc: Global, name: &'a str) -> Arg<'a> {
     Arg::new(alloc, name).required(true)
 }
 
-fn command<'a>(alloc: Global) -> Result<Command<'a>, AllocError> {
-    let verdict = Command::new(alloc, "verdict")
+fn verdict_command<'a>(alloc: Global) -> Result<Command<'a>, AllocError> {
+    Command::new(alloc, "verdict")
         .arg(word(alloc, "filter"))?
-        .arg(word(alloc, "record"))?;
+        .arg(word(alloc, "record"))
+}
+
+fn check_command<'a>(alloc: Global) -> Result<Command<'a>, AllocError> {
+    Command::new(alloc, "check")
+        .arg(word(alloc, "machine"))?
+        .arg(word(alloc, "bundle"))?
+        .arg(word(alloc, "filter"))?
+        .arg(word(alloc, "certificate"))
+}
+
+fn command<'a>(alloc: Global) -> Result<Command<'a>, AllocError> {
     Command::new(alloc, "ccell")
         .no_binary_name(true)
         .subcommand_required(true)
         .disable_help_subcommand(true)
-        .subcommand(verdict)
+        .subcommand(verdict_command(alloc)?)?
+        .subcommand(check_command(alloc)?)
 }
 
 // Whether a word begins with `-`.
@@ -65,6 +103,27 @@ fn has_dashed(words: &[&str]) -> bool
     words.iter().any(|word| is_dashed(word))
 }
 
+// The word that stands for a part of an order.
+fn part<'a>(matches: &ArgMatches<'a>, name: &str) -> Result<&'a str, Misuse> {
+    matches.get_str(name).ok_or(Misuse::Usage)
+}
+
+fn verdict_order<'a>(matches: &ArgMatches<'a>) -> Result<Order<'a>, Misuse> {
+    Ok(Order::Verdict {
+        filter: part(matches, "filter")?,
+        record: part(matches, "record")?,
+    })
+}
+
+fn check_order<'a>(matches: &ArgMatches<'a>) -> Result<Order<'a>, Misuse> {
+    Ok(Order::Check {
+        native: machine_named(part(matches, "machine")?).ok_or(Misuse::Usage)?,
+        bundle: part(matches, "bundle")?,
+        filter: part(matches, "filter")?,
+        certificate: part(matches, "certificate")?,
+    })
+}
+
 /// The order that words give. A word that begins with `-` is never part of one.
 pub fn read_words<'a>(alloc: Global, words: &'a [&'a str]) -> Result<Order<'a>, Misuse>
     ensures dashed { Any (λ word. IsDashed word.now) words.entry.now → IsErrOf result Misuse.Usage }
@@ -73,9 +132,8 @@ pub fn read_words<'a>(alloc: Global, words: &'a [&'a str]) -> Result<Order<'a>, 
         return Err(Misuse::Usage);
     }
     let matches = command(alloc)?.try_get_matches_from(words)?;
-    let verdict = matches.subcommand_matches("verdict").ok_or(Misuse::Usage)?;
-    Ok(Order::Verdict {
-        filter: verdict.get_str("filter").ok_or(Misuse::Usage)?,
-        record: verdict.get_str("record").ok_or(Misuse::Usage)?,
-    })
+    if let Some(check) = matches.subcommand_matches("check") {
+        return check_order(check);
+    }
+    verdict_order(matches.subcommand_matches("verdict").ok_or(Misuse::Usage)?)
 }
