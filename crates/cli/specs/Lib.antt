@@ -1,3 +1,4 @@
 pub mod Answer
 pub mod Stop
 pub mod Fault
+pub mod Finding

@@ -4,6 +4,7 @@
 mod answer;
 mod fault;
 mod files;
+mod finding;
 mod law;
 mod line;
 mod program;
@@ -14,6 +15,7 @@ mod tests;
 pub use answer::{Answer, answer_to};
 pub use fault::FileFault;
 pub use files::Files;
+pub use finding::{Finding, check_line, finding_of};
 pub use law::one_answer;
 pub use line::verdict_line;
 pub use program::dispatch;

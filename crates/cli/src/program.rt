@@ -3,6 +3,7 @@ ghost use Rattle.std.specs.Prelude.{◌≤◌};
 
 use crate::fault::FileFault;
 use crate::files::Files;
+use crate::finding::check_line;
 use crate::line::verdict_line;
 use crate::stops::{Stop, report};
 use command_line::{Order, read_words};
@@ -16,7 +17,7 @@ fn read<'a>(alloc: Global, files: &mut impl Files, name: &'a str) -> Result<Vec<
     })
 }
 
-// Carries the order out: true where it answered a word, false where it refused.
+// Carries the order out: true where it answered a word or yes, false where it refused.
 fn carry_out<'a>(
     alloc: Global,
     words: &'a [&'a str],
@@ -28,6 +29,17 @@ fn carry_out<'a>(
             let filter = read(alloc, files, filter)?;
             let record = read(alloc, files, record)?;
             Ok(verdict_line(&filter, &record, out)?)
+        }
+        Order::Check {
+            native,
+            bundle,
+            filter,
+            certificate,
+        } => {
+            let bundle = read(alloc, files, bundle)?;
+            let filter = read(alloc, files, filter)?;
+            let certificate = read(alloc, files, certificate)?;
+            Ok(check_line(alloc, native, &bundle, &filter, &certificate, out)?)
         }
     }
 }
