@@ -1,7 +1,7 @@
 //! Files in memory.
 
 use crate::bytes::bytes;
-use crate::text::expanded;
+use crate::text::{expanded, number};
 use anyhow::{Context, Result, bail};
 use bpf_asm::assemble;
 use cli::{FileFault, Files};
@@ -38,6 +38,8 @@ impl Shelf {
             "hex" => Content::Bytes(bytes(alloc, rest)?),
             "text" => Content::Bytes(expanded(alloc, rest)?.into_bytes()),
             "program" => Content::Bytes(assemble(alloc, expanded(alloc, rest)?.as_str())?),
+            "changed" => Content::Bytes(self.changed(alloc, rest)?),
+            "beginning" => Content::Bytes(self.beginning(alloc, rest)?),
             "too" => Content::TooLarge,
             "unreadable" => Content::Unreadable,
             _ => bail!("no kind of file"),
@@ -45,6 +47,52 @@ impl Shelf {
         self.files.insert(String::from_str(alloc, name)?, content)?;
         Ok(())
     }
+
+    /// Adds the bytes `NAME HEX` to the end of a file.
+    pub fn add(&mut self, alloc: Global, line: &str) -> Result<()> {
+        let (name, digits) = line.split_once(' ').context("a name and bytes")?;
+        let added = bytes(alloc, digits)?;
+        match self.files.get_mut(name) {
+            Some(Content::Bytes(all)) => all.extend_from_slice(&added)?,
+            _ => bail!("no bytes of {name}"),
+        }
+        Ok(())
+    }
+
+    // The bytes of a file.
+    fn bytes_of(&self, name: &str) -> Result<&[u8]> {
+        match self.files.get(name) {
+            Some(Content::Bytes(bytes)) => Ok(bytes),
+            _ => bail!("no bytes of {name}"),
+        }
+    }
+
+    // The bytes of `OTHER PLACE HEX`: those of a file, with others from a place on.
+    fn changed(&self, alloc: Global, text: &str) -> Result<Vec<u8>> {
+        let (name, rest) = text.split_once(' ').context("a file")?;
+        let (place, digits) = rest.split_once(' ').context("a place and bytes")?;
+        let (before, rest) = split(self.bytes_of(name)?, number(place)?)?;
+        let others = bytes(alloc, digits)?;
+        let (_, after) = split(rest, others.len() as u64)?;
+        let mut all = Vec::from_slice(alloc, before)?;
+        all.extend_from_slice(&others)?;
+        all.extend_from_slice(after)?;
+        Ok(all)
+    }
+
+    // The bytes of `OTHER COUNT`: the first ones of a file.
+    fn beginning(&self, alloc: Global, text: &str) -> Result<Vec<u8>> {
+        let (name, count) = text.split_once(' ').context("a file and a count")?;
+        let (first, _) = split(self.bytes_of(name)?, number(count)?)?;
+        Ok(Vec::from_slice(alloc, first)?)
+    }
+}
+
+// Bytes before a place, and from it on.
+fn split(bytes: &[u8], place: u64) -> Result<(&[u8], &[u8])> {
+    bytes
+        .split_at_checked(usize::try_from(place)?)
+        .context("a place in the file")
 }
 
 impl Files for Shelf {
