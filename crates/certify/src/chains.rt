@@ -9,7 +9,7 @@ use std::collections::BTreeMap;
 const MAX_ENTRIES: usize = 65536;
 
 /// The most literals of a chain.
-const MAX_LITERALS: usize = 512;
+pub(crate) const MAX_LITERALS: usize = 512;
 
 // An entry as a key: its parent and the parts of its literal.
 #[derive(Clone, Copy, PartialEq, Eq, PartialOrd, Ord)]

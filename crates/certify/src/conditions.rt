@@ -3,7 +3,7 @@ ghost use Rattle.std.specs.Prelude.{◌<◌};
 
 use crate::split::Split;
 use crate::words::Words;
-use cert_state::{Lit, State, entails, range};
+use cert_state::{Facts, Lit, State};
 use profile::{Cond, Op};
 
 /// How far a condition or a rule is settled.
@@ -38,11 +38,13 @@ fn whole(high: u32, low: u32) -> u64 {
 }
 
 // Whether half of an argument has its bits.
-fn judge_half<S: State>(state: &S, half: Half) -> Judged {
+fn judge_half<S: State>(facts: &Facts<'_, S>, half: Half) -> Judged
+    requires { half.word < 16 }
+{
     let Half { word, mask, datum } = half;
-    if entails(state, &Lit::Bits(word, mask, datum)) {
+    if facts.entails(&Lit::Bits(word, mask, datum)) {
         Judged::Yes(Words::of(word))
-    } else if entails(state, &Lit::NotBits(word, mask, datum)) {
+    } else if facts.entails(&Lit::NotBits(word, mask, datum)) {
         Judged::No(Words::of(word))
     } else {
         Judged::Open(Split::bits(word, mask, datum))
@@ -50,9 +52,12 @@ fn judge_half<S: State>(state: &S, half: Half) -> Judged {
 }
 
 // Whether both halves have their bits.
-fn judge_bits<S: State>(state: &S, above: Half, below: Half) -> Judged {
-    let below = judge_half(state, below);
-    match judge_half(state, above) {
+fn judge_bits<S: State>(facts: &Facts<'_, S>, above: Half, below: Half) -> Judged
+    requires above { above.word < 16 }
+    requires below { below.word < 16 }
+{
+    let below = judge_half(facts, below);
+    match judge_half(facts, above) {
         Judged::No(words) => Judged::No(words),
         Judged::Yes(words) => match below {
             Judged::Yes(more) => Judged::Yes(words.and(more)),
@@ -66,8 +71,8 @@ fn judge_bits<S: State>(state: &S, above: Half, below: Half) -> Judged {
 }
 
 // Whether an argument has these bits under a mask.
-fn judge_masked<S: State>(state: &S, word: u8, mask: u64, datum: u64) -> Judged
-    requires { word < 16 }
+fn judge_masked<S: State>(facts: &Facts<'_, S>, word: u8, mask: u64, datum: u64) -> Judged
+    requires { word < 15 }
 {
     let above = Half {
         word: word + 1,
@@ -79,7 +84,7 @@ fn judge_masked<S: State>(state: &S, word: u8, mask: u64, datum: u64) -> Judged
         mask: low(mask),
         datum: low(datum),
     };
-    judge_bits(state, above, below)
+    judge_bits(facts, above, below)
 }
 
 fn not(judged: Judged) -> Judged {
@@ -99,11 +104,11 @@ fn cut_low(word: u8, op: Op, value: u32) -> Option<Split> {
 }
 
 // Whether a comparison by order has one answer at both ends.
-fn judge_order<S: State>(state: &S, word: u8, cond: &Cond) -> Judged
-    requires { word < 16 }
+fn judge_order<S: State>(facts: &Facts<'_, S>, word: u8, cond: &Cond) -> Judged
+    requires { word < 15 }
 {
-    let (least, greatest) = range(state, word).unwrap_or((0, u32::MAX));
-    let (from, to) = range(state, word + 1).unwrap_or((0, u32::MAX));
+    let (least, greatest) = facts.range(word).unwrap_or((0, u32::MAX));
+    let (from, to) = facts.range(word + 1).unwrap_or((0, u32::MAX));
     let at_least = cond.holds(whole(from, least));
     let at_most = cond.holds(whole(to, greatest));
     if at_least != at_most {
@@ -126,7 +131,7 @@ fn judge_order<S: State>(state: &S, word: u8, cond: &Cond) -> Judged
 
 // Where an argument is cut whose high word lies from one number to another.
 fn cut(word: u8, cond: &Cond, from: u32, to: u32) -> Option<Split>
-    requires { word < 16 }
+    requires { word < 15 }
 {
     let value = high(cond.value);
     if from < value {
@@ -139,22 +144,22 @@ fn cut(word: u8, cond: &Cond, from: u32, to: u32) -> Option<Split>
 }
 
 /// Whether a condition is met.
-pub(crate) fn judge_condition<S: State>(state: &S, cond: &Cond) -> Judged {
+pub(crate) fn judge_condition<S: State>(facts: &Facts<'_, S>, cond: &Cond) -> Judged {
     let word = 4 + 2 * cond.index;
     match cond.op {
-        Op::Eq => judge_masked(state, word, u64::MAX, cond.value),
-        Op::Ne => not(judge_masked(state, word, u64::MAX, cond.value)),
-        Op::MaskedEq => judge_masked(state, word, cond.value, cond.datum),
-        Op::Lt | Op::Le | Op::Ge | Op::Gt => judge_order(state, word, cond),
+        Op::Eq => judge_masked(facts, word, u64::MAX, cond.value),
+        Op::Ne => not(judge_masked(facts, word, u64::MAX, cond.value)),
+        Op::MaskedEq => judge_masked(facts, word, cond.value, cond.datum),
+        Op::Lt | Op::Le | Op::Ge | Op::Gt => judge_order(facts, word, cond),
     }
 }
 
 /// Whether all conditions are met.
-pub(crate) fn judge_conditions<S: State>(state: &S, conds: &[Cond]) -> Judged {
+pub(crate) fn judge_conditions<S: State>(facts: &Facts<'_, S>, conds: &[Cond]) -> Judged {
     let mut words = Words::NONE;
     let mut open = None;
     for cond in conds {
-        match judge_condition(state, cond) {
+        match judge_condition(facts, cond) {
             Judged::Yes(more) => words = words.and(more),
             Judged::No(by) => return Judged::No(by),
             Judged::Open(split) => open = open.or(Some(split)),

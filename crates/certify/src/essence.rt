@@ -4,8 +4,8 @@ use crate::words::{Words, knowing, word_of};
 use cert_state::{Lit, State, dead, range};
 use std::alloc::{AllocError, Global};
 
-// Adds a literal that is not there.
-fn add(kept: &mut Vec<Lit>, literal: Lit) -> Result<(), AllocError> {
+/// Adds a literal that is not there.
+pub(crate) fn add(kept: &mut Vec<Lit>, literal: Lit) -> Result<(), AllocError> {
     if !kept.contains(&literal) {
         kept.push(literal)?;
     }
@@ -51,22 +51,6 @@ pub(crate) fn essence(alloc: Global, lits: &[Lit], words: Words) -> Result<Vec<L
         }
     }
     Ok(kept)
-}
-
-/// Adds what has to be known, so that this with a fact entails a literal that these literals with it entail.
-pub(crate) fn add_need(
-    kept: &mut Vec<Lit>,
-    lits: &[Lit],
-    fact: Option<Lit>,
-    need: Lit,
-) -> Result<(), AllocError> {
-    if fact == Some(need) {
-        return Ok(());
-    }
-    if cert_state::entails(&knowing(lits), &need) {
-        return add(kept, need);
-    }
-    add_essence(kept, lits, word_of(need))
 }
 
 /// That a word is one number, where that follows and is not stated.

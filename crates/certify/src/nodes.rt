@@ -1,12 +1,12 @@
 //! The nodes of a certificate, made from its last to its first.
 
-use crate::chains::Chains;
-use crate::essence::add_need;
+use crate::chains::{Chains, MAX_LITERALS};
+use crate::essence::{add, add_essence};
 use crate::fault::{CertifyError, unwritten};
 use crate::uses::are_so;
-use crate::words::BEGINNING;
+use crate::words::{BEGINNING, knowing, word_of};
 use cert_form::{ChainNode, Kind, write_chained};
-use cert_state::{Listed, Lit, Regs, State, entails};
+use cert_state::{Facts, Listed, Lit, Regs, State};
 use std::alloc::{AllocError, Global};
 
 /// The most nodes of a certificate.
@@ -83,35 +83,37 @@ impl Nodes {
         Ok(number)
     }
 
-    // Whether a state entails the literals of a chain.
-    fn follow<S: State>(&self, state: &S, chain: u32) -> bool {
+    // Whether the literals of a chain follow.
+    fn follow<S: State>(&self, facts: &Facts<'_, S>, chain: u32) -> bool {
         let mut left = chain;
-        for _ in 0..512 {
+        for _ in 0..=MAX_LITERALS {
             let Some((parent, literal)) = self.chains.last(left) else {
                 return true;
             };
-            if !entails(state, &literal) {
+            if !follows(facts, literal) {
                 return false;
             }
             left = parent;
         }
-        self.chains.last(left).is_none()
+        false
     }
 
     /// The last node that stands at a place and states nothing that is not known there.
     pub(crate) fn find(&self, place: &Place, known: &[Lit]) -> Option<u32> {
+        let mut number = *self.latest.get(place.pc as usize)?;
+        let mut node = self.nodes.get(number as usize)?;
         let state = Listed {
             regs: place.regs,
             lits: known,
             more: place.fact,
         };
-        let mut number = *self.latest.get(place.pc as usize)?;
+        let facts = Facts::of(&state);
         for _ in 0..TRIES {
-            let node = self.nodes.get(number as usize)?;
-            if are_so(&node.regs, &place.regs) && self.follow(&state, node.chain) {
+            if are_so(&node.regs, &place.regs) && self.follow(&facts, node.chain) {
                 return Some(number);
             }
             number = *self.before.get(number as usize)?;
+            node = self.nodes.get(number as usize)?;
         }
         None
     }
@@ -121,7 +123,8 @@ impl Nodes {
         Some(self.nodes.get(number as usize)?.regs)
     }
 
-    /// Adds what has to be known before a way with this fact to a node, of which this is known.
+    /// Adds what has to be known before a way with this fact to a node, of which this is known: what the node states and
+    /// the fact does not, or else all that is known of the word, which gives it together with the fact.
     pub(crate) fn add_needs(
         &self,
         needs: &mut Vec<Lit>,
@@ -133,8 +136,17 @@ impl Nodes {
             Some(node) => node.chain,
             None => 0,
         };
+        let state = knowing(known);
+        let facts = Facts::of(&state);
         for literal in &self.chains.literals(self.alloc, chain)? {
-            add_need(needs, known, fact, *literal)?;
+            if fact == Some(*literal) {
+                continue;
+            }
+            if follows(&facts, *literal) {
+                add(needs, *literal)?;
+            } else {
+                add_essence(needs, known, word_of(*literal))?;
+            }
         }
         Ok(())
     }
@@ -156,6 +168,14 @@ impl Nodes {
         }
         write_chained(self.alloc, self.chains.entries(), &turned).map_err(unwritten)
     }
+}
+
+// Whether a literal of one of the record's words follows.
+fn follows<S: State>(facts: &Facts<'_, S>, literal: Lit) -> bool {
+    if word_of(literal) >= 16 {
+        return false;
+    }
+    facts.entails(&literal)
 }
 
 // The number of a node where so many nodes are counted from the last.

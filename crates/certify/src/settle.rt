@@ -5,7 +5,7 @@ use crate::split::Split;
 use crate::words::{NUMBER, TOKEN, Words};
 use call_record::Word;
 use call_tables::Arch;
-use cert_state::{Lit, State, entails, range};
+use cert_state::{Facts, Lit, State};
 use profile::{LEAST_X32_NUMBER, Profile, Rule};
 
 /// What comes of the question.
@@ -27,13 +27,13 @@ fn cut_or_undecided(split: Option<Split>) -> Outcome {
 }
 
 /// Whether the profile says the word of each record of which this is known.
-pub(crate) fn settle<S: State>(profile: &Profile, state: &S, word: Word) -> Outcome {
-    let mut words = match settle_foreign(profile, state, word) {
+pub(crate) fn settle<S: State>(profile: &Profile, facts: &Facts<'_, S>, word: Word) -> Outcome {
+    let mut words = match settle_foreign(profile, facts, word) {
         Outcome::Settled(words) => words,
         other => return other,
     };
     for arch in profile.machines() {
-        match settle_machine(profile, state, word, *arch) {
+        match settle_machine(profile, facts, word, *arch) {
             Outcome::Settled(more) => words = words.and(more),
             other => return other,
         }
@@ -42,17 +42,17 @@ pub(crate) fn settle<S: State>(profile: &Profile, state: &S, word: Word) -> Outc
 }
 
 // Whether foreign records are impossible, or get their word.
-fn settle_foreign<S: State>(profile: &Profile, state: &S, word: Word) -> Outcome {
+fn settle_foreign<S: State>(profile: &Profile, facts: &Facts<'_, S>, word: Word) -> Outcome {
     if word == Word::KILL_THREAD {
         return Outcome::Settled(Words::NONE);
     }
     let mut open = None;
     for arch in profile.machines() {
         let token = arch.token();
-        if entails(state, &Lit::Bits(TOKEN, u32::MAX, token)) {
+        if facts.entails(&Lit::Bits(TOKEN, u32::MAX, token)) {
             return Outcome::Settled(Words::of(TOKEN));
         }
-        if !entails(state, &Lit::NotBits(TOKEN, u32::MAX, token)) {
+        if !facts.entails(&Lit::NotBits(TOKEN, u32::MAX, token)) {
             open = Some(Split::bits(TOKEN, u32::MAX, token));
         }
     }
@@ -60,36 +60,41 @@ fn settle_foreign<S: State>(profile: &Profile, state: &S, word: Word) -> Outcome
 }
 
 // Whether the records of a machine get the word, or there are none.
-fn settle_machine<S: State>(profile: &Profile, state: &S, word: Word, arch: Arch) -> Outcome {
+fn settle_machine<S: State>(
+    profile: &Profile,
+    facts: &Facts<'_, S>,
+    word: Word,
+    arch: Arch,
+) -> Outcome {
     let token = arch.token();
-    if entails(state, &Lit::NotBits(TOKEN, u32::MAX, token)) {
+    if facts.entails(&Lit::NotBits(TOKEN, u32::MAX, token)) {
         return Outcome::Settled(Words::of(TOKEN));
     }
     let outcome = match arch {
-        Arch::X86_64 => settle_x86_64(profile, state, word),
-        Arch::Aarch64 => settle_rules(profile, state, word, arch),
+        Arch::X86_64 => settle_x86_64(profile, facts, word),
+        Arch::Aarch64 => settle_rules(profile, facts, word, arch),
     };
     match outcome {
         Outcome::Settled(words) => Outcome::Settled(words),
-        other if entails(state, &Lit::Bits(TOKEN, u32::MAX, token)) => other,
+        other if facts.entails(&Lit::Bits(TOKEN, u32::MAX, token)) => other,
         _ => Outcome::Cut(Split::bits(TOKEN, u32::MAX, token)),
     }
 }
 
 // The same for x86-64, where an x32 call is foreign.
-fn settle_x86_64<S: State>(profile: &Profile, state: &S, word: Word) -> Outcome {
-    if entails(state, &Lit::In(NUMBER, LEAST_X32_NUMBER, u32::MAX)) {
+fn settle_x86_64<S: State>(profile: &Profile, facts: &Facts<'_, S>, word: Word) -> Outcome {
+    if facts.entails(&Lit::In(NUMBER, LEAST_X32_NUMBER, u32::MAX)) {
         return if word == Word::KILL_THREAD {
             Outcome::Settled(Words::of(NUMBER))
         } else {
             Outcome::Undecided
         };
     }
-    let native = entails(state, &Lit::In(NUMBER, 0, LEAST_X32_NUMBER - 1));
+    let native = facts.entails(&Lit::In(NUMBER, 0, LEAST_X32_NUMBER - 1));
     if !native && word != Word::KILL_THREAD {
         return cut_or_undecided(Split::at(NUMBER, LEAST_X32_NUMBER));
     }
-    match settle_rules(profile, state, word, Arch::X86_64) {
+    match settle_rules(profile, facts, word, Arch::X86_64) {
         Outcome::Settled(words) => Outcome::Settled(words.and(Words::of(NUMBER))),
         other if native => other,
         _ => cut_or_undecided(Split::at(NUMBER, LEAST_X32_NUMBER)),
@@ -97,12 +102,17 @@ fn settle_x86_64<S: State>(profile: &Profile, state: &S, word: Word) -> Outcome 
 }
 
 // Whether the rules of a machine say the word.
-fn settle_rules<S: State>(profile: &Profile, state: &S, word: Word, arch: Arch) -> Outcome {
-    let Some((least, greatest)) = range(state, NUMBER) else {
+fn settle_rules<S: State>(
+    profile: &Profile,
+    facts: &Facts<'_, S>,
+    word: Word,
+    arch: Arch,
+) -> Outcome {
+    let Some((least, greatest)) = facts.range(NUMBER) else {
         return Outcome::Undecided;
     };
     if least == greatest {
-        return settle_number(profile, state, word, arch, least);
+        return settle_number(profile, facts, word, arch, least);
     }
     let mut words = Words::of(NUMBER);
     let mut nearest = None;
@@ -110,7 +120,7 @@ fn settle_rules<S: State>(profile: &Profile, state: &S, word: Word, arch: Arch) 
         if rule.arch != arch || rule.nr < least || rule.nr > greatest {
             continue;
         }
-        match bearing_of(profile, state, word, rule) {
+        match bearing_of(profile, facts, word, rule) {
             Bearing::None(more) => words = words.and(more),
             Bearing::Counts => nearest = Some(nearer(least, greatest, nearest, rule.nr)),
         }
@@ -131,14 +141,19 @@ enum Bearing {
     Counts,
 }
 
-fn bearing_of<S: State>(profile: &Profile, state: &S, word: Word, rule: &Rule) -> Bearing {
+fn bearing_of<S: State>(
+    profile: &Profile,
+    facts: &Facts<'_, S>,
+    word: Word,
+    rule: &Rule,
+) -> Bearing {
     if profile.default_word() == word && rule.word == word {
         return Bearing::None(Words::NONE);
     }
-    if entails(state, &Lit::NotBits(NUMBER, u32::MAX, rule.nr)) {
+    if facts.entails(&Lit::NotBits(NUMBER, u32::MAX, rule.nr)) {
         return Bearing::None(Words::NONE);
     }
-    match judge_conditions(state, rule.conds.as_slice()) {
+    match judge_conditions(facts, rule.conds.as_slice()) {
         Judged::No(words) => Bearing::None(words),
         _ => Bearing::Counts,
     }
@@ -156,7 +171,7 @@ fn nearer(least: u32, greatest: u32, best: Option<u32>, nr: u32) -> u32 {
 // Whether the rules of a number say the word.
 fn settle_number<S: State>(
     profile: &Profile,
-    state: &S,
+    facts: &Facts<'_, S>,
     word: Word,
     arch: Arch,
     nr: u32,
@@ -170,7 +185,7 @@ fn settle_number<S: State>(
             continue;
         }
         let same = rule.word == word;
-        match judge_conditions(state, rule.conds.as_slice()) {
+        match judge_conditions(facts, rule.conds.as_slice()) {
             Judged::Yes(by) if same => return Outcome::Settled(by.and(Words::of(NUMBER))),
             Judged::Yes(_) => refuted = true,
             Judged::No(by) if !same => words = words.and(by),

@@ -15,7 +15,7 @@ use crate::words::{BEGINNING, NOTHING, knowing, word_of};
 use bpf_insn::{Insn, Operation};
 use call_record::Word;
 use cert_form::Kind;
-use cert_state::{AVal, Listed, Lit, Regs, edge_fact, entails, transfer};
+use cert_state::{AVal, Facts, Listed, Lit, Regs, edge_fact, entails, transfer};
 use kernel_check::Accepted;
 use profile::Profile;
 use std::alloc::Global;
@@ -298,6 +298,12 @@ impl<'a> Walk<'a> {
         Ok(None)
     }
 
+    // Whether the profile says the word of all records that come here.
+    fn settled(&self, word: Word) -> Outcome {
+        let state = knowing(&self.trail);
+        settle(self.profile, &Facts::of(&state), word)
+    }
+
     // Comes to a return.
     fn end(
         &mut self,
@@ -306,7 +312,7 @@ impl<'a> Walk<'a> {
         word: Word,
         uses: Uses,
     ) -> Result<Option<u32>, CertifyError> {
-        match settle(self.profile, &knowing(&self.trail), word) {
+        match self.settled(word) {
             Outcome::Settled(words) => {
                 let literals = essence(self.alloc, &self.trail, words)?;
                 self.trail.truncate(known);

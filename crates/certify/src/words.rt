@@ -1,4 +1,6 @@
 //! Words of a record.
+ghost use Rattle.std.specs.Prelude.{◌≡◌};
+ghost use Rattle.cert_state.specs.Literals.{index_of};
 
 use cert_state::{AVal, Listed, Lit, Regs};
 
@@ -39,7 +41,9 @@ impl Words {
 }
 
 /// The word of which a literal is known.
-pub(crate) fn word_of(literal: Lit) -> u8 {
+pub(crate) fn word_of(literal: Lit) -> u8
+    ensures { result ≡ index_of literal }
+{
     match literal {
         Lit::In(word, _, _) => word,
         Lit::Bits(word, _, _) => word,
