@@ -2,15 +2,15 @@
 //!
 //! The jumps of a filter go forward. So where a jump goes to is there already when the jump is
 //! written, and how many instructions it skips is known.
-ghost use Rattle.std.specs.Prelude.{◌≡◌, ◌+◌, ◌≤◌, ◌<◌, ◌↔◌, [], ◌∷◌, None, length, IfOk, IsErrOf, OnOk};
+ghost use Rattle.std.specs.Prelude.{◌≡◌, ◌+◌, ◌≤◌, ◌<◌, ◌↔◌, [], ◌∷◌, None, length, IfOk, IfSome, IsErrOf, OnOk};
 ghost use Rattle.bpf_insn.specs.Bytes.{insns_of, view_fault};
-ghost use Rattle.bpf_insn.specs.declared.code.Operation.TheVariants.{Compute, LoadWord, ReturnK};
+ghost use Rattle.bpf_insn.specs.declared.code.Operation.TheVariants.{Compute, LoadWord};
 ghost use Rattle.bpf_insn.specs.declared.code.Arithmetic.TheVariants.{And};
 ghost use Rattle.bpf_insn.specs.declared.code.Operand.TheVariants.{K};
-ghost use Rattle.rule_compile.specs.inner.Code.{Grows, HasExits, IsIn, IsStart, insn_of};
+ghost use Rattle.rule_compile.specs.inner.Code.{Grows, HasExits, IsIn, IsStart, IsTarget, insn_of};
 
 use crate::fault::CompileError;
-use crate::label::{Exits, Label};
+use crate::label::{Exits, Label, Target};
 use bpf_insn::{Arithmetic, Insn, Operand, Operation, Test, encode_into};
 use call_record::Word;
 use std::alloc::{AllocError, Global};
@@ -78,15 +78,7 @@ impl Assembler {
         })
     }
 
-    /// Ends with the word as the verdict.
-    pub(crate) fn return_word(&mut self, word: Word) -> Result<Label, CompileError>
-        ensures written { OnOk result (self.new ≡ insn_of ReturnK word ∷ self.old) }
-        ensures start { IfOk result (IsStart self.new) }
-    {
-        self.write(insn(Operation::ReturnK, word.0))
-    }
-
-    /// Loads the word at an offset of the record.
+    /// Loads the word at an offset of the record, and goes on at the code so far.
     pub(crate) fn load(&mut self, offset: u32) -> Result<Label, CompileError>
         ensures written { OnOk result (self.new ≡ insn_of LoadWord offset ∷ self.old) }
         ensures start { IfOk result (IsStart self.new) }
@@ -112,6 +104,41 @@ impl Assembler {
         self.backwards.len() - to.to_end
     }
 
+    // The place of an instruction, where the code has it.
+    fn find(&self, insn: Insn) -> Option<Label>
+        ensures placed { IfSome result (IsIn self.now) }
+        ensures some { IfSome result (λ place. 1 ≤ place.to_end) }
+    {
+        for (after, other) in self.backwards.iter().enumerate() {
+            if *other == insn {
+                return Some(Label { to_end: after + 1 });
+            }
+        }
+        None
+    }
+
+    // A jump to the label which a conditional jump reaches that is written next, even after one
+    // more instruction.
+    fn find_jump(&self, to: Label) -> Option<Label>
+        requires { IsIn self.now to }
+        ensures placed { IfSome result (IsIn self.now) }
+        ensures near { IfSome result (λ place. length self.now < place.to_end + FARTHEST) }
+    {
+        let len = self.backwards.len();
+        for after in (len - (FARTHEST - 1).min(len))..len {
+            let Insn {
+                code,
+                jt: _,
+                jf: _,
+                k,
+            } = self.backwards[after];
+            if code == Operation::Jump.code() && to.to_end + k as usize == after {
+                return Some(Label { to_end: after + 1 });
+            }
+        }
+        None
+    }
+
     // The label, or where it is far from here, that of a jump to it. A conditional jump that is
     // written next reaches it, even after one more instruction.
     fn near(&mut self, to: Label) -> Result<Label, CompileError>
@@ -123,9 +150,40 @@ impl Assembler {
     {
         let skipped = self.distance(to);
         if skipped < FARTHEST {
-            Ok(to)
-        } else {
-            self.write(insn(Operation::Jump, skipped as u32))
+            return Ok(to);
+        }
+        match self.find_jump(to) {
+            Some(jump) => Ok(jump),
+            None => self.write(insn(Operation::Jump, skipped as u32)),
+        }
+    }
+
+    /// The one return of the word, or where it is far from here, that of a jump to it, as `near`.
+    pub(crate) fn near_return(&mut self, word: Word) -> Result<Label, CompileError>
+        ensures some { OnOk result (1 ≤ length self.new) }
+        ensures grows { OnOk result (Grows self.old self.new) }
+        ensures placed { IfOk result (IsIn self.new) }
+        ensures near { IfOk result (λ place. length self.new < place.to_end + FARTHEST) }
+        ensures one { OnOk result (length self.new ≤ length self.old + 1) }
+    {
+        let ending = insn(Operation::ReturnK, word.0);
+        match self.find(ending) {
+            Some(place) => self.near(place),
+            None => self.write(ending),
+        }
+    }
+
+    // Where to go on at the target, as `near`.
+    fn near_target(&mut self, to: Target) -> Result<Label, CompileError>
+        requires { IsTarget self.old to }
+        ensures grows { OnOk result (Grows self.old self.new) }
+        ensures placed { IfOk result (IsIn self.new) }
+        ensures near { IfOk result (λ place. length self.new < place.to_end + FARTHEST) }
+        ensures one { OnOk result (length self.new ≤ length self.old + 1) }
+    {
+        match to {
+            Target::Place(place) => self.near(place),
+            Target::Return(word) => self.near_return(word),
         }
     }
 
@@ -135,8 +193,8 @@ impl Assembler {
         ensures grows { OnOk result (Grows self.old self.new) }
         ensures start { IfOk result (IsStart self.new) }
     {
-        let no = self.near(exits.no)?;
-        let yes = self.near(exits.yes)?;
+        let no = self.near_target(exits.no)?;
+        let yes = self.near_target(exits.yes)?;
         let jump = Insn {
             code: Operation::Branch(test, Operand::K).code(),
             jt: self.distance(yes) as u8,
@@ -144,6 +202,21 @@ impl Assembler {
             k,
         };
         self.write(jump)
+    }
+
+    /// The target, or the place behind its first instruction where this loads a word that is loaded
+    /// already.
+    pub(crate) fn past_load(&self, to: Target, loaded: u32) -> Target
+        requires { IsTarget self.now to }
+        ensures { IsTarget self.now result }
+    {
+        if let Target::Place(place) = to {
+            let after = place.to_end.saturating_sub(1);
+            if self.backwards.get(after) == Some(&insn(Operation::LoadWord, loaded)) {
+                return Target::Place(Label { to_end: after });
+            }
+        }
+        to
     }
 
     /// The code as the bytes of a filter.

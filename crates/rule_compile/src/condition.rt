@@ -3,11 +3,11 @@
 //! A filter sees an argument of 64 bits as two words. Two numbers compare as their high words do
 //! where these differ, and else as their low words do.
 ghost use Rattle.std.specs.Prelude.{◌≡◌, ◌+◌, ◌*◌, ◌^◌, ◌<◌, IfOk, OnOk};
-ghost use Rattle.rule_compile.specs.inner.Code.{Grows, HasExits, IsIn, IsStart};
+ghost use Rattle.rule_compile.specs.inner.Code.{Grows, HasExits, IsStart, IsTarget};
 
 use crate::assembler::Assembler;
 use crate::fault::CompileError;
-use crate::label::{Exits, Label};
+use crate::label::{Exits, Label, Target};
 use bpf_insn::Test;
 use call_record::offset::ARGUMENTS;
 use profile::{Cond, Op};
@@ -48,7 +48,7 @@ impl Argument {
     }
 }
 
-/// Goes on by whether a condition holds of its argument.
+/// Goes on by whether a condition holds of its argument. A half that can't decide is not compared.
 pub(crate) fn condition(
     code: &mut Assembler,
     condition: &Cond,
@@ -63,15 +63,35 @@ pub(crate) fn condition(
     match condition.op {
         Op::Eq => equal(code, argument, value, exits),
         Op::Ne => equal(code, argument, value, exits.swapped()),
-        Op::Gt => greater(code, argument, value, exits),
-        Op::Le => greater(code, argument, value, exits.swapped()),
-        Op::Ge => at_least(code, argument, value, exits),
-        Op::Lt => at_least(code, argument, value, exits.swapped()),
+        Op::Gt => greater(code, argument, Test::Greater, value, exits),
+        Op::Le => greater(code, argument, Test::Greater, value, exits.swapped()),
+        Op::Ge => greater(code, argument, Test::AtLeast, value, exits),
+        Op::Lt => greater(code, argument, Test::AtLeast, value, exits.swapped()),
         Op::MaskedEq => {
             let datum = Halves::from(condition.datum);
             masked_equal(code, argument, value, datum, exits)
         }
     }
+}
+
+// Goes on by how a word of the record compares with a number. An exit that begins by a load of the
+// word is gone to behind the load.
+fn compare(
+    code: &mut Assembler,
+    word: u32,
+    test: Test,
+    number: u32,
+    exits: Exits,
+) -> Result<Label, CompileError>
+    requires { HasExits code.old exits }
+    ensures grows { OnOk result (Grows code.old code.new) }
+    ensures start { IfOk result (IsStart code.new) }
+{
+    let exits = Exits {
+        yes: code.past_load(exits.yes, word),
+        no: code.past_load(exits.no, word),
+    };
+    code.branch(test, number, exits)
 }
 
 // Both words are equal.
@@ -85,10 +105,22 @@ fn equal(
     ensures grows { OnOk result (Grows code.old code.new) }
     ensures start { IfOk result (IsStart code.new) }
 {
-    code.branch(Test::Equal, value.low, exits)?;
-    let low = code.load(argument.low)?;
-    let exits = Exits { yes: low, ..exits };
-    code.branch(Test::Equal, value.high, exits)?;
+    let Exits { yes, no } = exits;
+    compare(
+        code,
+        argument.low,
+        Test::Equal,
+        value.low,
+        Exits { yes, no },
+    )?;
+    let yes = Target::Place(code.load(argument.low)?);
+    compare(
+        code,
+        argument.high,
+        Test::Equal,
+        value.high,
+        Exits { yes, no },
+    )?;
     code.load(argument.high)
 }
 
@@ -104,19 +136,46 @@ fn masked_equal(
     ensures grows { OnOk result (Grows code.old code.new) }
     ensures start { IfOk result (IsStart code.new) }
 {
-    code.branch(Test::Equal, datum.low, exits)?;
-    code.mask(mask.low)?;
-    let low = code.load(argument.low)?;
-    let exits = Exits { yes: low, ..exits };
-    code.branch(Test::Equal, datum.high, exits)?;
-    code.mask(mask.high)?;
-    code.load(argument.high)
+    if mask.high == 0 {
+        return masked_word(code, argument.low, mask.low, datum.low, exits);
+    }
+    if mask.low == 0 {
+        return masked_word(code, argument.high, mask.high, datum.high, exits);
+    }
+    let Exits { yes, no } = exits;
+    let low = Exits { yes, no };
+    let yes = Target::Place(masked_word(code, argument.low, mask.low, datum.low, low)?);
+    masked_word(
+        code,
+        argument.high,
+        mask.high,
+        datum.high,
+        Exits { yes, no },
+    )
 }
 
-// The argument is greater.
+// A word of the record is equal under the mask.
+fn masked_word(
+    code: &mut Assembler,
+    word: u32,
+    mask: u32,
+    datum: u32,
+    exits: Exits,
+) -> Result<Label, CompileError>
+    requires { HasExits code.old exits }
+    ensures grows { OnOk result (Grows code.old code.new) }
+    ensures start { IfOk result (IsStart code.new) }
+{
+    code.branch(Test::Equal, datum, exits)?;
+    code.mask(mask)?;
+    code.load(word)
+}
+
+// The argument is greater, or with `Test::AtLeast` at least as great.
 fn greater(
     code: &mut Assembler,
     argument: Argument,
+    test: Test,
     value: Halves,
     exits: Exits,
 ) -> Result<Label, CompileError>
@@ -124,43 +183,34 @@ fn greater(
     ensures grows { OnOk result (Grows code.old code.new) }
     ensures start { IfOk result (IsStart code.new) }
 {
-    code.branch(Test::Greater, value.low, exits)?;
-    let low = code.load(argument.low)?;
-    high_word_decides(code, argument, value, low, exits)
-}
-
-// The argument is at least as great.
-fn at_least(
-    code: &mut Assembler,
-    argument: Argument,
-    value: Halves,
-    exits: Exits,
-) -> Result<Label, CompileError>
-    requires { HasExits code.old exits }
-    ensures grows { OnOk result (Grows code.old code.new) }
-    ensures start { IfOk result (IsStart code.new) }
-{
-    code.branch(Test::AtLeast, value.low, exits)?;
-    let low = code.load(argument.low)?;
-    high_word_decides(code, argument, value, low, exits)
-}
-
-// A greater high word is a yes, a less one a no, and an equal one leaves it to the low words.
-fn high_word_decides(
-    code: &mut Assembler,
-    argument: Argument,
-    value: Halves,
-    low: Label,
-    exits: Exits,
-) -> Result<Label, CompileError>
-    requires low { IsIn code.old low }
-    requires exits { HasExits code.old exits }
-    ensures grows { OnOk result (Grows code.old code.new) }
-    ensures start { IfOk result (IsStart code.new) }
-{
-    let where_equal = Exits { yes: low, ..exits };
-    let equal = code.branch(Test::Equal, value.high, where_equal)?;
-    let where_greater = Exits { no: equal, ..exits };
-    code.branch(Test::Greater, value.high, where_greater)?;
+    let Exits { yes, no } = exits;
+    compare(code, argument.low, test, value.low, Exits { yes, no })?;
+    let low = Target::Place(code.load(argument.low)?);
+    let no = not_greater(code, argument, value, Exits { yes: low, no })?;
+    compare(
+        code,
+        argument.high,
+        Test::Greater,
+        value.high,
+        Exits { yes, no },
+    )?;
     code.load(argument.high)
+}
+
+// Where to go on when the high word is not greater: it is equal or less. None is less than 0.
+fn not_greater(
+    code: &mut Assembler,
+    argument: Argument,
+    value: Halves,
+    exits: Exits,
+) -> Result<Target, CompileError>
+    requires { HasExits code.old exits }
+    ensures grows { OnOk result (Grows code.old code.new) }
+    ensures placed { IfOk result (IsTarget code.new) }
+{
+    if value.high == 0 {
+        return Ok(exits.yes);
+    }
+    let equal = compare(code, argument.high, Test::Equal, value.high, exits)?;
+    Ok(Target::Place(equal))
 }

@@ -1,5 +1,7 @@
-//! Places in the code, which jumps go to.
+//! Places in the code, and where the code goes on.
 ghost use Rattle.std.specs.Prelude.{◌≡◌};
+
+use call_record::Word;
 
 /// A place in the code. It stays the same while code is written in front of it.
 #[derive(Clone, Copy)]
@@ -8,11 +10,20 @@ pub(crate) struct Label {
     pub(crate) to_end: usize,
 }
 
+/// Where the code goes on.
+#[derive(Clone, Copy)]
+pub(crate) enum Target {
+    /// At a place.
+    Place(Label),
+    /// At the return of a word, of which a filter has just one.
+    Return(Word),
+}
+
 /// Where the code goes on after a test.
 #[derive(Clone, Copy)]
 pub(crate) struct Exits {
-    pub(crate) yes: Label,
-    pub(crate) no: Label,
+    pub(crate) yes: Target,
+    pub(crate) no: Target,
 }
 
 impl Exits {

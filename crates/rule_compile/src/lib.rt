@@ -9,6 +9,8 @@ mod condition;
 mod fault;
 mod filter;
 mod label;
+mod plan;
+mod ranges;
 mod search;
 
 pub use fault::CompileError;

@@ -1,9 +1,11 @@
 -- Code that is written from its end to its beginning, and places in it.
-use Rattle.std.specs.Prelude.{ℕ, ◌≡◌, ◌≤◌, List, length}
+use Rattle.std.specs.Prelude.{ℕ, ◌≡◌, ◌≤◌, ⊤, List, length}
 use Rattle.bpf_insn.specs.Code.{code_of}
 use Rattle.bpf_insn.specs.declared.code.Operation.{Operation}
 use Rattle.bpf_insn.specs.declared.instruction.Insn.{Insn}
 use Rattle.rule_compile.specs.declared.label.Label.{Label}
+use Rattle.rule_compile.specs.declared.label.Target.{Target}
+use Rattle.rule_compile.specs.declared.label.Target.TheVariants.{Place, Return}
 use Rattle.rule_compile.specs.declared.label.Exits.{Exits}
 
 -- the place is in the code
@@ -14,10 +16,15 @@ IsIn code place = place.to_end ≤ length code
 abbrev pub IsStart : List Insn → Label → Type 0
 IsStart code place = place.to_end ≡ length code
 
--- both exits are in the code
+-- where it is a place, it is in the code
+abbrev pub IsTarget : List Insn → Target → Type 0
+IsTarget code (Place place) = IsIn code place
+IsTarget code (Return _) = ⊤
+
+-- both exits can be gone to from the code
 pub record HasExits (code : List Insn) (exits : Exits) : Type 0 where
-  pub yes : IsIn code exits.yes
-  pub no : IsIn code exits.no
+  pub yes : IsTarget code exits.yes
+  pub no : IsTarget code exits.no
 
 -- each place of the old code is in the new
 abbrev pub Grows : List Insn → List Insn → Type 0
