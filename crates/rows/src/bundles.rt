@@ -1,6 +1,7 @@
 //! Bundles, and what their profiles say of calls.
 
 use crate::conformance::{tell_agreement, tell_size};
+use crate::paths::tell_figures;
 use crate::rules::tell_profile;
 use anyhow::{Context, Result, bail};
 use profile::Profile;
@@ -39,6 +40,7 @@ impl Bundles {
             "bundle" => self.read(out, alloc, rest),
             "decide" => self.decide(out, rest),
             "compile" => tell_size(out, alloc, &self.made(alloc, rest)??.profile),
+            "figures" => tell_figures(out, alloc, &self.made(alloc, rest)??.profile),
             "conforms" => tell_agreement(out, alloc, &self.made(alloc, rest)??.profile),
             _ => bail!("no word of this program"),
         }

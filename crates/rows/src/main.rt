@@ -14,7 +14,7 @@
 //! - `bundle MACHINE NAME TEXT` reads a bundle, which is the frame of this name with TEXT at its place. After it
 //!   `decide NUMBER MACHINE ARGUMENT ..` asks its profile for the word of a call.
 //! - `compile MACHINE NAME TEXT` tells how long the filter of a bundle is, and `conforms` with the same words whether the
-//!   kernel takes it and it answers what the profile says, on a grid of records.
+//!   kernel takes it and it answers what the profile says, on a grid of records; `figures` how long it and its paths are.
 //! - `program LISTING` asks the kernel's check, and after it `run NUMBER MACHINE ARGUMENT ..` runs the program.
 //! - `assemble LISTING` and `disassemble HEX`; `codes` for the codes of listed instructions.
 //! - `strictest WORD ..`, `effect WORD`, `record POINTER NUMBER MACHINE ARGUMENT ..`, `least BITS FROM MASK DATUM`.
@@ -30,6 +30,7 @@ mod calls;
 mod conformance;
 mod filters;
 mod grid;
+mod paths;
 mod rules;
 mod verdicts;
 
@@ -65,7 +66,7 @@ impl Bench {
             "" | "#" => Ok(()),
             "file" => self.shelf.put(alloc, rest),
             "$" => session::session(out, alloc, &mut self.shelf, rest),
-            "frame" | "bundle" | "decide" | "compile" | "conforms" => self
+            "frame" | "bundle" | "decide" | "compile" | "conforms" | "figures" => self
                 .bundles
                 .answer(out, alloc, word, rest),
             "program" | "run" | "assemble" | "disassemble" | "codes" => {
