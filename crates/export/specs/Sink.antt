@@ -1,5 +1,5 @@
 -- What a call that writes leaves.
-use Rattle.std.specs.Prelude.{ℕ, ◌<◌, Bool, true, ◌==◌, List, length, take, Option, Result, Ok, Err}
+use Rattle.std.specs.Prelude.{ℕ, ◌≡◌, ◌<◌, Bool, true, ◌==◌, List, length, take, Option, Result, Ok, Err}
 use Rattle.std.specs.Io.KnownBytes.{Appends}
 use Rattle.export.specs.Failures.{HasFailed}
 use Rattle.export.specs.declared.fault.ExportFault.{ExportFault}
@@ -10,9 +10,19 @@ abbrev pub is_failure : {E : Type 0} → Result ℕ E → Bool
 is_failure (Ok n) = n == 0
 is_failure (Err e) = true
 
--- Ok: these bytes were written. A fault of writing: the sink failed in this call, and took the first `out` of them.
+-- the sink failed in this call, and took the first `out` of the bytes, which are not all of them
+abbrev pub StopsAt : {S : Type 0} → (S → Option (List ℕ)) → (S → ℕ) → S → S → List ℕ → ℕ → Type 0
+StopsAt held failures old new bytes out =
+    Appends (held old) (held new) (take out bytes) × (out < length bytes) × HasFailed (failures old) (failures new)
+
+-- Ok: these bytes were written. A fault of writing tells where the sink stopped.
 abbrev pub Writes : {S T : Type 0} → (S → Option (List ℕ)) → (S → ℕ) → S → S → List ℕ → Result T ExportFault → Type 0
 Writes held failures old new bytes (Ok x) = Appends (held old) (held new) bytes
-Writes held failures old new bytes (Err (Write out)) =
-    Appends (held old) (held new) (take out bytes) × (out < length bytes) × HasFailed (failures old) (failures new)
+Writes held failures old new bytes (Err (Write out)) = StopsAt held failures old new bytes out
 Writes held failures old new bytes (Err OutOfMemory) = ⊥
+
+-- The same of bytes that have to be made first: without memory for them the sink was not asked.
+abbrev pub WritesMade : {S T : Type 0} → (S → Option (List ℕ)) → (S → ℕ) → S → S → List ℕ → Result T ExportFault → Type 0
+WritesMade held failures old new bytes (Ok x) = Appends (held old) (held new) bytes
+WritesMade held failures old new bytes (Err (Write out)) = StopsAt held failures old new bytes out
+WritesMade held failures old new bytes (Err OutOfMemory) = new ≡ old

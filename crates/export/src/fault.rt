@@ -1,4 +1,7 @@
 //! Why bytes were not read or not written.
+ghost use Rattle.export.specs.declared.fault.ExportFault.TheVariants.{OutOfMemory};
+
+use std::alloc::AllocError;
 use std::error::Error;
 use std::fmt;
 
@@ -61,3 +64,13 @@ impl fmt::Display for ExportFault {
 }
 
 impl Error for ExportFault {}
+
+impl From<AllocError> for ExportFault {
+    ghost use Rattle.std.specs.Prelude.{◌≡◌};
+
+    ghost from_gives = { λ _ e. e ≡ OutOfMemory };
+
+    fn from(_error: AllocError) -> ExportFault {
+        ExportFault::OutOfMemory
+    }
+}

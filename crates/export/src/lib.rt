@@ -1,10 +1,12 @@
 //! Where bytes come from and where they go, and a checked filter as bytes, as a certificate and as a listing.
 #![tactic(auto)]
 
+mod exports;
 mod fault;
 mod sink;
 mod source;
 
+pub use exports::{export_cert, export_listing, export_raw};
 pub use fault::{ExportFault, Failed};
 pub use sink::{Sink, ToWrite, write_all};
 pub use source::{FromRead, Source};

@@ -1,0 +1,39 @@
+//! A checked filter, written in three forms.
+ghost use Rattle.bpf_insn.specs.Bytes.{spelling};
+ghost use Rattle.bpf_asm.specs.Listing.{listing};
+ghost use Rattle.cert_check.specs.Checked.{cert_of, program_of};
+ghost use Rattle.export.specs.Sink.{Writes, WritesMade};
+
+use crate::fault::ExportFault;
+use crate::sink::{Sink, write_all};
+use bpf_asm::disassemble;
+use cert_check::Checked;
+use std::alloc::Global;
+
+/// Writes the bytes of the filter, which is what a kernel loads.
+pub fn export_raw<S: Sink>(checked: &Checked<'_>, sink: &mut S) -> Result<(), ExportFault>
+    ensures { Writes S.held S.failures sink.old sink.new (spelling (program_of checked.now)) result }
+{
+    let program = checked.program().program();
+    write_all(program.bytes(), sink)
+}
+
+/// Writes the bytes of the certificate.
+pub fn export_cert<S: Sink>(checked: &Checked<'_>, sink: &mut S) -> Result<(), ExportFault>
+    ensures { Writes S.held S.failures sink.old sink.new (cert_of checked.now) result }
+{
+    write_all(checked.cert(), sink)
+}
+
+/// Writes the listing of the filter. It takes memory for it, before the first byte.
+pub fn export_listing<S: Sink>(
+    alloc: Global,
+    checked: &Checked<'_>,
+    sink: &mut S,
+) -> Result<(), ExportFault>
+    ensures { WritesMade S.held S.failures sink.old sink.new (listing (program_of checked.now)) result }
+{
+    let program = checked.program().program();
+    let text = disassemble(alloc, &program)?;
+    write_all(text.as_str().as_bytes(), sink)
+}
