@@ -1,5 +1,5 @@
-mod Splits
-mod Numerals
+pub mod Splits
+pub mod Numerals
 mod Parts
 mod Pieces
 mod Mnemonics

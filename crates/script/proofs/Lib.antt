@@ -1,0 +1,8 @@
+mod Options
+mod Pieces
+mod NumberLaws
+mod PairLaws
+mod WhatLaws
+mod ArgumentLaws
+mod OrderLaws
+mod LineLaws

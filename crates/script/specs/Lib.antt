@@ -1,0 +1,7 @@
+pub mod Numbers
+pub mod Orders
+pub mod Grammar
+pub mod Lines
+pub mod Requests
+pub mod Laws
+pub mod inner

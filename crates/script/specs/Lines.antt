@@ -1,0 +1,33 @@
+-- The lines of a text, and what they order.
+use Rattle.std.specs.Prelude.{ℕ, ◌≡◌, true, List, [], ◌∷◌, Option}
+use Rattle.std.specs.List.{join_with_byte, list_all}
+use Rattle.call_tables.specs.declared.arch.Arch.{Arch}
+use Rattle.script.specs.Orders.{Order}
+use Rattle.script.specs.Grammar.{LineIs, lacks}
+
+abbrev pub line_feed : ℕ
+line_feed = 10
+
+-- the parts of a text between its line feeds, one at least
+pub record Parts (text : List ℕ) (first : List ℕ) (more : List (List ℕ)) : Type 0 where
+  pub joined : text ≡ join_with_byte line_feed (first ∷ more)
+  pub each : list_all (lacks line_feed) (first ∷ more) ≡ true
+
+-- a part is a line; what stands behind the last line feed counts if it is not empty
+abbrev pub lines_of : List ℕ → List (List ℕ) → List (List ℕ)
+lines_of [] [] = []
+lines_of (b ∷ part) [] = (b ∷ part) ∷ []
+lines_of part (next ∷ more) = part ∷ lines_of next more
+
+-- each line is what stands beside it
+abbrev pub LinesAre : Arch → List (List ℕ) → List (Option Order) → Type 0
+LinesAre native [] [] = Unit {0}
+LinesAre native (line ∷ lines) (order ∷ orders) = LineIs native line order × LinesAre native lines orders
+LinesAre native lines orders = ⊥
+
+-- the text is these lines, each with its order or with none
+pub record Reads (native : Arch) (text : List ℕ) (orders : List (Option Order)) : Type 0 where
+  pub first : List ℕ
+  pub more : List (List ℕ)
+  pub parts : Parts text first more
+  pub lines : LinesAre native (lines_of first more) orders

@@ -1,0 +1,147 @@
+-- How a line is read.
+use Rattle.std.specs.Prelude.{ℕ, ◌==◌, ◌^◌, nat_lt, if◌then◌else◌, List, [], ◌∷◌, ◌++◌, length, Option, Some, None, option_and_then, codes}
+use Rattle.std.specs.Option.{option_map}
+use Rattle.std.specs.List.{slice_split}
+use Rattle.std.specs.Char.{is_ascii_digit}
+use Rattle.std.specs.Str.{bytes_eq}
+use Rattle.std.specs.Str.Parse.{digits_value}
+use Rattle.call_tables.specs.declared.arch.Arch.{Arch}
+use Rattle.call_tables.specs.declared.arch.Arch.TheVariants.{X86_64, Aarch64}
+use Rattle.call_tables.specs.Arch.{table_of}
+use Rattle.call_tables.specs.Table.{number_in}
+use Rattle.bpf_asm.specs.Digits.{are_digits, has_leading_zero, is_hexadecimal_digit}
+use Rattle.bpf_asm.specs.inner.Reading.{behind}
+use Rattle.script.specs.inner.Pairs.{is_paired, spelled_bytes}
+use Rattle.script.specs.Orders.{Order, Create, Start, Delete, State, Kill, Call}
+
+infixl 10 ◌>>=◌
+abbrev pub ◌>>=◌ : {A B : Type 0} → Option A → (A → Option B) → Option B
+o >>= f = option_and_then f o
+
+-- the number that digits write, where it has no leading zero and so many bits hold it
+unfoldable pub number_of : ℕ → List ℕ → Option ℕ
+number_of radix ds =
+    if has_leading_zero ds then None
+    else if nat_lt (digits_value radix ds) (2 ^ 64) then Some (digits_value radix ds) else None
+
+unfoldable pub decimal_at : List ℕ → Option ℕ
+decimal_at text = if are_digits is_ascii_digit text then number_of 10 text else None
+
+unfoldable pub hexadecimal_at : List ℕ → Option ℕ
+hexadecimal_at ds = if are_digits is_hexadecimal_digit ds then number_of 16 ds else None
+
+-- the option is what follows `0x`
+abbrev pub marked_number : Option (List ℕ) → List ℕ → Option ℕ
+marked_number (Some ds) text = hexadecimal_at ds
+marked_number None text = decimal_at text
+
+unfoldable pub number_at : List ℕ → Option ℕ
+number_at text = marked_number (behind (codes "0x") text) text
+
+-- a number of 32 bits
+unfoldable pub word_at : List ℕ → Option ℕ
+word_at text = do
+  n ← number_at text
+  if nat_lt n (2 ^ 32) then Some n else None
+
+-- a call of a machine by its number; the options are what follows the machines' names
+abbrev pub foreign : Option (List ℕ) → Option (List ℕ) → Option (Arch × ℕ)
+foreign (Some ds) other = option_map (λ nr. (X86_64, nr)) (word_at ds)
+foreign None (Some ds) = option_map (λ nr. (Aarch64, nr)) (word_at ds)
+foreign None None = None
+
+unfoldable pub foreign_at : List ℕ → Option (Arch × ℕ)
+foreign_at text = foreign (behind (codes "x86-64:") text) (behind (codes "aarch64:") text)
+
+abbrev pub native_or : Arch → Option ℕ → List ℕ → Option (Arch × ℕ)
+native_or native (Some nr) text = Some (native, nr)
+native_or native None text = foreign_at text
+
+unfoldable pub what_at : Arch → List ℕ → Option (Arch × ℕ)
+what_at native text = native_or native (number_in (table_of native) text) text
+
+-- what stands before a program
+abbrev pub mark : List ℕ
+mark = codes "prog"
+
+-- an argument and the fields behind it: 0 at the end, and where the program begins
+abbrev pub next_at : List (List ℕ) → Option (ℕ × List (List ℕ))
+next_at [] = Some (0, [])
+next_at (f ∷ fields) = if bytes_eq f mark then Some (0, f ∷ fields) else option_map (λ n. (n, fields)) (number_at f)
+
+-- six arguments, and the fields behind them
+unfoldable pub arguments_at : List (List ℕ) → Option (List ℕ × List (List ℕ))
+arguments_at fields = do
+  a ← next_at fields
+  b ← next_at a.1
+  c ← next_at b.1
+  d ← next_at c.1
+  e ← next_at d.1
+  f ← next_at e.1
+  Some (a.0 ∷ b.0 ∷ c.0 ∷ d.0 ∷ e.0 ∷ f.0 ∷ [], f.1)
+
+-- the program, if there is one
+abbrev pub program_at : List (List ℕ) → Option (Option (List ℕ))
+program_at [] = Some None
+program_at (f ∷ []) = None
+program_at (f ∷ digits ∷ []) =
+    if bytes_eq f mark then if is_paired digits then Some (Some (spelled_bytes digits)) else None else None
+program_at (f ∷ digits ∷ g ∷ fields) = None
+
+unfoldable pub call_at : Arch → List ℕ → List ℕ → List ℕ → List (List ℕ) → Option Order
+call_at native id task what rest = do
+  t ← number_at task
+  w ← what_at native what
+  args ← arguments_at rest
+  p ← program_at args.1
+  Some (Call id t w.0 w.1 args.0 p)
+
+-- an order of two fields
+unfoldable pub order_of_two : List ℕ → List ℕ → Option Order
+order_of_two word id =
+    if bytes_eq word (codes "start") then Some (Start id)
+    else if bytes_eq word (codes "delete") then Some (Delete id)
+    else if bytes_eq word (codes "state") then Some (State id)
+    else None
+
+-- an order of three
+unfoldable pub order_of_three : List ℕ → List ℕ → List ℕ → Option Order
+order_of_three word id last =
+    if bytes_eq word (codes "create") then Some (Create id last)
+    else if bytes_eq word (codes "kill") then option_map (Kill id) (number_at last)
+    else None
+
+-- an order of more
+unfoldable pub order_of_more : Arch → List ℕ → List ℕ → List ℕ → List ℕ → List (List ℕ) → Option Order
+order_of_more native word id task what rest = if bytes_eq word (codes "call") then call_at native id task what rest else None
+
+-- the order of fields
+abbrev pub order_from : Arch → List (List ℕ) → Option Order
+order_from native [] = None
+order_from native (word ∷ []) = None
+order_from native (word ∷ id ∷ []) = order_of_two word id
+order_from native (word ∷ id ∷ last ∷ []) = order_of_three word id last
+order_from native (word ∷ id ∷ task ∷ what ∷ rest) = order_of_more native word id task what rest
+
+-- the most fields of an order: with six arguments and a program
+abbrev pub max_fields : ℕ
+max_fields = 12
+
+-- fields behind those so far, unless one is empty or they are too many
+abbrev pub fields_from : List (List ℕ) → List (List ℕ) → Option (List (List ℕ))
+fields_from done [] = Some done
+fields_from done (f ∷ fields) =
+    if length f == 0 then None
+    else if nat_lt (length done) max_fields then fields_from (done ++ f ∷ []) fields
+    else None
+
+-- what stands between the spaces
+abbrev pub pieces : List ℕ → List (List ℕ)
+pieces text = slice_split (λ b. b == 32) text
+
+abbrev pub fields_at : List ℕ → Option (List (List ℕ))
+fields_at text = fields_from [] (pieces text)
+
+-- the order of a text
+abbrev pub order_at : Arch → List ℕ → Option Order
+order_at native text = option_and_then (order_from native) (fields_at text)

@@ -1,0 +1,11 @@
+ghost use Rattle.script.specs.Laws.{OneOrder, OneReading};
+
+/// A line is one order at most.
+pub fn one_order()
+    ensures { OneOrder }
+{}
+
+/// A text is one list of orders.
+pub fn one_reading()
+    ensures { OneReading }
+{}
