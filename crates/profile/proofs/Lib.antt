@@ -1,5 +1,5 @@
 pub mod Same
-pub mod Pieces
+pub mod Sides
 pub mod Arguments
 pub mod Overlapping
 pub mod Saying

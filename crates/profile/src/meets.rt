@@ -1,16 +1,16 @@
 //! Whether one number meets two conditions.
-ghost use Rattle.std.specs.Prelude.{◌≡◌, ◌<◌, ◌≤◌, ◌^◌, ◌↔◌, ℕ, false, IsTrue};
-ghost use Rattle.profile.specs.Condition.{Meets};
-ghost use Rattle.profile.specs.inner.Meeting.{HaveCommon, IsOnePiece};
+ghost use Rattle.std.specs.Prelude.{◌≡◌, ◌+◌, ◌<◌, ◌^◌, ◌↔◌, IsTrue, false, bit_or};
+ghost use Rattle.profile.specs.Operator.{mask_of};
+ghost use Rattle.profile.specs.inner.Meeting.{HaveCommon, BothMeet, least_of, greatest_of};
 
 use crate::conditions::{Cond, Op};
-use call_record::least_from;
 
 /// Whether one number meets both conditions.
 ///
-/// Only one number meets an equation. Else a comparison with x changes its answer only at x and at
-/// x + 1, so where some number meets both, so does the least number with the bits of both from the
-/// greatest of the five starts below it.
+/// Only one number meets an equation. Any other condition that holds of a number holds of all below
+/// it with the same bits under the mask, or of all above. So where some number meets both, so does
+/// the least or the greatest with the bits of both, or a number that the conditions compare with, or
+/// the one after it.
 pub(crate) fn meet(a: &Cond, b: &Cond) -> bool
     ensures { IsTrue result ↔ HaveCommon a.now b.now }
 {
@@ -20,29 +20,50 @@ pub(crate) fn meet(a: &Cond, b: &Cond) -> bool
     if b.op == Op::Eq {
         return a.holds(b.value);
     }
-    if a.datum & b.op.mask(b.value) != b.datum & a.op.mask(a.value) {
-        return false;
+    if meet_at_an_end(a, b, a.op.mask(a.value) | b.op.mask(b.value)) {
+        return true;
     }
-    meet_from(a, b, 0)
-        || meet_from(a, b, a.value)
-        || meet_from(a, b, a.value.saturating_add(1))
-        || meet_from(a, b, b.value)
-        || meet_from(a, b, b.value.saturating_add(1))
+    if meet_near(a, b, a.value) {
+        return true;
+    }
+    meet_near(a, b, b.value)
 }
 
-// Whether both hold of the least number from `from` on that has the bits of both.
-fn meet_from(a: &Cond, b: &Cond, from: u64) -> bool
+// Whether the least or the greatest number with the bits of both meets both.
+fn meet_at_an_end(a: &Cond, b: &Cond, mask: u64) -> bool
+    requires { mask ≡ bit_or (mask_of a.now.op a.now.value) (mask_of b.now.op b.now.value) }
     ensures found { IsTrue result → HaveCommon a.now b.now }
-    ensures none { result ≡ false → (v : ℕ) → v < 2 ^ 64 → from ≤ v
-        → IsOnePiece a.now.value from v → IsOnePiece b.now.value from v
-        → Meets a.now v → Meets b.now v → ⊥ }
+    ensures least { result ≡ false → ¬ BothMeet a.now b.now (least_of a.now b.now) }
+    ensures greatest { result ≡ false → ¬ BothMeet a.now b.now (greatest_of a.now b.now) }
 {
-    match least_from(
-        from,
-        a.op.mask(a.value) | b.op.mask(b.value),
-        a.datum | b.datum,
-    ) {
-        Some(u) => a.holds(u) && b.holds(u),
-        None => false,
+    let least = a.datum | b.datum;
+    if both_meet(a, b, least) {
+        return true;
     }
+    both_meet(a, b, least | !mask)
+}
+
+// Whether the number or the one after it meets both.
+fn meet_near(a: &Cond, b: &Cond, number: u64) -> bool
+    ensures found { IsTrue result → HaveCommon a.now b.now }
+    ensures here { result ≡ false → ¬ BothMeet a.now b.now number }
+    ensures after { result ≡ false → number + 1 < 2 ^ 64 → ¬ BothMeet a.now b.now (number + 1) }
+{
+    if both_meet(a, b, number) {
+        return true;
+    }
+    if number == u64::MAX {
+        return false;
+    }
+    both_meet(a, b, number + 1)
+}
+
+fn both_meet(a: &Cond, b: &Cond, number: u64) -> bool
+    ensures found { IsTrue result → HaveCommon a.now b.now }
+    ensures holds { IsTrue result ↔ BothMeet a.now b.now number }
+{
+    if !a.holds(number) {
+        return false;
+    }
+    b.holds(number)
 }
