@@ -1,0 +1,3 @@
+pub mod Isolation
+pub mod Headline
+pub mod Entries

@@ -1,0 +1,7 @@
+pub mod Fault
+pub mod Orders
+pub mod Worlds
+pub mod Steps
+pub mod Own
+pub mod Views
+pub mod inner

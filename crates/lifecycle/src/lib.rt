@@ -1,0 +1,15 @@
+//! The lifecycle of containers (OCI Runtime Specification, Runtime and Lifecycle), and whole runs of commands and events.
+//!
+//! A [`Runtime`] creates, starts, signals and deletes containers over any [`Kernel`](processes::Kernel) that keeps the
+//! kernel's laws. Each container has a filter that was checked against its profile. Whatever commands and events come, in
+//! any order, the replies are those of the modelled kernel in which the profiles themselves decide.
+#![tactic(auto)]
+
+mod command;
+mod entry;
+mod fault;
+mod runtime;
+
+pub use command::{Command, Reply, Status};
+pub use fault::Refusal;
+pub use runtime::Runtime;
