@@ -11,7 +11,7 @@ use Rattle.kernel_check.proofs.RunLaws.{runs}
 use Rattle.profile.specs.Said.{said}
 use Rattle.cert_check.specs.declared.checked.Checked.{Checked}
 use Rattle.cert_check.specs.Checked.{profile_of, program_of}
-use Rattle.processes.specs.Views.{by_program, by_profile}
+use Rattle.processes.specs.First.{by_program, by_profile}
 use Rattle.lifecycle.specs.Orders.{Order}
 use Rattle.lifecycle.specs.Worlds.{World}
 use Rattle.lifecycle.specs.Steps.{run}

@@ -1,3 +1,4 @@
 pub mod Isolation
 pub mod Headline
 pub mod Entries
+pub mod StartLemmas

@@ -9,6 +9,7 @@ mod command;
 mod entry;
 mod fault;
 mod runtime;
+mod start;
 
 pub use command::{Command, Reply, Status};
 pub use fault::Refusal;

@@ -2,7 +2,8 @@
 use Rattle.std.specs.Prelude.{◌≡◌, ℕ, Bool, true, false, List, Option, None, Some, if◌then◌else◌, map}
 use Rattle.std.specs.Map.{lookup}
 use Rattle.processes.specs.Tasks.{Processes, lives}
-use Rattle.processes.specs.Views.{Containers, same_text, by_program}
+use Rattle.processes.specs.First.{by_program}
+use Rattle.processes.specs.Views.{Containers, same_text}
 use Rattle.cert_check.specs.Checked.{profile_of}
 use Rattle.lifecycle.specs.declared.command.Status.{Status}
 use Rattle.lifecycle.specs.declared.command.Status.TheVariants.{Created, Running, Stopped}

@@ -1,0 +1,43 @@
+use Rattle.std.proofs.Common.{rules, ◌≡◌, ℕ, List, [], Option, None, true, is_some, if◌then◌else◌, Some, IfSome, IfNone, IfOk, OnErr, option_copied, slice_get, ◌+◌, ◌-◌, ◌*◌, ◌<◌, ◌≤◌, length, ◌/◌, ◌%◌, Bool, false, nat_eq, nat_lt, ◌∷◌, ◌++◌, slice_index_or, slice_set, bit_and, bit_or, Fits, w8, w32, w64, Bor, MutBor}
+use Rattle.std.specs.Map.{lookup}
+use Rattle.processes.specs.Ids.{is_id}
+use Rattle.processes.specs.Kernel.{is_fatal}
+use Rattle.processes.specs.Views.{lives_in, same_text}
+use Rattle.lifecycle.specs.inner.Entries.{started_at}
+use Rattle.std.specs.Option.{option_map}
+use Rattle.processes.specs.Attached.{attached_of}
+use Rattle.processes.specs.First.{by_program}
+use Rattle.lifecycle.specs.Orders.Order.{Create, Start, Kill, Delete, State, Call}
+use Rattle.lifecycle.specs.Steps.{step}
+use Rattle.lifecycle.specs.Views.{world_of}
+use Rattle.lifecycle.specs.Worlds.{ids_of}
+use Rattle.lifecycle.specs.inner.Found.{IsFound}
+use Rattle.lifecycle.proofs.runtime.Runtime.kill.Goals as goal
+
+-- src/runtime.rt:101:13
+pub returns-in_default : goal.returns-in_default
+returns-in_default g c = ?
+
+-- src/runtime.rt:106:21
+pub returns-then-sig-gt-LAST_SIGNAL : goal.returns-then-sig-gt-LAST_SIGNAL
+returns-then-sig-gt-LAST_SIGNAL g c = ?
+
+-- src/runtime.rt:109:21
+pub invariant_of-self : goal.invariant_of-self
+invariant_of-self g c = ?
+
+-- src/runtime.rt:115:21
+pub returns-then-sig-gt-LAST_SIGNAL-2 : goal.returns-then-sig-gt-LAST_SIGNAL-2
+returns-then-sig-gt-LAST_SIGNAL-2 g c = ?
+
+-- src/runtime.rt:97:5
+pub returns-after-is_fatal : goal.returns-after-is_fatal
+returns-after-is_fatal g c = ?
+
+-- src/runtime.rt:97:5
+pub returns-else-sig-gt-LAST_SIGNAL-2 : goal.returns-else-sig-gt-LAST_SIGNAL-2
+returns-else-sig-gt-LAST_SIGNAL-2 g c = ?
+
+-- src/runtime.rt:97:5
+pub returns-in-Stopped : goal.returns-in-Stopped
+returns-in-Stopped g c = ?
