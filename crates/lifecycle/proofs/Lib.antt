@@ -2,3 +2,5 @@ pub mod Isolation
 pub mod Headline
 pub mod Entries
 pub mod StartLemmas
+pub mod CommandLaws
+pub mod Runs

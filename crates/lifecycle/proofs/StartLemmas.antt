@@ -50,8 +50,8 @@ ends_by native first Group h = refl
 
 through_by : (native : Arch) (first : Judge) (word v : ℕ) (b : Bool)
     → let p = if b then carried_out (row_of native (execve_of native)) (first_task first) (execve_of native) NoBytes (admitted native first)
-      else (Denied word, ended_by_verdict (ends_of word) (first_task first) (admitted native first)) in
-      p.0 ≡ Denied v → lives p.1 ≡ false → signalled 9 p.1 ≡ p.1
+    else (Denied word, ended_by_verdict (ends_of word) (first_task first) (admitted native first)) in
+    p.0 ≡ Denied v → lives p.1 ≡ false → signalled 9 p.1 ≡ p.1
 through_by native first word v true h =
     let carried = carried_out Execve (first_task first) (execve_of native) NoBytes (admitted native first) in
     let bad : Done 0 ≡ Denied v = sym (ap (λ (row : Row). (carried_out row (first_task first) (execve_of native) NoBytes (admitted native first)).0) (first_row native)) ∙ h in
@@ -73,9 +73,10 @@ began k l m id checked r o first is answer second =
     let p = first_call (profile_of checked).native (by_program checked) in
     let both : present_in 1 r NoBytes (l id) ≡ (p.0, Some p.1) =
     ap (λ (x : Record). present_in 1 x NoBytes (l id)) is
-    ∙ ap (present_in 1 (execve_of (profile_of checked).native) NoBytes) (own_id k l id (Some (begun_with checked)) first) in
-    (answer ∙ ap (λ (x : Outcome × Option Processes). x.0) both,
-     set_twice k l m id (Some (begun_with checked)) (Some p.1) first (λ q. second q ∙ ap (λ (x : Outcome × Option Processes). if same_text id q then x.1 else l q) both))
+    ∙ ap (present_in 1 (execve_of (profile_of checked).native) NoBytes) (own_id k l id (Some (begun_with checked)) first) in (
+      answer ∙ ap (λ (x : Outcome × Option Processes). x.0) both,
+      set_twice k l m id (Some (begun_with checked)) (Some p.1) first (λ q. second q ∙ ap (λ (x : Outcome × Option Processes). if same_text id q then x.1 else l q) both),
+    )
 
 -- and what is left of it
 pub left : (k m n : Containers) (id : List ℕ) (o : Outcome) (p : Answer) → o ≡ p.0 → SetAt k m id (Some p.1) → SetAt m n id (option_map (left_after o) (m id))

@@ -8,9 +8,12 @@
 mod command;
 mod entry;
 mod fault;
+mod law;
+mod run;
 mod runtime;
 mod start;
 
 pub use command::{Command, Reply, Status};
 pub use fault::Refusal;
+pub use law::containers_are_isolated;
 pub use runtime::Runtime;

@@ -21,7 +21,7 @@ use std::alloc::{AllocError, Global};
 pub struct Runtime<'a, K: Kernel> {
     pub(crate) entries: IndexMap<Id, Entry<'a>>,
     pub(crate) kernel: K,
-    alloc: Global,
+    pub(crate) alloc: Global,
     ghost ids: { (q : List ℕ) → is_some (lookup (same_text q) entries.entries) ≡ true → is_id q ≡ true },
     ghost in_step: { (q : List ℕ) → is_some (K.processes kernel q) ≡ started_at entries.entries q },
 }
@@ -144,7 +144,7 @@ impl<'a, K: Kernel> Runtime<'a, K> {
         ensures { (result, world_of self.now) ≡ step by_program (State id.now) (world_of self.now) }
     {
         match self.find(id) {
-            Some(found) => Reply::IsIn(found.status),
+            Some(Found { status, .. }) => Reply::IsIn(status),
             None => Reply::Refused(Refusal::NoContainer),
         }
     }

@@ -21,7 +21,11 @@ use std::alloc::AllocError;
 const KILL: u64 = 9;
 
 // The kernel gets the container, and its task 1 presents the call with which a container begins.
-pub(crate) fn begin<K: Kernel>(kernel: &mut K, id: &Id, checked: Checked<'_>) -> Result<Reply, AllocError>
+pub(crate) fn begin<K: Kernel>(
+    kernel: &mut K,
+    id: &Id,
+    checked: Checked<'_>,
+) -> Result<Reply, AllocError>
     requires { K.processes kernel.old id.now ≡ None }
     ensures reply { let call = first_call (profile_of checked.entry).native (by_program checked.entry) in
         IfOk result (λ r. r ≡ start_reply call.0) }

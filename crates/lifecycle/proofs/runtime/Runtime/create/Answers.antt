@@ -1,31 +1,61 @@
-use Rattle.std.proofs.Common.{rules, ◌≡◌, ℕ, List, [], Option, None, true, is_some, if◌then◌else◌, Some, IfSome, IfNone, IfOk, OnErr, option_copied, slice_get, ◌+◌, ◌-◌, ◌*◌, ◌<◌, ◌≤◌, length, ◌/◌, ◌%◌, Bool, false, nat_eq, nat_lt, ◌∷◌, ◌++◌, slice_index_or, slice_set, bit_and, bit_or, Fits, w8, w32, w64, Bor, MutBor}
+use Rattle.std.proofs.Common.{◌≡◌, Bool, true, None, Some, is_some, sym, ap, ◌∙◌, refl, if◌then◌else◌}
 use Rattle.std.specs.Map.{lookup}
-use Rattle.processes.specs.Ids.{is_id}
-use Rattle.processes.specs.Kernel.{is_fatal}
-use Rattle.processes.specs.Views.{lives_in, same_text}
-use Rattle.lifecycle.specs.inner.Entries.{started_at}
-use Rattle.std.specs.Option.{option_map}
-use Rattle.processes.specs.Attached.{attached_of}
 use Rattle.processes.specs.First.{by_program}
-use Rattle.lifecycle.specs.Orders.Order.{Create, Start, Kill, Delete, State, Call}
-use Rattle.lifecycle.specs.Steps.{step}
+use Rattle.processes.specs.Ids.{is_id}
+use Rattle.processes.specs.Views.{same_text}
+use Rattle.lifecycle.specs.declared.command.Reply.TheVariants.{Accepted, Refused}
+use Rattle.lifecycle.specs.declared.entry.Entry.{Entry}
+use Rattle.lifecycle.specs.declared.entry.Phase.TheVariants.{Made}
+use Rattle.lifecycle.specs.declared.fault.Refusal.TheVariants.{BadId, IdTaken}
+use Rattle.lifecycle.specs.Orders.Order.{Create}
+use Rattle.lifecycle.specs.Steps.{create}
+use Rattle.lifecycle.specs.Worlds.{container_at}
 use Rattle.lifecycle.specs.Views.{world_of}
-use Rattle.lifecycle.specs.Worlds.{ids_of}
-use Rattle.lifecycle.specs.inner.Found.{IsFound}
+use Rattle.lifecycle.specs.inner.Entries.{container_of, world_from}
+use Rattle.lifecycle.proofs.CommandLaws.{kept_by, lacks, never, taken}
+use Rattle.lifecycle.proofs.Entries.{changed, inserted, not_there, unchanged}
 use Rattle.lifecycle.proofs.runtime.Runtime.create.Goals as goal
 
--- src/runtime.rt:67:13
 pub returns-in_default-clause-step : goal.returns-in_default-clause-step
-returns-in_default-clause-step g c = ?
+unfolding world_of
+returns-in_default-clause-step g c =
+    let k = g.K.Kernel.processes c.args.self.now.kernel in
+    let id = c.args.id.now in
+    let w = world_from k c.args.self.now.entries.entries in
+    unchanged by_program (Create id c.args.checked) w (container_at id w) (Refused BadId) refl
+    (ap (λ (b : Bool). if b then create by_program c.args.checked (container_at id w) else (Refused BadId, container_at id w)) (never (is_id id) c.in_default.ensures.exact.1))
 
--- src/runtime.rt:70:13
 pub returns-then-contains_key-clause-step : goal.returns-then-contains_key-clause-step
-returns-then-contains_key-clause-step g c = ?
+unfolding world_of
+returns-then-contains_key-clause-step g c =
+    let k = g.K.Kernel.processes c.args.self.now.kernel in
+    let id = c.args.id.now in
+    let es = c.args.self.now.entries.entries in
+    let w = world_from k es in
+    let held = taken k id es (ap (λ q. is_some (lookup (same_text q) es)) (sym c.in-Some.ensures.text) ∙ (sym c.contains_key.ensures ∙ c.if-contains_key.true)) in
+    unchanged by_program (Create id c.args.checked) w (Some held.0) (Refused IdTaken) held.1
+    (ap (λ (b : Bool). if b then create by_program c.args.checked (Some held.0) else (Refused BadId, Some held.0)) (c.in-Some.ensures.exact.0 refl))
 
--- src/runtime.rt:73:9
 pub invariant_of-self : goal.invariant_of-self
-invariant_of-self g c = ?
+invariant_of-self g c =
+    let k = g.K.Kernel.processes c.args.self.now.kernel in
+    let old = c.args.self.now.entries.entries in
+    let none = lacks old c.in-Some.name (sym c.contains_key.ensures ∙ c.if-contains_key.false) in
+    let is : is_id c.in-Some.name ≡ true = ap is_id c.in-Some.ensures.text ∙ c.in-Some.ensures.exact.0 refl in
+    let kept = kept_by k c.insert.result c.in-Some.name (record { checked = c.args.checked; phase = Made }) old c.insert.new.self.entries c.insert.ensures.updates (λ u. u.0) c.insert.ensures.err
+    none refl is c.args.self.now.ids c.args.self.now.in_step in record { ids = kept.ids; in_step = kept.in_step }
 
--- src/runtime.rt:62:5
 pub returns-clause-step : goal.returns-clause-step
-returns-clause-step g c = ?
+unfolding world_of
+returns-clause-step g c =
+    let k = g.K.Kernel.processes c.args.self.now.kernel in
+    let es = c.args.self.now.entries.entries in
+    let name = c.in-Some.name in
+    let made : Entry = record { checked = c.args.checked; phase = Made } in
+    let none = lacks es name (sym c.contains_key.ensures ∙ c.if-contains_key.false) in
+    let is : is_id name ≡ true = ap is_id c.in-Some.ensures.text ∙ c.in-Some.ensures.exact.0 refl in
+    let steps = changed by_program (Create name c.args.checked) (world_from k es) (world_from k c.insert.new.self.entries) None (Some (container_of made (k name))) Accepted
+    (not_there k name es none)
+    (ap (λ (b : Bool). if b then create by_program c.args.checked None else (Refused BadId, None)) is)
+    (ap (world_from k) c.in_ok-insert.ensures.entries ∙ inserted k name made es none) in
+    rw (sym c.in-Some.ensures.text) steps

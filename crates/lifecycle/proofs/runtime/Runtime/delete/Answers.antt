@@ -1,35 +1,71 @@
-use Rattle.std.proofs.Common.{rules, ◌≡◌, ℕ, List, [], Option, None, true, is_some, if◌then◌else◌, Some, IfSome, IfNone, IfOk, OnErr, option_copied, slice_get, ◌+◌, ◌-◌, ◌*◌, ◌<◌, ◌≤◌, length, ◌/◌, ◌%◌, Bool, false, nat_eq, nat_lt, ◌∷◌, ◌++◌, slice_index_or, slice_set, bit_and, bit_or, Fits, w8, w32, w64, Bor, MutBor}
-use Rattle.std.specs.Map.{lookup}
-use Rattle.processes.specs.Ids.{is_id}
-use Rattle.processes.specs.Kernel.{is_fatal}
-use Rattle.processes.specs.Views.{lives_in, same_text}
-use Rattle.lifecycle.specs.inner.Entries.{started_at}
-use Rattle.std.specs.Option.{option_map}
-use Rattle.processes.specs.Attached.{attached_of}
+use Rattle.std.proofs.Common.{◌≡◌, None, Some, sym, ap, ◌∙◌, refl}
+use Rattle.std.specs.Map.{remove_entry}
 use Rattle.processes.specs.First.{by_program}
-use Rattle.lifecycle.specs.Orders.Order.{Create, Start, Kill, Delete, State, Call}
-use Rattle.lifecycle.specs.Steps.{step}
+use Rattle.processes.specs.Views.{SetAt, same_text}
+use Rattle.lifecycle.specs.declared.command.Reply.TheVariants.{Accepted, Refused}
+use Rattle.lifecycle.specs.declared.fault.Refusal.TheVariants.{NoContainer, NotStopped}
+use Rattle.lifecycle.specs.Orders.Order.{Delete}
+use Rattle.lifecycle.specs.Steps.{delete}
 use Rattle.lifecycle.specs.Views.{world_of}
-use Rattle.lifecycle.specs.Worlds.{ids_of}
-use Rattle.lifecycle.specs.inner.Found.{IsFound}
+use Rattle.lifecycle.specs.inner.Entries.{container_of, world_from}
+use Rattle.lifecycle.proofs.CommandLaws.{FindsAt, ids_kept, is_known, step_kept}
+use Rattle.lifecycle.proofs.Entries.{changed, not_there, removed, there, unchanged}
 use Rattle.lifecycle.proofs.runtime.Runtime.delete.Goals as goal
 
--- src/runtime.rt:129:13
 pub returns-in_default : goal.returns-in_default
-returns-in_default g c = ?
+unfolding world_of
+returns-in_default g c =
+    let k = g.K.Kernel.processes c.args.self.now.kernel in
+    let id = c.args.id.now in
+    let es = c.args.self.now.entries.entries in
+    unchanged by_program (Delete id) (world_from k es) None (Refused NoContainer) (not_there k id es c.in_default.ensures.none) refl
 
--- src/runtime.rt:136:17
 pub invariant_of-self : goal.invariant_of-self
-invariant_of-self g c = ?
+invariant_of-self g c =
+    let k = g.K.Kernel.processes in
+    let id = c.args.id.now in
+    let old = c.args.self.now.entries.entries in
+    let found = c.in-Some.ensures.some in
+    let named = c.in-Some.field-0.name in
+    let finds : FindsAt old c.shift_remove.new.self.entries named None = c.shift_remove.ensures.updates.0 in
+    let known = is_known old id c.in-Some.field-0.entry c.args.self.now.ids found.kept in record {
+      ids = ids_kept old c.shift_remove.new.self.entries named None finds (rw found.name known) c.args.self.now.ids;
+      in_step = step_kept (k c.args.self.now.kernel) (k c.expel.new.self) old c.shift_remove.new.self.entries named None None c.expel.ensures finds refl c.args.self.now.in_step;
+    }
 
--- src/runtime.rt:125:5
 pub returns-in-Created : goal.returns-in-Created
-returns-in-Created g c = ?
+unfolding world_of
+returns-in-Created g c =
+    let k = g.K.Kernel.processes c.args.self.now.kernel in
+    let id = c.args.id.now in
+    let es = c.args.self.now.entries.entries in
+    let found = c.in-Some.ensures.some in
+    let container = container_of c.in-Some.field-0.entry (k id) in
+    unchanged by_program (Delete id) (world_from k es) (Some container) (Refused NotStopped) (there k id es c.in-Some.field-0.entry found.kept)
+    (ap (λ s. delete s container) (sym found.status ∙ c.in-Created.is))
 
--- src/runtime.rt:125:5
 pub returns-in-Running : goal.returns-in-Running
-returns-in-Running g c = ?
+unfolding world_of
+returns-in-Running g c =
+    let k = g.K.Kernel.processes c.args.self.now.kernel in
+    let id = c.args.id.now in
+    let es = c.args.self.now.entries.entries in
+    let found = c.in-Some.ensures.some in
+    let container = container_of c.in-Some.field-0.entry (k id) in
+    unchanged by_program (Delete id) (world_from k es) (Some container) (Refused NotStopped) (there k id es c.in-Some.field-0.entry found.kept)
+    (ap (λ s. delete s container) (sym found.status ∙ c.in-Running.is))
 
--- src/runtime.rt:125:5
 pub returns-in-Stopped : goal.returns-in-Stopped
-returns-in-Stopped g c = ?
+unfolding world_of
+returns-in-Stopped g c =
+    let k = g.K.Kernel.processes in
+    let id = c.args.id.now in
+    let old = c.args.self.now.entries.entries in
+    let found = c.in-Some.ensures.some in
+    let container = container_of c.in-Some.field-0.entry (k c.args.self.now.kernel id) in
+    let gone : SetAt (k c.args.self.now.kernel) (k c.expel.new.self) id None = rw (sym found.name) c.expel.ensures in
+    let entries : c.shift_remove.new.self.entries ≡ remove_entry (same_text id) old = c.shift_remove.ensures.entries ∙ ap (λ q. remove_entry (same_text q) old) found.name in
+    changed by_program (Delete id) (world_from (k c.args.self.now.kernel) old) (world_from (k c.expel.new.self) c.shift_remove.new.self.entries) (Some container) None Accepted
+    (there (k c.args.self.now.kernel) id old c.in-Some.field-0.entry found.kept)
+    (ap (λ s. delete s container) (sym found.status ∙ c.in-Stopped.is))
+    (ap (world_from (k c.expel.new.self)) entries ∙ removed (k c.args.self.now.kernel) (k c.expel.new.self) id old gone found.distinct)

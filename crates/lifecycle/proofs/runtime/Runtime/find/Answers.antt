@@ -1,23 +1,28 @@
-use Rattle.std.proofs.Common.{rules, ◌≡◌, ℕ, List, [], Option, None, true, is_some, if◌then◌else◌, Some, IfSome, IfNone, IfOk, OnErr, option_copied, slice_get, ◌+◌, ◌-◌, ◌*◌, ◌<◌, ◌≤◌, length, ◌/◌, ◌%◌, Bool, false, nat_eq, nat_lt, ◌∷◌, ◌++◌, slice_index_or, slice_set, bit_and, bit_or, Fits, w8, w32, w64, Bor, MutBor}
+use Rattle.std.proofs.Common.{◌≡◌, None, Some, sym, ap, ◌∙◌, if◌then◌else◌}
 use Rattle.std.specs.Map.{lookup}
-use Rattle.processes.specs.Ids.{is_id}
-use Rattle.processes.specs.Kernel.{is_fatal}
 use Rattle.processes.specs.Views.{lives_in, same_text}
-use Rattle.lifecycle.specs.inner.Entries.{started_at}
-use Rattle.std.specs.Option.{option_map}
-use Rattle.processes.specs.Attached.{attached_of}
-use Rattle.processes.specs.First.{by_program}
-use Rattle.lifecycle.specs.Orders.Order.{Create, Start, Kill, Delete, State, Call}
-use Rattle.lifecycle.specs.Steps.{step}
-use Rattle.lifecycle.specs.Views.{world_of}
-use Rattle.lifecycle.specs.Worlds.{ids_of}
-use Rattle.lifecycle.specs.inner.Found.{IsFound}
+use Rattle.lifecycle.specs.declared.command.Status.TheVariants.{Running, Stopped}
+use Rattle.lifecycle.specs.inner.Entries.{container_of}
+use Rattle.lifecycle.proofs.CommandLaws.{if_none, status_ended, status_made, status_started}
 use Rattle.lifecycle.proofs.runtime.Runtime.find.Goals as goal
+use Rattle.lifecycle.proofs.runtime.Runtime.find.Goals.{in-Made, in-Started, in-Ended}
 
--- src/runtime.rt:193:22
 pub returns-in_err-entry-clause-none : goal.returns-in_err-entry-clause-none
-returns-in_err-entry-clause-none g c = ?
+returns-in_err-entry-clause-none g c =
+    if_none c.from_residual-in_err-entry.result
+    (ap (λ q. lookup (same_text q) c.args.self.now.entries.entries) (sym c.in_ok-name.ensures.text) ∙ sym c.in_err-entry.ensures.value)
 
--- src/runtime.rt:186:5
 pub returns-clause-some : goal.returns-clause-some
-returns-clause-some g c = ?
+returns-clause-some g c =
+    let e = c.in_ok-entry.field-0.now in
+    let ps = g.K.Kernel.processes c.args.self.now.kernel c.args.id.now in record {
+      name = c.in_ok-name.ensures.text;
+      kept = ap (λ q. lookup (same_text q) c.args.self.now.entries.entries) (sym c.in_ok-name.ensures.text) ∙ sym c.in_ok-entry.ensures.value;
+      status = elim c.match-entry.branch [
+        | in-Made w ↦ w.status-is ∙ sym (status_made e ps w.in-Made.is)
+        | in-Started w ↦ w.status-is ∙ (w.begun_status-status.ensures
+            ∙ (ap (λ q. if lives_in (g.K.Kernel.processes c.args.self.now.kernel q) then Running else Stopped) c.in_ok-name.ensures.text ∙ sym (status_started e ps w.in-Started.is)))
+        | in-Ended w ↦ w.status-is ∙ sym (status_ended e ps w.in-Ended.is)
+      ];
+      distinct = c.len.ensures.unique;
+    }

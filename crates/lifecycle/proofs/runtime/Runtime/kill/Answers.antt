@@ -1,43 +1,125 @@
-use Rattle.std.proofs.Common.{rules, ◌≡◌, ℕ, List, [], Option, None, true, is_some, if◌then◌else◌, Some, IfSome, IfNone, IfOk, OnErr, option_copied, slice_get, ◌+◌, ◌-◌, ◌*◌, ◌<◌, ◌≤◌, length, ◌/◌, ◌%◌, Bool, false, nat_eq, nat_lt, ◌∷◌, ◌++◌, slice_index_or, slice_set, bit_and, bit_or, Fits, w8, w32, w64, Bor, MutBor}
-use Rattle.std.specs.Map.{lookup}
-use Rattle.processes.specs.Ids.{is_id}
-use Rattle.processes.specs.Kernel.{is_fatal}
-use Rattle.processes.specs.Views.{lives_in, same_text}
-use Rattle.lifecycle.specs.inner.Entries.{started_at}
+use Rattle.std.proofs.Common.{◌≡◌, ◌≤◌, None, Some, true, false, is_some, sym, ap, ◌∙◌, refl}
 use Rattle.std.specs.Option.{option_map}
-use Rattle.processes.specs.Attached.{attached_of}
+use Rattle.std.specs.Map.{set_value}
 use Rattle.processes.specs.First.{by_program}
-use Rattle.lifecycle.specs.Orders.Order.{Create, Start, Kill, Delete, State, Call}
-use Rattle.lifecycle.specs.Steps.{step}
+use Rattle.processes.specs.Kernel.{signalled}
+use Rattle.processes.specs.Views.{SetAt, same_text}
+use Rattle.lifecycle.specs.declared.command.Reply.TheVariants.{Accepted, Refused}
+use Rattle.lifecycle.specs.declared.command.Status.TheVariants.{Created, Running, Stopped}
+use Rattle.lifecycle.specs.declared.entry.Phase.TheVariants.{Ended}
+use Rattle.lifecycle.specs.declared.fault.Refusal.TheVariants.{NoContainer, NotAlive, BadSignal}
+use Rattle.lifecycle.specs.Orders.Order.{Kill}
+use Rattle.lifecycle.specs.Steps.{kill, running}
+use Rattle.lifecycle.specs.Worlds.{Container, put}
 use Rattle.lifecycle.specs.Views.{world_of}
-use Rattle.lifecycle.specs.Worlds.{ids_of}
-use Rattle.lifecycle.specs.inner.Found.{IsFound}
+use Rattle.lifecycle.specs.inner.Entries.{container_of, is_started, started_in, world_from}
+use Rattle.lifecycle.proofs.CommandLaws.{FindsAt, bad_created, bad_running, ended_as, ids_kept, is_known, killed_created, killed_running, made, runs_on, set_own, step_kept}
+use Rattle.lifecycle.proofs.Entries.{changed, not_there, there, told, unchanged, written}
 use Rattle.lifecycle.proofs.runtime.Runtime.kill.Goals as goal
+use Rattle.lifecycle.proofs.runtime.Runtime.kill.Goals.{then-is_fatal, else-is_fatal}
 
--- src/runtime.rt:101:13
 pub returns-in_default : goal.returns-in_default
-returns-in_default g c = ?
+unfolding world_of
+returns-in_default g c =
+    let k = g.K.Kernel.processes c.args.self.now.kernel in
+    let id = c.args.id.now in
+    let es = c.args.self.now.entries.entries in
+    unchanged by_program (Kill id c.args.sig) (world_from k es) None (Refused NoContainer) (not_there k id es c.in_default.ensures.none) refl
 
--- src/runtime.rt:106:21
 pub returns-then-sig-gt-LAST_SIGNAL : goal.returns-then-sig-gt-LAST_SIGNAL
-returns-then-sig-gt-LAST_SIGNAL g c = ?
+unfolding world_of
+returns-then-sig-gt-LAST_SIGNAL g c =
+    let k = g.K.Kernel.processes c.args.self.now.kernel in
+    let id = c.args.id.now in
+    let es = c.args.self.now.entries.entries in
+    let found = c.in-Some.ensures.some in
+    let container = container_of c.in-Some.field-0.entry (k id) in
+    unchanged by_program (Kill id c.args.sig) (world_from k es) (Some container) (Refused BadSignal) (there k id es c.in-Some.field-0.entry found.kept)
+    (bad_created c.args.sig container (sym found.status ∙ c.in-Created.is) c.if-sig-gt-LAST_SIGNAL.true)
 
--- src/runtime.rt:109:21
 pub invariant_of-self : goal.invariant_of-self
-invariant_of-self g c = ?
+invariant_of-self g c =
+    let k = g.K.Kernel.processes c.args.self.now.kernel in
+    let id = c.args.id.now in
+    let old = c.args.self.now.entries.entries in
+    let found = c.in-Some.ensures.some in
+    let e = c.in-Some.field-0.entry in
+    let named = c.in-Some.field-0.name in
+    let ended = record e { phase = Ended } in
+    let finds : FindsAt old c.come_to.new.entries.entries named (Some ended) = (c.come_to.ensures.updates e (rw found.name found.kept)).0 in
+    let known = is_known old id e c.args.self.now.ids found.kept in
+    let idle : is_started e.phase ≡ false = ap is_started (made e.phase e (k id) (sym found.status ∙ c.in-Created.is)) in
+    let none = c.args.self.now.in_step id ∙ (ap started_in found.kept ∙ idle) in record {
+      ids = ids_kept old c.come_to.new.entries.entries named (Some ended) finds (rw found.name known) c.args.self.now.ids;
+      in_step = step_kept k k old c.come_to.new.entries.entries named (k named) (Some ended) (set_own k named) finds (ap (λ q. is_some (k q)) found.name ∙ none) c.args.self.now.in_step;
+    }
 
--- src/runtime.rt:115:21
 pub returns-then-sig-gt-LAST_SIGNAL-2 : goal.returns-then-sig-gt-LAST_SIGNAL-2
-returns-then-sig-gt-LAST_SIGNAL-2 g c = ?
+unfolding world_of
+returns-then-sig-gt-LAST_SIGNAL-2 g c =
+    let k = g.K.Kernel.processes c.args.self.now.kernel in
+    let id = c.args.id.now in
+    let es = c.args.self.now.entries.entries in
+    let found = c.in-Some.ensures.some in
+    let container = container_of c.in-Some.field-0.entry (k id) in
+    unchanged by_program (Kill id c.args.sig) (world_from k es) (Some container) (Refused BadSignal) (there k id es c.in-Some.field-0.entry found.kept)
+    (bad_running c.args.sig container (sym found.status ∙ c.in-Running.is) c.if-sig-gt-LAST_SIGNAL-2.true)
 
--- src/runtime.rt:97:5
 pub returns-after-is_fatal : goal.returns-after-is_fatal
-returns-after-is_fatal g c = ?
+unfolding world_of
+returns-after-is_fatal g c =
+    let k = g.K.Kernel.processes c.args.self.now.kernel in
+    let id = c.args.id.now in
+    let es = c.args.self.now.entries.entries in
+    let found = c.in-Some.ensures.some in
+    let e = c.in-Some.field-0.entry in
+    let container = container_of e (k id) in
+    let created : container.status ≡ Created = sym found.status ∙ c.in-Created.is in
+    let low : c.args.sig ≤ 64 = c.if-sig-gt-LAST_SIGNAL.false in
+    let ended = record e { phase = Ended } in
+    elim c.if-is_fatal.branch [
+      | then-is_fatal w ↦
+          let entries : w.come_to.new.entries.entries ≡ set_value (same_text id) es ended =
+          w.come_to.ensures.entries e (rw found.name found.kept) ∙ ap (λ q. set_value (same_text q) es ended) found.name in
+          let stops = ended_as e.phase e (k id) (made e.phase e (k id) created) in
+          ap (λ r. (Accepted, world_of r)) w.self-is
+          ∙ changed by_program (Kill id c.args.sig) (world_from k es) (world_from k w.come_to.new.entries.entries) (Some container) (Some (record container { status = Stopped })) Accepted
+          (there k id es e found.kept)
+          (killed_created c.args.sig container true (sym c.is_fatal.ensures ∙ w.if-is_fatal.true) created low)
+          (ap (world_from k) entries ∙ (written k k id (k id) ended e es (set_own k id) found.distinct found.kept ∙ ap (λ (x : Container). put id (Some x) (world_from k es)) (sym stops)))
+      | else-is_fatal w ↦
+          ap (λ r. (Accepted, world_of r)) w.self-is
+          ∙ unchanged by_program (Kill id c.args.sig) (world_from k es) (Some container) Accepted (there k id es e found.kept)
+          (killed_created c.args.sig container false (sym c.is_fatal.ensures ∙ w.if-is_fatal.false) created low)
+    ]
 
--- src/runtime.rt:97:5
 pub returns-else-sig-gt-LAST_SIGNAL-2 : goal.returns-else-sig-gt-LAST_SIGNAL-2
-returns-else-sig-gt-LAST_SIGNAL-2 g c = ?
+unfolding world_of
+returns-else-sig-gt-LAST_SIGNAL-2 g c =
+    let k = g.K.Kernel.processes in
+    let id = c.args.id.now in
+    let es = c.args.self.now.entries.entries in
+    let found = c.in-Some.ensures.some in
+    let e = c.in-Some.field-0.entry in
+    let old = k c.args.self.now.kernel in
+    let container = container_of e (old id) in
+    let runs : container.status ≡ Running = sym found.status ∙ c.in-Running.is in
+    let low : c.args.sig ≤ 64 = c.if-sig-gt-LAST_SIGNAL-2.false in
+    let set : SetAt old (k c.signal.new.self) id (option_map (signalled c.args.sig) (old id)) = rw (sym found.name) c.signal.ensures in
+    changed by_program (Kill id c.args.sig) (world_from old es) (world_from (k c.signal.new.self) es) (Some container)
+    (Some (running container (signalled c.args.sig container.processes))) Accepted
+    (there old id es e found.kept)
+    (killed_running c.args.sig container runs low)
+    (told old (k c.signal.new.self) id (option_map (signalled c.args.sig) (old id)) e es set found.distinct found.kept
+    ∙ ap (λ (x : Container). put id (Some x) (world_from old es)) (runs_on (signalled c.args.sig) e.phase e (old id) runs))
 
--- src/runtime.rt:97:5
 pub returns-in-Stopped : goal.returns-in-Stopped
-returns-in-Stopped g c = ?
+unfolding world_of
+returns-in-Stopped g c =
+    let k = g.K.Kernel.processes c.args.self.now.kernel in
+    let id = c.args.id.now in
+    let es = c.args.self.now.entries.entries in
+    let found = c.in-Some.ensures.some in
+    let container = container_of c.in-Some.field-0.entry (k id) in
+    unchanged by_program (Kill id c.args.sig) (world_from k es) (Some container) (Refused NotAlive) (there k id es c.in-Some.field-0.entry found.kept)
+    (ap (λ s. kill c.args.sig s container) (sym found.status ∙ c.in-Stopped.is))

@@ -1,35 +1,93 @@
-use Rattle.std.proofs.Common.{rules, ◌≡◌, ℕ, List, [], Option, None, true, is_some, if◌then◌else◌, Some, IfSome, IfNone, IfOk, OnErr, option_copied, slice_get, ◌+◌, ◌-◌, ◌*◌, ◌<◌, ◌≤◌, length, ◌/◌, ◌%◌, Bool, false, nat_eq, nat_lt, ◌∷◌, ◌++◌, slice_index_or, slice_set, bit_and, bit_or, Fits, w8, w32, w64, Bor, MutBor}
-use Rattle.std.specs.Map.{lookup}
-use Rattle.processes.specs.Ids.{is_id}
-use Rattle.processes.specs.Kernel.{is_fatal}
-use Rattle.processes.specs.Views.{lives_in, same_text}
-use Rattle.lifecycle.specs.inner.Entries.{started_at}
-use Rattle.std.specs.Option.{option_map}
-use Rattle.processes.specs.Attached.{attached_of}
+use Rattle.std.proofs.Common.{◌≡◌, None, Some, sym, ap, ◌∙◌, refl}
+use Rattle.std.specs.Map.{set_value}
+use Rattle.cert_check.specs.Checked.{profile_of}
 use Rattle.processes.specs.First.{by_program}
-use Rattle.lifecycle.specs.Orders.Order.{Create, Start, Kill, Delete, State, Call}
-use Rattle.lifecycle.specs.Steps.{step}
+use Rattle.processes.specs.Kernel.{Answer}
+use Rattle.processes.specs.Views.{SetAt, same_text}
+use Rattle.lifecycle.specs.declared.command.Reply.{Reply}
+use Rattle.lifecycle.specs.declared.command.Reply.TheVariants.{Refused}
+use Rattle.lifecycle.specs.declared.entry.Phase.TheVariants.{Started}
+use Rattle.lifecycle.specs.declared.fault.Refusal.TheVariants.{NoContainer, NotCreated}
+use Rattle.lifecycle.specs.Orders.Order.{Start}
+use Rattle.lifecycle.specs.Steps.{first_call, left_after, running, start_reply}
+use Rattle.lifecycle.specs.Worlds.{Container, put}
 use Rattle.lifecycle.specs.Views.{world_of}
-use Rattle.lifecycle.specs.Worlds.{ids_of}
-use Rattle.lifecycle.specs.inner.Found.{IsFound}
+use Rattle.lifecycle.specs.inner.Entries.{container_of, world_from}
+use Rattle.lifecycle.proofs.CommandLaws.{FindsAt, begins, ended_no, ids_kept, is_known, not_created, runs_as, started_no, starts, status_made, step_kept}
+use Rattle.lifecycle.proofs.Entries.{changed, not_there, there, unchanged, written}
 use Rattle.lifecycle.proofs.runtime.Runtime.start.Goals as goal
 
--- src/runtime.rt:83:13
 pub returns-in_default-clause-step : goal.returns-in_default-clause-step
-returns-in_default-clause-step g c = ?
+unfolding world_of
+returns-in_default-clause-step g c =
+    let k = g.K.Kernel.processes c.args.self.now.kernel in
+    let id = c.args.id.now in
+    let es = c.args.self.now.entries.entries in
+    unchanged by_program (Start id) (world_from k es) None (Refused NoContainer) (not_there k id es c.in_default.ensures.none) refl
 
--- src/runtime.rt:88:17
 pub invariant_of-self-in-Made : goal.invariant_of-self-in-Made
-invariant_of-self-in-Made g c = ?
+invariant_of-self-in-Made g c =
+    let k = g.K.Kernel.processes in
+    let id = c.args.id.now in
+    let old = c.args.self.now.entries.entries in
+    let found = c.in-Some.ensures.some in
+    let e = c.in-Some.field-0.entry in
+    let named = c.in-Some.field-0.name in
+    let started = record e { phase = Started } in
+    let finds : FindsAt old c.come_to.new.entries.entries named (Some started) = (c.come_to.ensures.updates e (rw found.name found.kept)).0 in
+    let known = is_known old id e c.args.self.now.ids found.kept in
+    let p = first_call (profile_of e.checked).native (by_program e.checked) in record {
+      ids = ids_kept old c.come_to.new.entries.entries named (Some started) finds (rw found.name known) c.args.self.now.ids;
+      in_step = step_kept (k c.args.self.now.kernel) (k c.begin.new.kernel) old c.come_to.new.entries.entries named (Some (left_after p.0 p.1)) (Some started)
+          c.in_ok-reply-in-Made.ensures.ok finds refl c.args.self.now.in_step;
+    }
 
--- src/runtime.rt:78:5
 pub returns-in_ok-reply-in-Made-clause-step : goal.returns-in_ok-reply-in-Made-clause-step
-returns-in_ok-reply-in-Made-clause-step g c = ?
+unfolding world_of
+returns-in_ok-reply-in-Made-clause-step g c =
+    let k = g.K.Kernel.processes in
+    let id = c.args.id.now in
+    let es = c.args.self.now.entries.entries in
+    let found = c.in-Some.ensures.some in
+    let e = c.in-Some.field-0.entry in
+    let old = k c.args.self.now.kernel in
+    let new = k c.begin.new.kernel in
+    let container = container_of e (old id) in
+    let started = record e { phase = Started } in
+    let p = first_call (profile_of e.checked).native (by_program e.checked) in
+    let ps = left_after p.0 p.1 in
+    let set : SetAt old new id (Some ps) = rw (sym found.name) c.in_ok-reply-in-Made.ensures.ok in
+    let entries : c.come_to.new.entries.entries ≡ set_value (same_text id) es started =
+    c.come_to.ensures.entries e (rw found.name found.kept) ∙ ap (λ q. set_value (same_text q) es started) found.name in
+    let reply : c.in_ok-reply-in-Made.reply ≡ start_reply p.0 = c.in_ok-reply-in-Made.ensures.reply in
+    changed by_program (Start id) (world_from old es) (world_from new c.come_to.new.entries.entries) (Some container) (Some (running container ps)) c.in_ok-reply-in-Made.reply
+    (there old id es e found.kept)
+    (starts container (status_made e (old id) c.in-Made.is)
+    ∙ (ap (λ (x : Answer). (start_reply x.0, Some (running container (left_after x.0 x.1)))) (begins e (old id) c.in-Made.is)
+    ∙ ap (λ (r : Reply). (r, Some (running container ps))) (sym reply)))
+    (ap (world_from new) entries ∙ (written old new id (Some ps) started e es set found.distinct found.kept
+    ∙ ap (λ (x : Container). put id (Some x) (world_from old es)) (sym (runs_as e (old id) ps c.in-Made.is))))
 
--- src/runtime.rt:78:5
 pub returns-in-Started-clause-step : goal.returns-in-Started-clause-step
-returns-in-Started-clause-step g c = ?
+unfolding world_of
+returns-in-Started-clause-step g c =
+    let k = g.K.Kernel.processes c.args.self.now.kernel in
+    let id = c.args.id.now in
+    let es = c.args.self.now.entries.entries in
+    let found = c.in-Some.ensures.some in
+    let e = c.in-Some.field-0.entry in
+    let container = container_of e (k id) in
+    unchanged by_program (Start id) (world_from k es) (Some container) (Refused NotCreated) (there k id es e found.kept)
+    (not_created container (started_no e (k id) c.in-Started.is))
 
--- src/runtime.rt:78:5
 pub returns-in-Ended-clause-step : goal.returns-in-Ended-clause-step
-returns-in-Ended-clause-step g c = ?
+unfolding world_of
+returns-in-Ended-clause-step g c =
+    let k = g.K.Kernel.processes c.args.self.now.kernel in
+    let id = c.args.id.now in
+    let es = c.args.self.now.entries.entries in
+    let found = c.in-Some.ensures.some in
+    let e = c.in-Some.field-0.entry in
+    let container = container_of e (k id) in
+    unchanged by_program (Start id) (world_from k es) (Some container) (Refused NotCreated) (there k id es e found.kept)
+    (not_created container (ended_no e (k id) c.in-Ended.is))

@@ -1,23 +1,28 @@
-use Rattle.std.proofs.Common.{rules, ◌≡◌, ℕ, List, [], Option, None, true, is_some, if◌then◌else◌, Some, IfSome, IfNone, IfOk, OnErr, option_copied, slice_get, ◌+◌, ◌-◌, ◌*◌, ◌<◌, ◌≤◌, length, ◌/◌, ◌%◌, Bool, false, nat_eq, nat_lt, ◌∷◌, ◌++◌, slice_index_or, slice_set, bit_and, bit_or, Fits, w8, w32, w64, Bor, MutBor}
-use Rattle.std.specs.Map.{lookup}
-use Rattle.processes.specs.Ids.{is_id}
-use Rattle.processes.specs.Kernel.{is_fatal}
-use Rattle.processes.specs.Views.{lives_in, same_text}
-use Rattle.lifecycle.specs.inner.Entries.{started_at}
-use Rattle.std.specs.Option.{option_map}
-use Rattle.processes.specs.Attached.{attached_of}
+use Rattle.std.proofs.Common.{◌≡◌, None, Some, sym, ap, refl}
 use Rattle.processes.specs.First.{by_program}
-use Rattle.lifecycle.specs.Orders.Order.{Create, Start, Kill, Delete, State, Call}
-use Rattle.lifecycle.specs.Steps.{step}
+use Rattle.lifecycle.specs.declared.command.Reply.TheVariants.{Refused, IsIn}
+use Rattle.lifecycle.specs.declared.fault.Refusal.TheVariants.{NoContainer}
+use Rattle.lifecycle.specs.Orders.Order.{State}
 use Rattle.lifecycle.specs.Views.{world_of}
-use Rattle.lifecycle.specs.Worlds.{ids_of}
-use Rattle.lifecycle.specs.inner.Found.{IsFound}
+use Rattle.lifecycle.specs.inner.Entries.{container_of, world_from}
+use Rattle.lifecycle.proofs.Entries.{not_there, there, unchanged}
 use Rattle.lifecycle.proofs.runtime.Runtime.state.Goals as goal
 
--- src/runtime.rt:143:5
 pub returns-in-Some : goal.returns-in-Some
-returns-in-Some g c = ?
+unfolding world_of
+returns-in-Some g c =
+    let k = g.K.Kernel.processes c.args.self.now.kernel in
+    let id = c.args.id.now in
+    let es = c.args.self.now.entries.entries in
+    let found = c.in-Some.ensures.some in
+    let container = container_of c.in-Some.field-0.entry (k id) in
+    unchanged by_program (State id) (world_from k es) (Some container) (IsIn c.in-Some.field-0.status) (there k id es c.in-Some.field-0.entry found.kept)
+    (ap (λ s. (IsIn s, Some container)) (sym found.status))
 
--- src/runtime.rt:143:5
 pub returns-in-None : goal.returns-in-None
-returns-in-None g c = ?
+unfolding world_of
+returns-in-None g c =
+    let k = g.K.Kernel.processes c.args.self.now.kernel in
+    let id = c.args.id.now in
+    let es = c.args.self.now.entries.entries in
+    unchanged by_program (State id) (world_from k es) None (Refused NoContainer) (not_there k id es c.in-None.ensures.none) refl

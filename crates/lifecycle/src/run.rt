@@ -1,0 +1,54 @@
+//! Whole runs.
+ghost use Rattle.std.specs.Prelude.{◌≡◌, IfOk, OnOk, OnErr, length, take};
+ghost use Rattle.processes.specs.First.{by_profile, by_program};
+ghost use Rattle.lifecycle.specs.Orders.{order_of};
+ghost use Rattle.lifecycle.specs.Runs.{EachRunsAlone, IsRun, orders_of};
+ghost use Rattle.lifecycle.specs.Steps.{step};
+
+use crate::command::{Command, Reply};
+use crate::runtime::Runtime;
+use processes::Kernel;
+use std::alloc::AllocError;
+
+impl<'a, K: Kernel> Runtime<'a, K> {
+    ghost use Rattle.lifecycle.specs.Views.{world_of};
+
+    /// Carries out commands in order. Where memory is refused it stops, with the replies so far.
+    ///
+    /// The replies, and the world after them, are those of a run in which a container's profile decides what its first
+    /// filter answers; with the program of the filter in the profile's place it is the same run. So a call that a profile
+    /// refuses is not carried out, and a call that no filter refuses is.
+    pub fn run(&mut self, commands: &[Command<'a>]) -> (Vec<Reply>, Result<(), AllocError>)
+        ensures headline { IsRun by_profile (orders_of (take (length result.0.items) commands.now)) (world_of self.old) result.0.items (world_of self.new) }
+        ensures so_far { IsRun by_program (orders_of (take (length result.0.items) commands.now)) (world_of self.old) result.0.items (world_of self.new) }
+        ensures all { OnOk result.1 (length result.0.items ≡ length commands.now) }
+        ensures alone { EachRunsAlone by_profile (orders_of (take (length result.0.items) commands.now)) (world_of self.old) result.0.items }
+    {
+        let mut replies = Vec::new(self.alloc);
+        if replies.reserve(commands.len()).is_err() {
+            return (replies, Err(AllocError));
+        }
+        for command in commands {
+            match self.act(command) {
+                Ok(reply) => replies.push_reserved(reply),
+                Err(error) => return (replies, Err(error)),
+            }
+        }
+        (replies, Ok(()))
+    }
+
+    // Carries out one command.
+    fn act(&mut self, command: &Command<'a>) -> Result<Reply, AllocError>
+        ensures step { IfOk result (λ r. (r, world_of self.new) ≡ step by_program (order_of command.now) (world_of self.old)) }
+        ensures err { OnErr result (world_of self.new ≡ world_of self.old) }
+    {
+        match *command {
+            Command::Create(id, checked) => self.create(id, checked),
+            Command::Start(id) => self.start(id),
+            Command::Kill(id, sig) => Ok(self.kill(id, sig)),
+            Command::Delete(id) => Ok(self.delete(id)),
+            Command::State(id) => Ok(self.state(id)),
+            Command::Call(id, task, rec, attached) => self.call(id, task, rec, attached),
+        }
+    }
+}
