@@ -1,9 +1,8 @@
 -- What a change of an entry, or of what the kernel has of its container, is in the world.
-use Rattle.std.proofs.Common.{◌≡◌, ℕ, Bool, true, false, cond, not, List, [], ◌∷◌, Option, None, Some, is_some, refl, if◌then◌else◌, sym, ap, ◌∙◌, map}
+use Rattle.std.proofs.Common.{◌≡◌, ℕ, Bool, true, false, List, [], ◌∷◌, Option, None, Some, refl, if◌then◌else◌, sym, ap, ◌∙◌}
 use Rattle.std.specs.Option.{option_map}
 use Rattle.std.specs.List.{IsDistinct, AllByRecursion}
 use Rattle.std.specs.Map.{lookup, keys_of, set_value, remove_entry}
-use Rattle.std.specs.Cmp.Lexicographic.{nat_list_eq_equiv}
 use std.Path.{fun_ext}
 use Rattle.indexmap.specs.IndexMap.{insert_entry}
 use Rattle.processes.specs.Tasks.{Processes}

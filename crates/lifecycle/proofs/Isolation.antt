@@ -5,7 +5,7 @@ use Rattle.std.proofs.lemmas.Bool.{eqb-true}
 use Rattle.processes.specs.Views.{same_text}
 use Rattle.lifecycle.specs.Orders.{Order, id_of}
 use Rattle.lifecycle.specs.Worlds.{Container, World, First, container_at, put}
-use Rattle.lifecycle.specs.Steps.{acted, step, run}
+use Rattle.lifecycle.specs.Steps.{acted, run}
 use Rattle.lifecycle.specs.Own.{own, own_replies, IsIsolated}
 
 -- k is not a, where it is b and b is not a

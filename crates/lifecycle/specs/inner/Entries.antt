@@ -1,5 +1,5 @@
 -- The containers, by what is kept of each and what the kernel has of it.
-use Rattle.std.specs.Prelude.{◌≡◌, ℕ, Bool, true, false, List, Option, None, Some, if◌then◌else◌, map}
+use Rattle.std.specs.Prelude.{ℕ, Bool, true, false, List, Option, None, Some, if◌then◌else◌, map}
 use Rattle.std.specs.Map.{lookup}
 use Rattle.processes.specs.Tasks.{Processes, lives}
 use Rattle.processes.specs.First.{by_program}

@@ -2,7 +2,6 @@ use Rattle.std.proofs.Common.{◌≡◌, sym, ap, ◌∙◌}
 use Rattle.cert_check.specs.Checked.{profile_of}
 use Rattle.processes.specs.Begin.{execve_of}
 use Rattle.processes.specs.First.{by_program}
-use Rattle.processes.specs.Views.{SetAt}
 use Rattle.lifecycle.specs.Steps.{first_call, start_reply}
 use Rattle.lifecycle.proofs.StartLemmas.{began, denied_ends, left, own_id}
 use Rattle.lifecycle.proofs.start.begin.Goals as goal

@@ -1,8 +1,7 @@
-use Rattle.std.proofs.Common.{◌≡◌, None, Some, sym, ap, ◌∙◌, if◌then◌else◌}
+use Rattle.std.proofs.Common.{sym, ap, ◌∙◌, if◌then◌else◌}
 use Rattle.std.specs.Map.{lookup}
 use Rattle.processes.specs.Views.{lives_in, same_text}
 use Rattle.lifecycle.specs.declared.command.Status.TheVariants.{Running, Stopped}
-use Rattle.lifecycle.specs.inner.Entries.{container_of}
 use Rattle.lifecycle.proofs.CommandLaws.{if_none, status_ended, status_made, status_started}
 use Rattle.lifecycle.proofs.runtime.Runtime.find.Goals as goal
 use Rattle.lifecycle.proofs.runtime.Runtime.find.Goals.{in-Made, in-Started, in-Ended}

@@ -1,4 +1,4 @@
-use Rattle.std.proofs.Common.{◌≡◌, None, Some, sym, ap, refl}
+use Rattle.std.proofs.Common.{None, Some, sym, ap, refl}
 use Rattle.processes.specs.First.{by_program}
 use Rattle.lifecycle.specs.declared.command.Reply.TheVariants.{Refused, IsIn}
 use Rattle.lifecycle.specs.declared.fault.Refusal.TheVariants.{NoContainer}
