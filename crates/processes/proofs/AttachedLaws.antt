@@ -1,12 +1,12 @@
 -- The test of a program is true exactly where the kernel accepts it.
 use Rattle.std.proofs.Common.{◌≡◌, ◌≢◌, ◌↔◌, ℕ, ◌+◌, ◌%◌, ◌==◌, ◌&&◌, ◌||◌, ◌<◌, ◌≤◌, ◌⊎◌, inl, inr, Bool, true, false, not, List, [], ◌∷◌, Option, Some, None, length, drop, refl, sym, ◌∙◌, arith, subst, ap}
-use Rattle.std.specs.Prelude.{zero, suc, nat_lt, nat_le, slice_get}
+use Rattle.std.specs.Prelude.{if◌then◌else◌, zero, suc, nat_lt, nat_le, slice_get}
 use Rattle.std.proofs.lemmas.Bool.{ltb-true, lt-ltb, leb-true, le-leb, cases_lt, eqb-false, eqb-true}
 use Rattle.std.proofs.lemmas.Bool.Decides.{Decides-eqb}
 use Rattle.bpf_insn.specs.declared.code.Operation.{Operation}
 use Rattle.bpf_insn.specs.declared.code.Operation.TheVariants.{LoadWord, LoadScratch, LoadScratchX, Store, StoreX, ReturnK, ReturnA, Jump, Branch, ShiftLeft, ShiftRight}
 use Rattle.bpf_insn.specs.declared.instruction.Insn.{Insn}
-use Rattle.bpf_insn.specs.Bytes.{max_insns}
+use Rattle.bpf_insn.specs.Bytes.{insns_of, max_insns, view_fault}
 use Rattle.bpf_insn.specs.Code.{operation_of}
 use Rattle.bpf_insn.specs.Causes.{NamesNoWord}
 use Rattle.kernel_check.specs.declared.fault.Cause.{Cause}
@@ -14,7 +14,8 @@ use Rattle.kernel_check.specs.declared.fault.Cause.TheVariants.{Code, Load, Shif
 use Rattle.kernel_check.specs.Accepted.{LeadsOut, CauseAt, HasCause, IsAccepted}
 use Rattle.kernel_check.specs.Paths.{LeadsTo, WritesWord, Unwritten}
 use Rattle.kernel_check.specs.Paths.Unwritten.{at_first, handed_on}
-use Rattle.processes.specs.Attached.{is_sound, is_sound_from, is_written, reads_on, reads_unwritten, is_accepted}
+use Rattle.processes.specs.Attached.Attached.{Refused, Taken}
+use Rattle.processes.specs.Attached.{attached_of, is_sound, is_sound_from, is_written, reads_on, reads_unwritten, is_accepted}
 
 both : (a b : Bool) → (a && b) ≡ true → (a ≡ true) × (b ≡ true)
 both true b h = (refl, h)
@@ -365,3 +366,16 @@ accepted_tests p a =
 
 pub accepts_exactly : (p : List Insn) → (is_accepted p ≡ true) ↔ IsAccepted p
 accepts_exactly p = (test_accepts p, accepted_tests p)
+
+attached_by : (bytes : List ℕ) (b : Bool) → view_fault bytes ≡ None → is_accepted (insns_of bytes) ≡ b → attached_of (Some bytes) ≡ (if b then Taken (insns_of bytes) else Refused)
+attached_by bytes b fault e = rw (fault, e) refl
+
+pub attached_taken : (bytes : List ℕ) → view_fault bytes ≡ None → IsAccepted (insns_of bytes) → attached_of (Some bytes) ≡ Taken (insns_of bytes)
+attached_taken bytes fault a = attached_by bytes true fault (accepted_tests (insns_of bytes) a)
+
+pub attached_refused : (bytes : List ℕ) → view_fault bytes ≡ None → (IsAccepted (insns_of bytes) → ⊥) → attached_of (Some bytes) ≡ Refused
+attached_refused bytes fault no_way = by (is_accepted (insns_of bytes)) refl
+  where
+    by : (b : Bool) → is_accepted (insns_of bytes) ≡ b → attached_of (Some bytes) ≡ Refused
+    by true e = absurd (no_way (test_accepts (insns_of bytes) e))
+    by false e = attached_by bytes false fault e

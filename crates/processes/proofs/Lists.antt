@@ -46,3 +46,8 @@ written f s false w x o p e h = refl
 pub list_any-map : {A B : Type 0} (f : A → B) (p : B → Bool) (xs : List A) → list_any p (map f xs) ≡ list_any (λ x. p (f x)) xs
 list_any-map f p [] = refl
 list_any-map f p (x ∷ xs) = ap (λ b. p (f x) || b) (list_any-map f p xs)
+
+-- A write of what is seen alike.
+pub written_alike : {A B : Type 0} (f : A → B) (t : Bool) (w x : A) (o p : Option A) → p ≡ Some x → (t ≡ true → o ≡ p) → f w ≡ f x → option_map f (cond t (Some w) o) ≡ option_map f o
+written_alike f true w x o p e same h = ap Some h ∙ sym (ap (option_map f) (same refl ∙ e))
+written_alike f false w x o p e same h = refl

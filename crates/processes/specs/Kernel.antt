@@ -54,12 +54,14 @@ forked t number = child number number t.group t
 abbrev pub cloned : Process → ℕ → Process
 cloned t number = child number t.group t.parent t
 
--- the new task gets the next number, where fewer than 1024 were made
+-- the new task gets the next number
+abbrev pub with_next : (ℕ → Process) → Processes → Answer
+with_next make ps =
+    (Done (ps.made + 1), record ps { made = ps.made + 1; tasks = ps.tasks ++ make (ps.made + 1) ∷ [] })
+
+-- where fewer than 1024 were made
 abbrev pub with_new : (ℕ → Process) → Processes → Answer
-with_new make ps =
-    if nat_lt ps.made 1024
-    then (Done (ps.made + 1), record ps { made = ps.made + 1; tasks = ps.tasks ++ make (ps.made + 1) ∷ [] })
-    else (Failed eagain, ps)
+with_new make ps = if nat_lt ps.made 1024 then with_next make ps else (Failed eagain, ps)
 
 -- A new image: the other tasks of the group end by signal 9, and the caller goes on as the task that
 -- has the group's number.
@@ -115,9 +117,9 @@ is_oldest_part older newer = pointwise nat_eq older (drop (length newer - length
 abbrev pub conflicts : Process → Process → Bool
 conflicts t u = is_sibling t u && is_live u && not (is_oldest_part (loads_of u) (loads_of t))
 
--- who gets the filter: the caller, or all live tasks of its group
+-- who gets the filter, of the live tasks: the caller, or all of its group
 abbrev pub takes : Bool → Process → Process → Bool
-takes false t u = is_task t.number u
+takes false t u = is_task t.number u && is_live u
 takes true t u = is_in_group t.group u && is_live u
 
 -- the caller's filters with one in front
@@ -126,14 +128,18 @@ loaded for_all program t ps =
     let filters = record { load = ps.loads + 1; judge = program_judge program } ∷ t.filters in
     record ps { loads = ps.loads + 1; tasks = map (λ u. if takes for_all t u then record u { filters = filters } else u) ps.tasks }
 
+-- which is answered 0
+abbrev pub with_filter : Bool → List Insn → Process → Processes → Answer
+with_filter for_all program t ps = (Done 0, loaded for_all program t ps)
+
 -- in the order of numbers, the first task that conflicts has the least number
 abbrev pub first_conflict : Bool → Process → Processes → Option Process
 first_conflict false t ps = None
 first_conflict true t ps = find (conflicts t) ps.tasks
 
-abbrev pub unless_conflict : Option Process → Processes → Processes → Answer
-unless_conflict (Some u) ps after = (Done u.number, ps)
-unless_conflict None ps after = (Done 0, after)
+abbrev pub unless_conflict : Option Process → Processes → Answer → Answer
+unless_conflict (Some u) ps answer = (Done u.number, ps)
+unless_conflict None ps answer = answer
 
 abbrev pub load : Bool → Process → Attached → Processes → Answer
 load for_all t NoBytes ps = (Failed efault, ps)
@@ -141,7 +147,7 @@ load for_all t Refused ps = (Failed einval, ps)
 load for_all t (Taken program) ps =
     if nat_lt 32768 (load_size program t) then (Failed enomem, ps)
     else if nat_le (2 ^ 32 - 1) ps.loads then (Failed enomem, ps)
-    else unless_conflict (first_conflict for_all t ps) ps (loaded for_all program t ps)
+    else unless_conflict (first_conflict for_all t ps) ps (with_filter for_all program t ps)
 
 -- The table of calls, a line a row: what a call of a live task does that the verdict let through.
 abbrev pub carried_out : Row → Process → Record → Attached → Processes → Answer

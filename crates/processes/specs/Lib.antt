@@ -7,3 +7,4 @@ pub mod Begin
 pub mod Views
 pub mod First
 pub mod inner
+pub mod Table

@@ -118,7 +118,8 @@ impl Filters {
 
     /// For how many instructions the filters count beside a further one.
     pub(crate) fn size(&self) -> u32
-        ensures { result ≡ total_size self.now }
+        ensures size { result ≡ total_size self.now }
+        ensures small { result ≤ 32772 }
     {
         total_size(&self.list)
     }

@@ -1,12 +1,18 @@
 //! The modelled kernel: the tasks of each container, and what a call does to them.
 #![tactic(auto)]
 
+mod container;
+mod errno;
 mod filters;
 mod id;
+mod image;
 mod kernel;
 mod law;
+mod load;
 mod outcome;
+mod present;
 mod row;
+mod table;
 mod task;
 mod tasks;
 
@@ -14,3 +20,4 @@ pub use id::Id;
 pub use kernel::Kernel;
 pub use law::attached_programs_are_checked;
 pub use outcome::{End, Outcome, TaskView};
+pub use table::TaskTable;

@@ -85,7 +85,13 @@ fn any_lives(tasks: &[Task], group: u64) -> bool
 }
 
 /// Ends the live tasks that are meant.
-pub(crate) fn end_where(tasks: &mut [Task], which: Which, end: End)
+pub(crate) fn end_where(tasks: &mut Vec<Task>, which: Which, end: End)
+    ensures { all_of tasks.new.items ≡ end_where (is_meant which) end (all_of tasks.old.items) }
+{
+    end_each(tasks, which, end);
+}
+
+fn end_each(tasks: &mut [Task], which: Which, end: End)
     ensures { all_of tasks.new ≡ end_where (is_meant which) end (all_of tasks.old) }
 {
     for task in tasks.iter_mut() {

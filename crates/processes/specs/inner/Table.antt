@@ -1,9 +1,9 @@
 -- The kernel's tasks, as the code keeps them.
-use Rattle.std.specs.Prelude.{◌&&◌, Bool, true, not, List, map}
+use Rattle.std.specs.Prelude.{◌&&◌, Bool, true, not, if◌then◌else◌, List, map}
 use Rattle.processes.specs.declared.task.Task.{Task}
 use Rattle.processes.specs.declared.tasks.Which.{Which}
 use Rattle.processes.specs.declared.tasks.Which.TheVariants as which
-use Rattle.processes.specs.Tasks.{Process, is_task, is_in_group}
+use Rattle.processes.specs.Tasks.{Filter, Process, is_live, is_task, is_in_group}
 use Rattle.processes.specs.inner.Loads.{filters_of}
 
 abbrev pub process_of : Task → Process
@@ -19,3 +19,11 @@ is_meant (which.One n) t = is_task n t
 is_meant (which.Group g) t = is_in_group g t
 is_meant (which.Siblings g n) t = is_in_group g t && not (is_task n t)
 is_meant which.All t = true
+
+-- the live tasks that are meant
+abbrev pub is_taker : Which → Process → Bool
+is_taker w t = is_meant w t && is_live t
+
+-- these filters for the tasks that meet a test
+abbrev pub given : (Process → Bool) → List Filter → List Process → List Process
+given test filters tasks = map (λ u. if test u then record u { filters = filters } else u) tasks

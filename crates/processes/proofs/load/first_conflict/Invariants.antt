@@ -1,0 +1,9 @@
+-- None before the index conflicts.
+use Rattle.std.proofs.Common.{◌≡◌, drop}
+use Rattle.std.specs.Prelude.{find}
+use Rattle.processes.specs.Kernel.{conflicts}
+use Rattle.processes.specs.inner.Table.{all_of, process_of}
+use Rattle.processes.proofs.load.first_conflict.Given as goal
+
+abbrev pub invariant-loop-task : goal.invariant-loop-task
+invariant-loop-task l = find (conflicts (process_of l.caller)) (all_of (drop l.task-index l.tasks)) ≡ find (conflicts (process_of l.caller)) (all_of l.tasks)

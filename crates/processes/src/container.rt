@@ -1,0 +1,189 @@
+//! One container: its tasks, and how they come to be and end.
+ghost use Rattle.std.specs.Prelude.{◌≡◌, IsTrue};
+ghost use Rattle.processes.specs.Tasks.{ascends};
+ghost use Rattle.processes.specs.inner.Table.{all_of};
+
+use crate::errno::{EAGAIN, EINVAL, ESRCH};
+use crate::filters::Filters;
+use crate::outcome::{End, Outcome, TaskView};
+use crate::task::{Task, shown};
+use crate::tasks::{Which, end_where, group_lives, index_of};
+use call_tables::Arch;
+use kernel_check::Accepted;
+use std::alloc::{AllocError, Global};
+
+/// The most tasks that are ever made in a container.
+const MOST_TASKS: u32 = 1024;
+
+/// A container that was started.
+#[derive(Drop)]
+pub(crate) struct Container {
+    pub(crate) native: Arch,
+    /// By their numbers, which ascend.
+    pub(crate) tasks: Vec<Task>,
+    /// How many tasks were ever made.
+    pub(crate) made: u32,
+    /// How many filters were loaded after the first.
+    pub(crate) loads: u32,
+    ghost ordered: { IsTrue (ascends 0 (all_of tasks.items) made) },
+}
+
+impl Container {
+    ghost use Rattle.std.specs.Prelude.{◌<◌, Some, None, IfOk, OnErr, slice_get, vec_len};
+    ghost use Rattle.kernel_check.specs.Lent.{accepted_insns};
+    ghost use Rattle.processes.specs.declared.task.Task.{Task as Kept};
+    ghost use Rattle.processes.specs.Kernel.{cloned, forked, killed, signalled, with_new, with_next};
+    ghost use Rattle.processes.specs.Tasks.{admitted, ended, lives, program_judge};
+    ghost use Rattle.processes.specs.Views.{view_of_task};
+    ghost use Rattle.processes.specs.inner.Containers.{processes_of};
+    ghost use Rattle.processes.specs.inner.Loads.{filters_of};
+    ghost use Rattle.processes.specs.inner.Table.{is_meant, process_of};
+
+    /// A container with task 1 alone, and this program as its only filter.
+    pub(crate) fn begun(
+        alloc: Global,
+        native: Arch,
+        program: &Accepted<'_>,
+    ) -> Result<Container, AllocError>
+        ensures { IfOk result (λ container. processes_of container
+            ≡ admitted native (program_judge (accepted_insns program.now))) }
+    {
+        let filters = Filters::first(alloc, program)?;
+        let mut tasks = Vec::with_capacity(alloc, 1)?;
+        tasks.push(Task {
+            number: 1,
+            group: 1,
+            parent: 0,
+            images: 0,
+            end: None,
+            filters,
+        })?;
+        Ok(Container {
+            native,
+            tasks,
+            made: 1,
+            loads: 0,
+        })
+    }
+
+    /// Whether the container runs: a task of group 1 lives.
+    pub(crate) fn lives(&self) -> bool
+        ensures { result ≡ lives (processes_of self.now) }
+    {
+        group_lives(&self.tasks, 1)
+    }
+
+    /// Ends the live tasks that are meant, and all others where none of group 1 is left.
+    pub(crate) fn end(&mut self, which: Which, end: End)
+        ensures { processes_of self.new ≡ ended (is_meant which) end (processes_of self.old) }
+    {
+        end_where(&mut self.tasks, which, end);
+        if !self.lives() {
+            end_where(&mut self.tasks, Which::All, End::Signal(9));
+        }
+    }
+
+    // The next task.
+    fn add(&mut self, group: u32, parent: u32, filters: Filters) -> Result<Outcome, AllocError>
+        requires { self.old.made < 1024 }
+        ensures ok { IfOk result (λ o. (o, processes_of self.new) ≡ with_next
+            (λ n. record {
+              number = n;
+              group = group;
+              parent = parent;
+              images = 0;
+              end = None;
+              filters = filters_of filters;
+            }) (processes_of self.old)) }
+        ensures err { OnErr result (processes_of self.new ≡ processes_of self.old) }
+    {
+        let number = self.made + 1;
+        self.tasks.push(Task {
+            number,
+            group,
+            parent,
+            images: 0,
+            end: None,
+            filters,
+        })?;
+        self.made = number;
+        Ok(Outcome::Done(number))
+    }
+
+    /// A new task with a group of its own, and the filters of the task at a place.
+    pub(crate) fn fork(&mut self, alloc: Global, at: usize) -> Result<Outcome, AllocError>
+        requires { at < vec_len self.old.tasks }
+        ensures ok { IfOk result (λ o. (t : Kept) → slice_get self.old.tasks.items at ≡ Some t
+            → (o, processes_of self.new) ≡ with_new (forked (process_of t)) (processes_of self.old)) }
+        ensures err { OnErr result (processes_of self.new ≡ processes_of self.old) }
+    {
+        if self.made >= MOST_TASKS {
+            return Ok(Outcome::Failed(EAGAIN));
+        }
+        let caller = &self.tasks[at];
+        let parent = caller.group;
+        let filters = caller.filters.copied(alloc)?;
+        self.add(self.made + 1, parent, filters)
+    }
+
+    /// A new task of the group of the task at a place, with its filters.
+    pub(crate) fn clone_thread(&mut self, alloc: Global, at: usize) -> Result<Outcome, AllocError>
+        requires { at < vec_len self.old.tasks }
+        ensures ok { IfOk result (λ o. (t : Kept) → slice_get self.old.tasks.items at ≡ Some t
+            → (o, processes_of self.new) ≡ with_new (cloned (process_of t)) (processes_of self.old)) }
+        ensures err { OnErr result (processes_of self.new ≡ processes_of self.old) }
+    {
+        if self.made >= MOST_TASKS {
+            return Ok(Outcome::Failed(EAGAIN));
+        }
+        let caller = &self.tasks[at];
+        let (group, parent) = (caller.group, caller.parent);
+        let filters = caller.filters.copied(alloc)?;
+        self.add(group, parent, filters)
+    }
+
+    /// A signal to a group from one of the tasks: group 1 is never ended from inside.
+    pub(crate) fn kill(&mut self, target: u64, sig: u64) -> Outcome
+        ensures { (result, processes_of self.new) ≡ killed target sig (processes_of self.old) }
+    {
+        if sig > 64 {
+            return Outcome::Failed(EINVAL);
+        }
+        if !group_lives(&self.tasks, target) {
+            return Outcome::Failed(ESRCH);
+        }
+        if target == 1 {
+            return Outcome::Done(0);
+        }
+        if is_fatal(sig) {
+            self.end(Which::Group(target), End::Signal(sig as u8));
+        }
+        Outcome::Done(0)
+    }
+
+    /// A signal from outside to group 1.
+    pub(crate) fn signal(&mut self, sig: u64)
+        ensures { processes_of self.new ≡ signalled sig (processes_of self.old) }
+    {
+        if is_fatal(sig) {
+            self.end(Which::Group(1), End::Signal(sig as u8));
+        }
+    }
+
+    /// What is shown of a task, live or ended.
+    pub(crate) fn view(&self, number: u64) -> Option<TaskView>
+        ensures { result ≡ view_of_task number (processes_of self.now) }
+    {
+        let at = index_of(&self.tasks, number)?;
+        Some(shown(&self.tasks[at]))
+    }
+}
+
+ghost use Rattle.processes.specs.Kernel.{is_fatal};
+
+/// Whether a signal ends its target: 9 (SIGKILL) and 15 (SIGTERM) do.
+pub(crate) fn is_fatal(sig: u64) -> bool
+    ensures { result ≡ is_fatal sig }
+{
+    sig == 9 || sig == 15
+}

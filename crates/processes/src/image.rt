@@ -1,0 +1,61 @@
+//! execve: a new image for a task, which goes on alone in its group.
+ghost use Rattle.std.specs.Prelude.{ℕ, ◌≡◌, ◌<◌, IsTrue, Some, slice_get, vec_len};
+ghost use Rattle.processes.specs.declared.task.Task.{Task as Kept};
+ghost use Rattle.processes.specs.Kernel.{renewed, take_over};
+ghost use Rattle.processes.specs.Tasks.{ascends};
+ghost use Rattle.processes.specs.inner.Table.{all_of, process_of};
+
+use crate::container::Container;
+use crate::outcome::End;
+use crate::task::Task;
+use crate::tasks::{Which, end_where, index_of};
+
+// The task goes on under its group's number, with one more image.
+fn renew(task: &mut Task)
+    ensures { process_of task.new ≡ renewed (process_of task.old) }
+{
+    task.number = task.group;
+    task.images = task.images.saturating_add(1);
+}
+
+// The task at a place takes the entry that has its group's number, and leaves its own.
+fn take_over(tasks: &mut Vec<Task>, at: usize)
+    requires place { at < vec_len tasks.old }
+    requires ordered { (top : ℕ) × IsTrue (ascends 0 (all_of tasks.old.items) top) }
+    ensures { (t : Kept) → slice_get tasks.old.items at ≡ Some t
+        → all_of tasks.new.items ≡ take_over (process_of t) (all_of tasks.old.items) }
+{
+    let caller = &tasks[at];
+    let group = caller.group;
+    if caller.number == group {
+        renew(&mut tasks[at]);
+        return;
+    }
+    let mut caller = tasks.remove(at);
+    renew(&mut caller);
+    if let Some(place) = index_of(tasks, u64::from(group)) {
+        tasks[place] = caller;
+    }
+}
+
+impl Container {
+    ghost use Rattle.std.specs.Prelude.{◌≡◌, ◌<◌, Some, slice_get, vec_len};
+    ghost use Rattle.processes.specs.declared.task.Task.{Task as Kept};
+    ghost use Rattle.processes.specs.Kernel.{executed};
+    ghost use Rattle.processes.specs.Tasks.{with_tasks};
+    ghost use Rattle.processes.specs.inner.Containers.{processes_of};
+    ghost use Rattle.processes.specs.inner.Table.{process_of};
+
+    /// A new image for the task at a place. The other live tasks of its group end.
+    pub(crate) fn execute(&mut self, at: usize)
+        requires { at < vec_len self.old.tasks }
+        ensures { let ps = processes_of self.old in
+            (t : Kept) → slice_get self.old.tasks.items at ≡ Some t
+            → processes_of self.new ≡ with_tasks ps (executed (process_of t) ps.tasks) }
+    {
+        let caller = &self.tasks[at];
+        let siblings = Which::Siblings(u64::from(caller.group), u64::from(caller.number));
+        end_where(&mut self.tasks, siblings, End::Signal(9));
+        take_over(&mut self.tasks, at);
+    }
+}

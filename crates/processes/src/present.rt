@@ -1,0 +1,105 @@
+//! What becomes of a call: the verdict of the task's filters, and the table of calls.
+use crate::container::Container;
+use crate::errno::EINVAL;
+use crate::outcome::{End, Outcome};
+use crate::row::{Row, row_of};
+use crate::tasks::{Which, live_index};
+use call_record::{Ends, Record, Word, lets_through};
+use std::alloc::{AllocError, Global};
+
+impl Container {
+    ghost use Rattle.std.specs.Prelude.{◌≡◌, ◌<◌, IfOk, OnErr, Some, option_map, slice_get, true, vec_len};
+    ghost use Rattle.call_record.specs.Ends.{ends_of};
+    ghost use Rattle.processes.specs.Attached.{attached_of};
+    ghost use Rattle.processes.specs.Calls.{row_of};
+    ghost use Rattle.processes.specs.declared.task.Task.{Task as One};
+    ghost use Rattle.processes.specs.Kernel.{can_grow, carried_out, ended_by_verdict, may_grow, presented};
+    ghost use Rattle.processes.specs.inner.Containers.{processes_of};
+    ghost use Rattle.processes.specs.inner.Table.{process_of};
+
+    // A call of the task at a place that the verdict let through.
+    fn carry_out(
+        &mut self,
+        alloc: Global,
+        at: usize,
+        rec: &Record,
+        attached: Option<&[u8]>,
+    ) -> Result<Outcome, AllocError>
+        requires { at < vec_len self.old.tasks }
+        ensures ok { let given = attached_of (option_map (λ a. a.now) attached.entry) in
+            IfOk result (λ o. (t : One) → slice_get self.old.tasks.items at ≡ Some t
+            → (o, processes_of self.new) ≡ carried_out (row_of self.old.native rec.now)
+            (process_of t) rec.now given (processes_of self.old)) }
+        ensures err { OnErr result (processes_of self.new ≡ processes_of self.old) }
+        ensures growth { OnErr result (may_grow (row_of self.old.native rec.now) ≡ true) }
+    {
+        let caller = &self.tasks[at];
+        let (number, group, parent) = (caller.number, caller.group, caller.parent);
+        let exit = End::Exit((rec.args[0] & 0xff) as u8);
+        match row_of(self.native, rec) {
+            Row::NewTask => self.fork(alloc, at),
+            Row::NewThread => self.clone_thread(alloc, at),
+            Row::Execve => {
+                self.execute(at);
+                Ok(Outcome::Done(0))
+            }
+            Row::Exit => {
+                self.end(Which::One(u64::from(number)), exit);
+                Ok(Outcome::Done(0))
+            }
+            Row::ExitGroup => {
+                self.end(Which::Group(u64::from(group)), exit);
+                Ok(Outcome::Done(0))
+            }
+            Row::Kill => Ok(self.kill(rec.args[0], rec.args[1])),
+            Row::GetPid => Ok(Outcome::Done(group)),
+            Row::GetTid => Ok(Outcome::Done(number)),
+            Row::GetParent => Ok(Outcome::Done(parent)),
+            Row::Load { for_all } => self.load(alloc, at, for_all, attached),
+            Row::NoLoad => Ok(Outcome::Failed(EINVAL)),
+            Row::Plain => Ok(Outcome::Done(0)),
+            Row::Missing => Ok(Outcome::Absent),
+        }
+    }
+
+    // What a verdict on a call of the task at a place ends.
+    fn end_by_verdict(&mut self, at: usize, word: Word)
+        requires { at < vec_len self.old.tasks }
+        ensures { (t : One) → slice_get self.old.tasks.items at ≡ Some t
+            → processes_of self.new
+            ≡ ended_by_verdict (ends_of word) (process_of t) (processes_of self.old) }
+    {
+        let caller = &self.tasks[at];
+        let (number, group) = (u64::from(caller.number), u64::from(caller.group));
+        match word.ends() {
+            Ends::Nothing => {}
+            Ends::Task => self.end(Which::One(number), End::Signal(31)),
+            Ends::Group => self.end(Which::Group(group), End::Signal(31)),
+        }
+    }
+
+    /// A task presents a record, perhaps with a program attached.
+    pub(crate) fn present(
+        &mut self,
+        alloc: Global,
+        task: u64,
+        rec: &Record,
+        attached: Option<&[u8]>,
+    ) -> Result<Outcome, AllocError>
+        ensures ok { let given = attached_of (option_map (λ a. a.now) attached.entry) in
+            IfOk result (λ o. (o, processes_of self.new)
+            ≡ presented task rec.now given (processes_of self.old)) }
+        ensures err { OnErr result (processes_of self.new ≡ processes_of self.old) }
+        ensures growth { OnErr result (can_grow task rec.now (processes_of self.old) ≡ true) }
+    {
+        let Some(at) = live_index(&self.tasks, task) else {
+            return Ok(Outcome::NoTask);
+        };
+        let word = self.tasks[at].filters.verdict(rec);
+        if !lets_through(word) {
+            self.end_by_verdict(at, word);
+            return Ok(Outcome::Denied(word));
+        }
+        self.carry_out(alloc, at, rec, attached)
+    }
+}
