@@ -26,7 +26,7 @@ impl Index {
         }
     }
 
-    /// Adds the rule that comes next in the list.
+    /// Adds the rule that comes next in the list. After an error the index is of no use.
     pub(crate) fn push(&mut self, rule: &Rule) -> Result<(), AllocError>
         ensures { OnOk result ((rules : List Rule) → IsIndexOf rules self.old → IsIndexOf (rules ++ rule.now ∷ []) self.new) }
     {

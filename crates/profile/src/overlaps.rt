@@ -36,8 +36,7 @@ fn can_overlap(a: &Rule, b: &Rule) -> bool
     all_meet(b.conds.as_slice(), b.conds.as_slice())
 }
 
-// Whether conditions at one place ask for unlike numbers. Most rules for one call do, and are told
-// apart by this look alone.
+// Whether conditions at one place ask for unlike numbers: this alone tells most rules for one call apart.
 fn ask_unlike(a: &[Cond], b: &[Cond]) -> bool
     ensures { IsTrue result → ¬ AllHaveCommon a.now b.now }
 {
