@@ -2,6 +2,7 @@
 #![tactic(auto)]
 
 mod answer;
+mod exporting;
 mod fault;
 mod files;
 mod finding;

@@ -1,6 +1,7 @@
 //! The whole program, from the words after its name to its exit status.
 ghost use Rattle.std.specs.Prelude.{◌≤◌};
 
+use crate::exporting::export_bundle;
 use crate::fault::FileFault;
 use crate::files::Files;
 use crate::finding::check_line;
@@ -17,7 +18,7 @@ fn read<'a>(alloc: Global, files: &mut impl Files, name: &'a str) -> Result<Vec<
     })
 }
 
-// Carries the order out: true where it answered a word or yes, false where it refused.
+// Carries the order out: true where it answered a word or yes or wrote what was asked for, false where it refused.
 fn carry_out<'a>(
     alloc: Global,
     words: &'a [&'a str],
@@ -40,6 +41,14 @@ fn carry_out<'a>(
             let filter = read(alloc, files, filter)?;
             let certificate = read(alloc, files, certificate)?;
             Ok(check_line(alloc, native, &bundle, &filter, &certificate, out)?)
+        }
+        Order::Export {
+            native,
+            bundle,
+            form,
+        } => {
+            let bundle = read(alloc, files, bundle)?;
+            Ok(export_bundle(alloc, native, &bundle, form, out)?)
         }
     }
 }

@@ -3,6 +3,8 @@ use Rattle.std.specs.Prelude.{ℕ, ◌≡◌, List, if◌then◌else◌, Option,
 use Rattle.std.specs.Str.{bytes_eq}
 use Rattle.call_tables.specs.declared.arch.Arch.{Arch}
 use Rattle.call_tables.specs.declared.arch.Arch.TheVariants.{X86_64, Aarch64}
+use Rattle.command_line.specs.declared.Form.{Form}
+use Rattle.command_line.specs.declared.Form.TheVariants.{Raw, Listing, Certificate}
 
 abbrev pub hyphen : ℕ
 hyphen = 45
@@ -14,3 +16,11 @@ IsDashed word = slice_get word 0 ≡ Some hyphen
 -- the machine of that name
 unfoldable pub machine_called : List ℕ → Option Arch
 machine_called word = if bytes_eq word (codes "x86-64") then Some X86_64 else if bytes_eq word (codes "aarch64") then Some Aarch64 else None
+
+-- the form of that name
+unfoldable pub form_called : List ℕ → Option Form
+form_called word =
+    if bytes_eq word (codes "raw") then Some Raw
+    else if bytes_eq word (codes "listing") then Some Listing
+    else if bytes_eq word (codes "cert") then Some Certificate
+    else None

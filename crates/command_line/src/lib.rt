@@ -2,12 +2,23 @@
 #![tactic(auto)]
 
 ghost use Rattle.std.specs.Prelude.{◌≡◌, ◌↔◌, IsTrue, Any, IsErrOf};
-ghost use Rattle.command_line.specs.Words.{IsDashed, machine_called};
+ghost use Rattle.command_line.specs.Words.{IsDashed, form_called, machine_called};
 
 use call_tables::Arch;
 use clap::error::ErrorKind;
 use clap::{Arg, ArgMatches, Command, Error};
 use std::alloc::{AllocError, Global};
+
+/// What is written of a checked filter.
+#[derive(Clone, Copy, Debug, PartialEq, Eq)]
+pub enum Form {
+    /// The filter's bytes.
+    Raw,
+    /// Its listing.
+    Listing,
+    /// The bytes of its certificate.
+    Certificate,
+}
 
 /// What the words after the program's name ask for.
 #[derive(Clone, Copy, Debug, PartialEq, Eq)]
@@ -24,6 +35,13 @@ pub enum Order<'a> {
         bundle: &'a str,
         filter: &'a str,
         certificate: &'a str,
+    },
+    /// The filter that is compiled for a bundle, read for a native machine, once it is certified and checked. The bundle
+    /// is given as the name of a file.
+    Export {
+        native: Arch,
+        bundle: &'a str,
+        form: Form,
     },
 }
 
@@ -63,6 +81,23 @@ pub fn machine_named(word: &str) -> Option<Arch>
     None
 }
 
+/// The form that a word calls by its name, `raw`, `listing` or `cert`.
+#[tactic(auto, unfolding(crate::specs::Words::form_called))]
+pub fn form_named(word: &str) -> Option<Form>
+    ensures { result ≡ form_called word.now }
+{
+    if word == "raw" {
+        return Some(Form::Raw);
+    }
+    if word == "listing" {
+        return Some(Form::Listing);
+    }
+    if word == "cert" {
+        return Some(Form::Certificate);
+    }
+    None
+}
+
 fn word<'a>(alloc: Global, name: &'a str) -> Arg<'a> {
     Arg::new(alloc, name).required(true)
 }
@@ -81,13 +116,21 @@ fn check_command<'a>(alloc: Global) -> Result<Command<'a>, AllocError> {
         .arg(word(alloc, "certificate"))
 }
 
+fn export_command<'a>(alloc: Global) -> Result<Command<'a>, AllocError> {
+    Command::new(alloc, "export")
+        .arg(word(alloc, "machine"))?
+        .arg(word(alloc, "bundle"))?
+        .arg(word(alloc, "form"))
+}
+
 fn command<'a>(alloc: Global) -> Result<Command<'a>, AllocError> {
     Command::new(alloc, "ccell")
         .no_binary_name(true)
         .subcommand_required(true)
         .disable_help_subcommand(true)
         .subcommand(verdict_command(alloc)?)?
-        .subcommand(check_command(alloc)?)
+        .subcommand(check_command(alloc)?)?
+        .subcommand(export_command(alloc)?)
 }
 
 // Whether a word begins with `-`.
@@ -124,6 +167,14 @@ fn check_order<'a>(matches: &ArgMatches<'a>) -> Result<Order<'a>, Misuse> {
     })
 }
 
+fn export_order<'a>(matches: &ArgMatches<'a>) -> Result<Order<'a>, Misuse> {
+    Ok(Order::Export {
+        native: machine_named(part(matches, "machine")?).ok_or(Misuse::Usage)?,
+        bundle: part(matches, "bundle")?,
+        form: form_named(part(matches, "form")?).ok_or(Misuse::Usage)?,
+    })
+}
+
 /// The order that words give. A word that begins with `-` is never part of one.
 pub fn read_words<'a>(alloc: Global, words: &'a [&'a str]) -> Result<Order<'a>, Misuse>
     ensures dashed { Any (λ word. IsDashed word.now) words.entry.now → IsErrOf result Misuse.Usage }
@@ -134,6 +185,9 @@ pub fn read_words<'a>(alloc: Global, words: &'a [&'a str]) -> Result<Order<'a>, 
     let matches = command(alloc)?.try_get_matches_from(words)?;
     if let Some(check) = matches.subcommand_matches("check") {
         return check_order(check);
+    }
+    if let Some(export) = matches.subcommand_matches("export") {
+        return export_order(export);
     }
     verdict_order(matches.subcommand_matches("verdict").ok_or(Misuse::Usage)?)
 }
