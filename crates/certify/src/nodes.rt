@@ -26,7 +26,7 @@ pub(crate) struct Place {
     pub(crate) fact: Option<Lit>,
 }
 
-/// Nodes, numbered from 0 in the order in which they were made. A node follows from later ones alone.
+/// Nodes, numbered from 0 in the order in which they were made. A node leads to nodes that were made before it.
 #[derive(Drop)]
 pub(crate) struct Nodes {
     alloc: Global,
@@ -48,11 +48,6 @@ impl Nodes {
             latest,
             chains: Chains::new(alloc),
         })
-    }
-
-    /// How many there are.
-    pub(crate) fn len(&self) -> usize {
-        self.nodes.len()
     }
 
     /// Adds a node that states this, and answers its number.
