@@ -64,6 +64,20 @@ pub(crate) fn only_number(lits: &[Lit], word: u8) -> Option<Lit> {
     }
 }
 
+/// The numbers within the range of a word that are excluded one by one.
+pub(crate) fn excluded(alloc: Global, lits: &[Lit], word: u8) -> Result<Vec<u32>, AllocError> {
+    let mut numbers = Vec::new(alloc);
+    let (least, greatest) = range(&knowing(lits), word).unwrap_or((0, u32::MAX));
+    for literal in lits {
+        if let Lit::NotBits(of, u32::MAX, number) = *literal {
+            if of == word && least < number && number < greatest {
+                numbers.push(number)?;
+            }
+        }
+    }
+    Ok(numbers)
+}
+
 /// The literals of one word.
 pub(crate) fn of_word(alloc: Global, lits: &[Lit], word: u8) -> Result<Vec<Lit>, AllocError> {
     let mut own = Vec::new(alloc);

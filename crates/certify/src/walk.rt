@@ -4,7 +4,7 @@
 //! after it need, and a later path ends at the first node of which it knows all that is stated.
 ghost use Rattle.bpf_insn.specs.Causes.{IsPlain};
 
-use crate::essence::{contradiction, essence, of_word, only_number};
+use crate::essence::{contradiction, essence, excluded, of_word, only_number};
 use crate::fault::CertifyError;
 use crate::nodes::{MAX_NODES, Nodes, Place, one_way};
 use crate::position::insn_at;
@@ -22,6 +22,9 @@ use std::alloc::Global;
 
 // Each node is come back to at most three times: at first, and after each of its ways.
 const MAX_TURNS: usize = 4 * MAX_NODES;
+
+// A word of which so many numbers are excluded one by one is cut in two, since a node has few literals.
+const CROWD: usize = 320;
 
 // How it goes on from a node.
 #[derive(Clone, Copy)]
@@ -255,6 +258,9 @@ impl<'a> Walk<'a> {
         let Some(insn) = insn_at(&self.program, place.pc) else {
             return Err(undecided(place.pc));
         };
+        if let Some(split) = self.crowded(place.fact)? {
+            return self.wait(place, known, Way::Cut(split));
+        }
         match (insn.operation(), place.regs.a) {
             (Some(Operation::ReturnK), _) => self.end(place, known, Word(insn.k), Uses::NONE),
             (Some(Operation::ReturnA), AVal::Const(word)) => {
@@ -280,6 +286,23 @@ impl<'a> Walk<'a> {
             own.push(literal)?;
         }
         Ok(contradiction(self.alloc, own)?)
+    }
+
+    // Where a word is cut of which too many numbers are excluded one by one, the last of them by this fact.
+    fn crowded(&self, fact: Option<Lit>) -> Result<Option<Split>, CertifyError> {
+        let Some(Lit::NotBits(word, u32::MAX, _)) = fact else {
+            return Ok(None);
+        };
+        let mut numbers = excluded(self.alloc, &self.trail, word)?;
+        if numbers.len() < CROWD {
+            return Ok(None);
+        }
+        numbers.sort_unstable();
+        Ok(
+            numbers
+                .get(CROWD / 2)
+                .and_then(|middle| Split::at(word, *middle)),
+        )
     }
 
     // Puts a node off until those that follow it are made.
