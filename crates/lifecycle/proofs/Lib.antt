@@ -4,3 +4,4 @@ pub mod Entries
 pub mod StartLemmas
 pub mod CommandLaws
 pub mod Runs
+pub mod FilterLaws

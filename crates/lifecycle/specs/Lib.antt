@@ -4,5 +4,6 @@ pub mod Worlds
 pub mod Steps
 pub mod Own
 pub mod Runs
+pub mod Promises
 pub mod Views
 pub mod inner

@@ -1,6 +1,6 @@
 //! What is kept of a container beside the kernel.
-ghost use Rattle.std.specs.Prelude.{◌≡◌, ℕ, List, Some};
-ghost use Rattle.std.specs.Map.{lookup, set_value};
+ghost use Rattle.std.specs.Prelude.{◌≡◌, None, Some};
+ghost use Rattle.std.specs.Map.{lookup, remove_entry, set_value};
 ghost use Rattle.processes.specs.Views.{same_text};
 ghost use Rattle.indexmap.specs.IndexMap.{Updates};
 
@@ -35,4 +35,12 @@ pub(crate) fn come_to(entries: &mut IndexMap<Id, Entry<'_>>, id: &Id, phase: Pha
     if let Some(entry) = entries.get_mut(id) {
         entry.phase = phase;
     }
+}
+
+// The container with this id is there no more; the others stay in their order.
+pub(crate) fn forget(entries: &mut IndexMap<Id, Entry<'_>>, id: &Id)
+    ensures entries { entries.new.entries ≡ remove_entry (same_text id.now) entries.old.entries }
+    ensures updates { Updates same_text entries.old entries.new id.now None }
+{
+    entries.shift_remove(id);
 }

@@ -15,5 +15,5 @@ mod start;
 
 pub use command::{Command, Reply, Status};
 pub use fault::Refusal;
-pub use law::containers_are_isolated;
+pub use law::{containers_are_isolated, first_filter_is_oldest, refused_is_not_carried_out};
 pub use runtime::Runtime;

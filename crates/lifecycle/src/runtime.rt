@@ -7,7 +7,7 @@ ghost use Rattle.processes.specs.Views.{lives_in, same_text};
 ghost use Rattle.lifecycle.specs.inner.Entries.{started_at};
 
 use crate::command::{Reply, Status};
-use crate::entry::{Entry, Phase, come_to};
+use crate::entry::{Entry, Phase, come_to, forget};
 use crate::fault::Refusal;
 use crate::start::begin;
 use call_record::Record;
@@ -133,7 +133,7 @@ impl<'a, K: Kernel> Runtime<'a, K> {
             Status::Running => Reply::Refused(Refusal::NotStopped),
             Status::Stopped => {
                 self.kernel.expel(&name);
-                self.entries.shift_remove(&name);
+                forget(&mut self.entries, &name);
                 Reply::Accepted
             }
         }

@@ -27,10 +27,10 @@ invariant_of-self g c =
     let old = c.args.self.now.entries.entries in
     let found = c.in-Some.ensures.some in
     let named = c.in-Some.field-0.name in
-    let finds : FindsAt old c.shift_remove.new.self.entries named None = c.shift_remove.ensures.updates.0 in
+    let finds : FindsAt old c.forget.new.entries.entries named None = c.forget.ensures.updates.0 in
     let known = is_known old id c.in-Some.field-0.entry c.args.self.now.ids found.kept in record {
-      ids = ids_kept old c.shift_remove.new.self.entries named None finds (rw found.name known) c.args.self.now.ids;
-      in_step = step_kept (k c.args.self.now.kernel) (k c.expel.new.self) old c.shift_remove.new.self.entries named None None c.expel.ensures finds refl c.args.self.now.in_step;
+      ids = ids_kept old c.forget.new.entries.entries named None finds (rw found.name known) c.args.self.now.ids;
+      in_step = step_kept (k c.args.self.now.kernel) (k c.expel.new.self) old c.forget.new.entries.entries named None None c.expel.ensures finds refl c.args.self.now.in_step;
     }
 
 pub returns-in-Created : goal.returns-in-Created
@@ -64,8 +64,8 @@ returns-in-Stopped g c =
     let found = c.in-Some.ensures.some in
     let container = container_of c.in-Some.field-0.entry (k c.args.self.now.kernel id) in
     let gone : SetAt (k c.args.self.now.kernel) (k c.expel.new.self) id None = rw (sym found.name) c.expel.ensures in
-    let entries : c.shift_remove.new.self.entries ≡ remove_entry (same_text id) old = c.shift_remove.ensures.entries ∙ ap (λ q. remove_entry (same_text q) old) found.name in
-    changed by_program (Delete id) (world_from (k c.args.self.now.kernel) old) (world_from (k c.expel.new.self) c.shift_remove.new.self.entries) (Some container) None Accepted
+    let entries : c.forget.new.entries.entries ≡ remove_entry (same_text id) old = c.forget.ensures.entries ∙ ap (λ q. remove_entry (same_text q) old) found.name in
+    changed by_program (Delete id) (world_from (k c.args.self.now.kernel) old) (world_from (k c.expel.new.self) c.forget.new.entries.entries) (Some container) None Accepted
     (there (k c.args.self.now.kernel) id old c.in-Some.field-0.entry found.kept)
     (ap (λ s. delete s container) (sym found.status ∙ c.in-Stopped.is))
     (ap (world_from (k c.expel.new.self)) entries ∙ removed (k c.args.self.now.kernel) (k c.expel.new.self) id old gone found.distinct)

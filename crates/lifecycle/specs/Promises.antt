@@ -1,0 +1,57 @@
+-- What holds of every container, whatever was ordered before.
+use Rattle.std.specs.Prelude.{◌≡◌, ◌⊎◌, ℕ, List, [], ◌∷◌, ◌++◌, Option, Some}
+use Rattle.std.specs.List.{All}
+use Rattle.call_record.specs.declared.layout.Record.{Record}
+use Rattle.call_record.specs.Record.{words}
+use Rattle.call_record.specs.Verdict.{IsRefusal}
+use Rattle.profile.specs.Said.{said}
+use Rattle.cert_check.specs.declared.checked.Checked.{Checked}
+use Rattle.cert_check.specs.Checked.{profile_of}
+use Rattle.processes.specs.Attached.{Attached}
+use Rattle.processes.specs.Begin.{execve_of}
+use Rattle.processes.specs.First.{by_profile}
+use Rattle.processes.specs.Tasks.{Filter, Judge, Process}
+use Rattle.processes.specs.declared.outcome.Outcome.TheVariants.{Denied, NoTask}
+use Rattle.lifecycle.specs.declared.command.Reply.{Reply}
+use Rattle.lifecycle.specs.declared.command.Reply.TheVariants.{Presented, Refused}
+use Rattle.lifecycle.specs.declared.command.Status.TheVariants.{Created}
+use Rattle.lifecycle.specs.declared.fault.Refusal.TheVariants.{StartDenied}
+use Rattle.lifecycle.specs.Orders.{Order}
+use Rattle.lifecycle.specs.Orders.Order.{Call, Start}
+use Rattle.lifecycle.specs.Steps.{run, step}
+use Rattle.lifecycle.specs.Worlds.{Container, First, World, container_at}
+
+-- the world after these orders, where there were no containers before
+abbrev pub world_after : First → List Order → World
+world_after F orders = (run F orders []).1
+
+-- ---- the oldest filter
+
+-- the judge is the oldest of a task's filters: there may be newer ones in front of it
+abbrev pub IsOldest : Judge → Process → Type 0
+IsOldest judge t = (newer : List Filter) × (t.filters ≡ newer ++ record { load = 0; judge = judge } ∷ [])
+
+-- The filter that a container was created with is the oldest of each of its tasks.
+abbrev pub FirstFilterIsOldest : Type 0
+FirstFilterIsOldest =
+    (F : First) (orders : List Order) (id : List ℕ) (c : Container) → container_at id (world_after F orders) ≡ Some c → All (IsOldest c.first) c.processes.tasks
+
+-- ---- what a profile refuses
+
+-- the call was not carried out: it was denied, or there is no such live task
+abbrev pub NotCarriedOut : Reply → Type 0
+NotCarriedOut reply = ((v : ℕ) × (reply ≡ Presented (Denied v))) ⊎ (reply ≡ Presented NoTask)
+
+-- the start was denied
+abbrev pub IsDeniedStart : Reply → Type 0
+IsDeniedStart reply = (v : ℕ) × (reply ≡ Refused (StartDenied v))
+
+-- A call that the container's profile refuses is not carried out, whoever of its tasks presents it, with whatever further
+-- filters; nor does a container start whose profile refuses the execve with which it begins.
+pub record RefusedIsNotCarriedOut : Type 0 where
+  pub call : (orders : List Order) (id : List ℕ) (c : Container) (given : Checked) → container_at id (world_after by_profile orders) ≡ Some c → c.first ≡ by_profile given
+      → (task : ℕ) (r : Record) (a : Attached) → IsRefusal (said (profile_of given) (words r))
+      → NotCarriedOut (step by_profile (Call id task r a) (world_after by_profile orders)).0
+  pub start : (orders : List Order) (id : List ℕ) (c : Container) (given : Checked) → container_at id (world_after by_profile orders) ≡ Some c → c.first ≡ by_profile given
+      → c.status ≡ Created → IsRefusal (said (profile_of given) (words (execve_of c.processes.native)))
+      → IsDeniedStart (step by_profile (Start id) (world_after by_profile orders)).0
