@@ -1,31 +1,27 @@
 -- The first filter stays the oldest of each task, so what it refuses is never carried out.
-use Rattle.std.proofs.Common.{◌≡◌, ◌<◌, ◌⊎◌, ◌&&◌, inl, inr, ℕ, Bool, true, false, List, [], ◌∷◌, ◌++◌, Option, Some, None, if◌then◌else◌, refl, map, sym, ap, subst, ◌∙◌, arith, nat_lt, All, Contains, length}
+use Rattle.std.proofs.Common.{◌≡◌, ◌⊎◌, ◌&&◌, inl, inr, ℕ, Bool, true, false, List, [], ◌∷◌, ◌++◌, Option, Some, None, if◌then◌else◌, refl, map, sym, ap, subst, ◌∙◌, arith, nat_lt, All, Contains}
 use Rattle.std.specs.Prelude.{find}
 use Rattle.std.proofs.lemmas.List.Elements.{All-cons, Contains-push}
 use Rattle.call_tables.specs.declared.arch.Arch.{Arch}
 use Rattle.call_record.specs.declared.layout.Record.{Record}
-use Rattle.call_record.specs.Record.{words}
-use Rattle.call_record.specs.Verdict.{IsRefusal, Through, is_through, strictest_of}
+use Rattle.call_record.specs.Verdict.{IsRefusal, is_through}
 use Rattle.call_record.proofs.StrictestLemmas.{refusal_stands}
-use Rattle.profile.specs.Said.{said}
 use Rattle.cert_check.specs.declared.checked.Checked.{Checked}
-use Rattle.cert_check.specs.Checked.{profile_of}
 use Rattle.processes.specs.Attached.{Attached}
 use Rattle.processes.specs.Attached.Attached.{NoBytes}
 use Rattle.processes.specs.Begin.{execve_of}
 use Rattle.processes.specs.First.{by_profile}
 use Rattle.processes.specs.Ids.{is_id}
-use Rattle.processes.specs.Kernel.{Answer, is_fatal, judged, presented, presented_by, signalled, verdict_on}
+use Rattle.processes.specs.Kernel.{is_fatal, judged, presented, presented_by, signalled, verdict_on}
 use Rattle.processes.specs.Tasks.{Filter, Judge, Process, Processes, admitted, first_task, is_live, is_task, live_task}
 use Rattle.processes.specs.Views.{same_text}
 use Rattle.processes.specs.declared.outcome.Outcome.{Outcome}
 use Rattle.processes.specs.declared.outcome.Outcome.TheVariants.{Done, Failed, Absent, Denied, NoTask}
 use Rattle.processes.proofs.Laws.{Each, KeepsBehind, either, first_is_behind, keeps_behind, signal_keeps_behind}
-use Rattle.lifecycle.specs.declared.command.Reply.{Reply}
 use Rattle.lifecycle.specs.declared.command.Reply.TheVariants.{Accepted, Refused, Presented}
 use Rattle.lifecycle.specs.declared.command.Status.{Status}
 use Rattle.lifecycle.specs.declared.command.Status.TheVariants.{Created, Running, Stopped}
-use Rattle.lifecycle.specs.declared.fault.Refusal.TheVariants.{BadId, BadSignal, IdTaken, StartDenied}
+use Rattle.lifecycle.specs.declared.fault.Refusal.TheVariants.{BadId, BadSignal}
 use Rattle.lifecycle.specs.Orders.{Order, id_of}
 use Rattle.lifecycle.specs.Orders.Order.{Create, Start, Kill, Delete, State, Call}
 use Rattle.lifecycle.specs.Promises.{FirstFilterIsOldest, IsDeniedStart, IsOldest, NotCarriedOut, RefusedIsNotCarriedOut, world_after}

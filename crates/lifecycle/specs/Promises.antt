@@ -1,5 +1,5 @@
 -- What holds of every container, whatever was ordered before.
-use Rattle.std.specs.Prelude.{◌≡◌, ◌⊎◌, ℕ, List, [], ◌∷◌, ◌++◌, Option, Some}
+use Rattle.std.specs.Prelude.{◌≡◌, ◌⊎◌, ℕ, List, [], ◌∷◌, ◌++◌, Some}
 use Rattle.std.specs.List.{All}
 use Rattle.call_record.specs.declared.layout.Record.{Record}
 use Rattle.call_record.specs.Record.{words}
