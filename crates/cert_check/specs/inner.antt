@@ -2,3 +2,4 @@
 pub mod Judged
 pub mod Ways
 pub mod Broken
+pub mod Among

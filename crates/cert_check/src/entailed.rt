@@ -1,17 +1,18 @@
 //! Whether what is known on an edge gives what its node says.
-ghost use Rattle.std.specs.Prelude.{ℕ, ◌≡◌, ◌<◌, ◌↔◌, IsTrue, All, slice_get, Some, slice_index_or, length};
+ghost use Rattle.std.specs.Prelude.{ℕ, ◌≡◌, ◌<◌, ◌++◌, ◌↔◌, IsTrue, IfSome, MatchOption, All, Contains, slice_get, Some, slice_index_or, length, option_to_list};
 ghost use Rattle.cert_state.specs.declared.literal.AVal.{AVal as TheValue};
 ghost use Rattle.cert_state.specs.declared.literal.AVal.TheVariants.{Unknown};
 ghost use Rattle.cert_state.specs.Entailment.{Entails, IsDead};
 ghost use Rattle.cert_form.specs.declared.node.Kind.TheVariants as kind;
 ghost use Rattle.cert_form.specs.Views.{nodes_of, says};
 ghost use Rattle.cert_check.specs.Rules.{Allows, Carries};
+ghost use Rattle.cert_check.specs.inner.Among.{AreAmong};
 ghost use Rattle.cert_check.specs.inner.Broken.{CarriesTo};
 ghost use Rattle.cert_check.specs.inner.Ways.{edge_list, edge_of};
 
 use crate::edges::{Way, Ways};
 use cert_form::{CertView, Kind, NodeView};
-use cert_state::{AVal, State, With, dead, entails};
+use cert_state::{AVal, Lit, State, With, dead, entails};
 
 // Whether a node may say this of a register of which that is known.
 fn allows(there: AVal, here: AVal) -> bool
@@ -33,15 +34,50 @@ fn allows_scratch(there: &[AVal; 16], here: &[AVal; 16]) -> bool
     true
 }
 
-// Whether a state gives each literal that a node says.
-fn entails_all<S: State, T: State>(state: &S, node: &T) -> bool
-    ensures { IsTrue result ↔ All (Entails (S.known state.now)) (T.known node.now) }
+// The place after a literal among those of a state from a place on, if it stands there.
+fn after<S: State>(state: &S, from: usize, wanted: &Lit) -> Option<usize>
+    requires { AreAmong (S.rest state.now from) (S.known state.now) }
+    ensures { IfSome result (λ next. Contains (S.known state.now) wanted.now
+        × AreAmong (S.rest state.now next) (S.known state.now)) }
 {
-    let mut at = node.start();
-    while let Some((literal, next)) = node.next(at) {
-        if !entails(state, &literal) {
-            return false;
+    let mut at = from;
+    while let Some((literal, next)) = state.next(at) {
+        if literal == *wanted {
+            return Some(next);
         }
+        at = next;
+    }
+    None
+}
+
+// Whether a literal follows. If so, the place from which on the next one is looked for first: nodes in a row know the
+// same literals in the same order, and so each is found in one step.
+fn look<S: State>(known: &With<'_, S>, from: usize, literal: &Lit) -> Option<usize>
+    requires { AreAmong (S.rest known.now.state.now from) (S.known known.now.state.now) }
+    ensures { let all = S.known known.now.state.now ++ option_to_list known.now.more in
+        MatchOption result (Entails all literal.now → ⊥)
+        (λ next. Entails all literal.now × AreAmong (S.rest known.now.state.now next) (S.known known.now.state.now)) }
+{
+    if let Some(next) = after(known.state, from, literal) {
+        return Some(next);
+    }
+    if entails(known, literal) {
+        return Some(from);
+    }
+    None
+}
+
+// Whether each literal that a node says follows.
+fn entails_all<S: State, T: State>(known: &With<'_, S>, there: &T) -> bool
+    ensures { IsTrue result ↔ All (Entails (S.known known.now.state.now ++ option_to_list known.now.more)) (T.known there.now) }
+{
+    let mut at = there.start();
+    let mut from = known.state.start();
+    while let Some((literal, next)) = there.next(at) {
+        let Some(later) = look(known, from, &literal) else {
+            return false;
+        };
+        from = later;
         at = next;
     }
     true
