@@ -10,7 +10,7 @@ use Rattle.processes.specs.declared.task.Task.{Task}
 use Rattle.processes.specs.Kernel.{executed, is_sibling, renewed, take_over}
 use Rattle.processes.specs.Tasks.{Process, ascends, end_where, is_task}
 use Rattle.processes.specs.inner.Table.{all_of, process_of}
-use Rattle.processes.proofs.Laws.{Each}
+use Rattle.processes.specs.Laws.{Each}
 use Rattle.processes.proofs.Numbers.{Ascends, above, fewer, from_order, image_ordered, to_order}
 
 not_task : (n : ℕ) (u : Process) → (u.number ≡ n → ⊥) → is_task n u ≡ false

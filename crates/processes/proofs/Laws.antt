@@ -11,6 +11,7 @@ use Rattle.call_tables.specs.declared.arch.Arch.{Arch}
 use Rattle.processes.specs.declared.outcome.End.{End}
 use Rattle.processes.specs.declared.outcome.End.TheVariants as end
 use Rattle.processes.specs.declared.outcome.Outcome.TheVariants.{Done, Failed, Denied}
+use Rattle.processes.specs.Laws.{Each, FirstFilterStays, HasEnded, KeepsBehind, StandsBehind}
 use Rattle.processes.specs.Tasks.{Judge, Filter, admitted, Process, Processes, is_live, is_task, is_in_group, live_task, group_lives, lives, end_by, end_where, with_tasks, ended}
 use Rattle.processes.specs.Calls.{row_of, arg}
 use Rattle.processes.specs.declared.row.Row.{Row}
@@ -18,11 +19,6 @@ use Rattle.processes.specs.declared.row.Row.TheVariants.{NewTask, NewThread, Exe
 use Rattle.processes.specs.Kernel.{Answer, forked, cloned, with_new, is_sibling, renewed, executed, killed, signalled, is_fatal, load_size, loaded, takes, first_conflict, unless_conflict, load, carried_out, ended_by_verdict, judged, presented_by, presented, verdict_on}
 use Rattle.processes.specs.Attached.{Attached}
 use Rattle.processes.specs.Attached.Attached.{NoBytes, Refused, Taken}
-
--- each task of a list has a property
-abbrev pub Each : (Process → Type 0) → List Process → Type 0
-Each P [] = Unit {0}
-Each P (t ∷ ts) = P t × Each P ts
 
 pub either : {A : Type 0} (P : A → Type 0) (b : Bool) (x y : A) → P x → P y → P (if b then x else y)
 either P true x y p q = p
@@ -46,9 +42,6 @@ each_push P (t ∷ ts) u p q = (p.0, each_push P ts u p.1 q)
 
 -- Ends.
 
-abbrev pub HasEnded : Process → Type 0
-HasEnded t = is_live t ≡ false
-
 over : (e : End) (t : Process) (b : Bool) → is_live t ≡ b → is_live (if b then record t { end = Some e } else t) ≡ false
 over e t true h = refl
 over e t false h = h
@@ -71,13 +64,6 @@ pub stops_all : (test : Process → Bool) (e : End) (ps : Processes) → lives (
 stops_all test e ps = settled_by (with_tasks ps (end_where test e ps.tasks)) (lives (with_tasks ps (end_where test e ps.tasks))) refl
 
 -- Filters.
-
--- a list of filters with newer ones in front, or none
-abbrev pub StandsBehind : List Filter → List Filter → Type 0
-StandsBehind old fs = (newer : List Filter) × (fs ≡ newer ++ old)
-
-abbrev pub KeepsBehind : List Filter → Process → Type 0
-KeepsBehind old t = StandsBehind old t.filters
 
 behind_one : (old fs : List Filter) (f : Filter) → StandsBehind old fs → StandsBehind old (f ∷ fs)
 behind_one old fs f s = (f ∷ s.0, ap (λ (xs : List Filter). f ∷ xs) s.1)
@@ -192,3 +178,6 @@ signal_keeps_behind old sig ps s =
 -- and a container begins with its first filter there
 pub first_is_behind : (native : Arch) (judge : Judge) → Each (KeepsBehind (record { load = 0; judge = judge } ∷ [])) (admitted native judge).tasks
 first_is_behind native judge = (([], refl), tt)
+
+pub first_filter_stays : FirstFilterStays
+first_filter_stays = record { begin = first_is_behind; event = keeps_behind; signal = signal_keeps_behind }

@@ -5,3 +5,5 @@ pub mod Laws
 pub mod Numbers
 pub mod ImageLemmas
 pub mod LoadLemmas
+pub mod Rows
+pub mod Limits

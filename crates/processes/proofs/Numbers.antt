@@ -17,10 +17,11 @@ use Rattle.processes.specs.Tasks.{ascends, Process, Processes, is_live, is_task,
 use Rattle.processes.specs.Calls.{row_of, arg}
 use Rattle.processes.specs.declared.row.Row.{Row}
 use Rattle.processes.specs.declared.row.Row.TheVariants.{NewTask, NewThread, Execve, Exit, ExitGroup, Kill, Load}
-use Rattle.processes.specs.Kernel.{Answer, forked, cloned, with_new, is_sibling, renewed, executed, killed, is_fatal, load_size, loaded, takes, first_conflict, unless_conflict, load, carried_out, ended_by_verdict, presented_by, presented, verdict_on}
+use Rattle.processes.specs.Kernel.{Answer, forked, cloned, with_new, is_sibling, renewed, executed, killed, is_fatal, load_size, loaded, takes, first_conflict, unless_conflict, load, carried_out, ended_by_verdict, signalled, presented_by, presented, verdict_on}
 use Rattle.processes.specs.Attached.{Attached}
 use Rattle.processes.specs.Attached.Attached.{NoBytes, Refused, Taken}
-use Rattle.processes.proofs.Laws.{either, Each}
+use Rattle.processes.specs.Laws.{Each, NumbersAscend}
+use Rattle.processes.proofs.Laws.{either}
 
 -- the numbers ascend, above one number and up to another
 abbrev pub Ascends : ℕ → List Process → ℕ → Type 0
@@ -186,3 +187,13 @@ least_by test t u ts false h p rest e =
 pub first_is_least : (test : Process → Bool) (low top : ℕ) (ts : List Process) (u : Process) → Ascends low ts top → find test ts ≡ Some u → IsLeast test u ts
 first_is_least test low top [] u p e = tt
 first_is_least test low top (t ∷ ts) u p e = least_by test t u ts (test t) refl (above t.number top ts p.1) (first_is_least test t.number top ts u p.1) e
+
+signal_ordered : (sig : ℕ) (ps : Processes) → InOrder ps → InOrder (signalled sig ps)
+signal_ordered sig ps p = either InOrder (is_fatal sig) (ended (is_in_group 1) (end.Signal sig) ps) ps (end_ordered (is_in_group 1) (end.Signal sig) ps p) p
+
+pub numbers_ascend : NumbersAscend
+numbers_ascend = record {
+  begin = λ native judge. refl;
+  event = λ n r a ps h. let q = presented n r a ps in from_order 0 q.1.tasks q.1.made (stays_in_order n r a ps (to_order 0 ps.tasks ps.made h));
+  signal = λ sig ps h. from_order 0 (signalled sig ps).tasks (signalled sig ps).made (signal_ordered sig ps (to_order 0 ps.tasks ps.made h));
+}

@@ -8,3 +8,4 @@ pub mod Views
 pub mod First
 pub mod inner
 pub mod Table
+pub mod Laws

@@ -18,6 +18,8 @@ mod tasks;
 
 pub use id::Id;
 pub use kernel::Kernel;
-pub use law::attached_programs_are_checked;
+pub use law::{
+    attached_programs_are_checked, first_filter_stays, none_outlives_group_1, numbers_ascend,
+};
 pub use outcome::{End, Outcome, TaskView};
 pub use table::TaskTable;
