@@ -17,7 +17,8 @@ use Rattle.processes.specs.Tasks.{Filter, Judge, Process, Processes, admitted, f
 use Rattle.processes.specs.Views.{same_text}
 use Rattle.processes.specs.declared.outcome.Outcome.{Outcome}
 use Rattle.processes.specs.declared.outcome.Outcome.TheVariants.{Done, Failed, Absent, Denied, NoTask}
-use Rattle.processes.proofs.Laws.{Each, KeepsBehind, either, first_is_behind, keeps_behind, signal_keeps_behind}
+use Rattle.processes.specs.Laws.{Each, KeepsBehind}
+use Rattle.processes.proofs.Laws.{either, first_is_behind, keeps_behind, signal_keeps_behind}
 use Rattle.lifecycle.specs.declared.command.Reply.TheVariants.{Accepted, Refused, Presented}
 use Rattle.lifecycle.specs.declared.command.Status.{Status}
 use Rattle.lifecycle.specs.declared.command.Status.TheVariants.{Created, Running, Stopped}
