@@ -1,6 +1,6 @@
 //! The rows of the table of calls: what the kernel knows of a record before any task is looked at.
 ghost use Rattle.std.specs.Prelude.{◌≡◌, option_copied};
-ghost use Rattle.processes.specs.Calls.{call_beside, entries, prctl_row, row_by, row_of, seccomp_row};
+ghost use Rattle.processes.specs.Calls.{call_beside, entries, named_calls, prctl_row, row_by, row_of, seccomp_row};
 
 use call_record::Record;
 use call_tables::Arch;
@@ -80,6 +80,13 @@ fn find_call(mut table: &[(&str, Call)], name: &str) -> Call
     Call::Plain
 }
 
+// The call of this name.
+fn call_named(name: &str) -> Call
+    ensures { result ≡ call_beside named_calls name.now }
+{
+    find_call(NAMED, name)
+}
+
 // The row of a seccomp call.
 fn seccomp_row(rec: &Record) -> Row
     ensures { result ≡ seccomp_row rec.now }
@@ -143,6 +150,6 @@ pub(crate) fn row_of(native: Arch, rec: &Record) -> Row
     }
     match native.name(rec.nr) {
         None => Row::Missing,
-        Some(name) => row_by(find_call(NAMED, name), rec),
+        Some(name) => row_by(call_named(name), rec),
     }
 }
