@@ -1,0 +1,5 @@
+pub mod Fault
+pub mod Replies
+pub mod Commands
+pub mod Answer
+pub mod Scripts

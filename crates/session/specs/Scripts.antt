@@ -1,0 +1,61 @@
+-- What a run of a script has read and written.
+use Rattle.std.specs.Prelude.{ℕ, ◌≡◌, ◌+◌, ◌<◌, ◌⊎◌, List, [], ◌∷◌, length, take, Option}
+use Rattle.std.specs.Io.KnownBytes.{Appends, Consumes, IsAtEnd}
+use Rattle.processes.specs.First.{by_profile}
+use Rattle.lifecycle.specs.Orders.{Order}
+use Rattle.script.specs.Lines.{Parts, lines_of}
+use Rattle.session.specs.declared.bundles.Bundles.{Bundles}
+use Rattle.session.specs.Answer.{answer_of, counted}
+use Rattle.session.specs.Commands.{CommandsAre}
+
+-- which lines of a text are meant, by its parts between line feeds
+abbrev pub Choice : Type 0
+Choice = List ℕ → List (List ℕ) → List (List ℕ)
+
+-- those that a line feed ends
+abbrev pub ended_lines : Choice
+ended_lines part [] = []
+ended_lines part (next ∷ more) = part ∷ ended_lines next more
+
+-- the source lost a text, and these lines of it are these commands
+pub record HasRead (bundles : Bundles) (lines : Choice) (old new : Option (List ℕ)) (commands : List (Option Order)) : Type 0 where
+  pub text : List ℕ
+  pub taken : Consumes old new text
+  pub first : List ℕ
+  pub more : List (List ℕ)
+  pub parts : Parts text first more
+  pub each : CommandsAre bundles (lines first more) commands
+
+-- all lines of the source
+pub record HasReadAll (bundles : Bundles) (old new : Option (List ℕ)) (commands : List (Option Order)) : Type 0 where
+  pub lines : HasRead bundles lines_of old new commands
+  pub end : IsAtEnd new
+
+-- lines that a line feed ends, or all lines of the source
+abbrev pub HasReadWhole : Bundles → Option (List ℕ) → Option (List ℕ) → List (Option Order) → Type 0
+HasReadWhole bundles old new commands = HasRead bundles ended_lines old new commands ⊎ HasReadAll bundles old new commands
+
+-- The whole source was read, and its answer was written. Here and below: the bytes that are left in the source, before
+-- and after, and those that the sink holds, before and after, where they are known.
+abbrev pub IsAnswered : Bundles → Option (List ℕ) → Option (List ℕ) → Option (List ℕ) → Option (List ℕ) → Type 0
+IsAnswered bundles left left' held held' =
+    (commands : List (Option Order)) × HasReadAll bundles left left' commands × Appends held held' (answer_of by_profile commands)
+
+-- The answer of the lines that were ended was written; what stands behind the last line feed counts for nothing. It was
+-- a part of this line, counted from 1.
+abbrev pub StopsReading : Bundles → Option (List ℕ) → Option (List ℕ) → Option (List ℕ) → Option (List ℕ) → ℕ → Type 0
+StopsReading bundles left left' held held' line =
+    (commands : List (Option Order)) × HasRead bundles ended_lines left left' commands
+    × Appends held held' (answer_of by_profile commands) × (line ≡ counted (length commands + 1))
+
+-- Of the answer of the lines that were read, so many bytes were written, and more of them are left.
+abbrev pub StopsWriting : Bundles → Option (List ℕ) → Option (List ℕ) → Option (List ℕ) → Option (List ℕ) → ℕ → Type 0
+StopsWriting bundles left left' held held' out =
+    (commands : List (Option Order)) × (n : ℕ) × HasReadWhole bundles left left' commands
+    × Appends held held' (take n (answer_of by_profile commands)) × (n < length (answer_of by_profile commands)) × (out ≡ counted n)
+
+-- The answer of the lines before this one was written.
+abbrev pub StopsForMemory : Bundles → Option (List ℕ) → Option (List ℕ) → Option (List ℕ) → Option (List ℕ) → ℕ → Type 0
+StopsForMemory bundles left left' held held' line =
+    (commands : List (Option Order)) × (k : ℕ) × HasReadWhole bundles left left' commands × (k < length commands)
+    × Appends held held' (answer_of by_profile (take k commands)) × (line ≡ counted (k + 1))

@@ -1,0 +1,14 @@
+//! Sessions: the lines of a script, carried out in order and each answered by a line.
+//!
+//! [`run_script`] reads a script from a source, hands each line that is a command to a [`Runtime`](lifecycle::Runtime), and
+//! writes the reply before it reads on.
+#![tactic(auto)]
+
+mod bundles;
+mod fault;
+mod reply;
+mod run;
+
+pub use bundles::Bundles;
+pub use fault::ScriptFault;
+pub use run::run_script;
