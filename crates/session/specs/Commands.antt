@@ -8,7 +8,7 @@ use Rattle.cert_check.specs.declared.checked.Checked.{Checked}
 use Rattle.processes.specs.Attached.{attached_of}
 use Rattle.processes.specs.Views.{same_text}
 use Rattle.lifecycle.specs.Orders.{Order}
-use Rattle.lifecycle.specs.Orders.Order as command
+use Rattle.lifecycle.specs.Orders as command
 use Rattle.script.specs.Orders as script
 use Rattle.script.specs.Grammar.{LineIs}
 use Rattle.session.specs.declared.bundles.Bundles.{Bundles}

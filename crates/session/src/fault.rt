@@ -6,17 +6,11 @@ use std::fmt;
 #[derive(Clone, Copy, Debug, PartialEq, Eq)]
 pub enum ScriptFault {
     /// The source failed while it gave this line, counted from 1.
-    Read {
-        line: u64,
-    },
+    Read { line: u64 },
     /// The sink failed once it had taken so many bytes.
-    Write {
-        out: u64,
-    },
+    Write { out: u64 },
     /// There was no memory for this line, counted from 1; 0 before the first read.
-    Memory {
-        line: u64,
-    },
+    Memory { line: u64 },
 }
 
 impl ScriptFault {
