@@ -4,4 +4,6 @@ pub mod Entries
 pub mod StartLemmas
 pub mod CommandLaws
 pub mod Runs
+pub mod Containers
+pub mod GivenLaws
 pub mod FilterLaws

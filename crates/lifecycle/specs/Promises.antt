@@ -1,5 +1,5 @@
 -- What holds of every container, whatever was ordered before.
-use Rattle.std.specs.Prelude.{◌≡◌, ◌⊎◌, ℕ, List, [], ◌∷◌, ◌++◌, Some}
+use Rattle.std.specs.Prelude.{◌≡◌, ◌⊎◌, ℕ, List, [], ◌∷◌, ◌++◌, None, Some, is_some, take, true}
 use Rattle.std.specs.List.{All}
 use Rattle.call_record.specs.declared.layout.Record.{Record}
 use Rattle.call_record.specs.Record.{words}
@@ -13,17 +13,38 @@ use Rattle.processes.specs.First.{by_profile}
 use Rattle.processes.specs.Tasks.{Filter, Judge, Process}
 use Rattle.processes.specs.declared.outcome.Outcome.TheVariants.{Denied, NoTask}
 use Rattle.lifecycle.specs.declared.command.Reply.{Reply}
-use Rattle.lifecycle.specs.declared.command.Reply.TheVariants.{Presented, Refused}
+use Rattle.lifecycle.specs.declared.command.Reply.TheVariants.{IsIn, Presented, Refused}
 use Rattle.lifecycle.specs.declared.command.Status.TheVariants.{Created}
 use Rattle.lifecycle.specs.declared.fault.Refusal.TheVariants.{StartDenied}
 use Rattle.lifecycle.specs.Orders.{Order}
-use Rattle.lifecycle.specs.Orders.Order.{Call, Start}
+use Rattle.lifecycle.specs.Orders.Order.{Call, Create, Start, State}
 use Rattle.lifecycle.specs.Steps.{run, step}
 use Rattle.lifecycle.specs.Worlds.{Container, First, World, container_at}
 
 -- the world after these orders, where there were no containers before
 abbrev pub world_after : First → List Order → World
 world_after F orders = (run F orders []).1
+
+-- ---- what a container was created with
+
+-- The order that made the container of an id, with its checked filter: before it there was none, and there has been one
+-- since, after it and after each later order.
+pub record MadeBy (F : First) (orders : List Order) (id : List ℕ) (given : Checked) : Type 0 where
+  pub before : List Order
+  pub since : List Order
+  pub in_all : orders ≡ before ++ Create id given ∷ since
+  pub none_before : container_at id (world_after F before) ≡ None
+  pub there_since : (n : ℕ) → is_some (container_at id (world_after F (before ++ Create id given ∷ take n since))) ≡ true
+
+-- Each container was made by such an order, and its first judge and its machine are those of the checked filter that the
+-- order gave.
+pub record FirstIsGiven : Type 0 where
+  pub made : (F : First) (orders : List Order) (id : List ℕ) (c : Container) → container_at id (world_after F orders) ≡ Some c
+      → (given : Checked) × MadeBy F orders id given
+  pub first : (F : First) (orders : List Order) (id : List ℕ) (c : Container) (given : Checked) → container_at id (world_after F orders) ≡ Some c
+      → MadeBy F orders id given → c.first ≡ F given
+  pub native : (F : First) (orders : List Order) (id : List ℕ) (c : Container) (given : Checked) → container_at id (world_after F orders) ≡ Some c
+      → MadeBy F orders id given → c.processes.native ≡ (profile_of given).native
 
 -- ---- the oldest filter
 
@@ -46,12 +67,13 @@ NotCarriedOut reply = ((v : ℕ) × (reply ≡ Presented (Denied v))) ⊎ (reply
 abbrev pub IsDeniedStart : Reply → Type 0
 IsDeniedStart reply = (v : ℕ) × (reply ≡ Refused (StartDenied v))
 
--- A call that the container's profile refuses is not carried out, whoever of its tasks presents it, with whatever further
--- filters; nor does a container start whose profile refuses the execve with which it begins.
+-- A call that the profile refuses with which the container was made is not carried out, whoever of its tasks presents it,
+-- with whatever further filters; nor does a container start whose profile refuses the execve with which it begins.
 pub record RefusedIsNotCarriedOut : Type 0 where
-  pub call : (orders : List Order) (id : List ℕ) (c : Container) (given : Checked) → container_at id (world_after by_profile orders) ≡ Some c → c.first ≡ by_profile given
+  pub call : (orders : List Order) (id : List ℕ) (given : Checked) → MadeBy by_profile orders id given
       → (task : ℕ) (r : Record) (a : Attached) → IsRefusal (said (profile_of given) (words r))
       → NotCarriedOut (step by_profile (Call id task r a) (world_after by_profile orders)).0
-  pub start : (orders : List Order) (id : List ℕ) (c : Container) (given : Checked) → container_at id (world_after by_profile orders) ≡ Some c → c.first ≡ by_profile given
-      → c.status ≡ Created → IsRefusal (said (profile_of given) (words (execve_of c.processes.native)))
+  pub start : (orders : List Order) (id : List ℕ) (given : Checked) → MadeBy by_profile orders id given
+      → (step by_profile (State id) (world_after by_profile orders)).0 ≡ IsIn Created
+      → IsRefusal (said (profile_of given) (words (execve_of (profile_of given).native)))
       → IsDeniedStart (step by_profile (Start id) (world_after by_profile orders)).0

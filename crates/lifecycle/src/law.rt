@@ -1,10 +1,15 @@
 //! Laws of runs.
 ghost use Rattle.lifecycle.specs.Own.{IsIsolated};
-ghost use Rattle.lifecycle.specs.Promises.{FirstFilterIsOldest, RefusedIsNotCarriedOut};
+ghost use Rattle.lifecycle.specs.Promises.{FirstFilterIsOldest, FirstIsGiven, RefusedIsNotCarriedOut};
 
 /// An order sees the container that it names and no other, and changes no other.
 pub fn containers_are_isolated()
     ensures { IsIsolated }
+{}
+
+/// Each container was made by an order, whose checked filter gives its first judge and its machine.
+pub fn first_is_given()
+    ensures { FirstIsGiven }
 {}
 
 /// The filter that a container was created with is the oldest of each of its tasks, whatever they do.
@@ -12,8 +17,8 @@ pub fn first_filter_is_oldest()
     ensures { FirstFilterIsOldest }
 {}
 
-/// A call that a container's profile refuses is not carried out, and a container whose profile refuses its first call does
-/// not start.
+/// A call that the profile refuses with which its container was made is not carried out, and a container whose profile
+/// refuses its first call does not start.
 pub fn refused_is_not_carried_out()
     ensures { RefusedIsNotCarriedOut }
 {}

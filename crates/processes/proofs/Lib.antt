@@ -1,6 +1,7 @@
 pub mod AttachedLaws
 pub mod FilterLemmas
 pub mod Lists
+pub mod Changes
 pub mod Laws
 pub mod Numbers
 pub mod ImageLemmas

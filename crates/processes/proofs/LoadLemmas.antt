@@ -10,7 +10,7 @@ use Rattle.std.proofs.lemmas.List.Sums.{sum_by-cons}
 use Rattle.std.proofs.lemmas.List.Elements.{All-cons, All-contains, All-nil, All-tail, Contains-push}
 use Rattle.bpf_insn.specs.declared.instruction.Insn.{Insn}
 use Rattle.processes.specs.Tasks.{Filter, Process, Processes, ascends, program_judge}
-use Rattle.processes.proofs.Laws.{either}
+use Rattle.processes.proofs.Changes.{either}
 use Rattle.processes.proofs.Numbers.{Ascends, from_order, same_map, to_order}
 use Rattle.processes.specs.declared.filters.Loaded.{Loaded}
 use Rattle.processes.specs.declared.task.Task.{Task}

@@ -21,7 +21,7 @@ use Rattle.processes.specs.Kernel.{Answer, forked, cloned, with_new, is_sibling,
 use Rattle.processes.specs.Attached.{Attached}
 use Rattle.processes.specs.Attached.Attached.{NoBytes, Refused, Taken}
 use Rattle.processes.specs.Laws.{Each, NumbersAscend}
-use Rattle.processes.proofs.Laws.{either}
+use Rattle.processes.proofs.Changes.{either}
 
 -- the numbers ascend, above one number and up to another
 abbrev pub Ascends : ℕ → List Process → ℕ → Type 0

@@ -1,11 +1,15 @@
 -- What is kept in a container, whatever its tasks do.
-use Rattle.std.specs.Prelude.{ℕ, ◌≡◌, Bool, false, IsTrue, List, [], ◌∷◌, ◌++◌}
+use Rattle.std.specs.Prelude.{ℕ, ◌≡◌, ◌==◌, ◌&&◌, Bool, true, false, IsTrue, List, [], ◌∷◌, ◌++◌, Option, None, Some, if◌then◌else◌}
 use Rattle.call_record.specs.declared.layout.Record.{Record}
+use Rattle.call_record.specs.Verdict.{is_through}
 use Rattle.call_tables.specs.declared.arch.Arch.{Arch}
 use Rattle.processes.specs.declared.outcome.End.{End}
 use Rattle.processes.specs.Attached.{Attached}
-use Rattle.processes.specs.Kernel.{presented, signalled}
-use Rattle.processes.specs.Tasks.{Filter, Judge, Process, Processes, admitted, ended, is_live, in_order, lives}
+use Rattle.processes.specs.Calls.{row_of}
+use Rattle.processes.specs.Kernel.{presented, signalled, verdict_on}
+use Rattle.processes.specs.Tasks.{Filter, Judge, Process, Processes, admitted, ended, is_live, in_order, live_task, lives}
+use Rattle.processes.specs.declared.row.Row.{Row}
+use Rattle.processes.specs.declared.row.Row.TheVariants.{Execve}
 
 -- each task of a list has a property
 abbrev pub Each : (Process → Type 0) → List Process → Type 0
@@ -38,3 +42,20 @@ pub record NumbersAscend : Type 0 where
   pub begin : (native : Arch) (judge : Judge) → IsTrue (in_order (admitted native judge))
   pub event : (n : ℕ) (r : Record) (a : Attached) (ps : Processes) → IsTrue (in_order ps) → IsTrue (in_order (presented n r a ps).1)
   pub signal : (sig : ℕ) (ps : Processes) → IsTrue (in_order ps) → IsTrue (in_order (signalled sig ps))
+
+abbrev pub is_execve : Row → Bool
+is_execve Execve = true
+is_execve row = false
+
+-- the task's filters let the call through, and it is an execve
+abbrev pub executes : Record → Processes → Process → Bool
+executes r ps t = is_through (verdict_on r t) && is_execve (row_of ps.native r)
+
+abbrev pub goes_on_by : Option Process → Record → ℕ → Processes → Option Process
+goes_on_by None r m ps = live_task m ps.tasks
+goes_on_by (Some t) r m ps = if executes r ps t && (t.group == m) then Some t else live_task m ps.tasks
+
+-- the live task that goes on under number m after task n presents a record: the caller of an execve under its group's
+-- number, and any other under its own
+abbrev pub goes_on : ℕ → Record → ℕ → Processes → Option Process
+goes_on n r m ps = goes_on_by (live_task n ps.tasks) r m ps

@@ -1,0 +1,124 @@
+-- An event is one of a few changes, and so is a signal: what survives each of these is kept, whatever tasks do.
+use Rattle.std.proofs.Common.{◌≡◌, ℕ, ◌^◌, ◌-◌, ◌==◌, ◌||◌, Bool, true, false, not, List, Option, Some, None, if◌then◌else◌, refl}
+use Rattle.std.specs.Prelude.{nat_lt, nat_le}
+use Rattle.call_record.specs.declared.effect.Ends.{Ends}
+use Rattle.call_record.specs.declared.effect.Ends.TheVariants.{Nothing, Task, Group}
+use Rattle.call_record.specs.Ends.{ends_of}
+use Rattle.call_record.specs.Verdict.{is_through}
+use Rattle.call_record.specs.declared.layout.Record.{Record}
+use Rattle.bpf_insn.specs.declared.instruction.Insn.{Insn}
+use Rattle.processes.specs.declared.outcome.End.{End}
+use Rattle.processes.specs.declared.outcome.End.TheVariants as end
+use Rattle.processes.specs.declared.outcome.Outcome.TheVariants.{Done, Failed, Denied}
+use Rattle.processes.specs.Tasks.{Process, Processes, is_in_group, live_task, group_lives, lives, end_where, with_tasks, ended}
+use Rattle.processes.specs.Calls.{row_of, arg}
+use Rattle.processes.specs.declared.row.Row.{Row}
+use Rattle.processes.specs.declared.row.Row.TheVariants.{NewTask, NewThread, Execve, Exit, ExitGroup, Kill, Load}
+use Rattle.processes.specs.Kernel.{Answer, forked, cloned, with_next, executed, killed, signalled, is_fatal, load_size, loaded, first_conflict, unless_conflict, load, carried_out, ended_by_verdict, judged, presented_by, presented, verdict_on}
+use Rattle.processes.specs.Attached.{Attached}
+use Rattle.processes.specs.Attached.Attached.{NoBytes, Refused, Taken}
+
+pub either : {A : Type 0} (P : A → Type 0) (b : Bool) (x y : A) → P x → P y → P (if b then x else y)
+either P true x y p q = p
+either P false x y p q = q
+
+-- ends of some tasks leave it
+abbrev pub SurvivesEnds : (Processes → Type 0) → Type 0
+SurvivesEnds K = (test : Process → Bool) (e : End) (ps : Processes) → K ps → K (with_tasks ps (end_where test e ps.tasks))
+
+-- it is there, and whatever task t can change by presenting r leaves it
+pub record Survives (K : Processes → Type 0) (t : Process) (r : Record) (ps : Processes) : Type 0 where
+  pub same : K ps
+  pub ends : SurvivesEnds K
+  pub fork : K (with_next (forked t) ps).1
+  pub thread : K (with_next (cloned t) ps).1
+  pub image : is_through (verdict_on r t) ≡ true → row_of ps.native r ≡ Execve → K (with_tasks ps (executed t ps.tasks))
+  pub load : (for_all : Bool) (program : List Insn) → first_conflict for_all t ps ≡ None → K (loaded for_all program t ps)
+
+module _ (K : Processes → Type 0) where
+  -- of an answer
+  abbrev pub KeptBy : Answer → Type 0
+  KeptBy p = K p.1
+
+  pub end_keeps : SurvivesEnds K → (test : Process → Bool) (e : End) (ps : Processes) → K ps → K (ended test e ps)
+  end_keeps ends test e ps s =
+      let after = with_tasks ps (end_where test e ps.tasks) in
+      let kept : K after = ends test e ps s in
+      either K (lives after) after (with_tasks after (end_where (λ t. true) (end.Signal 9) after.tasks)) kept (ends (λ t. true) (end.Signal 9) after kept)
+
+  kill_keeps : SurvivesEnds K → (target sig : ℕ) (ps : Processes) → K ps → KeptBy (killed target sig ps)
+  kill_keeps ends target sig ps s =
+      let last : Answer = (Done 0, ended (is_in_group target) (end.Signal sig) ps) in
+      let third : Answer = if (target == 1) || not (is_fatal sig) then (Done 0, ps) else last in
+      let second : Answer = if not (group_lives target ps.tasks) then (Failed 3, ps) else third in
+      either KeptBy (nat_lt 64 sig) (Failed 22, ps) second s
+      (either KeptBy (not (group_lives target ps.tasks)) (Failed 3, ps) third s
+      (either KeptBy ((target == 1) || not (is_fatal sig)) (Done 0, ps) last s (end_keeps ends (is_in_group target) (end.Signal sig) ps s)))
+
+  unless_keeps : (o : Option Process) (ps after : Processes) → K ps → (o ≡ None → K after) → KeptBy (unless_conflict o ps (Done 0, after))
+  unless_keeps (Some u) ps after s q = s
+  unless_keeps None ps after s q = q refl
+
+  module _ (t : Process) (r : Record) (ps : Processes) (s : Survives K t r ps) where
+    load_keeps : (for_all : Bool) (a : Attached) → KeptBy (load for_all t a ps)
+    load_keeps for_all NoBytes = s.same
+    load_keeps for_all Refused = s.same
+    load_keeps for_all (Taken p) =
+        let after = loaded for_all p t ps in
+        let last : Answer = unless_conflict (first_conflict for_all t ps) ps (Done 0, after) in
+        let second : Answer = if nat_le (2 ^ 32 - 1) ps.loads then (Failed 12, ps) else last in
+        either KeptBy (nat_lt 32768 (load_size p t)) (Failed 12, ps) second s.same
+        (either KeptBy (nat_le (2 ^ 32 - 1) ps.loads) (Failed 12, ps) last s.same
+        (unless_keeps (first_conflict for_all t ps) ps after s.same (s.load for_all p)))
+
+    row_keeps : is_through (verdict_on r t) ≡ true → (a : Attached) (row : Row) → row_of ps.native r ≡ row → KeptBy (carried_out row t r a ps)
+    row_keeps h a NewTask e = either KeptBy (nat_lt ps.made 1024) (with_next (forked t) ps) (Failed 11, ps) s.fork s.same
+    row_keeps h a NewThread e = either KeptBy (nat_lt ps.made 1024) (with_next (cloned t) ps) (Failed 11, ps) s.thread s.same
+    row_keeps h a Execve e = s.image h e
+    row_keeps h a Exit e = end_keeps s.ends _ _ ps s.same
+    row_keeps h a ExitGroup e = end_keeps s.ends _ _ ps s.same
+    row_keeps h a Kill e = kill_keeps s.ends (arg r 0) (arg r 1) ps s.same
+    row_keeps h a (Load for_all) e = load_keeps for_all a
+    row_keeps h a row e = s.same
+
+    verdict_keeps : (e : Ends) → K (ended_by_verdict e t ps)
+    verdict_keeps Nothing = s.same
+    verdict_keeps Task = end_keeps s.ends _ _ ps s.same
+    verdict_keeps Group = end_keeps s.ends _ _ ps s.same
+
+    judged_keeps : (a : Attached) (v : ℕ) → verdict_on r t ≡ v → (b : Bool) → is_through v ≡ b
+        → KeptBy (if b then carried_out (row_of ps.native r) t r a ps else (Denied v, ended_by_verdict (ends_of v) t ps))
+    judged_keeps a v is true h = row_keeps (rw is h) a (row_of ps.native r) refl
+    judged_keeps a v is false h = verdict_keeps (ends_of v)
+
+  -- What survives whatever a task can do is kept by what it does.
+  pub judged_stays : (t : Process) (r : Record) (ps : Processes) → Survives K t r ps → (a : Attached) → KeptBy (judged (verdict_on r t) t r a ps)
+  judged_stays t r ps s a = judged_keeps t r ps s a (verdict_on r t) refl (is_through (verdict_on r t)) refl
+
+  by_caller : (n : ℕ) (r : Record) (a : Attached) (ps : Processes) → K ps → ((t : Process) → live_task n ps.tasks ≡ Some t → Survives K t r ps)
+      → (o : Option Process) → live_task n ps.tasks ≡ o → KeptBy (presented_by o r a ps)
+  by_caller n r a ps s each None e = s
+  by_caller n r a ps s each (Some t) e = judged_stays t r ps (each t e) a
+
+  -- and by an event
+  pub event_keeps : (n : ℕ) (r : Record) (a : Attached) (ps : Processes) → K ps → ((t : Process) → live_task n ps.tasks ≡ Some t → Survives K t r ps)
+      → K (presented n r a ps).1
+  event_keeps n r a ps s each = by_caller n r a ps s each (live_task n ps.tasks) refl
+
+  -- and what survives ends by a signal from outside
+  pub signal_keeps : SurvivesEnds K → (sig : ℕ) (ps : Processes) → K ps → K (signalled sig ps)
+  signal_keeps ends sig ps s = either K (is_fatal sig) (ended (is_in_group 1) (end.Signal sig) ps) ps (end_keeps ends (is_in_group 1) (end.Signal sig) ps s) s
+
+-- The machine of a container stays.
+pub native_stays : (n : ℕ) (r : Record) (a : Attached) (ps : Processes) → (presented n r a ps).1.native ≡ ps.native
+native_stays n r a ps = event_keeps (λ qs. qs.native ≡ ps.native) n r a ps refl (λ t e. record {
+  same = refl;
+  ends = λ test by qs h. h;
+  fork = refl;
+  thread = refl;
+  image = λ h row. refl;
+  load = λ for_all program h. refl;
+})
+
+pub native_stays_signalled : (sig : ℕ) (ps : Processes) → (signalled sig ps).native ≡ ps.native
+native_stays_signalled sig ps = signal_keeps (λ qs. qs.native ≡ ps.native) (λ test by qs h. h) sig ps refl
