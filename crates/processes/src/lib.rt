@@ -4,6 +4,7 @@
 mod container;
 mod errno;
 mod filters;
+mod flags;
 mod id;
 mod image;
 mod kernel;

@@ -2,6 +2,8 @@
 ghost use Rattle.std.specs.Prelude.{◌≡◌, option_copied};
 ghost use Rattle.processes.specs.Calls.{call_beside, entries, named_calls, prctl_row, row_by, row_of, seccomp_row};
 
+use crate::flags::FilterFlags;
+use bitflags::Flags;
 use call_record::Record;
 use call_tables::Arch;
 
@@ -10,15 +12,25 @@ use call_tables::Arch;
 pub enum Call {
     /// fork and vfork.
     Fork,
+    /// clone.
     Clone,
+    /// execve.
     Execve,
+    /// exit.
     Exit,
+    /// exit_group.
     ExitGroup,
+    /// kill.
     Kill,
+    /// getpid.
     GetPid,
+    /// gettid.
     GetTid,
+    /// getppid.
     GetParent,
+    /// seccomp.
     Seccomp,
+    /// prctl.
     Prctl,
     /// A call that the kernel lacks, though the machine's table has it.
     Lacking,
@@ -50,15 +62,25 @@ pub enum Row {
     NewTask,
     /// clone of a thread.
     NewThread,
+    /// A new image.
     Execve,
+    /// The end of the caller.
     Exit,
+    /// The end of the caller's group.
     ExitGroup,
+    /// A signal to a group.
     Kill,
+    /// The number of the caller's group.
     GetPid,
+    /// The caller's number.
     GetTid,
+    /// The number of the caller's parent.
     GetParent,
-    /// seccomp or prctl with a filter, for the caller alone, or for all tasks of its group.
-    Load { for_all: bool },
+    /// seccomp or prctl with a filter.
+    Load {
+        /// For all tasks of the caller's group, and not for the caller alone.
+        for_all: bool,
+    },
     /// Any other seccomp or prctl.
     NoLoad,
     /// Any other call that the machine has.
@@ -94,10 +116,11 @@ fn seccomp_row(rec: &Record) -> Row
     if rec.args[0] != 1 {
         return Row::NoLoad;
     }
-    match rec.args[1] {
-        0 => Row::Load { for_all: false },
-        1 => Row::Load { for_all: true },
-        _ => Row::NoLoad,
+    match FilterFlags::from_bits(rec.args[1]) {
+        None => Row::NoLoad,
+        Some(flags) => Row::Load {
+            for_all: flags.contains(FilterFlags::TSYNC),
+        },
     }
 }
 
