@@ -165,7 +165,7 @@ begun_status e (Some p) = refl
 pub status_started : (e : Entry) (ps : Option Processes) → e.phase ≡ Started → (container_of e ps).status ≡ (if lives_in ps then Running else Stopped)
 status_started e ps h = ap (λ p. (container_by p e ps).status) h ∙ begun_status e ps
 
-by_start : (b : Bool) → (if b then Running else Stopped) ≡ Created → ⊥
+pub by_start : (b : Bool) → (if b then Running else Stopped) ≡ Created → ⊥
 by_start b h = by_life b (if b then Running else Stopped) refl h
 
 -- what was started before, or has ended, is not created

@@ -7,3 +7,4 @@ pub mod Runs
 pub mod Containers
 pub mod GivenLaws
 pub mod FilterLaws
+pub mod StayLaws

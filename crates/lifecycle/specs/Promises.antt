@@ -1,5 +1,5 @@
 -- What holds of every container, whatever was ordered before.
-use Rattle.std.specs.Prelude.{◌≡◌, ◌⊎◌, ℕ, List, [], ◌∷◌, ◌++◌, None, Some, is_some, take, true}
+use Rattle.std.specs.Prelude.{◌≡◌, ◌⊎◌, ℕ, List, [], ◌∷◌, ◌++◌, Option, None, Some, if◌then◌else◌, is_some, take, true}
 use Rattle.std.specs.List.{All}
 use Rattle.call_record.specs.declared.layout.Record.{Record}
 use Rattle.call_record.specs.Record.{words}
@@ -10,13 +10,16 @@ use Rattle.cert_check.specs.Checked.{profile_of}
 use Rattle.processes.specs.Attached.{Attached}
 use Rattle.processes.specs.Begin.{execve_of}
 use Rattle.processes.specs.First.{by_profile}
-use Rattle.processes.specs.Tasks.{Filter, Judge, Process}
+use Rattle.processes.specs.Laws.{StandsBehind, goes_on}
+use Rattle.processes.specs.Tasks.{Filter, Judge, Process, Processes, live_task}
+use Rattle.processes.specs.Views.{same_text}
 use Rattle.processes.specs.declared.outcome.Outcome.TheVariants.{Denied, NoTask}
 use Rattle.lifecycle.specs.declared.command.Reply.{Reply}
 use Rattle.lifecycle.specs.declared.command.Reply.TheVariants.{IsIn, Presented, Refused}
-use Rattle.lifecycle.specs.declared.command.Status.TheVariants.{Created}
+use Rattle.lifecycle.specs.declared.command.Status.{Status}
+use Rattle.lifecycle.specs.declared.command.Status.TheVariants.{Created, Running}
 use Rattle.lifecycle.specs.declared.fault.Refusal.TheVariants.{StartDenied}
-use Rattle.lifecycle.specs.Orders.{Order}
+use Rattle.lifecycle.specs.Orders.{Order, id_of}
 use Rattle.lifecycle.specs.Orders.Order.{Call, Create, Start, State}
 use Rattle.lifecycle.specs.Steps.{run, step}
 use Rattle.lifecycle.specs.Worlds.{Container, First, World, container_at}
@@ -56,6 +59,26 @@ IsOldest judge t = (newer : List Filter) × (t.filters ≡ newer ++ record { loa
 abbrev pub FirstFilterIsOldest : Type 0
 FirstFilterIsOldest =
     (F : First) (orders : List Order) (id : List ℕ) (c : Container) → container_at id (world_after F orders) ≡ Some c → All (IsOldest c.first) c.processes.tasks
+
+-- ---- the filters that a task has
+
+-- the live task of a container that goes on under number m after an order to it: only in a running one a call is carried
+-- out
+abbrev pub goes_on_after : Order → ℕ → Status → Processes → Option Process
+goes_on_after (Call id task r a) m Running ps = goes_on task r m ps
+goes_on_after o m status ps = live_task m ps.tasks
+
+-- and after an order to whichever container
+abbrev pub goes_on_in : List ℕ → Order → ℕ → Container → Option Process
+goes_on_in id o m c = if same_text id (id_of o) then goes_on_after o m c.status c.processes else live_task m c.processes.tasks
+
+-- A task that lives before an order and after it has its old filters, with newer ones in front of them or none: under its
+-- own number, or, the caller of an execve, under its group's.
+abbrev pub OldFiltersStay : Type 0
+OldFiltersStay =
+    (F : First) (orders : List Order) (o : Order) (id : List ℕ) (c d : Container) (m : ℕ) (t u : Process)
+    → container_at id (world_after F orders) ≡ Some c → container_at id (step F o (world_after F orders)).1 ≡ Some d
+    → goes_on_in id o m c ≡ Some t → live_task m d.processes.tasks ≡ Some u → StandsBehind t.filters u.filters
 
 -- ---- what a profile refuses
 

@@ -4,6 +4,7 @@ pub mod Lists
 pub mod Changes
 pub mod Laws
 pub mod Numbers
+pub mod KeptLaws
 pub mod ImageLemmas
 pub mod LoadLemmas
 pub mod Rows

@@ -188,7 +188,7 @@ pub first_is_least : (test : Process → Bool) (low top : ℕ) (ts : List Proces
 first_is_least test low top [] u p e = tt
 first_is_least test low top (t ∷ ts) u p e = least_by test t u ts (test t) refl (above t.number top ts p.1) (first_is_least test t.number top ts u p.1) e
 
-signal_ordered : (sig : ℕ) (ps : Processes) → InOrder ps → InOrder (signalled sig ps)
+pub signal_ordered : (sig : ℕ) (ps : Processes) → InOrder ps → InOrder (signalled sig ps)
 signal_ordered sig ps p = either InOrder (is_fatal sig) (ended (is_in_group 1) (end.Signal sig) ps) ps (end_ordered (is_in_group 1) (end.Signal sig) ps p) p
 
 pub numbers_ascend : NumbersAscend
