@@ -1,23 +1,137 @@
 //! The lines that are answered.
-ghost use Rattle.std.specs.Prelude.{◌≡◌, ◌≤◌, ◌+◌, ◌++◌, IfOk, OnOk, length};
+ghost use Rattle.std.specs.Prelude.{◌≡◌, ◌≤◌, ◌+◌, ◌++◌, ◌∷◌, [], IfOk, OnOk, length, string_bytes};
 ghost use Rattle.arrayvec.specs.ArrayVec.{array_vec_len};
+ghost use Rattle.serde_json.specs.View.{view};
+ghost use Rattle.serde_json.specs.Written.{compact_text};
+ghost use Rattle.export.specs.Fault.{label_text};
 ghost use Rattle.export.specs.Sink.{Writes, WritesMade};
-ghost use Rattle.session.specs.Replies.{no_command_line, reply_line};
+ghost use Rattle.lifecycle.specs.Fault as refusal;
+ghost use Rattle.script.specs.Lines.{line_feed};
+ghost use Rattle.session.specs.Replies.{no_command_line, outcome_text, reply_line, state_of, status_name};
 
 use arrayvec::ArrayVec;
 use export::{ExportFault, Sink, write_all};
-use lifecycle::Reply;
-use std::alloc::Global;
+use itoa::{Buffer, Integer};
+use lifecycle::{Refusal, Reply, Status};
+use processes::Outcome;
+use serde_json::{Value, json};
+use std::alloc::{AllocError, Global};
 
 const ROOM: usize = 64;
 
+// A line that takes no memory.
+type Line = ArrayVec<u8, ROOM>;
+
 // Adds bytes to a line that has room for them.
-fn put(line: &mut ArrayVec<u8, ROOM>, bytes: &[u8])
+fn put(line: &mut Line, bytes: &[u8])
     requires { array_vec_len line.old + length bytes.now ≤ 64 }
     ensures items { line.new.items ≡ line.old.items ++ bytes.now }
     ensures len { array_vec_len line.new ≡ array_vec_len line.old + length bytes.now }
 {
     let _ = line.try_extend_from_slice(bytes);
+}
+
+// Adds a number's digits.
+fn put_number<N: Integer>(line: &mut Line, number: N)
+    requires { array_vec_len line.old ≤ 24 }
+    ensures items { line.new.items ≡ line.old.items ++ N.text number }
+    ensures len { array_vec_len line.new ≤ array_vec_len line.old + N.MAX_STR_LEN }
+{
+    put(line, Buffer::new().format(number).as_bytes());
+}
+
+// Adds what became of a call.
+fn put_outcome(line: &mut Line, outcome: Outcome)
+    requires { array_vec_len line.old ≤ 16 }
+    ensures items { line.new.items ≡ line.old.items ++ outcome_text outcome }
+    ensures len { array_vec_len line.new ≤ array_vec_len line.old + 20 }
+{
+    match outcome {
+        Outcome::Done(answer) => {
+            put(line, b"done ");
+            put_number(line, answer);
+        }
+        Outcome::Failed(errno) => {
+            put(line, b"failed ");
+            put_number(line, errno);
+        }
+        Outcome::Absent => put(line, b"absent"),
+        Outcome::Denied(word) => {
+            put(line, b"denied ");
+            put(line, &word.text());
+        }
+        Outcome::NoTask => put(line, b"no task"),
+    }
+}
+
+// Adds the number and the name of a refusal.
+fn put_label(line: &mut Line, number: u32, name: &str)
+    requires { array_vec_len line.old + length name.now ≤ 24 }
+    ensures items { line.new.items ≡ line.old.items ++ label_text (number, name.now) }
+    ensures len { array_vec_len line.new ≤ array_vec_len line.old + length name.now + 11 }
+{
+    put_number(line, number);
+    put(line, b" ");
+    put(line, name.as_bytes());
+}
+
+// Adds the word by which a start was refused.
+fn put_word(line: &mut Line, refused: &Refusal)
+    requires { array_vec_len line.old ≤ 48 }
+    ensures items { line.new.items ≡ line.old.items ++ refusal.word_of refused.now }
+    ensures len { array_vec_len line.new ≤ array_vec_len line.old + 11 }
+{
+    if let Refusal::StartDenied(word) = refused {
+        put(line, b" ");
+        put(line, &word.text());
+    }
+}
+
+// Adds why a command is refused.
+fn put_refusal(line: &mut Line, refused: &Refusal)
+    requires { array_vec_len line.old ≤ 8 }
+    ensures items { line.new.items ≡ line.old.items ++ refusal.text_of refused.now }
+    ensures len { array_vec_len line.new ≤ array_vec_len line.old + 40 }
+{
+    put_label(line, refused.number(), refused.name());
+    put_word(line, refused);
+}
+
+// The name of a status.
+fn name_of(status: Status) -> &'static str
+    ensures { result.now ≡ status_name status }
+{
+    match status {
+        Status::Created => "created",
+        Status::Running => "running",
+        Status::Stopped => "stopped",
+    }
+}
+
+// The state of a container.
+fn state_value(alloc: Global, id: &str, status: Status) -> Result<Value, AllocError>
+    ensures { IfOk result (λ v. view v ≡ state_of id.now status) }
+{
+    json!(in alloc; {"id": id, "ociVersion": "1.0.2", "status": name_of(status)})
+}
+
+// The line that tells the state of a container.
+fn state_line(alloc: Global, id: &str, status: Status) -> Result<String, AllocError>
+    ensures { IfOk result (λ s. string_bytes s ≡ compact_text (state_of id.now status) ++ line_feed ∷ []) }
+{
+    let mut line = state_value(alloc, id, status)?.to_string(alloc)?;
+    line.push_str("\n")?;
+    Ok(line)
+}
+
+// Writes a line, and says how many bytes it has.
+fn send<S: Sink>(line: &[u8], sink: &mut S) -> Result<usize, ExportFault>
+    ensures written { Writes S.held S.failures sink.old sink.new line.now result }
+    ensures none_failed { OnOk result (S.failures sink.new ≡ S.failures sink.old) }
+    ensures len { IfOk result (λ n. n ≡ length line.now) }
+{
+    write_all(line, sink)?;
+    Ok(line.len())
 }
 
 /// Writes the line of a reply to a command that names this container, and says how many bytes it has. Only a state takes
@@ -32,8 +146,20 @@ pub(crate) fn write_reply<S: Sink>(
     ensures none_failed { OnOk result (S.failures sink.new ≡ S.failures sink.old) }
     ensures len { IfOk result (λ n. n ≡ length (reply_line id.now reply.now)) }
 {
-    // TODO
-    Err(ExportFault::OutOfMemory)
+    let mut line = Line::new();
+    match reply {
+        Reply::Accepted => put(&mut line, b"ok"),
+        Reply::Refused(refused) => {
+            put(&mut line, b"refused ");
+            put_refusal(&mut line, refused);
+        }
+        Reply::Presented(outcome) => put_outcome(&mut line, *outcome),
+        Reply::IsIn(status) => {
+            return send(state_line(alloc, id, *status)?.as_bytes(), sink);
+        }
+    }
+    put(&mut line, b"\n");
+    send(line.as_slice(), sink)
 }
 
 /// Writes the line that says that the line of this number is no command, and says how many bytes it has.
@@ -42,11 +168,9 @@ pub(crate) fn write_no_command<S: Sink>(number: u64, sink: &mut S) -> Result<usi
     ensures none_failed { OnOk result (S.failures sink.new ≡ S.failures sink.old) }
     ensures len { IfOk result (λ n. n ≡ length (no_command_line number)) }
 {
-    let mut line = ArrayVec::new();
+    let mut line = Line::new();
     put(&mut line, b"line ");
-    put(&mut line, itoa::Buffer::new().format(number).as_bytes());
-    put(&mut line, b" is no command");
-    put(&mut line, b"\n");
-    write_all(line.as_slice(), sink)?;
-    Ok(line.len())
+    put_number(&mut line, number);
+    put(&mut line, b" is no command\n");
+    send(line.as_slice(), sink)
 }
