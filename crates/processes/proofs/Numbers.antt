@@ -1,27 +1,18 @@
 -- Tasks stand in the order of their numbers, so no number stands twice and the first that meets a test
 -- has the least.
-use Rattle.std.proofs.Common.{◌≡◌, ℕ, ◌+◌, ◌-◌, ◌^◌, ◌==◌, ◌||◌, ◌<◌, ◌≤◌, Bool, true, false, not, List, [], ◌∷◌, ◌++◌, Option, Some, None, if◌then◌else◌, refl, sym, ◌∙◌, map, arith, subst}
-use Rattle.std.specs.Prelude.{IsTrue, nat_lt, nat_le, filter, find}
+use Rattle.std.proofs.Common.{◌≡◌, ℕ, ◌+◌, ◌==◌, ◌||◌, ◌<◌, ◌≤◌, Bool, true, false, not, List, [], ◌∷◌, ◌++◌, Some, if◌then◌else◌, refl, sym, ◌∙◌, map, arith, subst}
+use Rattle.std.specs.Prelude.{IsTrue, nat_lt, filter, find}
 use Rattle.std.proofs.lemmas.Bool.Decides.{Decides-eqb}
 use Rattle.std.proofs.lemmas.Bool.{and_parts, leb-true, ltb-true, le-leb, lt-ltb}
-use Rattle.call_record.specs.declared.effect.Ends.{Ends}
-use Rattle.call_record.specs.declared.effect.Ends.TheVariants.{Nothing, Task, Group}
-use Rattle.call_record.specs.Ends.{ends_of}
-use Rattle.call_record.specs.Verdict.{is_through}
 use Rattle.call_record.specs.declared.layout.Record.{Record}
 use Rattle.bpf_insn.specs.declared.instruction.Insn.{Insn}
 use Rattle.processes.specs.declared.outcome.End.{End}
 use Rattle.processes.specs.declared.outcome.End.TheVariants as end
-use Rattle.processes.specs.declared.outcome.Outcome.TheVariants.{Done, Failed, Denied}
-use Rattle.processes.specs.Tasks.{ascends, Process, Processes, is_live, is_task, is_in_group, live_task, group_lives, lives, end_by, end_where, with_tasks, ended}
-use Rattle.processes.specs.Calls.{row_of, arg}
-use Rattle.processes.specs.declared.row.Row.{Row}
-use Rattle.processes.specs.declared.row.Row.TheVariants.{NewTask, NewThread, Execve, Exit, ExitGroup, Kill, Load}
-use Rattle.processes.specs.Kernel.{Answer, forked, cloned, with_new, is_sibling, renewed, executed, killed, is_fatal, load_size, loaded, takes, first_conflict, unless_conflict, load, carried_out, ended_by_verdict, signalled, presented_by, presented, verdict_on}
+use Rattle.processes.specs.Tasks.{ascends, Process, Processes, is_live, is_task, end_by, end_where}
+use Rattle.processes.specs.Kernel.{forked, cloned, is_sibling, renewed, executed, loaded, takes, signalled, presented}
 use Rattle.processes.specs.Attached.{Attached}
-use Rattle.processes.specs.Attached.Attached.{NoBytes, Refused, Taken}
 use Rattle.processes.specs.Laws.{Each, NumbersAscend}
-use Rattle.processes.proofs.Changes.{either}
+use Rattle.processes.proofs.Changes.{SurvivesEnds, either, event_keeps, signal_keeps}
 
 -- the numbers ascend, above one number and up to another
 abbrev pub Ascends : ℕ → List Process → ℕ → Type 0
@@ -39,9 +30,6 @@ to_order low (t ∷ ts) top h =
 pub from_order : (low : ℕ) (ts : List Process) (top : ℕ) → Ascends low ts top → IsTrue (ascends low ts top)
 from_order low [] top p = le-leb low top p
 from_order low (t ∷ ts) top p = rw (lt-ltb low t.number p.0) (from_order t.number ts top p.1)
-
-abbrev pub Orderly : Answer → Type 0
-Orderly p = InOrder p.1
 
 lower : (low less top : ℕ) (ts : List Process) → less ≤ low → Ascends low ts top → Ascends less ts top
 lower low less top [] h p = omega arith
@@ -78,18 +66,6 @@ where_kept test e old new top same h = rw same (from_order 0 (end_where test e o
 pub next_kept : (old new : List Process) (u : Process) (top : ℕ) → new ≡ old ++ u ∷ [] → u.number ≡ top + 1 → IsTrue (ascends 0 old top) → IsTrue (ascends 0 new (top + 1))
 next_kept old new u top same next h = rw same (from_order 0 (old ++ u ∷ []) (top + 1) (one_more 0 top old u next (to_order 0 old top h)))
 
-end_ordered : (test : Process → Bool) (e : End) (ps : Processes) → InOrder ps → InOrder (ended test e ps)
-end_ordered test e ps p =
-    let after = with_tasks ps (end_where test e ps.tasks) in
-    let kept : InOrder after = where_ordered test e 0 ps.made ps.tasks p in
-    either InOrder (lives after) after (with_tasks after (end_where (λ t. true) (end.Signal 9) after.tasks))
-    kept (where_ordered (λ t. true) (end.Signal 9) 0 ps.made after.tasks kept)
-
-new_ordered : (make : ℕ → Process) (ps : Processes) → ((n : ℕ) → (make n).number ≡ n) → InOrder ps → Orderly (with_new make ps)
-new_ordered make ps h p =
-    either Orderly (nat_lt ps.made 1024) (Done (ps.made + 1), record ps { made = ps.made + 1; tasks = ps.tasks ++ make (ps.made + 1) ∷ [] }) (Failed 11, ps)
-    (one_more 0 ps.made ps.tasks (make (ps.made + 1)) (h (ps.made + 1)) p) p
-
 number_by : (t u : Process) (b : Bool) → (u.number == t.group) ≡ b → (if b then renewed t else u).number ≡ u.number
 number_by t u true h = sym ((Decides-eqb u.number t.group).0 h)
 number_by t u false h = refl
@@ -101,59 +77,27 @@ image_ordered t top ts p =
     same_map (λ u. if is_task t.group u then renewed t else u) (λ u. number_by t u (u.number == t.group) refl) 0 top (filter test left)
     (fewer test 0 top left (where_ordered (is_sibling t) (end.Signal 9) 0 top ts p))
 
-kill_ordered : (target sig : ℕ) (ps : Processes) → InOrder ps → Orderly (killed target sig ps)
-kill_ordered target sig ps p =
-    let last : Answer = (Done 0, ended (is_in_group target) (end.Signal sig) ps) in
-    let third : Answer = if (target == 1) || not (is_fatal sig) then (Done 0, ps) else last in
-    let second : Answer = if not (group_lives target ps.tasks) then (Failed 3, ps) else third in
-    either Orderly (nat_lt 64 sig) (Failed 22, ps) second p
-    (either Orderly (not (group_lives target ps.tasks)) (Failed 3, ps) third p
-    (either Orderly ((target == 1) || not (is_fatal sig)) (Done 0, ps) last p (end_ordered (is_in_group target) (end.Signal sig) ps p)))
-
-unless_ordered : (o : Option Process) (ps after : Processes) → InOrder ps → InOrder after → Orderly (unless_conflict o ps (Done 0, after))
-unless_ordered (Some u) ps after p q = p
-unless_ordered None ps after p q = q
-
 loaded_ordered : (for_all : Bool) (q : List Insn) (t : Process) (ps : Processes) → InOrder ps → InOrder (loaded for_all q t ps)
 loaded_ordered for_all q t ps p =
     same_map _ (λ u. either (λ (v : Process). v.number ≡ u.number) (takes for_all t u) _ u refl refl) 0 ps.made ps.tasks p
 
-load_ordered : (for_all : Bool) (t : Process) (a : Attached) (ps : Processes) → InOrder ps → Orderly (load for_all t a ps)
-load_ordered for_all t NoBytes ps p = p
-load_ordered for_all t Refused ps p = p
-load_ordered for_all t (Taken q) ps p =
-    let after = loaded for_all q t ps in
-    let last : Answer = unless_conflict (first_conflict for_all t ps) ps (Done 0, after) in
-    let second : Answer = if nat_le (2 ^ 32 - 1) ps.loads then (Failed 12, ps) else last in
-    either Orderly (nat_lt 32768 (load_size q t)) (Failed 12, ps) second p
-    (either Orderly (nat_le (2 ^ 32 - 1) ps.loads) (Failed 12, ps) last p
-    (unless_ordered (first_conflict for_all t ps) ps after p (loaded_ordered for_all q t ps p)))
+ends_ordered : SurvivesEnds InOrder
+ends_ordered test e ps p = where_ordered test e 0 ps.made ps.tasks p
 
-row_ordered : (row : Row) (t : Process) (r : Record) (a : Attached) (ps : Processes) → InOrder ps → Orderly (carried_out row t r a ps)
-row_ordered NewTask t r a ps p = new_ordered (forked t) ps (λ n. refl) p
-row_ordered NewThread t r a ps p = new_ordered (cloned t) ps (λ n. refl) p
-row_ordered Execve t r a ps p = image_ordered t ps.made ps.tasks p
-row_ordered Exit t r a ps p = end_ordered _ _ ps p
-row_ordered ExitGroup t r a ps p = end_ordered _ _ ps p
-row_ordered Kill t r a ps p = kill_ordered (arg r 0) (arg r 1) ps p
-row_ordered (Load for_all) t r a ps p = load_ordered for_all t a ps p
-row_ordered row t r a ps p = p
-
-verdict_ordered : (e : Ends) (t : Process) (ps : Processes) → InOrder ps → InOrder (ended_by_verdict e t ps)
-verdict_ordered Nothing t ps p = p
-verdict_ordered Task t ps p = end_ordered _ _ ps p
-verdict_ordered Group t ps p = end_ordered _ _ ps p
-
-event_ordered : (o : Option Process) (r : Record) (a : Attached) (ps : Processes) → InOrder ps → Orderly (presented_by o r a ps)
-event_ordered None r a ps p = p
-event_ordered (Some t) r a ps p =
-    let v = verdict_on r t in
-    either Orderly (is_through v) (carried_out (row_of ps.native r) t r a ps) (Denied v, ended_by_verdict (ends_of v) t ps)
-    (row_ordered (row_of ps.native r) t r a ps p) (verdict_ordered (ends_of v) t ps p)
-
--- Whatever a task presents, tasks stay in the order of their numbers.
+-- Whatever a task presents, tasks stay in the order of their numbers,
 pub stays_in_order : (n : ℕ) (r : Record) (a : Attached) (ps : Processes) → InOrder ps → InOrder (presented n r a ps).1
-stays_in_order n r a ps p = event_ordered (live_task n ps.tasks) r a ps p
+stays_in_order n r a ps p = event_keeps InOrder n r a ps p (λ t e. record {
+  same = p;
+  ends = ends_ordered;
+  fork = one_more 0 ps.made ps.tasks (forked t (ps.made + 1)) refl p;
+  thread = one_more 0 ps.made ps.tasks (cloned t (ps.made + 1)) refl p;
+  image = λ through row. image_ordered t ps.made ps.tasks p;
+  load = λ for_all program none. loaded_ordered for_all program t ps p;
+})
+
+-- and whatever signal comes from outside
+pub signal_ordered : (sig : ℕ) (ps : Processes) → InOrder ps → InOrder (signalled sig ps)
+signal_ordered sig ps p = signal_keeps InOrder ends_ordered sig ps p
 
 pub above : (low top : ℕ) (ts : List Process) → Ascends low ts top → Each (λ t. low < t.number) ts
 above low top [] p = tt
@@ -187,9 +131,6 @@ least_by test t u ts false h p rest e =
 pub first_is_least : (test : Process → Bool) (low top : ℕ) (ts : List Process) (u : Process) → Ascends low ts top → find test ts ≡ Some u → IsLeast test u ts
 first_is_least test low top [] u p e = tt
 first_is_least test low top (t ∷ ts) u p e = least_by test t u ts (test t) refl (above t.number top ts p.1) (first_is_least test t.number top ts u p.1) e
-
-pub signal_ordered : (sig : ℕ) (ps : Processes) → InOrder ps → InOrder (signalled sig ps)
-signal_ordered sig ps p = either InOrder (is_fatal sig) (ended (is_in_group 1) (end.Signal sig) ps) ps (end_ordered (is_in_group 1) (end.Signal sig) ps p) p
 
 pub numbers_ascend : NumbersAscend
 numbers_ascend = record {
