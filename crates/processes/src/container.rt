@@ -12,7 +12,7 @@ use call_tables::Arch;
 use kernel_check::Accepted;
 use std::alloc::{AllocError, Global};
 
-/// The most tasks that are ever made in a container.
+// The most tasks that are ever made in a container.
 const MOST_TASKS: u32 = 1024;
 
 /// A container that was started.

@@ -7,6 +7,18 @@ use bitflags::Flags;
 use call_record::Record;
 use call_tables::Arch;
 
+// clone's flag for a thread of the caller's group (clone(2)).
+const CLONE_THREAD: u64 = 0x10000;
+
+// What seccomp is asked for: a filter (seccomp(2)).
+const SET_MODE_FILTER: u64 = 1;
+
+// What prctl is asked for: seccomp (prctl(2)).
+const PR_SET_SECCOMP: u64 = 22;
+
+// What seccomp is to do: filter.
+const MODE_FILTER: u64 = 2;
+
 /// The calls that the kernel tells from one another.
 #[derive(Clone, Copy, Debug, PartialEq, Eq)]
 pub enum Call {
@@ -113,7 +125,7 @@ fn call_named(name: &str) -> Call
 fn seccomp_row(rec: &Record) -> Row
     ensures { result ≡ seccomp_row rec.now }
 {
-    if rec.args[0] != 1 {
+    if rec.args[0] != SET_MODE_FILTER {
         return Row::NoLoad;
     }
     match FilterFlags::from_bits(rec.args[1]) {
@@ -128,10 +140,10 @@ fn seccomp_row(rec: &Record) -> Row
 fn prctl_row(rec: &Record) -> Row
     ensures { result ≡ prctl_row rec.now }
 {
-    if rec.args[0] != 22 {
+    if rec.args[0] != PR_SET_SECCOMP {
         return Row::NoLoad;
     }
-    if rec.args[1] != 2 {
+    if rec.args[1] != MODE_FILTER {
         return Row::NoLoad;
     }
     Row::Load { for_all: false }
@@ -144,7 +156,7 @@ fn row_by(call: Call, rec: &Record) -> Row
     match call {
         Call::Fork => Row::NewTask,
         Call::Clone => {
-            if rec.args[0] & 0x10000 == 0 {
+            if rec.args[0] & CLONE_THREAD == 0 {
                 Row::NewTask
             } else {
                 Row::NewThread
