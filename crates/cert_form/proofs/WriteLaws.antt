@@ -17,7 +17,8 @@ use Rattle.cert_form.specs.Spelling.{value, scratch, tail, kind_number, chain_no
 use Rattle.cert_form.proofs.PartLaws.{length-value}
 use Rattle.cert_form.proofs.TailLaws.{length-tail}
 use Rattle.cert_form.specs.Spelling.{listed, chained, stated_bits, nothing_stated, IsNode, SpellsListed, IsChainNode, SpellsChained, Spells}
-use Rattle.cert_form.specs.Writing.{IsMeant, IsChainMeant, AreMeant, version_for}
+use Rattle.cert_form.specs.declared.fault.FormError.TheVariants.{BadMagic, BadVersion, Truncated, BadNode, BadCount, Trailing, OutOfMemory}
+use Rattle.cert_form.specs.Writing.{IsMeant, IsChainMeant, AreMeant, AreWritable, AreChainsWritable, version_for}
 use Rattle.cert_form.specs.inner.Standing.{IsPlain}
 use Rattle.cert_form.proofs.ScratchLaws.{none_from_bits}
 
@@ -45,7 +46,7 @@ all_more P f xs i x h e all one k d =
 
 -- ---- form 1
 
-no_scratch : (vs : List AVal) → length vs ≡ 16 → stated_bits vs ≡ 0 → vs ≡ nothing_stated
+pub no_scratch : (vs : List AVal) → length vs ≡ 16 → stated_bits vs ≡ 0 → vs ≡ nothing_stated
 no_scratch vs sixteen none = none_from_bits vs none ∙ ap (λ k. replicate k Unknown) sixteen
 
 pub spelled_listed : (bytes : List ℕ) (ns : List PlainNode) → bytes ≡ listed ns → length bytes ≤ 4194304 → 1 ≤ length ns → length ns ≤ 16384
@@ -62,10 +63,23 @@ spelled_listed bytes ns spelled short some few plain meant = record {
     kind = m.kind;
     pc = m.pc;
     values = m.values;
-    no_scratch = no_scratch n.regs.scratch m.values.sixteen p.no_scratch;
+    no_scratch = p.no_scratch;
     few = p.few;
     literals = m.literals;
   }
+
+-- what was written breaks no limit
+pub writable : (ns : List PlainNode) → length (listed ns) ≤ 4194304 → 1 ≤ length ns → length ns ≤ 16384 → All IsPlain ns → AreWritable ns
+writable ns short some few plain BadCount (inl none) = absurd (omega (arith, some, none))
+writable ns short some few plain BadCount (inr (inl many)) = absurd (omega (arith, few, many))
+writable ns short some few plain BadCount (inr (inr (inl long))) = absurd (long (λ k d h. (plain k d h).few))
+writable ns short some few plain BadCount (inr (inr (inr big))) = absurd (omega (arith, short, big))
+writable ns short some few plain BadNode stated = absurd (stated (λ k d h. (plain k d h).no_scratch))
+writable ns short some few plain OutOfMemory _ = refl
+writable ns short some few plain BadMagic none = absurd none
+writable ns short some few plain BadVersion none = absurd none
+writable ns short some few plain Truncated none = absurd none
+writable ns short some few plain Trailing none = absurd none
 
 -- ---- forms 2 and 3
 
@@ -140,6 +154,20 @@ spelled_chained bytes es ns spelled short some few few_entries meant = record {
     chain = m.chain;
     few = m.few;
   }
+
+-- what was written breaks no limit
+pub writable_chains : (es : List (ℕ × Lit)) (ns : List ChainNode) → length (chained (version_for ns) es ns) ≤ 4194304 → 1 ≤ length ns
+    → length ns ≤ 16384 → length es ≤ 65536 → AreChainsWritable es ns
+writable_chains es ns short some few few_entries BadCount (inl none) = absurd (omega (arith, some, none))
+writable_chains es ns short some few few_entries BadCount (inr (inl many)) = absurd (omega (arith, few, many))
+writable_chains es ns short some few few_entries BadCount (inr (inr (inl many))) = absurd (omega (arith, few_entries, many))
+writable_chains es ns short some few few_entries BadCount (inr (inr (inr big))) = absurd (omega (arith, short, big))
+writable_chains es ns short some few few_entries OutOfMemory _ = refl
+writable_chains es ns short some few few_entries BadNode none = absurd none
+writable_chains es ns short some few few_entries BadMagic none = absurd none
+writable_chains es ns short some few few_entries BadVersion none = absurd none
+writable_chains es ns short some few few_entries Truncated none = absurd none
+writable_chains es ns short some few few_entries Trailing none = absurd none
 
 pub spells_chained : (bytes : List ℕ) (es : List (ℕ × Lit)) (ns : List ChainNode) → SpellsChained (version_for ns) bytes es ns
     → Spells bytes (map (said es) ns)

@@ -52,6 +52,10 @@ Refused BadVersion ns = ⊥
 Refused Truncated ns = ⊥
 Refused Trailing ns = ⊥
 
+-- the nodes keep the limits of form 1, and none states a scratch value
+abbrev pub AreWritable : List PlainNode → Type 0
+AreWritable ns = (e : FormError) → Refused e ns → e ≡ OutOfMemory
+
 -- why entries and nodes are not written in form 2 or 3: a limit, or memory
 abbrev pub ChainsRefused : FormError → List (ℕ × Lit) → List ChainNode → Type 0
 ChainsRefused BadCount es ns =
@@ -62,3 +66,7 @@ ChainsRefused BadMagic es ns = ⊥
 ChainsRefused BadVersion es ns = ⊥
 ChainsRefused Truncated es ns = ⊥
 ChainsRefused Trailing es ns = ⊥
+
+-- the entries and nodes keep the limits of forms 2 and 3
+abbrev pub AreChainsWritable : List (ℕ × Lit) → List ChainNode → Type 0
+AreChainsWritable es ns = (e : FormError) → ChainsRefused e es ns → e ≡ OutOfMemory

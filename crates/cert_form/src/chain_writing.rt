@@ -2,8 +2,8 @@
 ghost use Rattle.std.specs.Prelude.{◌≡◌, ◌≤◌, ◌==◌, ◌++◌, [], if◌then◌else◌, OnOk, IfOk, IfErr, length, map};
 ghost use Rattle.std.specs.List.{flat_map};
 ghost use Rattle.cert_form.specs.Nodes.{said};
-ghost use Rattle.cert_form.specs.Spelling.{entry, chain_node, offsets, scratch, Spells, SpellsChained};
-ghost use Rattle.cert_form.specs.Writing.{AreMeant, ChainsRefused, version_for};
+ghost use Rattle.cert_form.specs.Spelling.{entry, chain_node, chained, offsets, scratch, Spells, SpellsChained};
+ghost use Rattle.cert_form.specs.Writing.{AreChainsWritable, AreMeant, ChainsRefused, version_for};
 
 use crate::fault::FormError;
 use crate::judge::tail_size;
@@ -106,7 +106,10 @@ pub fn write_chained(
     entries: &[(u32, Lit)],
     nodes: &[ChainNode],
 ) -> Result<Vec<u8>, FormError>
-    // What is written is their certificate, given that parents, chains, literals and values are such.
+    // What is written are the bytes of these entries and nodes, which keep the limits.
+    ensures spelled { IfOk result (λ bytes. bytes.items ≡ chained (version_for nodes.now) entries.now nodes.now) }
+    ensures kept { OnOk result (AreChainsWritable entries.now nodes.now) }
+    // It is their certificate, given that parents, chains, literals and values are such.
     ensures written { IfOk result (λ bytes. AreMeant entries.now nodes.now
         → SpellsChained (version_for nodes.now) bytes.items entries.now nodes.now) }
     // It is read as what the nodes say.

@@ -1,8 +1,8 @@
 //! The parts of a certificate, each written at the end of bytes.
-ghost use Rattle.std.specs.Prelude.{◌≡◌, ◌++◌, ◌∷◌, [], OnOk};
+ghost use Rattle.std.specs.Prelude.{◌≡◌, ◌++◌, ◌∷◌, ◌↔◌, [], IsTrue, OnOk};
 ghost use Rattle.std.specs.List.{flat_map};
 ghost use Rattle.byteorder.specs.Endian.{little_bytes};
-ghost use Rattle.cert_form.specs.Spelling.{kind_number, literal, value, tail, scratch, bit_of, stated_bits, if_stated};
+ghost use Rattle.cert_form.specs.Spelling.{kind_number, literal, value, tail, scratch, bit_of, stated_bits, if_stated, nothing_stated};
 
 use crate::node::Kind;
 use cert_state::{AVal, Lit};
@@ -98,6 +98,13 @@ pub(crate) fn bits_of(scratch: &[AVal; 16]) -> u16
         bits = 2 * bits + bit(scratch[15 - i]);
     }
     bits
+}
+
+// Whether no scratch word has a stated value.
+pub(crate) fn states_nothing(scratch: &[AVal; 16]) -> bool
+    ensures { IsTrue result ↔ scratch.now ≡ nothing_stated }
+{
+    bits_of(scratch) == 0
 }
 
 fn put_stated(out: &mut Vec<u8>, v: AVal) -> Result<(), AllocError>

@@ -2,12 +2,12 @@
 ghost use Rattle.std.specs.Prelude.{◌≡◌, ◌≤◌, ◌+◌, ◌++◌, All, OnOk, IfOk, IfErr, length};
 ghost use Rattle.std.specs.List.{flat_map};
 ghost use Rattle.cert_form.specs.Spelling.{node, listed, SpellsListed};
-ghost use Rattle.cert_form.specs.Writing.{plain, plains, IsMeant, Refused};
+ghost use Rattle.cert_form.specs.Writing.{plain, plains, AreWritable, IsMeant, Refused};
 ghost use Rattle.cert_form.specs.inner.Standing.{IsPlain};
 
 use crate::fault::FormError;
 use crate::node::Node;
-use crate::put::{bits_of, put_literals, put_long, put_short, put_tail, put_value, tag_of};
+use crate::put::{put_literals, put_long, put_short, put_tail, put_value, states_nothing, tag_of};
 use std::alloc::{AllocError, Global};
 
 fn put_node(out: &mut Vec<u8>, n: &Node) -> Result<(), AllocError>
@@ -30,7 +30,7 @@ fn put_nodes(out: &mut Vec<u8>, nodes: &[Node]) -> Result<(), FormError>
     ensures refused { IfErr result (λ e. Refused e (plains nodes.now)) }
 {
     for n in nodes {
-        if bits_of(&n.regs.scratch) != 0 {
+        if !states_nothing(&n.regs.scratch) {
             return Err(FormError::BadNode);
         }
         if n.lits.len() > 512 {
@@ -44,7 +44,10 @@ fn put_nodes(out: &mut Vec<u8>, nodes: &[Node]) -> Result<(), FormError>
 /// The nodes in form 1. They are refused only for a limit of the form, for memory, or where a scratch value is
 /// stated, of which form 1 has no word.
 pub fn write(alloc: Global, nodes: &[Node]) -> Result<Vec<u8>, FormError>
-    // What is written is read as these nodes, given that their literals and values are such.
+    // What is written are the bytes of these nodes, which keep the limits.
+    ensures spelled { IfOk result (λ bytes. bytes.items ≡ listed (plains nodes.now)) }
+    ensures kept { OnOk result (AreWritable (plains nodes.now)) }
+    // It is read as these nodes, given that their literals and values are such.
     ensures written { IfOk result (λ bytes. All IsMeant (plains nodes.now) → SpellsListed bytes.items (plains nodes.now)) }
     ensures refused { IfErr result (λ e. Refused e (plains nodes.now)) }
 {

@@ -138,5 +138,5 @@ pub record IsTopOfFile (bytes : List ℕ) : Type 0 where
 
 -- what form 1 can say: no scratch value is stated, and the literals are few
 pub record IsPlain (n : PlainNode) : Type 0 where
-  pub no_scratch : stated_bits n.regs.scratch ≡ 0
+  pub no_scratch : n.regs.scratch ≡ nothing_stated
   pub few : length n.known ≤ 512

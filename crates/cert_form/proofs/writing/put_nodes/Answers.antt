@@ -1,15 +1,15 @@
-use Rattle.std.proofs.Common.{◌≡◌, ◌≤◌, length, ap, inl, inr, arith}
-use Rattle.cert_form.specs.Spelling.{node, stated_bits, nothing_stated}
+use Rattle.std.proofs.Common.{◌≡◌, ◌≤◌, true, false, refl, length, inl, inr, arith}
+use Rattle.cert_form.specs.Spelling.{node, nothing_stated}
 use Rattle.cert_form.specs.Writing.{plain}
 use Rattle.cert_form.specs.inner.Standing.{IsPlain}
 use Rattle.cert_form.proofs.WriteLaws.{of_item, written_more, all_more}
 use Rattle.cert_form.proofs.writing.put_nodes.Goals as goal
 
-pub returns-then-bits_of-ne0-clause-refused : goal.returns-then-bits_of-ne0-clause-refused
-returns-then-bits_of-ne0-clause-refused c = λ all.
+pub returns-then-not-states_nothing-clause-refused : goal.returns-then-not-states_nothing-clause-refused
+returns-then-not-states_nothing-clause-refused c = λ all.
     let none =
     of_item (λ n. n.regs.scratch ≡ nothing_stated) plain c.args.nodes.now c.loop-n.n-index c.n-item.result c.loop-n-test.true c.n-item.is all in
-    c.if-bits_of-ne0.true (omega (arith, c.bits_of.ensures, ap stated_bits none))
+    absurd (let e : false ≡ true = c.if-not-states_nothing.ensures.1 none in cc)
 
 pub returns-then-len-gt512-clause-refused : goal.returns-then-len-gt512-clause-refused
 returns-then-len-gt512-clause-refused c = inr (inr (inl (λ all.
@@ -20,7 +20,7 @@ returns-then-len-gt512-clause-refused c = inr (inr (inl (λ all.
 pub loop-n-preserved : goal.loop-n-preserved
 loop-n-preserved c =
     let one : IsPlain (plain c.n-item.result) = record {
-      no_scratch = omega (arith, c.bits_of.ensures, c.if-bits_of-ne0.false);
+      no_scratch = c.if-not-states_nothing.ensures.0 refl;
       few = omega (arith, c.len.ensures, c.if-len-gt512.false);
     } in
     record {
