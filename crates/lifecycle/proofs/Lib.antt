@@ -8,3 +8,4 @@ pub mod Containers
 pub mod GivenLaws
 pub mod FilterLaws
 pub mod StayLaws
+mod Rows
