@@ -1,8 +1,11 @@
 -- Words of a command line.
-use Rattle.std.specs.Prelude.{ℕ, ◌≡◌, List, if◌then◌else◌, Option, Some, None, slice_get, codes}
+use Rattle.std.specs.Prelude.{ℕ, ◌≡◌, ◌<◌, Bool, true, false, List, ◌∷◌, length, if◌then◌else◌, Option, Some, None, slice_get, codes}
 use Rattle.std.specs.Str.{bytes_eq}
 use Rattle.call_tables.specs.declared.arch.Arch.{Arch}
 use Rattle.call_tables.specs.declared.arch.Arch.TheVariants.{X86_64, Aarch64}
+use denote.Ref.{Bor}
+use Rattle.command_line.specs.declared.Order.{Order}
+use Rattle.command_line.specs.declared.Order.TheVariants.{Run}
 use Rattle.command_line.specs.declared.Form.{Form}
 use Rattle.command_line.specs.declared.Form.TheVariants.{Raw, Listing, Certificate}
 
@@ -24,3 +27,18 @@ form_called word =
     else if bytes_eq word (codes "listing") then Some Listing
     else if bytes_eq word (codes "cert") then Some Certificate
     else None
+
+abbrev pub is_run : Order → Bool
+is_run (Run native bundles) = true
+is_run other = false
+
+-- the words are a name, that of the native machine, and these bundles, one at least
+pub record IsRunOf (words : List (Bor (List ℕ))) (order : Order) : Type 0 where
+  pub name : Bor (List ℕ)
+  pub machine : Bor (List ℕ)
+  pub native : Arch
+  pub bundles : Bor (List (Bor (List ℕ)))
+  pub runs : order ≡ Run native bundles
+  pub each : words ≡ name ∷ machine ∷ bundles.now
+  pub called : machine_called machine.now ≡ Some native
+  pub some : 0 < length bundles.now

@@ -1,8 +1,8 @@
 //! The words of a command line of `ccell`. It is a crate of its own since a check of clap's calls takes minutes.
 #![tactic(auto)]
 
-ghost use Rattle.std.specs.Prelude.{◌≡◌, ◌↔◌, IsTrue, Any, IsErrOf};
-ghost use Rattle.command_line.specs.Words.{IsDashed, form_called, machine_called};
+ghost use Rattle.std.specs.Prelude.{◌≡◌, ◌↔◌, IsTrue, true, false, Any, IfOk, IsErrOf};
+ghost use Rattle.command_line.specs.Words.{IsDashed, IsRunOf, form_called, is_run, machine_called};
 
 use call_tables::Arch;
 use clap::error::ErrorKind;
@@ -42,6 +42,12 @@ pub enum Order<'a> {
         native: Arch,
         bundle: &'a str,
         form: Form,
+    },
+    /// The replies to a script, with bundles that are read for a native machine. They are given as names of files, one
+    /// at least.
+    Run {
+        native: Arch,
+        bundles: &'a [&'a str],
     },
 }
 
@@ -123,6 +129,12 @@ fn export_command<'a>(alloc: Global) -> Result<Command<'a>, AllocError> {
         .arg(word(alloc, "form"))
 }
 
+fn run_command<'a>(alloc: Global) -> Result<Command<'a>, AllocError> {
+    Command::new(alloc, "run")
+        .arg(word(alloc, "machine"))?
+        .arg(word(alloc, "bundle").num_args(1..))
+}
+
 fn command<'a>(alloc: Global) -> Result<Command<'a>, AllocError> {
     Command::new(alloc, "ccell")
         .no_binary_name(true)
@@ -130,7 +142,8 @@ fn command<'a>(alloc: Global) -> Result<Command<'a>, AllocError> {
         .disable_help_subcommand(true)
         .subcommand(verdict_command(alloc)?)?
         .subcommand(check_command(alloc)?)?
-        .subcommand(export_command(alloc)?)
+        .subcommand(export_command(alloc)?)?
+        .subcommand(run_command(alloc)?)
 }
 
 // Whether a word begins with `-`.
@@ -151,14 +164,18 @@ fn part<'a>(matches: &ArgMatches<'a>, name: &str) -> Result<&'a str, Misuse> {
     matches.get_str(name).ok_or(Misuse::Usage)
 }
 
-fn verdict_order<'a>(matches: &ArgMatches<'a>) -> Result<Order<'a>, Misuse> {
+fn verdict_order<'a>(matches: &ArgMatches<'a>) -> Result<Order<'a>, Misuse>
+    ensures { IfOk result (λ order. is_run order ≡ false) }
+{
     Ok(Order::Verdict {
         filter: part(matches, "filter")?,
         record: part(matches, "record")?,
     })
 }
 
-fn check_order<'a>(matches: &ArgMatches<'a>) -> Result<Order<'a>, Misuse> {
+fn check_order<'a>(matches: &ArgMatches<'a>) -> Result<Order<'a>, Misuse>
+    ensures { IfOk result (λ order. is_run order ≡ false) }
+{
     Ok(Order::Check {
         native: machine_named(part(matches, "machine")?).ok_or(Misuse::Usage)?,
         bundle: part(matches, "bundle")?,
@@ -167,7 +184,9 @@ fn check_order<'a>(matches: &ArgMatches<'a>) -> Result<Order<'a>, Misuse> {
     })
 }
 
-fn export_order<'a>(matches: &ArgMatches<'a>) -> Result<Order<'a>, Misuse> {
+fn export_order<'a>(matches: &ArgMatches<'a>) -> Result<Order<'a>, Misuse>
+    ensures { IfOk result (λ order. is_run order ≡ false) }
+{
     Ok(Order::Export {
         native: machine_named(part(matches, "machine")?).ok_or(Misuse::Usage)?,
         bundle: part(matches, "bundle")?,
@@ -175,9 +194,26 @@ fn export_order<'a>(matches: &ArgMatches<'a>) -> Result<Order<'a>, Misuse> {
     })
 }
 
+// The order of `run`: its name, the machine and the bundles, one at least.
+fn run_order<'a>(words: &'a [&'a str]) -> Result<Order<'a>, Misuse>
+    ensures { IfOk result (IsRunOf words.entry.now) }
+{
+    let [_, machine, bundles @ ..] = words else {
+        return Err(Misuse::Usage);
+    };
+    if bundles.is_empty() {
+        return Err(Misuse::Usage);
+    }
+    let Some(native) = machine_named(machine) else {
+        return Err(Misuse::Usage);
+    };
+    Ok(Order::Run { native, bundles })
+}
+
 /// The order that words give. A word that begins with `-` is never part of one.
 pub fn read_words<'a>(alloc: Global, words: &'a [&'a str]) -> Result<Order<'a>, Misuse>
     ensures dashed { Any (λ word. IsDashed word.now) words.entry.now → IsErrOf result Misuse.Usage }
+    ensures run { IfOk result (λ order. is_run order ≡ true → IsRunOf words.entry.now order) }
 {
     if has_dashed(words) {
         return Err(Misuse::Usage);
@@ -188,6 +224,9 @@ pub fn read_words<'a>(alloc: Global, words: &'a [&'a str]) -> Result<Order<'a>, 
     }
     if let Some(export) = matches.subcommand_matches("export") {
         return export_order(export);
+    }
+    if matches.subcommand_name() == Some("run") {
+        return run_order(words);
     }
     verdict_order(matches.subcommand_matches("verdict").ok_or(Misuse::Usage)?)
 }
