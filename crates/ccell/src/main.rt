@@ -7,7 +7,7 @@ mod words;
 use crate::disk::Disk;
 use crate::words::words_of;
 use cli::{Stop, dispatch, report};
-use export::ToWrite;
+use export::{FromRead, ToWrite};
 use std::alloc::{AllocError, Global};
 use std::process::ExitCode;
 
@@ -18,9 +18,17 @@ fn texts_of(alloc: Global, words: &[String]) -> Result<Vec<&str>, AllocError> {
 fn status_of(rt: &HostRuntime) -> Result<u8, Stop<'static>> {
     let words = words_of(rt, rt.alloc())?;
     let texts = texts_of(rt.alloc(), &words).map_err(|_| Stop::OutOfMemory)?;
+    let mut input = FromRead::new(rt.stdin());
     let mut out = ToWrite::new(rt.stdout());
     let mut err = ToWrite::new(rt.stderr());
-    Ok(dispatch(rt.alloc(), &texts, &mut Disk(rt), &mut out, &mut err))
+    Ok(dispatch(
+        rt.alloc(),
+        &texts,
+        &mut Disk(rt),
+        &mut input,
+        &mut out,
+        &mut err,
+    ))
 }
 
 fn main(rt: HostRuntime) -> ExitCode {

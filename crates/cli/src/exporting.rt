@@ -13,7 +13,7 @@ use std::alloc::Global;
 use thiserror::Error;
 
 /// Why a bundle has no checked filter. Its text is the line that says so.
-#[derive(Debug, Drop, Error)]
+#[derive(Clone, Copy, Debug, Error)]
 pub(crate) enum Unready {
     #[error("refused profile {0}")]
     Profile(ProfileError),
@@ -93,8 +93,12 @@ impl Prepared {
     }
 }
 
-// Writes the line that says why there is no checked filter.
-fn refuse<S: Sink>(alloc: Global, unready: &Unready, sink: &mut S) -> Result<(), ExportFault> {
+/// Writes the line that says why there is no checked filter.
+pub(crate) fn refuse<S: Sink>(
+    alloc: Global,
+    unready: &Unready,
+    sink: &mut S,
+) -> Result<(), ExportFault> {
     if let Unready::OutOfMemory = unready {
         return Err(ExportFault::OutOfMemory);
     }

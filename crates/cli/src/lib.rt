@@ -9,6 +9,7 @@ mod finding;
 mod law;
 mod line;
 mod program;
+mod running;
 mod stops;
 #[cfg(test)]
 mod tests;
@@ -20,4 +21,5 @@ pub use finding::{Finding, check_line, finding_of};
 pub use law::one_answer;
 pub use line::verdict_line;
 pub use program::dispatch;
+pub use session::{Bundles, ScriptFault, run_script};
 pub use stops::{Stop, report};

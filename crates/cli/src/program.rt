@@ -6,9 +6,10 @@ use crate::fault::FileFault;
 use crate::files::Files;
 use crate::finding::check_line;
 use crate::line::verdict_line;
+use crate::running::run_bundles;
 use crate::stops::{Stop, report};
 use command_line::{Order, read_words};
-use export::Sink;
+use export::{Sink, Source};
 use std::alloc::Global;
 
 fn read<'a>(alloc: Global, files: &mut impl Files, name: &'a str) -> Result<Vec<u8>, Stop<'a>> {
@@ -18,11 +19,27 @@ fn read<'a>(alloc: Global, files: &mut impl Files, name: &'a str) -> Result<Vec<
     })
 }
 
-// Carries the order out: true where it answered a word or yes or wrote what was asked for, false where it refused.
+// The bytes of files, in the order of their names.
+fn read_each<'a>(
+    alloc: Global,
+    files: &mut impl Files,
+    names: &'a [&'a str],
+) -> Result<Vec<Vec<u8>>, Stop<'a>> {
+    let mut texts = Vec::new(alloc);
+    for name in names {
+        let text = read(alloc, files, name)?;
+        texts.push(text).map_err(|_| Stop::OutOfMemory)?;
+    }
+    Ok(texts)
+}
+
+// Carries the order out: true where it answered a word or yes, wrote what was asked for or ran a script, false where it
+// refused.
 fn carry_out<'a>(
     alloc: Global,
     words: &'a [&'a str],
     files: &mut impl Files,
+    input: &mut impl Source,
     out: &mut impl Sink,
 ) -> Result<bool, Stop<'a>> {
     match read_words(alloc, words)? {
@@ -50,6 +67,10 @@ fn carry_out<'a>(
             let bundle = read(alloc, files, bundle)?;
             Ok(export_bundle(alloc, native, &bundle, form, out)?)
         }
+        Order::Run { native, bundles } => {
+            let texts = read_each(alloc, files, bundles)?;
+            run_bundles(alloc, native, &texts, input, out)
+        }
     }
 }
 
@@ -59,12 +80,13 @@ pub fn dispatch(
     alloc: Global,
     words: &[&str],
     files: &mut impl Files,
+    input: &mut impl Source,
     out: &mut impl Sink,
     err: &mut impl Sink,
 ) -> u8
     ensures { result ≤ 3 }
 {
-    match carry_out(alloc, words, files, out) {
+    match carry_out(alloc, words, files, input, out) {
         Ok(true) => 0,
         Ok(false) => 1,
         Err(stop) => report(&stop, err),

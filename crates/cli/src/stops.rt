@@ -5,6 +5,7 @@ ghost use Rattle.cli.specs.Stop.{status_of};
 use arrayvec::ArrayString;
 use command_line::Misuse;
 use export::{ExportFault, Sink, write_all};
+use session::ScriptFault;
 use std::fmt;
 use std::fmt::Write;
 use thiserror::Error;
@@ -16,6 +17,8 @@ pub enum Stop<'a> {
     Usage,
     #[error("ccell: cannot read {0}")]
     CannotRead(&'a str),
+    #[error("ccell: read failed at line {0}")]
+    Read(u64),
     #[error("ccell: write failed after {0} bytes")]
     Write(u64),
     #[error("ccell: out of memory")]
@@ -59,6 +62,20 @@ impl From<ExportFault> for Stop<'_> {
         match fault {
             ExportFault::Write { out } => Stop::Write(out),
             ExportFault::OutOfMemory => Stop::OutOfMemory,
+        }
+    }
+}
+
+impl From<ScriptFault> for Stop<'_> {
+    ghost use Rattle.cli.specs.Stop.{stop_at_script};
+
+    ghost from_gives = { λ fault stop. stop ≡ stop_at_script fault };
+
+    fn from(fault: ScriptFault) -> Self {
+        match fault {
+            ScriptFault::Read { line } => Stop::Read(line),
+            ScriptFault::Write { out } => Stop::Write(out),
+            ScriptFault::Memory { .. } => Stop::OutOfMemory,
         }
     }
 }

@@ -2,7 +2,7 @@
 use crate::fault::FileFault;
 use crate::files::Files;
 use crate::program::dispatch;
-use export::ToWrite;
+use export::{FromRead, ToWrite};
 use std::alloc::Global;
 use std::io;
 use std::test::Fail;
@@ -45,6 +45,10 @@ impl io::Write for Room {
     }
 }
 
+fn no_input() -> FromRead<&'static [u8]> {
+    FromRead::new(&b""[..])
+}
+
 fn sink_with_room(alloc: Global, left: usize) -> ToWrite<Room> {
     ToWrite::new(Room {
         left,
@@ -63,6 +67,7 @@ fn writes_may_fail(rt: HostRuntime) -> Result<(), Fail> {
             alloc,
             &["verdict", "f", "r"],
             &mut Empty,
+            &mut no_input(),
             &mut out,
             &mut err,
         );
@@ -87,7 +92,14 @@ fn a_line_is_one_write_unless_a_name_is_long(rt: HostRuntime) -> Result<(), Fail
         let mut out = sink_with_room(alloc, 100);
         let mut err = sink_with_room(alloc, left);
         let words = ["verdict", name.as_str(), "r"];
-        let status = dispatch(alloc, &words, &mut Empty, &mut out, &mut err);
+        let status = dispatch(
+            alloc,
+            &words,
+            &mut Empty,
+            &mut no_input(),
+            &mut out,
+            &mut err,
+        );
         assert_eq!(rt; status, 3);
         assert_eq!(rt; err.writer.writes, writes);
         let line = format!(in alloc; "ccell: cannot read {name}\n")?;

@@ -4,7 +4,7 @@ use crate::shelf::Shelf;
 use crate::tell::{tell, tell_lines};
 use anyhow::Result;
 use cli::dispatch;
-use export::ToWrite;
+use export::{FromRead, ToWrite};
 use std::alloc::Global;
 
 /// Runs the program on the words after its name, and adds what it writes and its status.
@@ -13,9 +13,10 @@ pub fn session(out: &mut String, alloc: Global, shelf: &mut Shelf, line: &str) -
     for word in line.split_whitespace().skip(1) {
         words.push(if word == "''" { "" } else { word })?;
     }
+    let mut input = FromRead::new(&b""[..]);
     let mut lines = ToWrite::new(Vec::new(alloc));
     let mut faults = ToWrite::new(Vec::new(alloc));
-    let status = dispatch(alloc, &words, shelf, &mut lines, &mut faults);
+    let status = dispatch(alloc, &words, shelf, &mut input, &mut lines, &mut faults);
     tell_lines(out, str::from_utf8(&lines.writer)?)?;
     if !faults.writer.is_empty() {
         tell(out, "on standard error:")?;

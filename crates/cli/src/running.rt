@@ -1,0 +1,89 @@
+//! From bundles to their checked filters, with which a script is run.
+
+use crate::exporting::{Prepared, Unready, refuse};
+use crate::stops::Stop;
+use call_tables::Arch;
+use cert_check::Checked;
+use export::{Sink, Source};
+use session::{Bundles, run_script};
+use std::alloc::{AllocError, Global};
+
+// A bundle's name in a script, and what was made of its text.
+#[derive(Drop)]
+struct Named {
+    name: String,
+    prepared: Prepared,
+}
+
+// What was made of bundles in order, and why the one after them is refused, where one is.
+#[derive(Drop)]
+struct Made {
+    bundles: Vec<Named>,
+    refused: Option<Unready>,
+}
+
+impl Made {
+    // What is made of the texts of bundles, which are read for a native machine, up to the first that is refused.
+    fn of(alloc: Global, native: Arch, texts: &[Vec<u8>]) -> Result<Made, AllocError> {
+        let mut bundles = Vec::new(alloc);
+        for (i, text) in texts.iter().enumerate() {
+            let name = format!(in alloc; "b{}", i + 1)?;
+            match Prepared::of(alloc, native, text) {
+                Ok(prepared) => bundles.push(Named { name, prepared })?,
+                Err(unready) => {
+                    return Ok(Made {
+                        bundles,
+                        refused: Some(unready),
+                    });
+                }
+            }
+        }
+        Ok(Made {
+            bundles,
+            refused: None,
+        })
+    }
+
+    // Each name with its checked filter, or why the first bundle without one has none.
+    fn checked(&self, alloc: Global) -> Result<Vec<(&str, Checked<'_>)>, Unready> {
+        let mut list = Vec::new(alloc);
+        for bundle in &self.bundles {
+            match bundle.prepared.checked(alloc) {
+                Ok(checked) => list
+                    .push((bundle.name.as_str(), checked))
+                    .map_err(|_| Unready::OutOfMemory)?,
+                Err(unready) => return Err(unready),
+            }
+        }
+        match self.refused {
+            Some(unready) => Err(unready),
+            None => Ok(list),
+        }
+    }
+}
+
+/// Answers each line of a script by a line, with the checked filters of bundles, which are named `b1`, `b2` and so on.
+/// Their texts are read for a native machine. All of them are compiled, certified and checked before the first line is
+/// read; where one is refused, the line that says so of the first such is written, and the answer is false.
+pub(crate) fn run_bundles<'a, I: Source, O: Sink>(
+    alloc: Global,
+    native: Arch,
+    texts: &[Vec<u8>],
+    input: &mut I,
+    out: &mut O,
+) -> Result<bool, Stop<'a>> {
+    let made = Made::of(alloc, native, texts).map_err(|_| Stop::OutOfMemory)?;
+    let list = match made.checked(alloc) {
+        Ok(list) => list,
+        Err(unready) => {
+            refuse(alloc, &unready, out)?;
+            return Ok(false);
+        }
+    };
+    let bundles = Bundles {
+        native,
+        list: &list,
+    };
+    run_script(alloc, &bundles, input, out)?;
+    Ok(true)
+}
