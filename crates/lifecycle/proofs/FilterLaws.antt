@@ -63,7 +63,7 @@ sound_kept = record {
 pub sound_after : (F : First) (os : List Order) (id : List ℕ) (c : Container) → container_at id (world_after F os) ≡ Some c → Sound c
 sound_after F os id c there = subst (At Sound) there (holds_after Sound sound_kept F (λ given. tt) id os [] (λ q. tt))
 
-each_all : (P : Process → Type 0) (ts : List Process) → Each P ts → All P ts
+pub each_all : (P : Process → Type 0) (ts : List Process) → Each P ts → All P ts
 each_all P [] e = λ k d h. absurd (omega arith)
 each_all P (t ∷ ts) e = All-cons P t ts e.0 (each_all P ts e.1)
 

@@ -1,5 +1,6 @@
 -- A task keeps its filters, whatever is ordered.
-use Rattle.std.proofs.Common.{◌≡◌, ℕ, Bool, true, false, List, [], Option, Some, None, if◌then◌else◌, refl, sym, ap, subst, ◌∙◌, arith, nat_lt}
+use Rattle.std.proofs.Common.{◌≡◌, ℕ, Bool, true, false, List, [], ◌∷◌, Option, Some, None, if◌then◌else◌, refl, sym, ap, subst, ◌∙◌, arith, nat_lt, All, Contains}
+use Rattle.std.proofs.lemmas.List.Elements.{All-cons, All-contains}
 use Rattle.std.specs.Cmp.Lexicographic.{nat_list_eq_equiv}
 use Rattle.call_record.specs.declared.layout.Record.{Record}
 use Rattle.cert_check.specs.declared.checked.Checked.{Checked}
@@ -9,12 +10,12 @@ use Rattle.processes.specs.Begin.{execve_of}
 use Rattle.processes.specs.Ids.{is_id}
 use Rattle.processes.specs.Kernel.{is_fatal, presented, signalled}
 use Rattle.processes.specs.Laws.{StandsBehind}
-use Rattle.processes.specs.Tasks.{Filter, Process, Processes, admitted, live_task, lives}
+use Rattle.processes.specs.Tasks.{Filter, Judge, Process, Processes, admitted, live_task, lives}
 use Rattle.processes.specs.Views.{same_text}
 use Rattle.processes.specs.declared.outcome.Outcome.{Outcome}
 use Rattle.processes.specs.declared.outcome.Outcome.TheVariants.{Done, Failed, Absent, Denied, NoTask}
 use Rattle.processes.proofs.Changes.{either}
-use Rattle.processes.proofs.KeptLaws.{Told, kept_by_event, kept_by_signal, told_begin, told_event, told_signal}
+use Rattle.processes.proofs.KeptLaws.{Agree, Agrees, Told, kept_by_event, kept_by_signal, told_begin, told_event, told_signal}
 use Rattle.processes.proofs.Numbers.{InOrder, signal_ordered, stays_in_order}
 use Rattle.lifecycle.specs.declared.command.Reply.TheVariants.{Accepted, Refused}
 use Rattle.lifecycle.specs.declared.command.Status.{Status}
@@ -22,11 +23,12 @@ use Rattle.lifecycle.specs.declared.command.Status.TheVariants.{Created, Running
 use Rattle.lifecycle.specs.declared.fault.Refusal.TheVariants.{BadId, BadSignal, IdTaken}
 use Rattle.lifecycle.specs.Orders.{Order, id_of}
 use Rattle.lifecycle.specs.Orders.Order.{Create, Start, Kill, Delete, State, Call}
-use Rattle.lifecycle.specs.Promises.{OldFiltersStay, goes_on_after, world_after}
+use Rattle.lifecycle.specs.Promises.{LoadsTellFilters, OldFiltersStay, goes_on_after, world_after}
 use Rattle.lifecycle.specs.Steps.{acted, call, delete, first_call, kill, left_after, running, start}
 use Rattle.lifecycle.specs.Worlds.{Container, First, container_at, put}
 use Rattle.lifecycle.proofs.CommandLaws.{by_start}
 use Rattle.lifecycle.proofs.Containers.{At, IsKept, Leaves, created, holds_after}
+use Rattle.lifecycle.proofs.FilterLaws.{each_all}
 use Rattle.lifecycle.proofs.Isolation.{found_other, found_own, same_is}
 
 -- ---- what holds of each container
@@ -73,6 +75,25 @@ steady_first F given = record { order = omega arith; told = record { judges = λ
 
 steady_after : (F : First) (os : List Order) (id : List ℕ) (c : Container) → container_at id (world_after F os) ≡ Some c → Steady c
 steady_after F os id c there = subst (At Steady) there (holds_after Steady steady_kept F (steady_first F) id os [] (λ q. tt))
+
+-- ---- load numbers
+
+agree_all : (judges : ℕ → Judge) (top : ℕ) (fs : List Filter) → Agree judges top fs → All (λ f. f.judge ≡ judges f.load) fs
+agree_all judges top [] a = λ k d h. absurd (omega arith)
+agree_all judges top (f ∷ fs) a = All-cons (λ (g : Filter). g.judge ≡ judges g.load) f fs a.0 (agree_all judges top fs a.2)
+
+same_filter : (f g : Filter) → f.load ≡ g.load → f.judge ≡ g.judge → f ≡ g
+same_filter f g load judge = ap (λ (n : ℕ). record { load = n; judge = f.judge }) load ∙ ap (λ (j : Judge). record { load = g.load; judge = j }) judge
+
+pub loads_tell_filters : LoadsTellFilters
+loads_tell_filters F os id c there t u f g in_t in_u in_f in_g same =
+    let told = (steady_after F os id c there).told in
+    let top = c.processes.loads in
+    let all : All (Agrees told.judges top) c.processes.tasks = each_all (Agrees told.judges top) c.processes.tasks told.agree in
+    let known : (v : Process) → Contains c.processes.tasks v → (h : Filter) → Contains v.filters h → h.judge ≡ told.judges h.load = λ v in_v h in_h.
+    All-contains (λ (x : Filter). x.judge ≡ told.judges x.load) v.filters h
+    (agree_all told.judges top v.filters (All-contains (Agrees told.judges top) c.processes.tasks v all in_v)) in_h in
+    same_filter f g same (known t in_t f in_f ∙ (ap told.judges same ∙ sym (known u in_u g in_g)))
 
 -- ---- what an order leaves of a task
 

@@ -1,6 +1,6 @@
 -- What holds of every container, whatever was ordered before.
 use Rattle.std.specs.Prelude.{◌≡◌, ◌⊎◌, ℕ, List, [], ◌∷◌, ◌++◌, Option, None, Some, if◌then◌else◌, is_some, take, true}
-use Rattle.std.specs.List.{All}
+use Rattle.std.specs.List.{All, Contains}
 use Rattle.call_record.specs.declared.layout.Record.{Record}
 use Rattle.call_record.specs.Record.{words}
 use Rattle.call_record.specs.Verdict.{IsRefusal}
@@ -79,6 +79,14 @@ OldFiltersStay =
     (F : First) (orders : List Order) (o : Order) (id : List ℕ) (c d : Container) (m : ℕ) (t u : Process)
     → container_at id (world_after F orders) ≡ Some c → container_at id (step F o (world_after F orders)).1 ≡ Some d
     → goes_on_in id o m c ≡ Some t → live_task m d.processes.tasks ≡ Some u → StandsBehind t.filters u.filters
+
+-- In a container a load number stands for one judge: so lists of filters that have the same numbers are the same, which is
+-- what is compared before one task's list is given to its group.
+abbrev pub LoadsTellFilters : Type 0
+LoadsTellFilters =
+    (F : First) (orders : List Order) (id : List ℕ) (c : Container) → container_at id (world_after F orders) ≡ Some c
+    → (t u : Process) (f g : Filter) → Contains c.processes.tasks t → Contains c.processes.tasks u → Contains t.filters f → Contains u.filters g
+    → f.load ≡ g.load → f ≡ g
 
 -- ---- what a profile refuses
 

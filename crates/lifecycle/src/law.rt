@@ -1,6 +1,6 @@
 //! Laws of runs.
 ghost use Rattle.lifecycle.specs.Own.{IsIsolated};
-ghost use Rattle.lifecycle.specs.Promises.{FirstFilterIsOldest, FirstIsGiven, OldFiltersStay, RefusedIsNotCarriedOut};
+ghost use Rattle.lifecycle.specs.Promises.{FirstFilterIsOldest, FirstIsGiven, LoadsTellFilters, OldFiltersStay, RefusedIsNotCarriedOut};
 
 /// An order sees the container that it names and no other, and changes no other.
 pub fn containers_are_isolated()
@@ -15,6 +15,11 @@ pub fn first_is_given()
 /// The filter that a container was created with is the oldest of each of its tasks, whatever they do.
 pub fn first_filter_is_oldest()
     ensures { FirstFilterIsOldest }
+{}
+
+/// In a container a load number stands for one filter.
+pub fn loads_tell_filters()
+    ensures { LoadsTellFilters }
 {}
 
 /// A task that lives before an order and after it has its old filters, behind newer ones or none.

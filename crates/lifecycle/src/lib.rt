@@ -16,7 +16,7 @@ mod start;
 pub use command::{Command, Reply, Status};
 pub use fault::Refusal;
 pub use law::{
-    containers_are_isolated, first_filter_is_oldest, first_is_given, old_filters_stay,
-    refused_is_not_carried_out,
+    containers_are_isolated, first_filter_is_oldest, first_is_given, loads_tell_filters,
+    old_filters_stay, refused_is_not_carried_out,
 };
 pub use runtime::Runtime;
