@@ -1,0 +1,9 @@
+mod Found
+mod CarryLaws
+mod KeptLaws
+mod CutLaws
+mod AnswerLaws
+mod StandLaws
+mod EndLaws
+mod ComeLaws
+mod Tests

@@ -3,3 +3,4 @@ pub mod Replies
 pub mod Commands
 pub mod Answer
 pub mod Scripts
+pub mod inner

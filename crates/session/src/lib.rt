@@ -4,8 +4,11 @@
 //! writes the reply before it reads on.
 #![tactic(auto)]
 
+mod answer;
 mod bundles;
+mod carry;
 mod fault;
+mod progress;
 mod reply;
 mod run;
 

@@ -1,13 +1,33 @@
 //! Whole scripts.
-ghost use Rattle.std.specs.Prelude.{◌≡◌, ◌⊎◌, ℕ, Err, IfOk};
-ghost use Rattle.export.specs.Failures.{HasFailed};
+ghost use Rattle.std.specs.Prelude.{◌≡◌, ◌<◌, ◌⊎◌, ℕ, Err, IfOk, OnOk, OnErr, None};
+ghost use Rattle.std.specs.Option.{option_to_list};
+ghost use Rattle.std.specs.Io.KnownBytes.{Consumes, IsAtEnd, Keeps};
+ghost use Rattle.export.specs.Failures.{HasFailed, one_more};
 ghost use Rattle.session.specs.Scripts.{IsAnswered, StopsForMemory, StopsReading, StopsWriting};
 ghost use Rattle.session.specs.declared.fault.ScriptFault.TheVariants as fault;
 
 use crate::bundles::Bundles;
 use crate::fault::ScriptFault;
-use export::{Sink, Source};
+use crate::progress::Progress;
+use export::{Failed, Sink, Source};
 use std::alloc::Global;
+
+// The next byte of a source, or `None` at its end.
+fn next_byte<I: Source>(source: &mut I) -> Result<Option<u8>, Failed>
+    ensures byte { IfOk result (λ b. Consumes (I.left source.old) (I.left source.new) (option_to_list b)) }
+    ensures end { IfOk result (λ b. b ≡ None → IsAtEnd (I.left source.new)) }
+    ensures err { OnErr result (Keeps (I.left source.old) (I.left source.new)) }
+    ensures failed { OnErr result (I.failures source.new ≡ one_more (I.failures source.old)) }
+    ensures none_failed { OnOk result (I.failures source.new ≡ I.failures source.old) }
+    ensures calls { OnOk result (I.calls source.new < I.calls source.old) }
+{
+    let mut bytes = [0];
+    match source.read(&mut bytes) {
+        Ok(0) => Ok(None),
+        Ok(_) => Ok(Some(bytes[0])),
+        Err(failed) => Err(failed),
+    }
+}
 
 /// Carries out the lines of a script in order, and answers each by a line, which is written before more is read.
 ///
@@ -31,5 +51,21 @@ pub fn run_script<I: Source, O: Sink>(
         → StopsForMemory bundles.now (I.left source.old) (I.left source.new) (O.held sink.old) (O.held sink.new) line
         ⊎ ((line ≡ 0) × (source.new ≡ source.old) × (sink.new ≡ sink.old)) }
 {
-    Err(ScriptFault::Memory { line: 0 })
+    let Ok(mut progress) = Progress::new(alloc, *bundles) else {
+        return Err(ScriptFault::Memory { line: 0 });
+    };
+    'byte: loop {
+        match next_byte(source) {
+            Ok(Some(byte)) => {
+                if let Err(fault) = progress.take(byte, sink) {
+                    return Err(fault);
+                }
+            }
+            Ok(None) => return progress.finish(sink),
+            Err(_) => {
+                let line = progress.number();
+                return Err(ScriptFault::Read { line });
+            }
+        }
+    }
 }

@@ -1,0 +1,41 @@
+-- What a request's command did.
+use Rattle.std.proofs.Common.{◌≡◌, ℕ, List, refl, ap, sym, ◌∙◌}
+use Rattle.std.specs.Prelude.{Option, Some, None, Result, Ok, Err}
+use Rattle.std.specs.declared.alloc.AllocError.{AllocError}
+use Rattle.cert_check.specs.declared.checked.Checked.{Checked}
+use Rattle.call_record.specs.declared.layout.Record.{Record}
+use Rattle.processes.specs.Attached.{attached_of}
+use Rattle.processes.specs.First.{by_program}
+use Rattle.lifecycle.specs.declared.command.Reply.{Reply}
+use Rattle.lifecycle.specs.Orders.{Order, id_of}
+use Rattle.lifecycle.specs.Orders as command
+use Rattle.lifecycle.specs.Steps.{step}
+use Rattle.lifecycle.specs.Worlds.{World}
+use Rattle.script.specs.Orders as script
+use Rattle.std.specs.Option.{option_map}
+use Rattle.std.proofs.lemmas.Option.{none-some, same_Some}
+use Rattle.session.specs.declared.bundles.Bundles.{Bundles}
+use Rattle.session.specs.Commands.{Commands, first_called, named}
+use Rattle.session.specs.inner.Carried.{CarriesOut, id_in}
+
+pub carried : (bundles : Bundles) (order : script.Order) (c : Order) (w w' : World) (r : Reply) → Commands bundles order (Some c)
+    → (r, w') ≡ step by_program c w → CarriesOut bundles order w w' (Ok (Some r))
+carried bundles order c w w' r is e = record { command = Some c; is = is; done = e; kept = tt }
+
+pub not_carried : (bundles : Bundles) (order : script.Order) (c : Order) (w w' : World) (fault : AllocError) → Commands bundles order (Some c)
+    → w' ≡ w → CarriesOut bundles order w w' (Err fault)
+not_carried bundles order c w w' fault is e = record { command = Some c; is = is; done = tt; kept = e }
+
+-- a command names what its order names
+pub names : (bundles : Bundles) (order : script.Order) (c : Order) → Commands bundles order (Some c) → id_of c ≡ id_in order
+names bundles (script.Create id name) c h = made (first_called name (named bundles)) h where
+  made : (o : Option Checked) → Some c ≡ option_map (command.Create id) o → id_of c ≡ id
+  made None e = absurd (none-some c (sym e))
+  made (Some given) e = let same : c ≡ command.Create id given = same_Some _ _ e in ap id_of same
+names bundles (script.Start id) c h = let same : c ≡ command.Start id = same_Some _ _ h in ap id_of same
+names bundles (script.Delete id) c h = let same : c ≡ command.Delete id = same_Some _ _ h in ap id_of same
+names bundles (script.State id) c h = let same : c ≡ command.State id = same_Some _ _ h in ap id_of same
+names bundles (script.Kill id signal) c h = let same : c ≡ command.Kill id signal = same_Some _ _ h in ap id_of same
+names bundles (script.Call id task arch nr args program) c h = called h.0 h.2 where
+  called : (r : Record) → Some c ≡ Some (command.Call id task r (attached_of program)) → id_of c ≡ id
+  called r e = let same : c ≡ command.Call id task r (attached_of program) = same_Some _ _ e in ap id_of same

@@ -1,0 +1,83 @@
+-- A line is answered, and what that makes of a script.
+use Rattle.std.proofs.Common.{◌≡◌, ℕ, ◌+◌, ◌<◌, List, [], ◌∷◌, ◌++◌, length, take, refl, ap, sym, subst, ◌∙◌}
+use Rattle.std.specs.Prelude.{Option, Some, None, Result, Ok, Err, IfOk}
+use Rattle.std.specs.Io.KnownBytes.{Appends}
+use Rattle.export.specs.declared.fault.ExportFault.{ExportFault}
+use Rattle.export.specs.declared.fault.ExportFault.TheVariants.{Write, OutOfMemory}
+use Rattle.export.specs.Failures.{HasFailed}
+use Rattle.export.specs.Sink.{WritesMade}
+use Rattle.processes.specs.First.{by_program}
+use Rattle.lifecycle.specs.declared.command.Reply.{Reply}
+use Rattle.lifecycle.specs.Orders.{Order, id_of}
+use Rattle.lifecycle.specs.Steps.{step}
+use Rattle.lifecycle.specs.Worlds.{World}
+use Rattle.script.specs.Grammar.{LineIs}
+use Rattle.script.specs.Orders as script
+use Rattle.std.specs.declared.alloc.AllocError.{AllocError}
+use Rattle.session.specs.declared.bundles.Bundles.{Bundles}
+use Rattle.session.specs.Answer.{counted}
+use Rattle.session.specs.Commands.{CommandIs, Commands}
+use Rattle.session.specs.Replies.{reply_line}
+use Rattle.session.specs.inner.Carried.{AnswersLine, CarriesOut, Replies, answer_line, id_in, world_after}
+use Rattle.session.specs.inner.Lines.{BreaksOff, GoesOn, RunsOut, Standing, Stands}
+use Rattle.session.proofs.CarryLaws.{names}
+use Rattle.session.proofs.StandLaws.{broke_off, ran_out, went_on}
+
+module _ {S : Type 0} (sheld : S → Option (List ℕ)) (failures : S → ℕ) (bundles : Bundles) where
+  -- a reply was written
+  pub answered : (line : List ℕ) (number : ℕ) (order : script.Order) (w w' : World) (old new : S) (result : Result ℕ ExportFault) (reply : Reply) (id : List ℕ)
+      → LineIs bundles.native line (Some order) → CarriesOut bundles order w w' (Ok (Some reply)) → id ≡ id_in order
+      → WritesMade sheld failures old new (reply_line id reply) result → IfOk result (λ n. n ≡ length (reply_line id reply))
+      → AnswersLine sheld failures bundles line number w w' old new result
+  answered line number order w w' old new result reply id is done named written len = by_command done.command done.is done.done where
+    always : (r : Result ℕ ExportFault) (P : Type 0) → P → IfOk r (λ _. P)
+    always (Ok n) P p = p
+    always (Err e) P p = tt
+
+    by_command : (c : Option Order) → Commands bundles order c → Replies c w w' (Some reply) → AnswersLine sheld failures bundles line number w w' old new result
+    by_command None ordered e = absurd e
+    by_command (Some c) ordered e =
+        let same : reply_line id reply ≡ reply_line (id_of c) (step by_program c w).0 =
+        ap (λ i. reply_line i reply) (named ∙ sym (names bundles order c ordered)) ∙ ap (λ (p : Reply × World). reply_line (id_of c) p.0) e in
+        let after : w' ≡ (step by_program c w).1 = ap (λ (p : Reply × World). p.1) e in
+        record {
+          command = Some c;
+          is = record { order = Some order; ordered = is; commanded = ordered };
+          written = subst (λ (t : List ℕ). WritesMade sheld failures old new t result) same written;
+          len = subst (λ (t : List ℕ). IfOk result (λ n. n ≡ length t)) same len;
+          world = always result (w' ≡ (step by_program c w).1) after;
+        }
+
+  module _ (s : Standing) (held : Option (List ℕ)) (lines : List (List ℕ)) (part : List ℕ) (cs : List (Option Order)) (line : List ℕ) (number : ℕ) (same : line ≡ s.kept) (numbered : number ≡ counted (s.count + 1)) (w' : World) (old new : S) (st : Stands bundles s held (sheld old) lines part cs) where
+    is_kept : (c : Option Order) → CommandIs bundles line c → CommandIs bundles s.kept c
+    is_kept c is = subst (λ (l : List ℕ). CommandIs bundles l c) same is
+
+    line_is : (c : Option Order) → answer_line by_program number c s.world ≡ answer_line by_program (counted (s.count + 1)) c s.world
+    line_is c = ap (λ n. answer_line by_program n c s.world) numbered
+
+    pub goes_on : (t : Standing) (n : ℕ) → AnswersLine sheld failures bundles line number s.world w' old new (Ok n)
+        → t.world ≡ w' → t.kept ≡ [] → t.count ≡ number → t.out ≡ counted (s.out + n) → GoesOn bundles t held (sheld new) lines part cs
+    goes_on t n h world kept count out =
+        went_on bundles s held (sheld old) lines part cs st t (sheld new) h.command n (is_kept h.command h.is)
+        (subst (λ (l : List ℕ). Appends (sheld old) (sheld new) l) (line_is h.command) h.written)
+        (h.len ∙ ap length (line_is h.command)) (world ∙ h.world) kept (count ∙ numbered) out
+
+    pub breaks_off : (fault : ExportFault) (m out : ℕ) → AnswersLine sheld failures bundles line number s.world w' old new (Err fault)
+        → fault ≡ Write m → out ≡ counted (s.out + m) → BreaksOff bundles held (sheld new) part cs out × HasFailed (failures old) (failures new)
+    breaks_off fault m out g e told =
+        let h : AnswersLine sheld failures bundles line number s.world w' old new (Err (Write m)) =
+        subst (λ (f : ExportFault). AnswersLine sheld failures bundles line number s.world w' old new (Err f)) e g in (
+          broke_off bundles s held (sheld old) lines part cs st (sheld new) h.command m out (is_kept h.command h.is)
+              (subst (λ (l : List ℕ). Appends (sheld old) (sheld new) (take m l)) (line_is h.command) h.written.0)
+              (subst (λ (l : List ℕ). m < length l) (line_is h.command) h.written.1) told,
+          h.written.2,
+        )
+
+    pub runs_out : (fault : ExportFault) (told : ℕ) → AnswersLine sheld failures bundles line number s.world w' old new (Err fault)
+        → fault ≡ OutOfMemory → told ≡ number → RunsOut bundles held (sheld new) part cs told
+    runs_out fault told g none e =
+        let h : AnswersLine sheld failures bundles line number s.world w' old new (Err OutOfMemory) =
+        subst (λ (f : ExportFault). AnswersLine sheld failures bundles line number s.world w' old new (Err f)) none g in
+        let stays : RunsOut bundles held (sheld old) part cs told =
+        ran_out bundles s held (sheld old) lines part cs st h.command told (is_kept h.command h.is) (e ∙ numbered) in
+        subst (λ (x : S). RunsOut bundles held (sheld x) part cs told) (sym h.written) stays

@@ -1,0 +1,16 @@
+-- What has come was answered, and nothing failed.
+use Rattle.std.proofs.Common.{◌≡◌}
+use Rattle.session.specs.inner.Lines.{HasCome}
+use Rattle.session.specs.inner.Progress.{standing_of}
+use Rattle.session.proofs.run.run_script.Given as goal
+
+abbrev pub invariant-byte : goal.invariant-byte
+invariant-byte g l = record {
+  come : HasCome l.bundles (standing_of l.progress) (g.I.Source.left l.fn.source) (g.I.Source.left l.source) (g.O.Sink.held l.fn.sink) (g.O.Sink.held l.sink);
+  bundles : l.progress.session.bundles ≡ l.bundles;
+  given : g.I.Source.failures l.source ≡ g.I.Source.failures l.fn.source;
+  taken : g.O.Sink.failures l.sink ≡ g.O.Sink.failures l.fn.sink;
+}
+
+abbrev pub decreases-byte : goal.decreases-byte
+decreases-byte g l = g.I.Source.calls l.source

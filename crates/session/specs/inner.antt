@@ -1,0 +1,4 @@
+pub mod Cuts
+pub mod Carried
+pub mod Lines
+pub mod Progress

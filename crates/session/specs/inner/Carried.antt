@@ -1,0 +1,54 @@
+-- What one line does.
+use Rattle.std.specs.Prelude.{ℕ, ◌≡◌, List, ◌∷◌, map, Option, None, Some, Result, IfOk, OnErr, length}
+use Rattle.std.specs.declared.alloc.AllocError.{AllocError}
+use Rattle.export.specs.Sink.{WritesMade}
+use Rattle.export.specs.declared.fault.ExportFault.{ExportFault}
+use Rattle.processes.specs.First.{by_program}
+use Rattle.lifecycle.specs.declared.command.Reply.{Reply}
+use Rattle.lifecycle.specs.Orders.{Order, id_of}
+use Rattle.lifecycle.specs.Steps.{step}
+use Rattle.lifecycle.specs.Worlds.{First, World}
+use Rattle.script.specs.Orders as script
+use Rattle.session.specs.declared.bundles.Bundles.{Bundles}
+use Rattle.session.specs.Commands.{CommandIs, Commands}
+use Rattle.session.specs.Replies.{no_command_line, reply_line}
+
+-- the id that an order of a script names
+abbrev pub id_in : script.Order → List ℕ
+id_in (script.Create id name) = id
+id_in (script.Start id) = id
+id_in (script.Delete id) = id
+id_in (script.State id) = id
+id_in (script.Kill id signal) = id
+id_in (script.Call id task arch nr args program) = id
+
+-- the line that is answered to the line of this number, and the world after it
+abbrev pub answer_line : First → ℕ → Option Order → World → List ℕ
+answer_line F number None w = no_command_line number
+answer_line F number (Some c) w = reply_line (id_of c) (step F c w).0
+
+abbrev pub world_after : First → Option Order → World → World
+world_after F None w = w
+world_after F (Some c) w = (step F c w).1
+
+-- the reply to a command, or none to no command, and the world after it
+abbrev pub Replies : Option Order → World → World → Option Reply → Type 0
+Replies None w w' None = w' ≡ w
+Replies (Some c) w w' (Some r) = (r, w') ≡ step by_program c w
+Replies None w w' (Some r) = ⊥
+Replies (Some c) w w' None = ⊥
+
+-- what an order of a script commands was carried out; without memory for it the world stays
+pub record CarriesOut (bundles : Bundles) (order : script.Order) (w w' : World) (result : Result (Option Reply) AllocError) : Type 0 where
+  pub command : Option Order
+  pub is : Commands bundles order command
+  pub done : IfOk result (λ r. Replies command w w' r)
+  pub kept : OnErr result (w' ≡ w)
+
+-- a line was carried out and answered, by so many bytes
+pub record AnswersLine {S : Type 0} (held : S → Option (List ℕ)) (failures : S → ℕ) (bundles : Bundles) (line : List ℕ) (number : ℕ) (w w' : World) (old new : S) (result : Result ℕ ExportFault) : Type 0 where
+  pub command : Option Order
+  pub is : CommandIs bundles line command
+  pub written : WritesMade held failures old new (answer_line by_program number command w) result
+  pub len : IfOk result (λ n. n ≡ length (answer_line by_program number command w))
+  pub world : IfOk result (λ n. w' ≡ world_after by_program command w)

@@ -1,0 +1,31 @@
+//! One line, carried out and answered.
+ghost use Rattle.std.specs.Prelude.{◌≡◌, OnOk};
+ghost use Rattle.lifecycle.specs.Views.{world_of};
+ghost use Rattle.session.specs.inner.Carried.{AnswersLine};
+
+use crate::carry::{Session, id_named};
+use crate::reply::{write_no_command, write_reply};
+use export::{ExportFault, Sink};
+use script::read_line;
+use std::alloc::Global;
+
+/// Carries out the line of this number, writes the line that answers it, and says how many bytes that line has.
+pub(crate) fn answer_line<S: Sink>(
+    alloc: Global,
+    session: &mut Session<'_>,
+    line: &[u8],
+    number: u64,
+    sink: &mut S,
+) -> Result<usize, ExportFault>
+    ensures bundles { session.new.bundles ≡ session.old.bundles }
+    ensures none_failed { OnOk result (S.failures sink.new ≡ S.failures sink.old) }
+    ensures done { AnswersLine S.held S.failures session.old.bundles line.now number (world_of session.old.runtime) (world_of session.new.runtime) sink.old sink.new result }
+{
+    let Some(request) = read_line(session.bundles.native, line) else {
+        return write_no_command(number, sink);
+    };
+    match session.carry_out(&request)? {
+        Some(reply) => write_reply(alloc, id_named(&request), &reply, sink),
+        None => write_no_command(number, sink),
+    }
+}
