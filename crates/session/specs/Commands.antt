@@ -15,7 +15,7 @@ use Rattle.session.specs.declared.bundles.Bundles.{Bundles}
 
 -- each name with its checked filter
 abbrev pub named : Bundles → List (List ℕ × Checked)
-named bundles = map (λ b. (b.0.now, b.1)) bundles.list.now
+named bundles = map (λ b. (b.name.now, b.checked)) bundles.list.now
 
 -- the first that has the name
 abbrev pub first_called : List ℕ → List (List ℕ × Checked) → Option Checked

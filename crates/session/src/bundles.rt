@@ -2,13 +2,20 @@
 use call_tables::Arch;
 use cert_check::Checked;
 
+/// A checked filter, and what a script calls it.
+#[derive(Clone, Copy)]
+pub struct Bundle<'a> {
+    pub name: &'a str,
+    pub checked: Checked<'a>,
+}
+
 /// The checked filters that a script may name, and the machine whose calls it names.
 #[derive(Clone, Copy)]
 pub struct Bundles<'a> {
     /// The native machine: calls are named by its table.
     pub native: Arch,
-    /// Each name with its checked filter. Of equal names the first counts.
-    pub list: &'a [(&'a str, Checked<'a>)],
+    /// Of equal names the first counts.
+    pub list: &'a [Bundle<'a>],
 }
 
 impl<'a> Bundles<'a> {
@@ -21,8 +28,8 @@ impl<'a> Bundles<'a> {
     {
         for i in 0..self.list.len() {
             let bundle = self.list[i];
-            if name == bundle.0 {
-                return Some(bundle.1);
+            if name == bundle.name {
+                return Some(bundle.checked);
             }
         }
         None

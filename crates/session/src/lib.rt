@@ -12,6 +12,6 @@ mod progress;
 mod reply;
 mod run;
 
-pub use bundles::Bundles;
+pub use bundles::{Bundle, Bundles};
 pub use fault::ScriptFault;
 pub use run::run_script;

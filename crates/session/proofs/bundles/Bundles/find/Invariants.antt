@@ -1,9 +1,10 @@
 -- No bundle so far has the name.
 use Rattle.std.proofs.Common.{◌≡◌, drop, map}
 use Rattle.session.specs.Commands.{first_called, named}
+use Rattle.session.specs.declared.bundles.Bundle.{Bundle}
 use Rattle.session.proofs.bundles.Bundles.find.Given as goal
 
 abbrev pub invariant-loop-i : goal.invariant-loop-i
 invariant-loop-i l = record {
-  found : first_called l.name (named l.self) ≡ first_called l.name (map (λ b. (b.0.now, b.1)) (drop l.i l.self.list.now));
+  found : first_called l.name (named l.self) ≡ first_called l.name (map (λ (b : Bundle). (b.name.now, b.checked)) (drop l.i l.self.list.now));
 }
