@@ -21,5 +21,5 @@ pub use finding::{Finding, check_line, finding_of};
 pub use law::one_answer;
 pub use line::verdict_line;
 pub use program::dispatch;
-pub use session::{Bundles, ScriptFault, run_script};
+pub use session::{Bundle, Bundles, ScriptFault, run_script};
 pub use stops::{Stop, report};

@@ -3,9 +3,8 @@
 use crate::exporting::{Prepared, Unready, refuse};
 use crate::stops::Stop;
 use call_tables::Arch;
-use cert_check::Checked;
 use export::{Sink, Source};
-use session::{Bundles, run_script};
+use session::{Bundle, Bundles, run_script};
 use std::alloc::{AllocError, Global};
 
 // A bundle's name in a script, and what was made of its text.
@@ -45,13 +44,15 @@ impl Made {
     }
 
     // Each name with its checked filter, or why the first bundle without one has none.
-    fn checked(&self, alloc: Global) -> Result<Vec<(&str, Checked<'_>)>, Unready> {
+    fn checked(&self, alloc: Global) -> Result<Vec<Bundle<'_>>, Unready> {
         let mut list = Vec::new(alloc);
         for bundle in &self.bundles {
             match bundle.prepared.checked(alloc) {
-                Ok(checked) => list
-                    .push((bundle.name.as_str(), checked))
-                    .map_err(|_| Unready::OutOfMemory)?,
+                Ok(checked) => {
+                    let name = bundle.name.as_str();
+                    list.push(Bundle { name, checked })
+                        .map_err(|_| Unready::OutOfMemory)?;
+                }
                 Err(unready) => return Err(unready),
             }
         }
