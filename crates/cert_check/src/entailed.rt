@@ -1,5 +1,5 @@
 //! Whether what is known on an edge gives what its node says.
-ghost use Rattle.std.specs.Prelude.{ℕ, ◌≡◌, ◌<◌, ◌++◌, ◌↔◌, IsTrue, IfSome, MatchOption, All, Contains, slice_get, Some, slice_index_or, length, option_to_list};
+ghost use Rattle.std.specs.Prelude.{ℕ, ◌≡◌, ◌≢◌, ◌<◌, ◌++◌, ◌↔◌, IsTrue, MatchOption, All, Contains, slice_get, Some, slice_index_or, length, option_to_list};
 ghost use Rattle.cert_state.specs.declared.literal.AVal.{AVal as TheValue};
 ghost use Rattle.cert_state.specs.declared.literal.AVal.TheVariants.{Unknown};
 ghost use Rattle.cert_state.specs.Entailment.{Entails, IsDead};
@@ -34,11 +34,11 @@ fn allows_scratch(there: &[AVal; 16], here: &[AVal; 16]) -> bool
     true
 }
 
-// The place after a literal among those of a state from a place on, if it stands there.
+// The place after a literal among those of a state from a place on, or none where each of those is another.
 fn after<S: State>(state: &S, from: usize, wanted: &Lit) -> Option<usize>
     requires { AreAmong (S.rest state.now from) (S.known state.now) }
-    ensures { IfSome result (λ next. Contains (S.known state.now) wanted.now
-        × AreAmong (S.rest state.now next) (S.known state.now)) }
+    ensures { MatchOption result (All (λ l. l ≢ wanted.now) (S.rest state.now from))
+        (λ next. Contains (S.known state.now) wanted.now × AreAmong (S.rest state.now next) (S.known state.now)) }
 {
     let mut at = from;
     while let Some((literal, next)) = state.next(at) {

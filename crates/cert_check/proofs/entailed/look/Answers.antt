@@ -1,4 +1,4 @@
-use Rattle.std.proofs.Common.{◌≡◌, Bool, true, false, refl, inl}
+use Rattle.std.proofs.Common.{◌≡◌, true, false, refl, inl}
 use Rattle.std.specs.Prelude.{option_to_list}
 use Rattle.std.proofs.lemmas.List.Elements.{Contains-append_left}
 use Rattle.cert_check.proofs.entailed.look.Goals as goal
