@@ -7,3 +7,4 @@ mod StandLaws
 mod EndLaws
 mod ComeLaws
 mod Tests
+mod OneLaws

@@ -3,4 +3,5 @@ pub mod Replies
 pub mod Commands
 pub mod Answer
 pub mod Scripts
+pub mod Laws
 pub mod inner

@@ -8,10 +8,12 @@ mod answer;
 mod bundles;
 mod carry;
 mod fault;
+mod law;
 mod progress;
 mod reply;
 mod run;
 
 pub use bundles::{Bundle, Bundles};
 pub use fault::ScriptFault;
+pub use law::one_script;
 pub use run::run_script;
