@@ -5,16 +5,8 @@
 ghost use Rattle.std.specs.Prelude.{◌≡◌, ◌<◌, ◌≤◌, ◌^◌, ℕ, IfSome, IfNone, bit_and};
 ghost use Rattle.call_record.specs.Bits.{IsLeastFrom};
 
-/// The least number `u` from `from` on with `u & mask == datum`. There is none where the datum has
-/// bits outside the mask, or where no such number of 64 bits is as great as `from`.
-pub fn least_from(from: u64, mask: u64, datum: u64) -> Option<u64>
-    ensures found { IfSome result (IsLeastFrom from mask datum) }
-    ensures none { IfNone result ((v : ℕ) → v < 2 ^ 64 → from ≤ v → bit_and v mask ≡ datum → ⊥) }
-{
-    least_below(64, from, mask, datum)
-}
-
-/// The same among the numbers of this many bits.
+/// The least number `u` of this many bits from `from` on with `u & mask == datum`. There is none where the datum has
+/// bits outside the mask, or where no such number is as great as `from`.
 pub fn least_below(bits: u32, from: u64, mask: u64, datum: u64) -> Option<u64>
     requires { bits ≤ 64 }
     ensures found { IfSome result (IsLeastFrom from mask datum) }

@@ -2,7 +2,7 @@
 //!
 //! A `Record` is sixteen words of 32 bits, and 64 bytes. A `Word` says what becomes of the call;
 //! `strictest` picks the word that counts where a task has several filters, and `Word::ends` says
-//! what ends by a word. `least_from` finds the least number with given bits under a mask, which
+//! what ends by a word. `least_below` finds the least number with given bits under a mask, which
 //! decides whether conditions on an argument can be met together.
 #![tactic(auto)]
 
@@ -16,7 +16,7 @@ mod strictness;
 mod text;
 mod verdict;
 
-pub use bits::{least_below, least_from};
+pub use bits::least_below;
 pub use effect::Ends;
 pub use laws::{refusal_stands, same_bytes, same_record, words_are_a_record};
 pub use layout::Record;
