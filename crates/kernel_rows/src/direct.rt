@@ -1,0 +1,123 @@
+//! Calls of the kernel itself.
+
+use crate::bundles::Bench;
+use crate::orders::{Order, written_out};
+use crate::tally::Tally;
+use crate::texts::{outcome_text, view_text};
+use anyhow::{Context, Result, bail};
+use cert_check::Checked;
+use processes::{Id, Kernel, Outcome, TaskTable};
+use row_parts::tell::tell;
+use row_parts::text::{number, record};
+use script::Request;
+use std::alloc::{AllocError, Global};
+
+/// Adds a block with its answers.
+pub fn tell_kernel(out: &mut String, alloc: Global, bench: &Bench<'_>, block: &str) -> Result<()> {
+    let mut kernel = TaskTable::new(alloc);
+    for line in block.lines() {
+        out.push_str(line)?;
+        out.push_str("\n")?;
+        tell_line(out, alloc, &mut kernel, bench, line).context(format_args!("at {line}"))?;
+    }
+    Ok(())
+}
+
+// Adds the answer to a line.
+fn tell_line(
+    out: &mut String,
+    alloc: Global,
+    kernel: &mut TaskTable,
+    bench: &Bench<'_>,
+    line: &str,
+) -> Result<()> {
+    if let Some(name) = line.strip_prefix("every-call ") {
+        return tell_every_call(out, alloc, kernel, bench, name);
+    }
+    let whole = written_out(alloc, line)?;
+    let mut tally = Tally::new(alloc);
+    for part in whole.lines() {
+        tally.add(answer(alloc, kernel, bench, part)?);
+    }
+    tally.tell(out)
+}
+
+// The answer to a call of the kernel.
+fn answer(alloc: Global, kernel: &mut TaskTable, bench: &Bench<'_>, line: &str) -> Result<String> {
+    let (word, rest) = line.split_once(' ').unwrap_or((line, ""));
+    let (id, last) = rest.split_once(' ').unwrap_or((rest, ""));
+    let id = Id::read(id).context("an id")?;
+    match word {
+        "admit" => admit(kernel, &id, bench.checked(last)?)?,
+        "signal" => signal(kernel, &id, number(last)?)?,
+        "expel" => kernel.expel(&id),
+        "live" => {
+            let text = if kernel.live(&id) { "yes" } else { "no" };
+            return Ok(String::from_str(alloc, text)?);
+        }
+        "task" => return view_text(alloc, kernel.task(&id, number(last)?)),
+        "call" => return present(alloc, kernel, bench, &id, line),
+        _ => bail!("no call of the kernel"),
+    }
+    Ok(String::from_str(alloc, "ok")?)
+}
+
+// Admits a container, anew if it is there.
+fn admit(kernel: &mut TaskTable, id: &Id, first: Checked<'_>) -> Result<(), AllocError> {
+    kernel.expel(id);
+    kernel.admit(id, first)
+}
+
+// Sends a signal, which a live container takes.
+fn signal(kernel: &mut TaskTable, id: &Id, sig: u64) -> Result<()> {
+    if !kernel.live(id) {
+        bail!("no live container");
+    }
+    if sig > 64 {
+        bail!("no signal");
+    }
+    kernel.signal(id, sig);
+    Ok(())
+}
+
+// What becomes of the call of a line.
+fn present(
+    alloc: Global,
+    kernel: &mut TaskTable,
+    bench: &Bench<'_>,
+    id: &Id,
+    line: &str,
+) -> Result<String> {
+    let order = Order::read(alloc, bench.native, line)?;
+    let Request::Call { task, .. } = order.request else {
+        bail!("no call");
+    };
+    let outcome = kernel.present(id, task, &order.rec, order.program.as_deref())?;
+    outcome_text(alloc, outcome)
+}
+
+// Adds what becomes of each call of the machine.
+fn tell_every_call(
+    out: &mut String,
+    alloc: Global,
+    kernel: &mut TaskTable,
+    bench: &Bench<'_>,
+    name: &str,
+) -> Result<()> {
+    let first = bench.checked(name)?;
+    for nr in 0..1000 {
+        if let Some(name) = bench.native.name(nr) {
+            let outcome = outcome_text(alloc, first_call(kernel, first, nr)?)?;
+            tell(out, format_args!("{name}: {outcome}"))?;
+        }
+    }
+    Ok(())
+}
+
+// What becomes of the first call of a container.
+fn first_call(kernel: &mut TaskTable, first: Checked<'_>, nr: u32) -> Result<Outcome> {
+    let id = Id::read("c").context("an id")?;
+    admit(kernel, &id, first)?;
+    let call = record(nr, first.profile().native().token(), 0, [0; 6]);
+    Ok(kernel.present(&id, 1, &call, None)?)
+}

@@ -1,0 +1,156 @@
+//! Commands of a runtime, by single calls and by one call for all.
+
+use crate::bundles::{Bench, Made};
+use crate::orders::{Order, written_out};
+use crate::tally::Tally;
+use crate::texts::reply_text;
+use anyhow::{Context, Result};
+use call_tables::Arch;
+use lifecycle::{Command, Reply, Runtime};
+use processes::TaskTable;
+use row_parts::tell::tell;
+use row_parts::text::number;
+use script::Request;
+use std::alloc::{AllocError, Global};
+
+// The lines that a block stands for, and empty ones.
+fn script_of(alloc: Global, block: &str) -> Result<String> {
+    let mut script = String::new(alloc);
+    for line in block.lines() {
+        script.push_str(written_out(alloc, line)?.as_str())?;
+        script.push_str("\n")?;
+    }
+    Ok(script)
+}
+
+// What the lines order.
+fn orders_of<'a>(alloc: Global, native: Arch, script: &'a str) -> Result<Vec<Order<'a>>> {
+    let mut all = Vec::new(alloc);
+    for line in script.lines() {
+        if !line.is_empty() {
+            all.push(Order::read(alloc, native, line)?)?;
+        }
+    }
+    Ok(all)
+}
+
+// An id of a script, where two quotes are the empty one.
+fn id_of(field: &str) -> &str {
+    if field == "''" { "" } else { field }
+}
+
+// The command of an order.
+fn command<'a>(bench: &Bench<'a>, order: &'a Order<'a>) -> Result<Command<'a>> {
+    Ok(match order.request {
+        Request::Create { id, bundle } => Command::Create(id_of(id), bench.checked(bundle)?),
+        Request::Start { id } => Command::Start(id_of(id)),
+        Request::Delete { id } => Command::Delete(id_of(id)),
+        Request::State { id } => Command::State(id_of(id)),
+        Request::Kill { id, signal } => Command::Kill(id_of(id), signal),
+        Request::Call { id, task, .. } => {
+            Command::Call(id_of(id), task, &order.rec, order.program.as_deref())
+        }
+    })
+}
+
+// The commands of all orders.
+fn commands_of<'a>(
+    alloc: Global,
+    bench: &Bench<'a>,
+    orders: &'a [Order<'a>],
+) -> Result<Vec<Command<'a>>> {
+    let mut all = Vec::new(alloc);
+    for order in orders {
+        all.push(command(bench, order)?)?;
+    }
+    Ok(all)
+}
+
+// The reply to a command, by the call that it names.
+fn reply_to<'a>(
+    runtime: &mut Runtime<'a, TaskTable>,
+    command: &Command<'a>,
+) -> Result<Reply, AllocError> {
+    match *command {
+        Command::Create(id, checked) => runtime.create(id, checked),
+        Command::Start(id) => runtime.start(id),
+        Command::Kill(id, sig) => Ok(runtime.kill(id, sig)),
+        Command::Delete(id) => Ok(runtime.delete(id)),
+        Command::State(id) => Ok(runtime.state(id)),
+        Command::Call(id, task, rec, program) => runtime.call(id, task, rec, program),
+    }
+}
+
+// The replies to all commands, by one run.
+fn replies_of_run<'a>(alloc: Global, commands: &[Command<'a>]) -> Result<Vec<Reply>, AllocError> {
+    let mut runtime = Runtime::new(alloc, TaskTable::new(alloc));
+    let (replies, end) = runtime.run(commands);
+    end?;
+    Ok(replies)
+}
+
+// Adds the answers to the commands of a line, beside the replies of the run.
+fn tell_replies<'a>(
+    out: &mut String,
+    alloc: Global,
+    runtime: &mut Runtime<'a, TaskTable>,
+    commands: &[Command<'a>],
+    replies: &[Reply],
+) -> Result<()> {
+    let mut tally = Tally::new(alloc);
+    for (command, other) in commands.iter().zip(replies) {
+        let reply = reply_to(runtime, command)?;
+        if reply != *other {
+            tell(out, format_args!("by one run: {other:?}"))?;
+        }
+        tally.add(reply_text(alloc, reply)?);
+    }
+    tally.tell(out)
+}
+
+// Adds the id at a place.
+fn tell_id(out: &mut String, runtime: &Runtime<'_, TaskTable>, place: &str) -> Result<()> {
+    let place = usize::try_from(number(place)?)?;
+    tell(out, runtime.id_at(place).unwrap_or("none"))
+}
+
+// Adds the lines of a block with the answers of single calls.
+fn tell_lines<'a>(
+    out: &mut String,
+    alloc: Global,
+    block: &str,
+    commands: &[Command<'a>],
+    replies: &[Reply],
+) -> Result<()> {
+    let mut runtime = Runtime::new(alloc, TaskTable::new(alloc));
+    let mut done = 0usize;
+    for line in block.lines() {
+        out.push_str(line)?;
+        out.push_str("\n")?;
+        let end = done.saturating_add(written_out(alloc, line)?.lines().count());
+        let own = commands.get(done..end).context("the commands")?;
+        let told = replies.get(done..end).context("the replies")?;
+        tell_replies(out, alloc, &mut runtime, own, told)?;
+        if let Some(place) = line.strip_prefix("id ") {
+            tell_id(out, &runtime, place)?;
+        }
+        done = end;
+    }
+    Ok(())
+}
+
+/// Adds a block with its answers.
+pub fn tell_runtime(
+    out: &mut String,
+    alloc: Global,
+    native: Arch,
+    made: &[Made],
+    block: &str,
+) -> Result<()> {
+    let script = script_of(alloc, block)?;
+    let orders = orders_of(alloc, native, script.as_str())?;
+    let bench = Bench::of(alloc, native, made)?;
+    let commands = commands_of(alloc, &bench, &orders)?;
+    let replies = replies_of_run(alloc, &commands)?;
+    tell_lines(out, alloc, block, &commands, &replies)
+}

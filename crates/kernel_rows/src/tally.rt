@@ -1,0 +1,42 @@
+//! The answers of one line.
+
+use anyhow::Result;
+use row_parts::tell::tell;
+use std::alloc::Global;
+
+/// The last answer so far, and how many of the last are like it.
+#[derive(Drop)]
+pub struct Tally {
+    last: String,
+    times: u64,
+}
+
+impl Tally {
+    /// No answers.
+    pub fn new(alloc: Global) -> Tally {
+        Tally {
+            last: String::new(alloc),
+            times: 0,
+        }
+    }
+
+    /// One more answer.
+    pub fn add(&mut self, answer: String) {
+        if answer == self.last {
+            self.times = self.times.saturating_add(1);
+        } else {
+            self.last = answer;
+            self.times = 1;
+        }
+    }
+
+    /// Adds the line of the last answer.
+    pub fn tell(&self, out: &mut String) -> Result<()> {
+        let answer = &self.last;
+        match self.times {
+            0 => Ok(()),
+            1 => tell(out, answer.as_str()),
+            times => tell(out, format_args!("{answer}, {times} times")),
+        }
+    }
+}
