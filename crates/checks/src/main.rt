@@ -29,7 +29,7 @@ mod grid;
 mod tally;
 
 use anyhow::{Context, Result, bail};
-use row_parts::session::session;
+use row_parts::program::session;
 use row_parts::shelf::Shelf;
 use std::alloc::Global;
 use std::{env, fs};

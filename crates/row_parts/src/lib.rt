@@ -3,7 +3,7 @@
 #![tactic(auto)]
 
 pub mod bytes;
-pub mod session;
+pub mod program;
 pub mod shelf;
 pub mod tell;
 pub mod text;

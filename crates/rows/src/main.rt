@@ -37,7 +37,7 @@ mod verdicts;
 use crate::bundles::Bundles;
 use crate::filters::Filters;
 use anyhow::{Context, Result};
-use row_parts::session;
+use row_parts::program::session;
 use row_parts::shelf::Shelf;
 use std::alloc::Global;
 use std::{env, fs};
@@ -65,7 +65,7 @@ impl Bench {
         match word {
             "" | "#" => Ok(()),
             "file" => self.shelf.put(alloc, rest),
-            "$" => session::session(out, alloc, &mut self.shelf, rest),
+            "$" => session(out, alloc, &mut self.shelf, rest),
             "frame" | "bundle" | "decide" | "compile" | "conforms" | "figures" => self
                 .bundles
                 .answer(out, alloc, word, rest),
