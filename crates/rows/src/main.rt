@@ -65,7 +65,7 @@ impl Bench {
         match word {
             "" | "#" => Ok(()),
             "file" => self.shelf.put(alloc, rest),
-            "$" => session(out, alloc, &mut self.shelf, rest),
+            "$" => session(out, alloc, &mut self.shelf, rest, &[]),
             "frame" | "bundle" | "decide" | "compile" | "conforms" | "figures" => self
                 .bundles
                 .answer(out, alloc, word, rest),
