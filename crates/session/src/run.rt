@@ -33,7 +33,7 @@ fn next_byte<I: Source>(source: &mut I) -> Result<Option<u8>, Failed>
 ///
 /// Where it is done, the whole source was read and its answer was written. A failing source leaves the answer of the whole
 /// lines before; a failing sink a beginning of the answer, and nothing more is read; want of memory the answer of the
-/// lines before, and nothing at all where the line is 0.
+/// lines before, and nothing at all where the line is 0. The source is asked for one byte a call.
 pub fn run_script<I: Source, O: Sink>(
     alloc: Global,
     bundles: &Bundles<'_>,
