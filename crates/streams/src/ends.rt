@@ -1,0 +1,97 @@
+//! Input and output that give out.
+
+use std::alloc::Global;
+use std::io;
+
+/// How ends give out: how many bytes a call moves at most, and whether an output without room fails or takes none.
+#[derive(Clone, Copy)]
+pub struct Manner {
+    pub most: usize,
+    pub fails: bool,
+}
+
+/// As many bytes a call as there are.
+pub const AT_ONCE: Manner = Manner {
+    most: usize::MAX,
+    fails: true,
+};
+
+/// One byte a call.
+pub const BYTE_BY_BYTE: Manner = Manner {
+    most: 1,
+    fails: true,
+};
+
+/// A reader that fails after so many calls.
+#[derive(Drop)]
+pub struct Supply<'a> {
+    left: &'a [u8],
+    manner: Manner,
+    calls: usize,
+}
+
+impl<'a> Supply<'a> {
+    pub fn new(text: &'a [u8], manner: Manner, calls: usize) -> Supply<'a> {
+        Supply {
+            left: text,
+            manner,
+            calls,
+        }
+    }
+
+    /// The bytes that were not read.
+    pub fn left(&self) -> &'a [u8] {
+        self.left
+    }
+}
+
+impl io::Read for Supply<'_> {
+    fn read(&mut self, buffer: &mut [u8]) -> io::Result<usize> {
+        if self.calls == 0 {
+            return Err(io::Error::from(io::ErrorKind::Other));
+        }
+        self.calls -= 1;
+        let n = buffer.len().min(self.left.len()).min(self.manner.most);
+        let (given, left) = self.left.split_at(n);
+        buffer[..n].copy_from_slice(given);
+        self.left = left;
+        Ok(n)
+    }
+}
+
+/// A writer with room for so many bytes. It counts the writes.
+#[derive(Drop)]
+pub struct Room {
+    pub held: Vec<u8>,
+    pub writes: u64,
+    left: usize,
+    manner: Manner,
+}
+
+impl Room {
+    pub fn new(alloc: Global, manner: Manner, left: usize) -> Room {
+        Room {
+            held: Vec::new(alloc),
+            writes: 0,
+            left,
+            manner,
+        }
+    }
+}
+
+impl io::Write for Room {
+    fn write(&mut self, bytes: &[u8]) -> io::Result<usize> {
+        self.writes = self.writes.saturating_add(1);
+        if self.left == 0 && self.manner.fails {
+            return Err(io::Error::from(io::ErrorKind::StorageFull));
+        }
+        let n = bytes.len().min(self.left).min(self.manner.most);
+        self.held.extend_from_slice(&bytes[..n])?;
+        self.left -= n;
+        Ok(n)
+    }
+
+    fn flush(&mut self) -> io::Result<()> {
+        Ok(())
+    }
+}
