@@ -11,8 +11,6 @@ mod line;
 mod program;
 mod running;
 mod stops;
-#[cfg(test)]
-mod tests;
 
 pub use answer::{Answer, answer_to};
 pub use fault::FileFault;

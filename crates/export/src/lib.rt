@@ -5,8 +5,6 @@ mod exports;
 mod fault;
 mod sink;
 mod source;
-#[cfg(test)]
-mod tests;
 
 pub use exports::{export_cert, export_listing, export_raw};
 pub use fault::{ExportFault, Failed};
