@@ -4,7 +4,7 @@ ghost use Rattle.std.specs.Option.{option_map};
 ghost use Rattle.std.specs.Char.{is_ascii_digit};
 ghost use Rattle.std.specs.Str.Parse.{IsNumeral};
 ghost use Rattle.bpf_asm.specs.Digits.{are_digits, is_hexadecimal_digit};
-ghost use Rattle.bpf_asm.specs.inner.Reading.{arguments_at, bracketed_at, decimal_at, hexadecimal_at, number_of, part_at, split_at};
+ghost use Rattle.bpf_asm.specs.inner.Reading.{arguments_at, bracketed_at, decimal_at, hexadecimal_at, last_parts, number_of, part_at, split_at};
 
 /// What stands after the word of a line, between two commas.
 ///
@@ -132,6 +132,19 @@ fn read_part(text: &str) -> Option<Part>
     }
 }
 
+// The arguments behind the first two, if the rest is one part or two, with a comma between them.
+fn read_last(first: Part, second: Part, rest: &str) -> Option<Arguments>
+    ensures { result ≡ last_parts first second rest.now (split_at 44 rest.now) }
+{
+    match split(rest, ',') {
+        None => Some(Arguments::Three(first, second, read_part(rest)?)),
+        Some((third, fourth)) => {
+            let third = read_part(third)?;
+            Some(Arguments::Four(first, second, third, read_part(fourth)?))
+        }
+    }
+}
+
 /// The arguments that a text is, if it is such: one part, three or four, with commas between them.
 #[tactic(auto, unfolding(crate::specs::inner::Reading::arguments_at))]
 pub(crate) fn read_arguments(text: &str) -> Option<Arguments>
@@ -143,11 +156,5 @@ pub(crate) fn read_arguments(text: &str) -> Option<Arguments>
     let first = read_part(first)?;
     let (second, rest) = split(rest, ',')?;
     let second = read_part(second)?;
-    match split(rest, ',') {
-        None => Some(Arguments::Three(first, second, read_part(rest)?)),
-        Some((third, fourth)) => {
-            let third = read_part(third)?;
-            Some(Arguments::Four(first, second, third, read_part(fourth)?))
-        }
-    }
+    read_last(first, second, rest)
 }

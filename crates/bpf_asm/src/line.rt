@@ -1,6 +1,7 @@
 //! From a line to its instruction.
 ghost use Rattle.std.specs.Prelude.{◌≡◌};
-ghost use Rattle.bpf_asm.specs.inner.Reading.{fields_of, insn_of, line_at};
+ghost use Rattle.bpf_asm.specs.inner.Mnemonics.{mnemonic_at};
+ghost use Rattle.bpf_asm.specs.inner.Reading.{fields_of, insn_of, judged, line_at, with_fields};
 
 use crate::arguments::Arguments::{Four, Nothing, One, Three};
 use crate::arguments::Part::{
@@ -92,16 +93,11 @@ impl Fields {
     }
 }
 
-/// The instruction that a line is of, without its line feed, or what is wrong with the line.
-#[tactic(auto, unfolding(crate::specs::inner::Reading::line_at))]
-pub(crate) fn read_line(line: &str) -> Result<Insn, LineFault>
-    ensures { result ≡ line_at line.now }
+// The instruction that a word and what stands after it are of, or what is wrong with them.
+fn read_fields(word: &str, arguments: Option<Arguments>) -> Result<Insn, LineFault>
+    ensures { result ≡ judged (with_fields (mnemonic_at word.now) arguments) }
 {
-    let (front, arguments) = match split(line, ' ') {
-        None => (line, Some(Arguments::Nothing)),
-        Some((front, rest)) => (front, read_arguments(rest)),
-    };
-    let Some(mnemonic) = Mnemonic::read(front) else {
+    let Some(mnemonic) = Mnemonic::read(word) else {
         return Err(LineFault::UnknownWord);
     };
     let Some(arguments) = arguments else {
@@ -117,4 +113,15 @@ pub(crate) fn read_line(line: &str) -> Result<Insn, LineFault>
         return Err(LineFault::BadLine);
     }
     Ok(insn)
+}
+
+/// The instruction that a line is of, without its line feed, or what is wrong with the line.
+#[tactic(auto, unfolding(crate::specs::inner::Reading::line_at))]
+pub(crate) fn read_line(line: &str) -> Result<Insn, LineFault>
+    ensures { result ≡ line_at line.now }
+{
+    match split(line, ' ') {
+        None => read_fields(line, Some(Arguments::Nothing)),
+        Some((word, rest)) => read_fields(word, read_arguments(rest)),
+    }
 }

@@ -88,32 +88,37 @@ impl Mnemonic {
     pub(crate) fn read(text: &str) -> Option<Mnemonic>
         ensures { result ≡ mnemonic_at text.now }
     {
-        match text.as_bytes() {
-            b"ld" => Some(Mnemonic::Ld),
-            b"ldx" => Some(Mnemonic::Ldx),
-            b"st" => Some(Mnemonic::St),
-            b"stx" => Some(Mnemonic::Stx),
-            b"ret" => Some(Mnemonic::Ret),
-            b"ja" => Some(Mnemonic::Ja),
-            b"jeq" => Some(Mnemonic::Branch(Test::Equal)),
-            b"jgt" => Some(Mnemonic::Branch(Test::Greater)),
-            b"jge" => Some(Mnemonic::Branch(Test::AtLeast)),
-            b"jset" => Some(Mnemonic::Branch(Test::AnyBit)),
-            b"add" => Some(Mnemonic::Compute(Arithmetic::Add)),
-            b"sub" => Some(Mnemonic::Compute(Arithmetic::Sub)),
-            b"or" => Some(Mnemonic::Compute(Arithmetic::Or)),
-            b"and" => Some(Mnemonic::Compute(Arithmetic::And)),
-            b"xor" => Some(Mnemonic::Compute(Arithmetic::Xor)),
-            b"lsh" => Some(Mnemonic::Lsh),
-            b"rsh" => Some(Mnemonic::Rsh),
-            b"neg" => Some(Mnemonic::Neg),
-            b"tax" => Some(Mnemonic::Tax),
-            b"txa" => Some(Mnemonic::Txa),
-            b"raw" => Some(Mnemonic::Raw),
-            _ => None,
-        }
+        MNEMONICS
+            .iter()
+            .copied()
+            .find(|mnemonic| text == mnemonic.text())
     }
 }
+
+// Each mnemonic.
+const MNEMONICS: [Mnemonic; 21] = [
+    Mnemonic::Ld,
+    Mnemonic::Ldx,
+    Mnemonic::St,
+    Mnemonic::Stx,
+    Mnemonic::Ret,
+    Mnemonic::Ja,
+    Mnemonic::Branch(Test::Equal),
+    Mnemonic::Branch(Test::Greater),
+    Mnemonic::Branch(Test::AtLeast),
+    Mnemonic::Branch(Test::AnyBit),
+    Mnemonic::Compute(Arithmetic::Add),
+    Mnemonic::Compute(Arithmetic::Sub),
+    Mnemonic::Compute(Arithmetic::Or),
+    Mnemonic::Compute(Arithmetic::And),
+    Mnemonic::Compute(Arithmetic::Xor),
+    Mnemonic::Lsh,
+    Mnemonic::Rsh,
+    Mnemonic::Neg,
+    Mnemonic::Tax,
+    Mnemonic::Txa,
+    Mnemonic::Raw,
+];
 
 impl fmt::Display for Mnemonic {
     ghost use Rattle.std.specs.Prelude.{Some};
