@@ -10,7 +10,7 @@ use clap::{Arg, ArgMatches, Command, Error};
 use std::alloc::{AllocError, Global};
 
 /// What is written of a checked filter.
-#[derive(Clone, Copy, Debug, PartialEq, Eq)]
+#[derive(Clone, Copy)]
 pub enum Form {
     /// The filter's bytes.
     Raw,
@@ -21,7 +21,7 @@ pub enum Form {
 }
 
 /// What the words after the program's name ask for.
-#[derive(Clone, Copy, Debug, PartialEq, Eq)]
+#[derive(Clone, Copy)]
 pub enum Order<'a> {
     /// The word that a filter answers to a record, both given as names of files.
     Verdict {
@@ -52,7 +52,7 @@ pub enum Order<'a> {
 }
 
 /// Why words are no order. A call for help is no order either.
-#[derive(Clone, Copy, Debug, PartialEq, Eq)]
+#[derive(Clone, Copy, Debug)]
 pub enum Misuse {
     Usage,
     OutOfMemory,
@@ -104,46 +104,47 @@ pub fn form_named(word: &str) -> Option<Form>
     None
 }
 
-fn word<'a>(alloc: Global, name: &'a str) -> Arg<'a> {
-    Arg::new(alloc, name).required(true)
+// The orders by their names, with the names of their parts.
+const ORDERS: &[(&str, &[&str])] = &[
+    ("verdict", &["filter", "record"]),
+    ("check", &["machine", "bundle", "filter", "certificate"]),
+    ("export", &["machine", "bundle", "form"]),
+    ("run", &["machine", "bundles"]),
+];
+
+// A part of an order. It is one word, but bundles are one word at least.
+fn part_named<'a>(alloc: Global, name: &'a str) -> Arg<'a> {
+    let part = Arg::new(alloc, name).required(true);
+    if name == "bundles" {
+        part.num_args(1..)
+    } else {
+        part
+    }
 }
 
-fn verdict_command<'a>(alloc: Global) -> Result<Command<'a>, AllocError> {
-    Command::new(alloc, "verdict")
-        .arg(word(alloc, "filter"))?
-        .arg(word(alloc, "record"))
-}
-
-fn check_command<'a>(alloc: Global) -> Result<Command<'a>, AllocError> {
-    Command::new(alloc, "check")
-        .arg(word(alloc, "machine"))?
-        .arg(word(alloc, "bundle"))?
-        .arg(word(alloc, "filter"))?
-        .arg(word(alloc, "certificate"))
-}
-
-fn export_command<'a>(alloc: Global) -> Result<Command<'a>, AllocError> {
-    Command::new(alloc, "export")
-        .arg(word(alloc, "machine"))?
-        .arg(word(alloc, "bundle"))?
-        .arg(word(alloc, "form"))
-}
-
-fn run_command<'a>(alloc: Global) -> Result<Command<'a>, AllocError> {
-    Command::new(alloc, "run")
-        .arg(word(alloc, "machine"))?
-        .arg(word(alloc, "bundle").num_args(1..))
+// Adds an order of that name, with those parts.
+fn with_order<'a>(
+    alloc: Global,
+    command: Command<'a>,
+    name: &'a str,
+    parts: &'a [&'a str],
+) -> Result<Command<'a>, AllocError> {
+    let mut order = Command::new(alloc, name);
+    for part in parts {
+        order = order.arg(part_named(alloc, part))?;
+    }
+    command.subcommand(order)
 }
 
 fn command<'a>(alloc: Global) -> Result<Command<'a>, AllocError> {
-    Command::new(alloc, "ccell")
+    let mut command = Command::new(alloc, "ccell")
         .no_binary_name(true)
         .subcommand_required(true)
-        .disable_help_subcommand(true)
-        .subcommand(verdict_command(alloc)?)?
-        .subcommand(check_command(alloc)?)?
-        .subcommand(export_command(alloc)?)?
-        .subcommand(run_command(alloc)?)
+        .disable_help_subcommand(true);
+    for (name, parts) in ORDERS {
+        command = with_order(alloc, command, name, parts)?;
+    }
+    Ok(command)
 }
 
 // Whether a word begins with `-`.
@@ -210,6 +211,18 @@ fn run_order<'a>(words: &'a [&'a str]) -> Result<Order<'a>, Misuse>
     Ok(Order::Run { native, bundles })
 }
 
+// The order of words that the command takes.
+fn order_of<'a>(matches: &ArgMatches<'a>, words: &'a [&'a str]) -> Result<Order<'a>, Misuse>
+    ensures { IfOk result (λ order. is_run order ≡ true → IsRunOf words.entry.now order) }
+{
+    match matches.subcommand() {
+        Some(("verdict", parts)) => verdict_order(parts),
+        Some(("check", parts)) => check_order(parts),
+        Some(("export", parts)) => export_order(parts),
+        _ => run_order(words),
+    }
+}
+
 /// The order that words give. A word that begins with `-` is never part of one.
 pub fn read_words<'a>(alloc: Global, words: &'a [&'a str]) -> Result<Order<'a>, Misuse>
     ensures dashed { Any (λ word. IsDashed word.now) words.entry.now → IsErrOf result Misuse.Usage }
@@ -218,15 +231,5 @@ pub fn read_words<'a>(alloc: Global, words: &'a [&'a str]) -> Result<Order<'a>, 
     if has_dashed(words) {
         return Err(Misuse::Usage);
     }
-    let matches = command(alloc)?.try_get_matches_from(words)?;
-    if let Some(check) = matches.subcommand_matches("check") {
-        return check_order(check);
-    }
-    if let Some(export) = matches.subcommand_matches("export") {
-        return export_order(export);
-    }
-    if matches.subcommand_name() == Some("run") {
-        return run_order(words);
-    }
-    verdict_order(matches.subcommand_matches("verdict").ok_or(Misuse::Usage)?)
+    order_of(&command(alloc)?.try_get_matches_from(words)?, words)
 }
