@@ -219,7 +219,8 @@ fn order_of<'a>(matches: &ArgMatches<'a>, words: &'a [&'a str]) -> Result<Order<
         Some(("verdict", parts)) => verdict_order(parts),
         Some(("check", parts)) => check_order(parts),
         Some(("export", parts)) => export_order(parts),
-        _ => run_order(words),
+        Some(("run", _)) => run_order(words),
+        _ => Err(Misuse::Usage),
     }
 }
 
