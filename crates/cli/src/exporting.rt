@@ -93,19 +93,20 @@ impl Prepared {
     }
 }
 
-/// Writes the line that says why there is no checked filter.
+/// Writes the line that says why there is no checked filter. The answer is false.
 pub(crate) fn refuse<S: Sink>(
     alloc: Global,
     unready: &Unready,
     sink: &mut S,
-) -> Result<(), ExportFault> {
+) -> Result<bool, ExportFault> {
     if let Unready::OutOfMemory = unready {
         return Err(ExportFault::OutOfMemory);
     }
     let Ok(line) = format!(in alloc; "{unready}\n") else {
         return Err(ExportFault::OutOfMemory);
     };
-    write_all(line.as_bytes(), sink)
+    write_all(line.as_bytes(), sink)?;
+    Ok(false)
 }
 
 // Writes a checked filter in a form.
@@ -122,6 +123,22 @@ fn write_form<S: Sink>(
     }
 }
 
+// Writes the filter in a form once it is checked.
+fn export_prepared<S: Sink>(
+    alloc: Global,
+    prepared: &Prepared,
+    form: Form,
+    sink: &mut S,
+) -> Result<bool, ExportFault> {
+    match prepared.checked(alloc) {
+        Ok(checked) => {
+            write_form(alloc, &checked, form, sink)?;
+            Ok(true)
+        }
+        Err(unready) => refuse(alloc, &unready, sink),
+    }
+}
+
 /// Writes the filter of a bundle, which is read for a native machine, in a form, once it is compiled, certified and
 /// checked. Where one of these refuses, the line that says so is written, and the answer is false.
 pub(crate) fn export_bundle<S: Sink>(
@@ -131,21 +148,8 @@ pub(crate) fn export_bundle<S: Sink>(
     form: Form,
     sink: &mut S,
 ) -> Result<bool, ExportFault> {
-    let prepared = match Prepared::of(alloc, native, bundle) {
-        Ok(prepared) => prepared,
-        Err(unready) => {
-            refuse(alloc, &unready, sink)?;
-            return Ok(false);
-        }
-    };
-    match prepared.checked(alloc) {
-        Ok(checked) => {
-            write_form(alloc, &checked, form, sink)?;
-            Ok(true)
-        }
-        Err(unready) => {
-            refuse(alloc, &unready, sink)?;
-            Ok(false)
-        }
+    match Prepared::of(alloc, native, bundle) {
+        Ok(prepared) => export_prepared(alloc, &prepared, form, sink),
+        Err(unready) => refuse(alloc, &unready, sink),
     }
 }

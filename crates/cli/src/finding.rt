@@ -1,7 +1,8 @@
 //! What is found of a bundle, a filter and a certificate, and the line of `ccell check`.
-ghost use Rattle.std.specs.Prelude.{◌≡◌, ◌↔◌, IsTrue, IfOk};
+ghost use Rattle.std.specs.Prelude.{◌≡◌, ◌≢◌, ◌↔◌, IsTrue, IfOk};
 ghost use Rattle.cert_check.specs.declared.fault.CheckError.TheVariants as fault;
 ghost use Rattle.profile_json.specs.declared.fault.ProfileError.TheVariants as refusal;
+ghost use Rattle.cli.specs.declared.finding.Finding.TheVariants.{NoProfile};
 ghost use Rattle.cli.specs.Finding.{IsFinding, IsJudged, WritesFinding};
 
 use call_tables::Arch;
@@ -13,7 +14,7 @@ use std::alloc::{AllocError, Global};
 use std::fmt;
 
 /// What is found of a bundle, a filter and a certificate. Its text is the line of `ccell check`.
-#[derive(Clone, Copy, Debug, PartialEq, Eq)]
+#[derive(Clone, Copy)]
 pub enum Finding {
     /// The filter gives each call record the word that the bundle says.
     Yes,
@@ -38,16 +39,19 @@ impl fmt::Display for Finding {
     }
 }
 
-// Whether the bundle was refused for want of memory.
-fn lacks_memory_to_read(error: &ProfileError) -> bool
-    ensures { IsTrue result ↔ error.now ≡ refusal.OutOfMemory }
+// What is found of a bundle that is refused, if not for want of memory.
+fn refused(error: ProfileError) -> Result<Finding, AllocError>
+    ensures { IfOk result (λ finding. (finding ≡ NoProfile error) × (error ≢ refusal.OutOfMemory)) }
 {
-    matches!(error, ProfileError::OutOfMemory)
+    match error {
+        ProfileError::OutOfMemory => Err(AllocError),
+        _ => Ok(Finding::NoProfile(error)),
+    }
 }
 
 // Whether the certificate was refused for want of memory.
-fn lacks_memory_to_check(error: &CheckError) -> bool
-    ensures { IsTrue result ↔ error.now ≡ fault.OutOfMemory }
+fn lacks_memory_to_check(error: CheckError) -> bool
+    ensures { IsTrue result ↔ error ≡ fault.OutOfMemory }
 {
     matches!(error, CheckError::OutOfMemory)
 }
@@ -64,7 +68,7 @@ fn judged<'a>(
     match check(alloc, profile, filter, cert) {
         Ok(_) => Ok(Finding::Yes),
         Err(error) => {
-            if lacks_memory_to_check(&error) {
+            if lacks_memory_to_check(error) {
                 return Err(AllocError);
             }
             Ok(Finding::No(error))
@@ -85,12 +89,7 @@ pub fn finding_of(
 {
     let bundle = match read_bundle(alloc, bundle, native) {
         Ok(bundle) => bundle,
-        Err(error) => {
-            if lacks_memory_to_read(&error) {
-                return Err(AllocError);
-            }
-            return Ok(Finding::NoProfile(error));
-        }
+        Err(error) => return refused(error),
     };
     judged(alloc, &bundle.profile, filter, cert)
 }

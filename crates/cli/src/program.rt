@@ -8,6 +8,7 @@ use crate::finding::check_line;
 use crate::line::verdict_line;
 use crate::running::run_bundles;
 use crate::stops::{Stop, report};
+use call_tables::Arch;
 use command_line::{Order, read_words};
 use export::{Sink, Source};
 use std::alloc::Global;
@@ -27,10 +28,38 @@ fn read_each<'a>(
 ) -> Result<Vec<Vec<u8>>, Stop<'a>> {
     let mut texts = Vec::new(alloc);
     for name in names {
-        let text = read(alloc, files, name)?;
-        texts.push(text).map_err(|_| Stop::OutOfMemory)?;
+        let Ok(()) = texts.push(read(alloc, files, name)?) else {
+            return Err(Stop::OutOfMemory);
+        };
     }
     Ok(texts)
+}
+
+// Answers a filter to a record.
+fn answer<'a>(
+    alloc: Global,
+    filter: &'a str,
+    record: &'a str,
+    files: &mut impl Files,
+    out: &mut impl Sink,
+) -> Result<bool, Stop<'a>> {
+    let filter = read(alloc, files, filter)?;
+    let record = read(alloc, files, record)?;
+    Ok(verdict_line(&filter, &record, out)?)
+}
+
+// Says whether a certificate shows that a filter answers what a bundle says.
+fn judge<'a>(
+    alloc: Global,
+    native: Arch,
+    [bundle, filter, certificate]: [&'a str; 3],
+    files: &mut impl Files,
+    out: &mut impl Sink,
+) -> Result<bool, Stop<'a>> {
+    let bundle = read(alloc, files, bundle)?;
+    let filter = read(alloc, files, filter)?;
+    let certificate = read(alloc, files, certificate)?;
+    Ok(check_line(alloc, native, &bundle, &filter, &certificate, out)?)
 }
 
 // Carries the order out: true where it answered a word or yes, wrote what was asked for or ran a script, false where it
@@ -43,22 +72,13 @@ fn carry_out<'a>(
     out: &mut impl Sink,
 ) -> Result<bool, Stop<'a>> {
     match read_words(alloc, words)? {
-        Order::Verdict { filter, record } => {
-            let filter = read(alloc, files, filter)?;
-            let record = read(alloc, files, record)?;
-            Ok(verdict_line(&filter, &record, out)?)
-        }
+        Order::Verdict { filter, record } => answer(alloc, filter, record, files, out),
         Order::Check {
             native,
             bundle,
             filter,
             certificate,
-        } => {
-            let bundle = read(alloc, files, bundle)?;
-            let filter = read(alloc, files, filter)?;
-            let certificate = read(alloc, files, certificate)?;
-            Ok(check_line(alloc, native, &bundle, &filter, &certificate, out)?)
-        }
+        } => judge(alloc, native, [bundle, filter, certificate], files, out),
         Order::Export {
             native,
             bundle,

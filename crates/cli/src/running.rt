@@ -25,22 +25,18 @@ impl Made {
     // What is made of the texts of bundles, which are read for a native machine, up to the first that is refused.
     fn of(alloc: Global, native: Arch, texts: &[Vec<u8>]) -> Result<Made, AllocError> {
         let mut bundles = Vec::new(alloc);
+        let mut refused = None;
         for (i, text) in texts.iter().enumerate() {
             let name = format!(in alloc; "b{}", i + 1)?;
             match Prepared::of(alloc, native, text) {
                 Ok(prepared) => bundles.push(Named { name, prepared })?,
                 Err(unready) => {
-                    return Ok(Made {
-                        bundles,
-                        refused: Some(unready),
-                    });
+                    refused = Some(unready);
+                    break;
                 }
             }
         }
-        Ok(Made {
-            bundles,
-            refused: None,
-        })
+        Ok(Made { bundles, refused })
     }
 
     // Each name with its checked filter, or why the first bundle without one has none.
@@ -63,6 +59,18 @@ impl Made {
     }
 }
 
+// Answers each line of a script by a line. The answer is true.
+fn run_checked<'a, 'b, I: Source, O: Sink>(
+    alloc: Global,
+    native: Arch,
+    list: &'b [Bundle<'b>],
+    input: &mut I,
+    out: &mut O,
+) -> Result<bool, Stop<'a>> {
+    run_script(alloc, &Bundles { native, list }, input, out)?;
+    Ok(true)
+}
+
 /// Answers each line of a script by a line, with the checked filters of bundles, which are named `b1`, `b2` and so on.
 /// Their texts are read for a native machine. All of them are compiled, certified and checked before the first line is
 /// read; where one is refused, the line that says so of the first such is written, and the answer is false.
@@ -73,18 +81,9 @@ pub(crate) fn run_bundles<'a, I: Source, O: Sink>(
     input: &mut I,
     out: &mut O,
 ) -> Result<bool, Stop<'a>> {
-    let made = Made::of(alloc, native, texts).map_err(|_| Stop::OutOfMemory)?;
-    let list = match made.checked(alloc) {
-        Ok(list) => list,
-        Err(unready) => {
-            refuse(alloc, &unready, out)?;
-            return Ok(false);
-        }
-    };
-    let bundles = Bundles {
-        native,
-        list: &list,
-    };
-    run_script(alloc, &bundles, input, out)?;
-    Ok(true)
+    let made = Made::of(alloc, native, texts)?;
+    match made.checked(alloc) {
+        Ok(list) => run_checked(alloc, native, &list, input, out),
+        Err(unready) => Ok(refuse(alloc, &unready, out)?),
+    }
 }

@@ -6,6 +6,7 @@ use arrayvec::ArrayString;
 use command_line::Misuse;
 use export::{ExportFault, Sink, write_all};
 use session::ScriptFault;
+use std::alloc::AllocError;
 use std::fmt;
 use std::fmt::Write;
 use thiserror::Error;
@@ -50,6 +51,16 @@ impl From<Misuse> for Stop<'_> {
             Misuse::Usage => Stop::Usage,
             Misuse::OutOfMemory => Stop::OutOfMemory,
         }
+    }
+}
+
+impl From<AllocError> for Stop<'_> {
+    ghost use Rattle.cli.specs.declared.stops.Stop.TheVariants.{OutOfMemory};
+
+    ghost from_gives = { λ error stop. stop ≡ OutOfMemory };
+
+    fn from(_error: AllocError) -> Self {
+        Stop::OutOfMemory
     }
 }
 
