@@ -74,16 +74,16 @@ impl fmt::Display for CheckError {
 
     fn fmt<W: fmt::Write>(&self, f: &mut fmt::Formatter<W>) -> fmt::Result {
         let (number, name) = self.label();
+        write!(f, "{number} {name}")?;
         match *self {
-            CheckError::View(fault) => write!(f, "{number} {name} {fault}"),
-            CheckError::Kernel(refused) => write!(f, "{number} {name} {refused}"),
-            CheckError::Form(fault) => write!(f, "{number} {name} {fault}"),
-            CheckError::Edge(i) => write!(f, "{number} {name} node {i}"),
-            CheckError::Entail(i) => write!(f, "{number} {name} node {i}"),
-            CheckError::Return(i) => write!(f, "{number} {name} node {i}"),
-            CheckError::Split(i) => write!(f, "{number} {name} node {i}"),
-            CheckError::Root => write!(f, "{number} {name}"),
-            CheckError::OutOfMemory => write!(f, "{number} {name}"),
+            CheckError::View(fault) => write!(f, " {fault}"),
+            CheckError::Kernel(refused) => write!(f, " {refused}"),
+            CheckError::Form(fault) => write!(f, " {fault}"),
+            CheckError::Edge(i)
+            | CheckError::Entail(i)
+            | CheckError::Return(i)
+            | CheckError::Split(i) => write!(f, " node {i}"),
+            CheckError::Root | CheckError::OutOfMemory => Ok(()),
         }
     }
 }
