@@ -1,7 +1,7 @@
 //! Answers to questions of which too little may be known.
 
 /// The answer to a question that may be open.
-#[derive(Clone, Copy, Debug, PartialEq, Eq)]
+#[derive(Clone, Copy)]
 pub(crate) enum Judged {
     Yes,
     No,
@@ -9,7 +9,7 @@ pub(crate) enum Judged {
 }
 
 /// How a rule bears on a word.
-#[derive(Clone, Copy, Debug, PartialEq, Eq)]
+#[derive(Clone, Copy)]
 pub(crate) enum Bearing {
     /// Each record matches the rule, which says the word.
     Settles,

@@ -1,14 +1,15 @@
 -- Nodes of forms 2 and 3: what is judged sound is spelled so.
-use Rattle.std.proofs.Common.{◌≡◌, ℕ, ◌+◌, cond, eqb, List, [], ◌∷◌, ◌++◌, length, refl, sym, ◌∙◌, subst, arith}
+use Rattle.std.proofs.Common.{◌≡◌, ◌≤◌, ℕ, ◌+◌, ◌*◌, cond, eqb, List, [], ◌∷◌, ◌++◌, length, refl, sym, ◌∙◌, subst, arith}
 use Rattle.std.specs.Prelude.{◌≢◌, slice_index}
 use Rattle.std.proofs.lemmas.Bool.{ne_eqb}
 use Rattle.std.proofs.lemmas.List.{length-reverse}
 use Rattle.byteorder.specs.Endian.{little_bytes}
 use Rattle.cert_form.specs.Nodes.{said}
-use Rattle.cert_form.specs.Spelling.{value, scratch, tail}
-use Rattle.cert_form.specs.Reading.{short_at, long_at, value_at, kind_at, tail_length, version_of, chain_count, entries_of, scratch_at}
-use Rattle.cert_form.specs.Reading.{chain_place, chain_node_at, node_at, tail_place, node_end}
-use Rattle.cert_form.specs.inner.Standing.{Stands, IsTailThere, IsFrontThere, IsScratchThere, IsChainThere, IsChainedThere}
+use Rattle.cert_form.specs.Spelling.{value, literal, scratch, tail}
+use Rattle.cert_form.specs.Reading.{short_at, long_at, value_at, literal_at, parent_at, kind_at, tail_length, version_of, chain_count, entries_of}
+use Rattle.cert_form.specs.Reading.{scratch_at, chain_place, chain_node_at, node_at, tail_place, node_end}
+use Rattle.cert_form.specs.inner.Standing.{Stands, IsLiteralThere, IsEntryThere, IsTailThere, IsFrontThere}
+use Rattle.cert_form.specs.inner.Standing.{IsScratchThere, IsChainThere, IsChainedThere}
 use Rattle.cert_form.proofs.StandLaws.{AreBytes, both, ended, long_stands, short_below}
 use Rattle.cert_form.proofs.ChainLaws.{count}
 
@@ -54,3 +55,15 @@ chained_there bytes at small form f s l t =
 pub in_chain : (bytes : List ℕ) (at : ℕ) → version_of bytes ≢ 1 → node_at bytes at ≡ said (entries_of bytes) (chain_node_at bytes at)
 unfolding node_at
 in_chain bytes at form = rw (ne_eqb (version_of bytes) 1 form) refl
+
+-- an entry that was judged part by part
+pub entry_there : (bytes : List ℕ) (j : ℕ) → AreBytes bytes → parent_at bytes j ≤ j
+    → IsLiteralThere bytes (16 + 14 * j + 4) → IsEntryThere bytes j
+entry_there bytes j small earlier l =
+    let at : ℕ = 16 + 14 * j in
+    record {
+      stands = both bytes at (little_bytes 4 (parent_at bytes j)) (at + 4) (at + 4) (literal (literal_at bytes (at + 4))) (at + 14)
+          (long_stands bytes at small (omega (arith, l.stands.ends, l.stands.room)))
+          (ended bytes (at + 4) (literal (literal_at bytes (at + 4))) (at + 4 + 10) (at + 14) l.stands (omega arith)) refl;
+      good = record { earlier = earlier; literal = l.good };
+    }

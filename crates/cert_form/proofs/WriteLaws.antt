@@ -2,7 +2,7 @@
 use Rattle.std.proofs.Common.{Bool, true, false, inl, inr, cond, eqb, drop, ◌≡◌, ℕ, ◌+◌, ◌<◌, ◌≤◌, List, [], ◌∷◌, ◌++◌, All, length, take}
 use Rattle.std.proofs.Common.{map, get_or, refl, ap, sym, ◌∙◌, subst, arith}
 use Rattle.std.specs.List.{flat_map, AllByRecursion}
-use Rattle.std.proofs.lemmas.List.{length-map, get_or-map, map_more, flat_map_more, length-append, append_assoc, drop_more}
+use Rattle.std.proofs.lemmas.List.{length-map, get_or-map, map_more, flat_map_more, take_more, length-append, append_assoc, drop_more}
 use Rattle.std.proofs.lemmas.List.Elements.{All-push, All-from_recursion}
 use Rattle.std.specs.Prelude.{◌⊎◌, replicate}
 use Rattle.std.proofs.lemmas.Bool.{eqb-true}
@@ -39,6 +39,12 @@ written_more f spell xs i x old now new h e so_far one =
     one ∙ (ap (λ (t : List ℕ). t ++ spell (f x)) so_far
     ∙ (flat_map_more spell old (map f (take i xs)) (f x) ∙ ap (λ ys. old ++ flat_map spell ys) (sym (one_more f xs i x h e))))
 
+pub spelled_more : {X : Type 0} (spell : X → List ℕ) (xs : List X) (i : ℕ) (d : X) (old now new : List ℕ) → i < length xs
+    → now ≡ old ++ flat_map spell (take i xs) → new ≡ now ++ spell (get_or xs i d) → new ≡ old ++ flat_map spell (take (i + 1) xs)
+spelled_more spell xs i d old now new h so_far one =
+    one ∙ (ap (λ (t : List ℕ). t ++ spell (get_or xs i d)) so_far
+    ∙ (flat_map_more spell old (take i xs) (get_or xs i d) ∙ ap (λ ys. old ++ flat_map spell ys) (sym (take_more xs i d h))))
+
 pub all_more : {X Y : Type 0} (P : Y → Type 0) (f : X → Y) (xs : List X) (i : ℕ) (x : X) → i < length xs → x ≡ get_or xs i x
     → All P (map f (take i xs)) → P (f x) → All P (map f (take (i + 1) xs))
 all_more P f xs i x h e all one k d =
@@ -49,7 +55,7 @@ all_more P f xs i x h e all one k d =
 pub no_scratch : (vs : List AVal) → length vs ≡ 16 → stated_bits vs ≡ 0 → vs ≡ nothing_stated
 no_scratch vs sixteen none = none_from_bits vs none ∙ ap (λ k. replicate k Unknown) sixteen
 
-pub spelled_listed : (bytes : List ℕ) (ns : List PlainNode) → bytes ≡ listed ns → length bytes ≤ 4194304 → 1 ≤ length ns → length ns ≤ 16384
+spelled_listed : (bytes : List ℕ) (ns : List PlainNode) → bytes ≡ listed ns → length bytes ≤ 4194304 → 1 ≤ length ns → length ns ≤ 16384
     → All IsPlain ns → All IsMeant ns → SpellsListed bytes ns
 spelled_listed bytes ns spelled short some few plain meant = record {
   spelled = spelled;
@@ -69,7 +75,7 @@ spelled_listed bytes ns spelled short some few plain meant = record {
   }
 
 -- what was written breaks no limit
-pub writable : (ns : List PlainNode) → length (listed ns) ≤ 4194304 → 1 ≤ length ns → length ns ≤ 16384 → All IsPlain ns → AreWritable ns
+writable : (ns : List PlainNode) → length (listed ns) ≤ 4194304 → 1 ≤ length ns → length ns ≤ 16384 → All IsPlain ns → AreWritable ns
 writable ns short some few plain BadCount (inl none) = absurd (omega (arith, some, none))
 writable ns short some few plain BadCount (inr (inl many)) = absurd (omega (arith, few, many))
 writable ns short some few plain BadCount (inr (inr (inl long))) = absurd (long (λ k d h. (plain k d h).few))
@@ -80,6 +86,12 @@ writable ns short some few plain BadMagic none = absurd none
 writable ns short some few plain BadVersion none = absurd none
 writable ns short some few plain Truncated none = absurd none
 writable ns short some few plain Trailing none = absurd none
+
+-- so bytes that spell nodes within the limits
+pub listed_in_limits : (bytes : List ℕ) (ns : List PlainNode) → bytes ≡ listed ns → length bytes ≤ 4194304 → 1 ≤ length ns → length ns ≤ 16384
+    → All IsPlain ns → AreWritable ns × (All IsMeant ns → SpellsListed bytes ns)
+listed_in_limits bytes ns spelled short some few plain =
+    (writable ns (omega (arith, ap length spelled, short)) some few plain, spelled_listed bytes ns spelled short some few plain)
 
 -- ---- forms 2 and 3
 
@@ -132,7 +144,7 @@ two_or_three (n ∷ ns) = by_test (eqb (stated_bits n.regs.scratch) 0) (two_or_t
   by_test true rest = rest
   by_test false rest = inr refl
 
-pub spelled_chained : (bytes : List ℕ) (es : List (ℕ × Lit)) (ns : List ChainNode) → bytes ≡ chained (version_for ns) es ns
+spelled_chained : (bytes : List ℕ) (es : List (ℕ × Lit)) (ns : List ChainNode) → bytes ≡ chained (version_for ns) es ns
     → length bytes ≤ 4194304
     → 1 ≤ length ns → length ns ≤ 16384 → length es ≤ 65536 → AreMeant es ns → SpellsChained (version_for ns) bytes es ns
 spelled_chained bytes es ns spelled short some few few_entries meant = record {
@@ -156,7 +168,7 @@ spelled_chained bytes es ns spelled short some few few_entries meant = record {
   }
 
 -- what was written breaks no limit
-pub writable_chains : (es : List (ℕ × Lit)) (ns : List ChainNode) → length (chained (version_for ns) es ns) ≤ 4194304 → 1 ≤ length ns
+writable_chains : (es : List (ℕ × Lit)) (ns : List ChainNode) → length (chained (version_for ns) es ns) ≤ 4194304 → 1 ≤ length ns
     → length ns ≤ 16384 → length es ≤ 65536 → AreChainsWritable es ns
 writable_chains es ns short some few few_entries BadCount (inl none) = absurd (omega (arith, some, none))
 writable_chains es ns short some few few_entries BadCount (inr (inl many)) = absurd (omega (arith, few, many))
@@ -168,6 +180,15 @@ writable_chains es ns short some few few_entries BadMagic none = absurd none
 writable_chains es ns short some few few_entries BadVersion none = absurd none
 writable_chains es ns short some few few_entries Truncated none = absurd none
 writable_chains es ns short some few few_entries Trailing none = absurd none
+
+-- so bytes that spell entries and nodes within the limits
+pub chained_in_limits : (bytes : List ℕ) (es : List (ℕ × Lit)) (ns : List ChainNode) → bytes ≡ chained (version_for ns) es ns
+    → length bytes ≤ 4194304 → 1 ≤ length ns → length ns ≤ 16384 → length es ≤ 65536
+    → AreChainsWritable es ns × (AreMeant es ns → SpellsChained (version_for ns) bytes es ns)
+chained_in_limits bytes es ns spelled short some few few_entries = (
+  writable_chains es ns (omega (arith, ap length spelled, short)) some few few_entries,
+  spelled_chained bytes es ns spelled short some few few_entries,
+)
 
 pub spells_chained : (bytes : List ℕ) (es : List (ℕ × Lit)) (ns : List ChainNode) → SpellsChained (version_for ns) bytes es ns
     → Spells bytes (map (said es) ns)

@@ -99,6 +99,28 @@ fn put_all_chained(out: &mut Vec<u8>, version: u32, nodes: &[ChainNode]) -> Resu
     Ok(())
 }
 
+// The whole file of these entries and nodes, in a version.
+fn put_file(
+    out: &mut Vec<u8>,
+    version: u32,
+    entries: &[(u32, Lit)],
+    nodes: &[ChainNode],
+) -> Result<(), AllocError>
+    requires empty { out.old.items ≡ [] }
+    requires few { length nodes.now ≤ 16384 }
+    requires few_entries { length entries.now ≤ 65536 }
+    ensures { OnOk result (out.new.items ≡ chained version entries.now nodes.now) }
+{
+    let first = 16 + 14 * entries.len() + 4 * nodes.len();
+    out.extend_from_slice(b"CCRT")?;
+    put_long(out, version)?;
+    put_long(out, nodes.len() as u32)?;
+    put_long(out, entries.len() as u32)?;
+    put_entries(out, entries)?;
+    put_offsets(out, version, first, nodes)?;
+    put_all_chained(out, version, nodes)
+}
+
 /// The entries of chains and the nodes in form 2, or in form 3 where some node states a scratch value. They are
 /// refused only for a limit of the form or for memory.
 pub fn write_chained(
@@ -120,15 +142,8 @@ pub fn write_chained(
         return Err(FormError::BadCount);
     }
     let version = version_of(nodes);
-    let first = 16 + 14 * entries.len() + 4 * nodes.len();
     let mut out = Vec::new(alloc);
-    out.extend_from_slice(b"CCRT")?;
-    put_long(&mut out, version)?;
-    put_long(&mut out, nodes.len() as u32)?;
-    put_long(&mut out, entries.len() as u32)?;
-    put_entries(&mut out, entries)?;
-    put_offsets(&mut out, version, first, nodes)?;
-    put_all_chained(&mut out, version, nodes)?;
+    put_file(&mut out, version, entries, nodes)?;
     if out.len() > 4194304 {
         return Err(FormError::BadCount);
     }

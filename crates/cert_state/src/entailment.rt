@@ -105,6 +105,19 @@ fn differ<S: State>(state: &S, word: u8, mask: u32, datum: u32) -> bool
     summary.mask & mask & (summary.datum ^ datum) != 0
 }
 
+// Whether the literals of a word say that it has not the datum under the mask.
+fn rules_out<S: State>(state: &S, word: u8, mask: u32, datum: u32) -> bool
+    ensures { IsTrue result ↔ Derives (S.known state.now) (NotBits word mask datum) }
+{
+    if differ(state, word, mask, datum) {
+        return true;
+    }
+    if is_excluded(state, word, mask, datum) {
+        return true;
+    }
+    is_missed(state, word, mask, datum)
+}
+
 /// Whether a literal follows from those of a state: it is stated, or the others of its word give it.
 pub fn entails<S: State>(state: &S, literal: &Lit) -> bool
     ensures { IsTrue result ↔ Entails (S.known state.now) literal.now }
@@ -115,9 +128,7 @@ pub fn entails<S: State>(state: &S, literal: &Lit) -> bool
     match *literal {
         Lit::In(w, low, high) => is_bounded(state, w, low, high),
         Lit::Bits(w, m, d) => are_known(state, w, m, d) || is_one_point(state, w, m, d),
-        Lit::NotBits(w, m, d) => {
-            differ(state, w, m, d) || is_excluded(state, w, m, d) || is_missed(state, w, m, d)
-        }
+        Lit::NotBits(w, m, d) => rules_out(state, w, m, d),
     }
 }
 

@@ -1,6 +1,7 @@
 use Rattle.std.proofs.Common.{◌+◌, subst, arith}
 use Rattle.std.proofs.lemmas.Result.{err_from_is_err_and}
 use Rattle.std.specs.Prelude.{slice_index}
+use Rattle.cert_form.specs.Reading.{chain_place}
 use Rattle.cert_form.specs.inner.Standing.{IsTailThere}
 use Rattle.cert_form.proofs.StandLaws.{weaker}
 use Rattle.cert_form.proofs.ReadLaws.{chain_place-after}
@@ -23,3 +24,23 @@ returns-clause-sound c =
     c.in_ok-judge_chain.ensures.sound
     (subst (λ place. IsTailThere bytes (slice_index bytes c.args.at) place)
     (omega (arith, c.chain_place_of-place.ensures)) c.in_ok-judge_tail.ensures.sound)
+
+pub returns-in_err-judge_scratch-clause-fault : goal.returns-in_err-judge_scratch-clause-fault
+returns-in_err-judge_scratch-clause-fault c =
+    let bytes = c.args.bytes.now in
+    let p = err_from_is_err_and c.from_residual-in_err-judge_scratch.result c.from_residual-in_err-judge_scratch.ensures.1 in
+    rw (p.1, p.2) (weaker c.in_err-judge_scratch.field-0.0 bytes (chain_place bytes c.args.at) _
+    (omega (arith, chained_end bytes c.args.at c.requires.form))
+    (λ bad. bad) c.in_err-judge_scratch.ensures.fault)
+
+pub returns-in_err-judge_chain-clause-fault : goal.returns-in_err-judge_chain-clause-fault
+returns-in_err-judge_chain-clause-fault c =
+    let bytes = c.args.bytes.now in
+    let p = err_from_is_err_and c.from_residual-in_err-judge_chain.result c.from_residual-in_err-judge_chain.ensures.1 in
+    rw (p.1, p.2) (weaker c.in_err-judge_chain.field-0.0 bytes (chain_place bytes c.args.at + 4) _
+    (omega (arith, chained_end bytes c.args.at c.requires.form))
+    (λ bad. bad) c.in_err-judge_chain.ensures.fault)
+
+pub returns-clause-end : goal.returns-clause-end
+returns-clause-end c =
+    omega (arith, c.chain_place_of-place.ensures, c.tail_size.ensures, chained_end c.args.bytes.now c.args.at c.requires.form)

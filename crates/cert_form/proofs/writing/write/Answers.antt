@@ -1,12 +1,12 @@
-use Rattle.std.proofs.Common.{◌≡◌, ◌≤◌, ◌++◌, ℕ, List, length, ap, sym, ◌∙◌, arith}
+use Rattle.std.proofs.Common.{◌≡◌, ◌++◌, ℕ, List, All, length, ap, sym, ◌∙◌, arith}
 use Rattle.std.specs.List.{flat_map}
 use Rattle.std.proofs.lemmas.Bool.{eqb-false}
 use Rattle.std.proofs.lemmas.List.{length-map}
 use Rattle.byteorder.specs.Endian.{little_bytes}
 use Rattle.cert_form.specs.Nodes.{PlainNode}
-use Rattle.cert_form.specs.Spelling.{magic, node, listed}
-use Rattle.cert_form.specs.Writing.{plain, plains}
-use Rattle.cert_form.proofs.WriteLaws.{spelled_listed, writable}
+use Rattle.cert_form.specs.Spelling.{magic, node, SpellsListed}
+use Rattle.cert_form.specs.Writing.{plain, plains, AreWritable, IsMeant}
+use Rattle.cert_form.proofs.WriteLaws.{listed_in_limits}
 use Rattle.cert_form.proofs.writing.write.Goals as goal
 
 pub returns-clause-spelled : goal.returns-clause-spelled
@@ -20,41 +20,20 @@ returns-clause-spelled c =
     c.in_ok-put_nodes.ensures.written ∙ (ap (λ (t : List ℕ). t ++ flat_map node ns) third
     ∙ ap (λ k. magic ++ little_bytes 4 1 ++ little_bytes 4 k ++ flat_map node ns) (sym count))
 
+-- what is written keeps the limits, and is the certificate of what is meant
+in_limits : (c : goal.Else-len-gt4194304)
+    → AreWritable (plains c.args.nodes.now)
+    × (All IsMeant (plains c.args.nodes.now) → SpellsListed c.put_nodes.new.out.items (plains c.args.nodes.now))
+in_limits c =
+    let ns = c.args.nodes.now in
+    let count : length (plains ns) ≡ length ns = length-map ns plain in
+    listed_in_limits c.put_nodes.new.out.items (plains ns) (returns-clause-spelled c)
+    (omega (arith, c.len.ensures, c.if-len-gt4194304.false))
+    (omega (arith, count, λ (z : length ns ≡ 0). eqb-false (length ns) 0 (sym c.is_empty.ensures ∙ c.if-is_empty.false) z))
+    (omega (arith, count, c.if-nodes-gt16384.false)) c.in_ok-put_nodes.ensures.plain
+
 pub returns-clause-kept : goal.returns-clause-kept
-returns-clause-kept c = writable ns (omega (arith, ap (λ (t : List ℕ). length t) spelled, c.len.ensures, c.if-len-gt4194304.false)) some
-    (omega (arith, count, c.if-nodes-gt16384.false)) c.in_ok-put_nodes.ensures.plain where
-      ns : List PlainNode
-      ns = plains c.args.nodes.now
-
-      count : length ns ≡ length c.args.nodes.now
-      count = length-map c.args.nodes.now plain
-
-      spelled : c.put_nodes.new.out.items ≡ listed ns
-      spelled = returns-clause-spelled c
-
-      some : 1 ≤ length ns
-      some = omega (
-        arith,
-        count,
-        λ (z : length c.args.nodes.now ≡ 0). eqb-false (length c.args.nodes.now) 0 (sym c.is_empty.ensures ∙ c.if-is_empty.false) z,
-      )
+returns-clause-kept c = (in_limits c).0
 
 pub returns-clause-written : goal.returns-clause-written
-returns-clause-written c = λ meant.
-    spelled_listed c.put_nodes.new.out.items ns spelled (omega (arith, c.len.ensures, c.if-len-gt4194304.false)) some
-    (omega (arith, count, c.if-nodes-gt16384.false)) c.in_ok-put_nodes.ensures.plain meant where
-      ns : List PlainNode
-      ns = plains c.args.nodes.now
-
-      count : length ns ≡ length c.args.nodes.now
-      count = length-map c.args.nodes.now plain
-
-      spelled : c.put_nodes.new.out.items ≡ listed ns
-      spelled = returns-clause-spelled c
-
-      some : 1 ≤ length ns
-      some = omega (
-        arith,
-        count,
-        λ (z : length c.args.nodes.now ≡ 0). eqb-false (length c.args.nodes.now) 0 (sym c.is_empty.ensures ∙ c.if-is_empty.false) z,
-      )
+returns-clause-written c = (in_limits c).1

@@ -1,4 +1,4 @@
-use Rattle.std.proofs.Common.{rules, ◌↔◌, inl, inr}
+use Rattle.std.proofs.Common.{rules, ◌↔◌, refl, inl, inr}
 use Rattle.cert_state.specs.Points.{IsMissed, NoneBetween, mask_of, datum_of}
 use Rattle.cert_state.specs.Entailment.{IsExcluded, IsTornAt}
 use Rattle.cert_state.proofs.RangeLaws.{missed_at}
@@ -25,3 +25,16 @@ returns-in-Some g c =
             ]
       ],
     )
+
+pub returns-then-summary-ne0 : goal.returns-then-summary-ne0
+returns-then-summary-ne0 g c = (λ _. inr (inl (c.summarize-summary.ensures.torn.0 c.if-summary-ne0.true)), λ _. refl)
+
+pub returns-then-is_excluded : goal.returns-then-is_excluded
+returns-then-is_excluded g c =
+    let known = g.S.State.known c.args.state.now in
+    let excluded : IsExcluded known c.args.word (mask_of known c.args.word) (datum_of known c.args.word) =
+    rw (← c.summarize-summary.ensures.mask, ← c.summarize-summary.ensures.datum) (c.if-is_excluded.ensures.0 refl) in
+    (λ _. inr (inr (inr excluded)), λ _. refl)
+
+pub returns-in-None : goal.returns-in-None
+returns-in-None g c = (λ _. inl c.in-None.ensures, λ _. refl)
