@@ -2,7 +2,7 @@ use Rattle.std.proofs.Common.{◌≡◌, ◌+◌, ◌*◌, ◌++◌, ℕ, List, 
 use Rattle.std.specs.List.{flat_map}
 use Rattle.std.proofs.lemmas.Result.{on_ok_weaker}
 use Rattle.byteorder.specs.Endian.{little_bytes}
-use Rattle.cert_form.specs.Spelling.{magic, entry, offsets, chain_node, chained}
+use Rattle.cert_form.specs.Spelling.{magic, entry, offsets, chain_node}
 use Rattle.cert_form.proofs.chain_writing.put_file.Goals as goal
 
 pub returns : goal.returns

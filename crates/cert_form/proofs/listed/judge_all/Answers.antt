@@ -3,7 +3,7 @@ use Rattle.std.specs.Prelude.{◌⊎◌, slice_index}
 use Rattle.std.proofs.lemmas.Bool.{cases_lt}
 use Rattle.std.proofs.lemmas.List.{length_push, get_or_push, get_or_append_left}
 use Rattle.std.proofs.lemmas.Result.{err_from_is_err_and}
-use Rattle.cert_form.specs.Reading.{place_of, node_end}
+use Rattle.cert_form.specs.Reading.{place_of, node_count, node_end}
 use Rattle.cert_form.specs.inner.Standing.{IsListedThere, AreListedThere}
 use Rattle.cert_form.proofs.PlaceLaws.{next_place, first_listed, listed_faulty}
 use Rattle.cert_form.proofs.listed.judge_all.Goals as goal
@@ -57,3 +57,10 @@ loop-preserved c =
       place = c.in_ok-at.ensures.end ∙ (ap (λ k. node_end bytes k) c.loop.invariant.place ∙ sym (next_place bytes c.loop.counter));
       room = omega (arith, c.in_ok-at.ensures.end, c.in_ok-at.ensures.sound.stands.room);
     }
+
+pub returns-clause-end : goal.returns-clause-end
+returns-clause-end c =
+    let bytes = c.args.bytes.now in
+    let all : c.loop.counter ≡ node_count bytes = omega (arith, c.read_long-end.ensures) in
+    let whole : c.loop.at ≡ length bytes = omega (arith, c.loop.invariant.room, c.if-at-bytes.false) in
+    ap (λ k. place_of bytes k) (sym all) ∙ (sym c.loop.invariant.place ∙ whole)
