@@ -4,7 +4,7 @@ use std::error::Error;
 use std::fmt;
 
 /// Why no profile is built. A place counts from 0 in the list of rules that was given.
-#[derive(Clone, Copy, Debug, PartialEq, Eq)]
+#[derive(Clone, Copy, Debug)]
 pub enum BuildError {
     /// The native machine is not listed.
     NativeMissing,
@@ -59,10 +59,11 @@ impl fmt::Display for BuildError {
 
     fn fmt<W: fmt::Write>(&self, f: &mut fmt::Formatter<W>) -> fmt::Result {
         let (number, name) = self.label();
+        write!(f, "{number} {name}")?;
         match *self {
-            BuildError::ForeignRule(place) => write!(f, "{number} {name} {place}"),
-            BuildError::Overlap(first, second) => write!(f, "{number} {name} {first} {second}"),
-            _ => write!(f, "{number} {name}"),
+            BuildError::ForeignRule(place) => write!(f, " {place}"),
+            BuildError::Overlap(first, second) => write!(f, " {first} {second}"),
+            _ => Ok(()),
         }
     }
 }

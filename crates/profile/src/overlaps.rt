@@ -24,16 +24,18 @@ fn can_overlap(a: &Rule, b: &Rule) -> bool
     if a.arch != b.arch {
         return false;
     }
-    if ask_unlike(a.conds.as_slice(), b.conds.as_slice()) {
+    let first = a.conds.as_slice();
+    let second = b.conds.as_slice();
+    if ask_unlike(first, second) {
         return false;
     }
-    if !all_meet(a.conds.as_slice(), b.conds.as_slice()) {
+    if !all_meet(first, second) {
         return false;
     }
-    if !all_meet(a.conds.as_slice(), a.conds.as_slice()) {
+    if !all_meet(first, first) {
         return false;
     }
-    all_meet(b.conds.as_slice(), b.conds.as_slice())
+    all_meet(second, second)
 }
 
 // Whether conditions at one place ask for unlike numbers: this alone tells most rules for one call apart.
