@@ -13,7 +13,7 @@ use call_record::Word;
 use serde_json::Value;
 
 /// What is done with a call.
-#[derive(Clone, Copy, Debug, PartialEq, Eq)]
+#[derive(Clone, Copy)]
 pub(crate) enum Action {
     KillThread,
     KillProcess,
