@@ -9,3 +9,4 @@ pub mod BundleLaws
 pub mod Looking
 pub mod Conditions
 pub mod NameLemmas
+pub mod Loops
