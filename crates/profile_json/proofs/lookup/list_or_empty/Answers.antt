@@ -7,7 +7,8 @@ use Rattle.profile_json.proofs.lookup.list_or_empty.Goals as goal
 
 pub returns-in-Some : goal.returns-in-Some
 returns-in-Some c =
-    default_found list (λ (xs : Bor (List Value)). map view xs.now) c.list_of.result (view c.in-Some.found.now) _ [] c.in-Some.ensures c.list_of.ensures
+    default_found list (λ (xs : Bor (List Value)). map view xs.now) c.list_of.result (view c.in-Some.found.now) _ []
+    c.in-Some.ensures c.list_of.ensures
 
 pub returns-in-None : goal.returns-in-None
 returns-in-None c = default_none list [] _ c.in-None.ensures

@@ -7,7 +7,8 @@ use Rattle.profile_json.proofs.lookup.text_at.Goals as goal
 
 pub returns-in-Some : goal.returns-in-Some
 returns-in-Some c =
-    needed_found text (λ (s : Bor (List ℕ)). s.now) c.text_of.result (view c.in-Some.found.now) _ missing_key c.in-Some.ensures c.text_of.ensures
+    needed_found text (λ (s : Bor (List ℕ)). s.now) c.text_of.result (view c.in-Some.found.now) _ missing_key
+    c.in-Some.ensures c.text_of.ensures
 
 pub returns-in-None : goal.returns-in-None
 returns-in-None c = needed_none text missing_key _ c.in-None.ensures
