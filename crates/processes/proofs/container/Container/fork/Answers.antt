@@ -1,0 +1,36 @@
+use Rattle.std.proofs.Common.{◌≡◌, ◌<◌, ◌≤◌, refl, ◌∙◌, ap, arith}
+use Rattle.std.proofs.lemmas.Bool.{le-ltb, lt-ltb}
+use Rattle.std.proofs.lemmas.Option.{get_or_from_slice_get}
+use Rattle.std.proofs.lemmas.Result.{IfOk-from_err, IfOk-weaker, err_from_is_err_and}
+use Rattle.processes.specs.declared.task.Task.{Task}
+use Rattle.processes.proofs.container.Container.fork.Goals as goal
+
+pub returns-then-self-ge-MOST_TASKS-clause-ok : goal.returns-then-self-ge-MOST_TASKS-clause-ok
+returns-then-self-ge-MOST_TASKS-clause-ok c = λ t h.
+    let full : 1024 ≤ c.args.self.now.made = omega arith in
+    rw (le-ltb c.args.self.now.made 1024 full) refl
+
+pub returns-in_err-filters-clause-ok : goal.returns-in_err-filters-clause-ok
+returns-in_err-filters-clause-ok c = IfOk-from_err _ _ c.from_residual.ensures.0
+
+pub returns-in_err-filters-clause-err : goal.returns-in_err-filters-clause-err
+returns-in_err-filters-clause-err c = let p = err_from_is_err_and c.from_residual.result c.from_residual.ensures.1 in rw p.1 refl
+
+pub overflow_add-self : goal.overflow_add-self
+overflow_add-self c = omega arith
+
+pub add-requires : goal.add-requires
+add-requires c = omega arith
+
+pub returns-clause-ok : goal.returns-clause-ok
+returns-clause-ok c =
+    IfOk-weaker c.add.result _ _
+    (λ o kept t h.
+    let room : c.args.self.now.made < 1024 = omega arith in
+    let caller : c.index-caller.result.now ≡ t = c.index-caller.ensures ∙ get_or_from_slice_get c.args.self.now.tasks.items c.args.at t c.index-caller.result.now h in
+    let same : c.in_ok-filters.filters ≡ t.filters = c.in_ok-filters.ensures ∙ ap (λ (u : Task). u.filters) caller in
+    kept ∙ rw (lt-ltb c.args.self.now.made 1024 room, same, caller) refl)
+    c.add.ensures.ok
+
+pub returns-clause-err : goal.returns-clause-err
+returns-clause-err c = c.add.ensures.err

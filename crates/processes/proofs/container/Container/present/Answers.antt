@@ -1,0 +1,92 @@
+-- What becomes of a call by the verdict on it, of the task that the code has found.
+use Rattle.std.proofs.Common.{◌≡◌, ◌<◌, ◌&&◌, ℕ, Bool, Some, None, if◌then◌else◌, true, false, refl, sym, ◌∙◌, ap, arith, subst, length}
+use Rattle.std.specs.Prelude.{option_map, slice_get}
+use Rattle.std.proofs.lemmas.Option.{slice_get_read}
+use Rattle.std.proofs.lemmas.Result.{IfOk-weaker, on_err_weaker}
+use Rattle.call_record.specs.declared.layout.Record.{Record}
+use Rattle.call_record.specs.Ends.{ends_of}
+use Rattle.call_record.specs.Verdict.{is_through}
+use Rattle.processes.specs.declared.outcome.Outcome.TheVariants.{Denied}
+use Rattle.processes.specs.Attached.{Attached}
+use Rattle.processes.specs.Calls.{row_of}
+use Rattle.processes.specs.Kernel.{Answer, can_grow, carried_out, ended_by_verdict, judged, may_grow, presented, verdict_on}
+use Rattle.processes.specs.Tasks.{Process, Processes, live_task}
+use Rattle.processes.specs.inner.Containers.{processes_of}
+use Rattle.processes.specs.inner.Table.{all_of, process_of}
+use Rattle.processes.proofs.container.Container.present.Goals as goal
+
+denied : (n v : ℕ) (t : Process) (r : Record) (a : Attached) (ps after : Processes) → live_task n ps.tasks ≡ Some t → v ≡ verdict_on r t → is_through v ≡ false
+    → after ≡ ended_by_verdict (ends_of v) t ps → (Denied v, after) ≡ presented n r a ps
+denied n v t r a ps after found is barred ends = rw found (subst (λ w. (Denied v, after) ≡ judged w t r a ps) is (whole ∙ ap by (sym barred)))
+  where
+    by : Bool → Answer
+    by b = if b then carried_out (row_of ps.native r) t r a ps else (Denied v, ended_by_verdict (ends_of v) t ps)
+
+    whole : (Denied v, after) ≡ by false
+    whole = ap (λ qs. (Denied v, qs)) ends
+
+let_through : (n v : ℕ) (t : Process) (r : Record) (a : Attached) (ps : Processes) → live_task n ps.tasks ≡ Some t → v ≡ verdict_on r t → is_through v ≡ true
+    → carried_out (row_of ps.native r) t r a ps ≡ presented n r a ps
+let_through n v t r a ps found is through = rw found (subst (λ w. carried_out (row_of ps.native r) t r a ps ≡ judged w t r a ps) is (rw through refl))
+
+grows : (n v : ℕ) (t : Process) (r : Record) (ps : Processes) → live_task n ps.tasks ≡ Some t → v ≡ verdict_on r t → is_through v ≡ true
+    → may_grow (row_of ps.native r) ≡ true → can_grow n r ps ≡ true
+grows n v t r ps found is through grow = rw found (subst (λ w. (is_through w && may_grow (row_of ps.native r)) ≡ true) is (rw (through, grow) refl))
+
+pub returns-in_default-clause-ok : goal.returns-in_default-clause-ok
+returns-in_default-clause-ok c =
+    let none : live_task c.args.task (all_of c.args.self.now.tasks.items) ≡ None = rw (c.deref.ensures.value, c.in_default.is) at c.live_index.ensures.found in
+    rw none refl
+
+pub index-requires : goal.index-requires
+index-requires c =
+    let within : c.in-Some.at < length c.args.self.now.tasks.items = rw (c.in-Some.is, c.deref.ensures.value) at c.live_index.ensures.within in
+    omega arith
+
+pub end_by_verdict-requires : goal.end_by_verdict-requires
+end_by_verdict-requires c =
+    let within : c.in-Some.at < length c.args.self.now.tasks.items = rw (c.in-Some.is, c.deref.ensures.value) at c.live_index.ensures.within in
+    omega arith
+
+pub returns-then-not-lets_through-clause-ok : goal.returns-then-not-lets_through-clause-ok
+returns-then-not-lets_through-clause-ok c =
+    let tasks = c.args.self.now.tasks.items in
+    let t = c.index.result.now in
+    let within : c.in-Some.at < length tasks = rw (c.in-Some.is, c.deref.ensures.value) at c.live_index.ensures.within in
+    let here : slice_get tasks c.in-Some.at ≡ Some t = slice_get_read tasks _ c.in-Some.at t refl within c.index.ensures in
+    let place : live_task c.args.task (all_of tasks) ≡ option_map process_of (slice_get tasks c.in-Some.at) = rw (c.deref.ensures.value, c.in-Some.is) at c.live_index.ensures.found in
+    denied c.args.task c.verdict-word.result (process_of t) c.args.rec.now _ (processes_of c.args.self.now) _ (place ∙ ap (option_map process_of) here)
+    c.verdict-word.ensures (sym c.lets_through.ensures ∙ c.if-not-lets_through.true) (c.end_by_verdict.ensures t here)
+
+pub carry_out-requires : goal.carry_out-requires
+carry_out-requires c =
+    let within : c.in-Some.at < length c.args.self.now.tasks.items = rw (c.in-Some.is, c.deref.ensures.value) at c.live_index.ensures.within in
+    omega arith
+
+pub returns-clause-ok : goal.returns-clause-ok
+returns-clause-ok c =
+    let tasks = c.args.self.now.tasks.items in
+    let t = c.index.result.now in
+    let within : c.in-Some.at < length tasks = rw (c.in-Some.is, c.deref.ensures.value) at c.live_index.ensures.within in
+    let here : slice_get tasks c.in-Some.at ≡ Some t = slice_get_read tasks _ c.in-Some.at t refl within c.index.ensures in
+    let place : live_task c.args.task (all_of tasks) ≡ option_map process_of (slice_get tasks c.in-Some.at) = rw (c.deref.ensures.value, c.in-Some.is) at c.live_index.ensures.found in
+    IfOk-weaker c.carry_out.result _ _
+    (λ o kept. kept t here
+    ∙ let_through c.args.task c.verdict-word.result (process_of t) c.args.rec.now _ (processes_of c.args.self.now) (place ∙ ap (option_map process_of) here)
+    c.verdict-word.ensures (sym c.lets_through.ensures ∙ c.if-not-lets_through.false))
+    c.carry_out.ensures.ok
+
+pub returns-clause-err : goal.returns-clause-err
+returns-clause-err c = c.carry_out.ensures.err
+
+pub returns-clause-growth : goal.returns-clause-growth
+returns-clause-growth c =
+    let tasks = c.args.self.now.tasks.items in
+    let t = c.index.result.now in
+    let within : c.in-Some.at < length tasks = rw (c.in-Some.is, c.deref.ensures.value) at c.live_index.ensures.within in
+    let here : slice_get tasks c.in-Some.at ≡ Some t = slice_get_read tasks _ c.in-Some.at t refl within c.index.ensures in
+    let place : live_task c.args.task (all_of tasks) ≡ option_map process_of (slice_get tasks c.in-Some.at) = rw (c.deref.ensures.value, c.in-Some.is) at c.live_index.ensures.found in
+    on_err_weaker c.carry_out.result
+    (grows c.args.task c.verdict-word.result (process_of t) c.args.rec.now (processes_of c.args.self.now) (place ∙ ap (option_map process_of) here)
+    c.verdict-word.ensures (sym c.lets_through.ensures ∙ c.if-not-lets_through.false))
+    c.carry_out.ensures.growth
