@@ -19,14 +19,19 @@ pub(crate) struct Loaded {
 impl Loaded {
     ghost use Rattle.processes.specs.inner.Loads.{filter_of};
 
+    // A copy of the program, with its load number.
+    fn of(alloc: Global, load: u32, program: &Accepted<'_>) -> Result<Loaded, AllocError>
+        ensures { IfOk result (λ filter. filter
+            ≡ record { load = load; program = accepted_insns program.now }) }
+    {
+        let program = AcceptedBuf::copy_of(alloc, program)?;
+        Ok(Loaded { load, program })
+    }
+
     fn copied(&self, alloc: Global) -> Result<Loaded, AllocError>
         ensures { IfOk result (λ copy. copy ≡ self.now) }
     {
-        let program = AcceptedBuf::copy_of(alloc, &self.program.as_accepted())?;
-        Ok(Loaded {
-            load: self.load,
-            program,
-        })
+        Loaded::of(alloc, self.load, &self.program.as_accepted())
     }
 
     // The word that the filter gives.
@@ -68,15 +73,29 @@ impl Filters {
     ghost use Rattle.call_record.specs.Verdict.{strictest_of};
     ghost use Rattle.processes.specs.inner.Loads.{filter_of, filters_of, loads_of, total_size};
 
+    // A filter in front of copies of others.
+    fn in_front_of(
+        alloc: Global,
+        load: u32,
+        program: &Accepted<'_>,
+        others: &[Loaded],
+    ) -> Result<Filters, AllocError>
+        requires { length (accepted_insns program.now) + total_size others.now ≤ 32768 }
+        ensures { IfOk result (λ filters. filters
+            ≡ record { load = load; program = accepted_insns program.now } ∷ others.now) }
+    {
+        let mut list = Vec::with_capacity(alloc, others.len() + 1)?;
+        list.push(Loaded::of(alloc, load, program)?)?;
+        let list = copied_onto(list, alloc, others)?;
+        Ok(Filters { list })
+    }
+
     /// The first filter alone.
     pub(crate) fn first(alloc: Global, program: &Accepted<'_>) -> Result<Filters, AllocError>
         ensures { IfOk result (λ filters. filters
             ≡ record { load = 0; program = accepted_insns program.now } ∷ []) }
     {
-        let program = AcceptedBuf::copy_of(alloc, program)?;
-        let mut list = Vec::with_capacity(alloc, 1)?;
-        list.push(Loaded { load: 0, program })?;
-        Ok(Filters { list })
+        Filters::in_front_of(alloc, 0, program, &[])
     }
 
     /// A copy.
@@ -102,11 +121,7 @@ impl Filters {
         ensures { IfOk result (λ filters. filters
             ≡ record { load = load; program = accepted_insns program.now } ∷ self.now) }
     {
-        let program = AcceptedBuf::copy_of(alloc, program)?;
-        let mut list = Vec::with_capacity(alloc, self.list.len() + 1)?;
-        list.push(Loaded { load, program })?;
-        let list = copied_onto(list, alloc, &self.list)?;
-        Ok(Filters { list })
+        Filters::in_front_of(alloc, load, program, &self.list)
     }
 
     /// How many filters there are.

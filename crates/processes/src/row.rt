@@ -20,7 +20,7 @@ const PR_SET_SECCOMP: u64 = 22;
 const MODE_FILTER: u64 = 2;
 
 /// The calls that the kernel tells from one another.
-#[derive(Clone, Copy, Debug, PartialEq, Eq)]
+#[derive(Clone, Copy)]
 pub enum Call {
     /// fork and vfork.
     Fork,
@@ -68,7 +68,7 @@ pub(crate) const NAMED: &[(&str, Call)] = &[
 ];
 
 /// A row of the table of calls.
-#[derive(Clone, Copy, Debug, PartialEq, Eq)]
+#[derive(Clone, Copy)]
 pub enum Row {
     /// fork, vfork, and clone of a task with a group of its own.
     NewTask,
