@@ -1,8 +1,9 @@
 -- Lists that are changed item by item, and seen by a function.
-use Rattle.std.proofs.Common.{◌≡◌, ℕ, zero, suc, ◌<◌, ◌||◌, Bool, true, false, cond, Option, None, Some, List, [], ◌∷◌, ◌++◌, length, get_or, take, drop, set, map, refl, sym, ap, ◌∙◌, arith}
+use Rattle.std.proofs.Common.{◌≡◌, ℕ, zero, suc, ◌<◌, ◌≤◌, ◌||◌, Bool, true, false, cond, Option, None, Some, List, [], ◌∷◌, ◌++◌, length, get_or, take, drop, set, map, refl, sym, ap, ◌∙◌, arith}
 use Rattle.std.specs.Prelude.{find, position, slice_get, option_map, option_and_then, nat_lt, if◌then◌else◌}
 use Rattle.std.specs.List.{list_any, position_or_len}
 use Rattle.std.proofs.lemmas.Option.{slice_get_past}
+use Rattle.std.proofs.lemmas.List.{append-nil, drop_all, take_all}
 use Rattle.std.proofs.lemmas.List.Folds.{find_at}
 use Rattle.std.proofs.lemmas.Bool.{ltb-false}
 
@@ -19,6 +20,10 @@ map_more f g (o ∷ os) (x ∷ xs) (suc i) y d e lt h =
     let a : f x ≡ g (f o) = cc in
     let b : map f xs ≡ map g (map f (take i os)) ++ map f (drop i os) = cc in
     let k : map f (set xs i y) ≡ map g (map f (take (suc i) os)) ++ map f (drop (suc i) os) = map_more f g os xs i y d b (omega arith) h in cc
+
+-- No item is left.
+pub map_whole : {A B : Type 0} (f : A → B) (g : B → B) (old xs : List A) (i : ℕ) → map f xs ≡ map g (map f (take i old)) ++ map f (drop i old) → length old ≤ i → map f xs ≡ map g (map f old)
+map_whole f g old xs i e le = rw (take_all i old le, drop_all i old le, append-nil) at e
 
 find-map : {A B : Type 0} (f : A → B) (p : B → Bool) (xs : List A) → find p (map f xs) ≡ option_map f (find (λ x. p (f x)) xs)
 find-map f p [] = refl

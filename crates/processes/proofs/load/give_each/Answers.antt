@@ -6,7 +6,7 @@ use Rattle.processes.specs.declared.filters.Loaded.{Loaded}
 use Rattle.processes.specs.Tasks.{Process}
 use Rattle.processes.specs.inner.Loads.{filters_of}
 use Rattle.processes.specs.inner.Table.{is_taker, process_of}
-use Rattle.processes.proofs.Lists.{map_more}
+use Rattle.processes.proofs.Lists.{map_more, map_whole}
 use Rattle.processes.proofs.LoadLemmas.{count_here, front, last, left_other, left_taken}
 use Rattle.processes.proofs.load.give_each.Goals as goal
 
@@ -52,3 +52,8 @@ loop-task-preserved c =
                 (c.loop-task.invariant.seen filters all) (omega arith) now);
           }
     ]
+
+pub returns : goal.returns
+returns c = λ filters all.
+    map_whole process_of (λ (u : Process). if is_taker c.args.takers u then record u { filters = filters_of filters } else u) c.args.tasks.now c.loop-task.tasks c.loop-task.task-index
+    (c.loop-task.invariant.seen filters all) (omega arith)
