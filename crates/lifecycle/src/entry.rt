@@ -9,7 +9,7 @@ use indexmap::IndexMap;
 use processes::Id;
 
 /// How far a container has come without the kernel.
-#[derive(Clone, Copy, Debug, PartialEq, Eq)]
+#[derive(Clone, Copy)]
 pub(crate) enum Phase {
     /// Created, and not started.
     Made,
