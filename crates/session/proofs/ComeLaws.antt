@@ -1,6 +1,6 @@
 -- What has come of a source, and what was answered to it.
-use Rattle.std.proofs.Common.{◌≡◌, ℕ, ◌+◌, ◌≤◌, ◌<◌, ◌⊎◌, inl, inr, Bool, true, false, List, [], ◌∷◌, ◌++◌, length, take, refl, ap, sym, subst, ◌∙◌, arith, length-append}
-use Rattle.std.specs.Prelude.{Option, Some, None, ◌==◌}
+use Rattle.std.proofs.Common.{◌≡◌, ℕ, ◌+◌, ◌<◌, inl, inr, false, List, [], ◌∷◌, ◌++◌, length, take, ap, sym, subst, ◌∙◌, arith, length-append}
+use Rattle.std.specs.Prelude.{Option, ◌==◌}
 use Rattle.std.specs.Io.KnownBytes.{Appends, Consumes, IsAtEnd, Keeps}
 use Rattle.std.proofs.KnownBytes.{Appends-nil, Consumes-kept, Consumes-nil, Consumes-trans}
 use Rattle.std.proofs.Math.Seq.{take-append_seam}
@@ -13,7 +13,7 @@ use Rattle.session.specs.Answer.{answer_of, counted}
 use Rattle.session.specs.Commands.{CommandIs, CommandsAre}
 use Rattle.session.specs.Scripts.{HasRead, HasReadAll, HasReadWhole, IsAnswered, StopsForMemory, StopsReading, StopsWriting, ended_lines}
 use Rattle.session.specs.inner.Cuts.{IsCut, kept_of}
-use Rattle.session.specs.inner.Lines.{BreaksOff, GoesOn, HasCome, RunsOut, Standing, Stands}
+use Rattle.session.specs.inner.Lines.{BreaksOff, GoesOn, HasCome, RunsOut, Standing}
 use Rattle.session.proofs.AnswerLaws.{are-more, by_profiles, counted-add}
 use Rattle.session.proofs.KeptLaws.{kept-nil, kept-none}
 use Rattle.session.proofs.CutLaws.{cut-byte, cut-line, cut_none, ended_are, first_of, lines_are, lines_are-more, more_of, parts_of}

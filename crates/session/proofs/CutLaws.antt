@@ -1,15 +1,13 @@
 -- A text that is cut into lines has its parts, and grows by a byte or by a line.
-use Rattle.std.proofs.Common.{◌≡◌, ℕ, ◌+◌, ◌≤◌, ◌<◌, ◌⊎◌, inl, inr, Bool, true, false, List, [], ◌∷◌, ◌++◌, length, take, refl, ap, sym, subst, ◌∙◌, arith, append_assoc, append-nil}
-use Rattle.std.specs.Prelude.{Option, Some, None, not, ◌&&◌, ◌==◌}
+use Rattle.std.proofs.Common.{◌≡◌, ℕ, true, false, List, [], ◌∷◌, ◌++◌, refl, ap, sym, ◌∙◌, append_assoc, append-nil}
+use Rattle.std.specs.Prelude.{not, ◌&&◌, ◌==◌}
 use Rattle.std.specs.List.{join_with_byte, list_all}
-use Rattle.std.proofs.lemmas.Bool.{and_from, cases_lt}
+use Rattle.std.proofs.lemmas.Bool.{and_from}
 use Rattle.std.proofs.lemmas.List.Folds.{list_all-append}
-use Rattle.call_tables.specs.declared.arch.Arch.{Arch}
-use Rattle.script.specs.Grammar.{LineIs, lacks, max_line}
+use Rattle.script.specs.Grammar.{lacks}
 use Rattle.script.specs.Lines.{Parts, line_feed, lines_of}
-use Rattle.script.specs.Orders as script
 use Rattle.session.specs.Scripts.{ended_lines}
-use Rattle.session.specs.inner.Cuts.{IsCut, ended, kept_of}
+use Rattle.session.specs.inner.Cuts.{IsCut, ended}
 
 -- The parts of a text.
 

@@ -1,5 +1,5 @@
 -- A line is answered, and what that makes of a script.
-use Rattle.std.proofs.Common.{◌≡◌, ℕ, ◌+◌, ◌<◌, List, [], ◌∷◌, ◌++◌, length, take, refl, ap, sym, subst, ◌∙◌}
+use Rattle.std.proofs.Common.{◌≡◌, ℕ, ◌+◌, ◌<◌, List, [], length, take, ap, sym, subst, ◌∙◌}
 use Rattle.std.specs.Prelude.{Option, Some, None, Result, Ok, Err, IfOk}
 use Rattle.std.specs.Io.KnownBytes.{Appends}
 use Rattle.export.specs.declared.fault.ExportFault.{ExportFault}
@@ -13,12 +13,11 @@ use Rattle.lifecycle.specs.Steps.{step}
 use Rattle.lifecycle.specs.Worlds.{World}
 use Rattle.script.specs.Grammar.{LineIs}
 use Rattle.script.specs.Orders as script
-use Rattle.std.specs.declared.alloc.AllocError.{AllocError}
 use Rattle.session.specs.declared.bundles.Bundles.{Bundles}
 use Rattle.session.specs.Answer.{counted}
 use Rattle.session.specs.Commands.{CommandIs, Commands}
 use Rattle.session.specs.Replies.{reply_line}
-use Rattle.session.specs.inner.Carried.{AnswersLine, CarriesOut, Replies, answer_line, id_in, world_after}
+use Rattle.session.specs.inner.Carried.{AnswersLine, CarriesOut, Replies, answer_line, id_in}
 use Rattle.session.specs.inner.Lines.{BreaksOff, GoesOn, RunsOut, Standing, Stands}
 use Rattle.session.proofs.CarryLaws.{names}
 use Rattle.session.proofs.StandLaws.{broke_off, ran_out, went_on}

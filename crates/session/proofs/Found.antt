@@ -1,8 +1,8 @@
 -- The first bundle of a name.
-use Rattle.std.proofs.Common.{◌≡◌, ℕ, ◌+◌, ◌≤◌, ◌<◌, cond, List, [], ◌∷◌, length, drop, map, get_or, refl, ap, arith, add-one}
+use Rattle.std.proofs.Common.{◌≡◌, ℕ, ◌+◌, ◌≤◌, ◌<◌, cond, List, ◌∷◌, length, drop, map, get_or, refl, ap, add-one}
 use Rattle.std.proofs.Math.Seq.{drop-cons}
 use Rattle.std.proofs.lemmas.List.{drop_all}
-use Rattle.std.specs.Prelude.{Option, Some, None}
+use Rattle.std.specs.Prelude.{Some, None}
 use Rattle.cert_check.specs.declared.checked.Checked.{Checked}
 use Rattle.processes.specs.Views.{same_text}
 use Rattle.session.specs.Commands.{first_called}

@@ -6,5 +6,6 @@ mod AnswerLaws
 mod StandLaws
 mod EndLaws
 mod ComeLaws
+mod RunLaws
 mod Tests
 mod OneLaws

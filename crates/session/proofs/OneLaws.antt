@@ -12,8 +12,8 @@ use Rattle.script.specs.Orders as script
 use Rattle.script.specs.Lines.{LinesAre, Reads, lines_of}
 use Rattle.script.specs.Laws.{OneReading}
 use Rattle.session.specs.declared.bundles.Bundles.{Bundles}
-use Rattle.session.specs.Commands.{CommandIs, Commands, CommandsAre, IsRecordOf, OrderedIs}
-use Rattle.session.specs.Laws.{IsScript, OneScript}
+use Rattle.session.specs.Commands.{Commands, CommandsAre, IsRecordOf, OrderedIs}
+use Rattle.session.specs.Laws.{OneScript}
 
 -- a call has one record
 same_words : (a b : Record) → a.nr ≡ b.nr → a.arch ≡ b.arch → a.ip ≡ b.ip → a.args ≡ b.args → words a ≡ words b

@@ -1,6 +1,6 @@
 -- A script goes on by a line, or stops at it.
-use Rattle.std.proofs.Common.{◌≡◌, ℕ, ◌+◌, ◌-◌, ◌^◌, ◌≤◌, ◌<◌, List, [], ◌∷◌, ◌++◌, length, take, refl, ap, sym, subst, ◌∙◌, arith, append_assoc, append-nil, length-append}
-use Rattle.std.specs.Prelude.{Option, Some, None, min}
+use Rattle.std.proofs.Common.{◌≡◌, ℕ, ◌+◌, ◌<◌, List, [], ◌∷◌, ◌++◌, length, take, ap, sym, subst, ◌∙◌, arith, length-append}
+use Rattle.std.specs.Prelude.{Option}
 use Rattle.std.specs.Io.KnownBytes.{Appends}
 use Rattle.std.proofs.KnownBytes.{Appends-trans}
 use Rattle.std.proofs.Math.Seq.{take-append-add}
@@ -12,7 +12,6 @@ use Rattle.session.specs.declared.bundles.Bundles.{Bundles}
 use Rattle.session.specs.Answer.{answer_of, commands_of, counted}
 use Rattle.session.specs.Commands.{CommandIs}
 use Rattle.session.specs.inner.Carried.{answer_line, world_after}
-use Rattle.session.specs.inner.Cuts.{kept_of}
 use Rattle.session.specs.inner.Lines.{BreaksOff, GoesOn, RunsOut, Standing, Stands}
 use Rattle.session.proofs.AnswerLaws.{answer-more, are-more, counted-add, world-more}
 use Rattle.session.proofs.KeptLaws.{kept_is}

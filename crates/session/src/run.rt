@@ -5,6 +5,8 @@ ghost use Rattle.std.specs.Io.KnownBytes.{Consumes, IsAtEnd, Keeps};
 ghost use Rattle.export.specs.Failures.{HasFailed, one_more};
 ghost use Rattle.session.specs.Scripts.{IsAnswered, StopsForMemory, StopsReading, StopsWriting};
 ghost use Rattle.session.specs.declared.fault.ScriptFault.TheVariants as fault;
+ghost use Rattle.session.specs.inner.Lines.{HasCome};
+ghost use Rattle.session.specs.inner.Progress.{standing_of};
 
 use crate::bundles::Bundles;
 use crate::fault::ScriptFault;
@@ -26,6 +28,41 @@ fn next_byte<I: Source>(source: &mut I) -> Result<Option<u8>, Failed>
         Ok(0) => Ok(None),
         Ok(_) => Ok(Some(bytes[0])),
         Err(failed) => Err(failed),
+    }
+}
+
+// Takes what a source still has, byte by byte, until it ends or the script stops.
+fn take_all<I: Source, O: Sink>(
+    progress: &mut Progress<'_>,
+    source: &mut I,
+    sink: &mut O,
+) -> Result<(), ScriptFault>
+    requires { HasCome progress.old.session.bundles (standing_of progress.old)
+        (I.left source.old) (I.left source.old) (O.held sink.old) (O.held sink.old) }
+    ensures ok { IfOk result (λ _.
+        IsAnswered progress.old.session.bundles (I.left source.old) (I.left source.new) (O.held sink.old) (O.held sink.new)) }
+    ensures read { (line : ℕ) → result ≡ Err (fault.Read line)
+        → StopsReading progress.old.session.bundles (I.left source.old) (I.left source.new) (O.held sink.old) (O.held sink.new) line
+        × HasFailed (I.failures source.old) (I.failures source.new) }
+    ensures write { (out : ℕ) → result ≡ Err (fault.Write out)
+        → StopsWriting progress.old.session.bundles (I.left source.old) (I.left source.new) (O.held sink.old) (O.held sink.new) out
+        × HasFailed (O.failures sink.old) (O.failures sink.new) }
+    ensures memory { (line : ℕ) → result ≡ Err (fault.Memory line)
+        → StopsForMemory progress.old.session.bundles (I.left source.old) (I.left source.new) (O.held sink.old) (O.held sink.new) line }
+{
+    'byte: loop {
+        match next_byte(source) {
+            Ok(Some(byte)) => {
+                if let Err(fault) = progress.take(byte, sink) {
+                    return Err(fault);
+                }
+            }
+            Ok(None) => return progress.finish(sink),
+            Err(_) => {
+                let line = progress.number();
+                return Err(ScriptFault::Read { line });
+            }
+        }
     }
 }
 
@@ -54,18 +91,5 @@ pub fn run_script<I: Source, O: Sink>(
     let Ok(mut progress) = Progress::new(alloc, *bundles) else {
         return Err(ScriptFault::Memory { line: 0 });
     };
-    'byte: loop {
-        match next_byte(source) {
-            Ok(Some(byte)) => {
-                if let Err(fault) = progress.take(byte, sink) {
-                    return Err(fault);
-                }
-            }
-            Ok(None) => return progress.finish(sink),
-            Err(_) => {
-                let line = progress.number();
-                return Err(ScriptFault::Read { line });
-            }
-        }
-    }
+    take_all(&mut progress, source, sink)
 }

@@ -1,5 +1,5 @@
 -- What one line does.
-use Rattle.std.specs.Prelude.{ℕ, ◌≡◌, List, ◌∷◌, map, Option, None, Some, Result, IfOk, OnErr, length}
+use Rattle.std.specs.Prelude.{ℕ, ◌≡◌, List, Option, None, Some, Result, IfOk, OnErr, length}
 use Rattle.std.specs.declared.alloc.AllocError.{AllocError}
 use Rattle.export.specs.Sink.{WritesMade}
 use Rattle.export.specs.declared.fault.ExportFault.{ExportFault}

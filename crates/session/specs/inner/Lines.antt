@@ -8,8 +8,7 @@ use Rattle.lifecycle.specs.Worlds.{World}
 use Rattle.session.specs.declared.bundles.Bundles.{Bundles}
 use Rattle.session.specs.Answer.{answer_of, commands_of, counted}
 use Rattle.session.specs.Commands.{CommandIs, CommandsAre}
-use Rattle.session.specs.inner.Carried.{answer_line}
-use Rattle.session.specs.inner.Cuts.{IsCut, ended, kept_of}
+use Rattle.session.specs.inner.Cuts.{IsCut, kept_of}
 
 -- the world, what is kept of the line that is read, and how many lines were answered by how many bytes
 pub record Standing : Type 0 where

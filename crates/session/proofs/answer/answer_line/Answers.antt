@@ -1,7 +1,7 @@
 use Rattle.lifecycle.specs.Views.{world_of}
 use Rattle.script.specs.Requests.{order_of}
 use Rattle.session.specs.inner.Carried.{CarriesOut}
-use Rattle.std.specs.Prelude.{Option, Some, Ok}
+use Rattle.std.specs.Prelude.{Option, Ok}
 use Rattle.std.proofs.Common.{subst}
 use Rattle.lifecycle.specs.declared.command.Reply.{Reply}
 use Rattle.session.proofs.EndLaws.{answered}

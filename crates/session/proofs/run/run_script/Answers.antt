@@ -1,114 +1,49 @@
-use Rattle.std.proofs.Common.{◌≡◌, ℕ, List, [], ◌∷◌, inl, inr, ap, refl, sym, subst, ◌∙◌, arith}
-use Rattle.std.specs.Prelude.{Option, None, Some, Err}
-use Rattle.std.specs.Option.{option_to_list}
-use Rattle.std.specs.Io.KnownBytes.{Consumes, IsAtEnd, Keeps}
+use Rattle.std.proofs.Common.{◌≡◌, inl, inr, refl, subst}
 use Rattle.std.proofs.lemmas.Result.{on_ok_weaker}
-use Rattle.export.specs.Failures.{HasFailed, one_more}
-use Rattle.export.proofs.SinkLemmas.{has_failed}
 use Rattle.session.specs.declared.bundles.Bundles.{Bundles}
-use Rattle.session.specs.declared.fault.ScriptFault.TheVariants as fault
 use Rattle.session.specs.Scripts.{IsAnswered, StopsForMemory, StopsReading, StopsWriting}
-use Rattle.session.specs.inner.Lines.{HasCome}
 use Rattle.session.specs.inner.Progress.{standing_of}
-use Rattle.session.proofs.ComeLaws.{came_no_more, nothing_came, stops_reading}
+use Rattle.session.proofs.ComeLaws.{nothing_came}
 use Rattle.session.proofs.run.run_script.Goals as goal
 
-pub byte-init : goal.byte-init
-byte-init g c = record {
-  come = nothing_came c.args.bundles.now (standing_of c.in-Ok.progress) (g.I.Source.left c.args.source.now) (g.O.Sink.held c.args.sink.now)
-      c.in-Ok.ensures.world c.in-Ok.ensures.line c.in-Ok.ensures.count c.in-Ok.ensures.out;
-  bundles = c.in-Ok.ensures.bundles;
-  given = refl;
-  taken = refl;
-}
+pub take_all-requires : goal.take_all-requires
+take_all-requires g c =
+    nothing_came c.in-Ok.progress.session.bundles (standing_of c.in-Ok.progress) (g.I.Source.left c.args.source.now) (g.O.Sink.held c.args.sink.now)
+    c.in-Ok.ensures.world c.in-Ok.ensures.line c.in-Ok.ensures.count c.in-Ok.ensures.out
 
-pub returns-in-Err-take-clause-write : goal.returns-in-Err-take-clause-write
-returns-in-Err-take-clause-write g c = λ out e.
-    let left = g.I.Source.left c.args.source.now in
-    let before = g.I.Source.left c.byte.source in
-    let after = g.I.Source.left c.next_byte.new.source in
-    let held = g.O.Sink.held c.args.sink.now in
-    let come = subst (λ (b : Bundles). HasCome b (standing_of c.byte.progress) left before held (g.O.Sink.held c.byte.sink)) (sym c.byte.invariant.bundles) c.byte.invariant.come in
-    let taken = subst (λ (o : Option ℕ). Consumes before after (option_to_list o)) c.in-Ok-Some.field-0-is c.in-Ok-Some.ensures.byte in
-    let stops = c.take.ensures.write left before after held out come taken (c.in-Err-take.is ∙ e) in (
-      subst (λ (b : Bundles). StopsWriting b left after held (g.O.Sink.held c.take.new.sink) out) c.byte.invariant.bundles stops.0,
-      subst (λ (n : ℕ). HasFailed n (g.O.Sink.failures c.take.new.sink)) c.byte.invariant.taken stops.1,
-    )
+pub returns-in_default-clause-memory : goal.returns-in_default-clause-memory
+returns-in_default-clause-memory g c = λ line e.
+    let none : line ≡ 0 = cc in
+    inr (none, refl, refl)
 
-pub returns-in-Err-take-clause-memory : goal.returns-in-Err-take-clause-memory
-returns-in-Err-take-clause-memory g c = λ line e.
+pub returns-clause-ok : goal.returns-clause-ok
+returns-clause-ok g c =
     let left = g.I.Source.left c.args.source.now in
-    let before = g.I.Source.left c.byte.source in
-    let after = g.I.Source.left c.next_byte.new.source in
+    let after = g.I.Source.left c.take_all.new.source in
     let held = g.O.Sink.held c.args.sink.now in
-    let come = subst (λ (b : Bundles). HasCome b (standing_of c.byte.progress) left before held (g.O.Sink.held c.byte.sink)) (sym c.byte.invariant.bundles) c.byte.invariant.come in
-    let taken = subst (λ (o : Option ℕ). Consumes before after (option_to_list o)) c.in-Ok-Some.field-0-is c.in-Ok-Some.ensures.byte in
-    let stops = c.take.ensures.memory left before after held line come taken (c.in-Err-take.is ∙ e) in
-    inl (subst (λ (b : Bundles). StopsForMemory b left after held (g.O.Sink.held c.take.new.sink) line) c.byte.invariant.bundles stops)
+    on_ok_weaker c.take_all.result (subst (λ (b : Bundles). IsAnswered b left after held (g.O.Sink.held c.take_all.new.sink)) c.in-Ok.ensures.bundles)
+    c.take_all.ensures.ok
 
-pub byte-preserved : goal.byte-preserved
-byte-preserved g c =
+pub returns-clause-read : goal.returns-clause-read
+returns-clause-read g c = λ line e.
     let left = g.I.Source.left c.args.source.now in
-    let before = g.I.Source.left c.byte.source in
-    let after = g.I.Source.left c.next_byte.new.source in
+    let after = g.I.Source.left c.take_all.new.source in
     let held = g.O.Sink.held c.args.sink.now in
-    let come = subst (λ (b : Bundles). HasCome b (standing_of c.byte.progress) left before held (g.O.Sink.held c.byte.sink)) (sym c.byte.invariant.bundles) c.byte.invariant.come in
-    let taken = subst (λ (o : Option ℕ). Consumes before after (option_to_list o)) c.in-Ok-Some.field-0-is c.in-Ok-Some.ensures.byte in
-    let grown = c.in_default-take.ensures.ok left before after held come taken in
-    record {
-      come = subst (λ (b : Bundles). HasCome b (standing_of c.take.new.self) left after held (g.O.Sink.held c.take.new.sink)) c.byte.invariant.bundles grown;
-      bundles = c.take.ensures.bundles ∙ c.byte.invariant.bundles;
-      given = c.in-Ok-Some.ensures.none_failed ∙ c.byte.invariant.given;
-      taken = c.in_default-take.ensures.none_failed ∙ c.byte.invariant.taken;
-    }
+    let stops = c.take_all.ensures.read line e in
+    (subst (λ (b : Bundles). StopsReading b left after held (g.O.Sink.held c.take_all.new.sink) line) c.in-Ok.ensures.bundles stops.0, stops.1)
 
-pub returns-in-Ok-None-clause-ok : goal.returns-in-Ok-None-clause-ok
-returns-in-Ok-None-clause-ok g c =
+pub returns-clause-write : goal.returns-clause-write
+returns-clause-write g c = λ out e.
     let left = g.I.Source.left c.args.source.now in
-    let before = g.I.Source.left c.byte.source in
-    let after = g.I.Source.left c.next_byte.new.source in
+    let after = g.I.Source.left c.take_all.new.source in
     let held = g.O.Sink.held c.args.sink.now in
-    let come = subst (λ (b : Bundles). HasCome b (standing_of c.byte.progress) left before held (g.O.Sink.held c.byte.sink)) (sym c.byte.invariant.bundles) c.byte.invariant.come in
-    let taken = subst (λ (o : Option ℕ). Consumes before after (option_to_list o)) c.in-Ok-None.field-0-is c.in-Ok-None.ensures.byte in
-    let all = came_no_more c.byte.progress.session.bundles (standing_of c.byte.progress) left before held (g.O.Sink.held c.byte.sink) come after taken in
-    let answer = c.finish.ensures.ok left after held all (c.in-Ok-None.ensures.end c.in-Ok-None.field-0-is) in
-    on_ok_weaker c.finish.result (subst (λ (b : Bundles). IsAnswered b left after held (g.O.Sink.held c.finish.new.sink)) c.byte.invariant.bundles) answer
+    let stops = c.take_all.ensures.write out e in
+    (subst (λ (b : Bundles). StopsWriting b left after held (g.O.Sink.held c.take_all.new.sink) out) c.in-Ok.ensures.bundles stops.0, stops.1)
 
-pub returns-in-Ok-None-clause-write : goal.returns-in-Ok-None-clause-write
-returns-in-Ok-None-clause-write g c = λ out e.
+pub returns-clause-memory : goal.returns-clause-memory
+returns-clause-memory g c = λ line e.
     let left = g.I.Source.left c.args.source.now in
-    let before = g.I.Source.left c.byte.source in
-    let after = g.I.Source.left c.next_byte.new.source in
+    let after = g.I.Source.left c.take_all.new.source in
     let held = g.O.Sink.held c.args.sink.now in
-    let come = subst (λ (b : Bundles). HasCome b (standing_of c.byte.progress) left before held (g.O.Sink.held c.byte.sink)) (sym c.byte.invariant.bundles) c.byte.invariant.come in
-    let taken = subst (λ (o : Option ℕ). Consumes before after (option_to_list o)) c.in-Ok-None.field-0-is c.in-Ok-None.ensures.byte in
-    let all = came_no_more c.byte.progress.session.bundles (standing_of c.byte.progress) left before held (g.O.Sink.held c.byte.sink) come after taken in
-    let stops = c.finish.ensures.write left after held out all (c.in-Ok-None.ensures.end c.in-Ok-None.field-0-is) e in (
-      subst (λ (b : Bundles). StopsWriting b left after held (g.O.Sink.held c.finish.new.sink) out) c.byte.invariant.bundles stops.0,
-      subst (λ (n : ℕ). HasFailed n (g.O.Sink.failures c.finish.new.sink)) c.byte.invariant.taken stops.1,
-    )
-
-pub returns-in-Ok-None-clause-memory : goal.returns-in-Ok-None-clause-memory
-returns-in-Ok-None-clause-memory g c = λ line e.
-    let left = g.I.Source.left c.args.source.now in
-    let before = g.I.Source.left c.byte.source in
-    let after = g.I.Source.left c.next_byte.new.source in
-    let held = g.O.Sink.held c.args.sink.now in
-    let come = subst (λ (b : Bundles). HasCome b (standing_of c.byte.progress) left before held (g.O.Sink.held c.byte.sink)) (sym c.byte.invariant.bundles) c.byte.invariant.come in
-    let taken = subst (λ (o : Option ℕ). Consumes before after (option_to_list o)) c.in-Ok-None.field-0-is c.in-Ok-None.ensures.byte in
-    let all = came_no_more c.byte.progress.session.bundles (standing_of c.byte.progress) left before held (g.O.Sink.held c.byte.sink) come after taken in
-    let stops = c.finish.ensures.memory left after held line all (c.in-Ok-None.ensures.end c.in-Ok-None.field-0-is) e in
-    inl (subst (λ (b : Bundles). StopsForMemory b left after held (g.O.Sink.held c.finish.new.sink) line) c.byte.invariant.bundles stops)
-
-pub returns-in-Err-clause-read : goal.returns-in-Err-clause-read
-returns-in-Err-clause-read g c = λ line e.
-    let left = g.I.Source.left c.args.source.now in
-    let before = g.I.Source.left c.byte.source in
-    let after = g.I.Source.left c.next_byte.new.source in
-    let held = g.O.Sink.held c.args.sink.now in
-    let same : c.number-line.result ≡ line = cc in (
-      stops_reading c.args.bundles.now (standing_of c.byte.progress) left before held (g.O.Sink.held c.byte.sink) c.byte.invariant.come after line
-          c.in-Err.ensures.err (sym same ∙ c.number-line.ensures),
-      has_failed (g.I.Source.failures c.args.source.now) (g.I.Source.failures c.byte.source) (g.I.Source.failures c.next_byte.new.source)
-          c.byte.invariant.given c.in-Err.ensures.failed,
-    )
+    let stops = c.take_all.ensures.memory line e in
+    inl (subst (λ (b : Bundles). StopsForMemory b left after held (g.O.Sink.held c.take_all.new.sink) line) c.in-Ok.ensures.bundles stops)

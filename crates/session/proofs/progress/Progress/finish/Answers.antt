@@ -1,5 +1,4 @@
 use Rattle.std.proofs.Common.{◌≡◌, ◌∙◌, length, sym, arith}
-use Rattle.std.specs.Prelude.{◌==◌}
 use Rattle.std.proofs.lemmas.Result.{on_ok_weaker}
 use Rattle.session.specs.inner.Progress.{standing_of}
 use Rattle.session.proofs.ComeLaws.{ends, last_answered, last_not_carried, last_not_written}

@@ -1,4 +1,4 @@
-use Rattle.std.proofs.Common.{ℕ, List, [], ◌∷◌, ap, subst}
+use Rattle.std.proofs.Common.{ℕ, [], ◌∷◌, ap, subst}
 use Rattle.std.specs.Io.KnownBytes.{Consumes}
 use Rattle.std.proofs.lemmas.Result.{on_ok_weaker}
 use Rattle.lifecycle.specs.Views.{world_of}
