@@ -3,7 +3,7 @@ use std::error::Error;
 use std::fmt;
 
 /// Why a file was not read.
-#[derive(Clone, Copy, Debug)]
+#[derive(Clone, Copy, Debug, PartialEq, Eq)]
 pub enum FileFault {
     /// There is no such file, or it cannot be read.
     CannotRead,

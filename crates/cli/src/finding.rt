@@ -14,7 +14,7 @@ use std::alloc::{AllocError, Global};
 use std::fmt;
 
 /// What is found of a bundle, a filter and a certificate. Its text is the line of `ccell check`.
-#[derive(Clone, Copy)]
+#[derive(Clone, Copy, Debug, PartialEq, Eq)]
 pub enum Finding {
     /// The filter gives each call record the word that the bundle says.
     Yes,

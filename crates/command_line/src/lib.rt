@@ -10,7 +10,7 @@ use clap::{Arg, ArgMatches, Command, Error};
 use std::alloc::{AllocError, Global};
 
 /// What is written of a checked filter.
-#[derive(Clone, Copy)]
+#[derive(Clone, Copy, Debug, PartialEq, Eq)]
 pub enum Form {
     /// The filter's bytes.
     Raw,
@@ -21,7 +21,7 @@ pub enum Form {
 }
 
 /// What the words after the program's name ask for.
-#[derive(Clone, Copy)]
+#[derive(Clone, Copy, Debug, PartialEq, Eq)]
 pub enum Order<'a> {
     /// The word that a filter answers to a record, both given as names of files.
     Verdict {
@@ -52,7 +52,7 @@ pub enum Order<'a> {
 }
 
 /// Why words are no order. A call for help is no order either.
-#[derive(Clone, Copy, Debug)]
+#[derive(Clone, Copy, Debug, PartialEq, Eq)]
 pub enum Misuse {
     Usage,
     OutOfMemory,

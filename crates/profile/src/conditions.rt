@@ -5,7 +5,7 @@ ghost use Rattle.profile.specs.declared.conditions.Op.TheVariants.{Eq};
 
 /// How an argument is compared, as an unsigned number of 64 bits (OCI Runtime Specification,
 /// config-linux, Seccomp, `op`).
-#[derive(Clone, Copy, PartialEq, Eq)]
+#[derive(Clone, Copy, Debug, PartialEq, Eq)]
 pub enum Op {
     Ne,
     Lt,
@@ -20,7 +20,7 @@ pub enum Op {
 ///
 /// Under [`Op::MaskedEq`] the bits of the argument under the mask `value` are those of `datum`,
 /// which has no other bits. Any other operator compares the argument with `value`, and `datum` is 0.
-#[derive(Clone, Copy, PartialEq, Eq)]
+#[derive(Clone, Copy, Debug, PartialEq, Eq)]
 pub struct Cond {
     pub index: u8,
     pub op: Op,

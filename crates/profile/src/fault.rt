@@ -4,7 +4,7 @@ use std::error::Error;
 use std::fmt;
 
 /// Why no profile is built. A place counts from 0 in the list of rules that was given.
-#[derive(Clone, Copy, Debug)]
+#[derive(Clone, Copy, Debug, PartialEq, Eq)]
 pub enum BuildError {
     /// The native machine is not listed.
     NativeMissing,

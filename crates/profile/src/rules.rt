@@ -1,5 +1,5 @@
 //! Rules of a profile.
-ghost use Rattle.std.specs.Prelude.{◌≡◌, ◌↔◌, ◌==◌, ◌<◌, ◌^◌, true, map, IsTrue, All, slice_index};
+ghost use Rattle.std.specs.Prelude.{◌≡◌, ◌↔◌, ◌==◌, ◌<◌, ◌^◌, ⊤, true, map, IsTrue, All, slice_index};
 ghost use Rattle.std.specs.List.{list_any};
 ghost use Rattle.profile.specs.Condition.{Meets};
 ghost use Rattle.profile.specs.Operator.{are_distinct};
@@ -8,9 +8,10 @@ use crate::conditions::Cond;
 use arrayvec::ArrayVec;
 use call_record::{Record, Word};
 use call_tables::Arch;
+use std::alloc::AllocError;
 
 /// A rule for one call of one machine: the word of a record that meets all its conditions.
-#[derive(PartialEq, Eq, Drop)]
+#[derive(Debug, PartialEq, Eq, Drop)]
 pub struct Rule {
     pub arch: Arch,
     /// The number of the system call.
@@ -58,6 +59,21 @@ impl Rule {
             return false;
         }
         hold(self.conds.as_slice(), &call.args)
+    }
+}
+
+impl Clone for Rule {
+    ghost is_clone = { λ rule copy. copy ≡ rule };
+
+    ghost is_infallible = { λ _. ⊤ };
+
+    fn clone(&self) -> Result<Rule, AllocError> {
+        Ok(Rule {
+            arch: self.arch,
+            nr: self.nr,
+            conds: self.conds.clone()?,
+            word: self.word,
+        })
     }
 }
 
