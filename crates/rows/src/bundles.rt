@@ -1,17 +1,19 @@
 //! Bundles, and what their profiles say of calls.
 
+use crate::certified::{tell_compiled, tell_filter};
 use crate::conformance::{tell_agreement, tell_size};
 use crate::paths::tell_figures;
+use crate::profiles::read_profile;
 use crate::rules::tell_profile;
-use anyhow::{Context, Result, bail};
+use crate::tell::tell;
+use crate::text::{call, expanded, machine};
+use anyhow::{Context, Result};
 use profile::Profile;
 use profile_json::{Bundle, ProfileError, read_bundle};
-use row_parts::tell::tell;
-use row_parts::text::{call, expanded, machine};
 use std::alloc::Global;
 use std::collections::BTreeMap;
 
-/// Frames by their names, and the profile of the bundle that was read last.
+/// Frames by their names, and the profile that was read last.
 #[derive(Drop)]
 pub struct Bundles {
     frames: BTreeMap<String, String>,
@@ -27,23 +29,32 @@ impl Bundles {
         }
     }
 
-    /// Adds the answer to a question on bundles.
+    /// Adds the answer to a question on bundles, and says whether it is one.
     pub fn answer(
         &mut self,
         out: &mut String,
         alloc: Global,
         word: &str,
         rest: &str,
-    ) -> Result<()> {
+    ) -> Result<bool> {
         match word {
-            "frame" => self.put_frame(alloc, rest),
-            "bundle" => self.read(out, alloc, rest),
-            "decide" => self.decide(out, rest),
-            "compile" => tell_size(out, alloc, &self.made(alloc, rest)??.profile),
-            "figures" => tell_figures(out, alloc, &self.made(alloc, rest)??.profile),
-            "conforms" => tell_agreement(out, alloc, &self.made(alloc, rest)??.profile),
-            _ => bail!("no word of this program"),
+            "frame" => self.put_frame(alloc, rest)?,
+            "bundle" => self.read(out, alloc, rest)?,
+            "profile" => self.profile = Some(read_profile(alloc, rest)?),
+            "decide" => self.decide(out, rest)?,
+            "compile" => tell_size(out, alloc, &self.made(alloc, rest)??.profile)?,
+            "figures" => tell_figures(out, alloc, &self.made(alloc, rest)??.profile)?,
+            "conforms" => tell_agreement(out, alloc, &self.made(alloc, rest)??.profile)?,
+            "compiled" => tell_compiled(out, alloc, self.last()?)?,
+            "filter" => tell_filter(out, alloc, self.last()?, rest)?,
+            _ => return Ok(false),
         }
+        Ok(true)
+    }
+
+    // The profile that was read last.
+    fn last(&self) -> Result<&Profile> {
+        self.profile.as_ref().context("a profile")
     }
 
     fn put_frame(&mut self, alloc: Global, line: &str) -> Result<()> {
@@ -86,7 +97,6 @@ impl Bundles {
 
     // The word of a call.
     fn decide(&self, out: &mut String, text: &str) -> Result<()> {
-        let profile = self.profile.as_ref().context("a profile")?;
-        tell(out, profile.decide(&call(text)?))
+        tell(out, self.last()?.decide(&call(text)?))
     }
 }

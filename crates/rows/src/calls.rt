@@ -1,19 +1,20 @@
 //! The tables of calls.
 
-use anyhow::{Result, bail};
+use crate::tell::tell;
+use crate::text::{machine_name, narrow};
+use anyhow::Result;
 use call_tables::Arch;
-use row_parts::tell::tell;
-use row_parts::text::{machine_name, narrow};
 
-/// Adds the answer to a question on machines and calls.
-pub fn answer(out: &mut String, word: &str, rest: &str) -> Result<()> {
+/// Adds the answer to a question on machines and calls, and says whether it is one.
+pub fn answer(out: &mut String, word: &str, rest: &str) -> Result<bool> {
     match word {
-        "machines" => machines(out),
-        "calls" => calls(out),
-        "call" => tell_call(out, rest),
-        "number" => tell_names(out, narrow(rest)?),
-        _ => bail!("no word of this program"),
+        "machines" => machines(out)?,
+        "calls" => calls(out)?,
+        "call" => tell_call(out, rest)?,
+        "number" => tell_names(out, narrow(rest)?)?,
+        _ => return Ok(false),
     }
+    Ok(true)
 }
 
 // Each machine with its name in a bundle and its token in a record.

@@ -1,14 +1,11 @@
 //! Compiled filters beside their profiles. Nothing is promised of what they answer, so it is tried on many records.
 
 use crate::grid::Grid;
+use crate::tell::tell;
 use anyhow::Result;
 use bpf_insn::Program;
-use bpf_interp::verdict;
-use call_record::Record;
-use kernel_check::{Accepted, accept};
+use kernel_check::accept;
 use profile::Profile;
-use row_parts::tell::tell;
-use row_parts::text::record;
 use rule_compile::compile;
 use std::alloc::Global;
 
@@ -32,39 +29,8 @@ pub fn tell_agreement(out: &mut String, alloc: Global, profile: &Profile) -> Res
     };
     let program = Program::view(&filter)?;
     let accepted = accept(&program)?;
-    let grid = Grid::of(alloc, profile)?;
-    match first_difference(&accepted, profile, &grid) {
+    match Grid::of_calls(alloc, profile)?.first_difference(&accepted, profile) {
         None => tell(out, "agrees"),
         Some(call) => tell(out, format_args!("differs at {call:?}")),
     }
-}
-
-// The first record of the grid where the filter's verdict is not the word of the profile.
-fn first_difference(accepted: &Accepted<'_>, profile: &Profile, grid: &Grid) -> Option<Record> {
-    for arch in grid.tokens {
-        for nr in &grid.numbers {
-            let found = difference_at(accepted, profile, arch, *nr, &grid.arguments);
-            if found.is_some() {
-                return found;
-            }
-        }
-    }
-    None
-}
-
-// The first of these records with one token and number where the two differ.
-fn difference_at(
-    accepted: &Accepted<'_>,
-    profile: &Profile,
-    arch: u32,
-    nr: u32,
-    arguments: &[[u64; 6]],
-) -> Option<Record> {
-    for args in arguments {
-        let call = record(nr, arch, 0, *args);
-        if verdict(accepted, &call) != profile.decide(&call) {
-            return Some(call);
-        }
-    }
-    None
 }

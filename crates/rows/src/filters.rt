@@ -1,13 +1,13 @@
 //! Filters: their listings, the kernel's check and their verdicts.
 
-use anyhow::{Context, Result, bail};
+use crate::bytes::{bytes, tell_bytes};
+use crate::tell::{tell, tell_lines};
+use crate::text::{call, expanded};
+use anyhow::{Context, Result};
 use bpf_asm::{assemble, disassemble};
 use bpf_insn::{Insn, Program};
 use bpf_interp::verdict_counted;
 use kernel_check::{AcceptedBuf, accept};
-use row_parts::bytes::{bytes, tell_bytes};
-use row_parts::tell::{tell, tell_lines};
-use row_parts::text::{call, expanded};
 use std::alloc::Global;
 use std::fmt::Write;
 
@@ -23,22 +23,23 @@ impl Filters {
         Filters { program: None }
     }
 
-    /// Adds the answer to a question on filters.
+    /// Adds the answer to a question on filters, and says whether it is one.
     pub fn answer(
         &mut self,
         out: &mut String,
         alloc: Global,
         word: &str,
         rest: &str,
-    ) -> Result<()> {
+    ) -> Result<bool> {
         match word {
-            "program" => self.check(out, alloc, rest),
-            "run" => self.run(out, rest),
-            "assemble" => tell_assembled(out, alloc, rest),
-            "disassemble" => tell_listing(out, alloc, rest),
-            "codes" => tell_codes(out, alloc),
-            _ => bail!("no word of this program"),
+            "program" => self.check(out, alloc, rest)?,
+            "run" => self.run(out, rest)?,
+            "assemble" => tell_assembled(out, alloc, rest)?,
+            "disassemble" => tell_listing(out, alloc, rest)?,
+            "codes" => tell_codes(out, alloc)?,
+            _ => return Ok(false),
         }
+        Ok(true)
     }
 
     // Asks the kernel's check.

@@ -1,92 +1,61 @@
-//! Records to run filters on.
-ghost use Rattle.std.specs.Prelude.{◌<◌};
+//! Records to run a filter on beside its profile.
 
+use bpf_interp::verdict;
 use call_record::Record;
 use call_tables::Arch;
+use kernel_check::Accepted;
 use profile::Profile;
-use std::alloc::{AllocError, Global};
 
-/// The parts that records are made of.
+pub mod calls;
+pub mod halves;
+pub mod near;
+
+/// The records of both machines and of none, with each of some numbers and each of some arguments.
 #[derive(Drop)]
 pub struct Grid {
-    pub tokens: [u32; 3],
-    pub numbers: Vec<u32>,
-    pub arguments: Vec<[u64; 6]>,
+    numbers: Vec<u32>,
+    arguments: Vec<[u64; 6]>,
 }
 
 impl Grid {
-    /// The grid of a profile: both machines and none; each call of a table, and the numbers on both
-    /// sides of the least x32 call; each argument that a condition names, or all where none does.
-    pub fn of(alloc: Global, profile: &Profile) -> Result<Grid, AllocError> {
-        let mut numbers = vec![in alloc; 0x3fff_ffff, 0x4000_0000]?;
-        for nr in 0..1024 {
-            if Arch::ALL.iter().any(|arch| arch.name(nr).is_some()) {
-                numbers.push(nr)?;
+    /// The first record where the filter's verdict is not the word of the profile.
+    pub fn first_difference(&self, accepted: &Accepted<'_>, profile: &Profile) -> Option<Record> {
+        for arch in [Arch::X86_64.token(), Arch::Aarch64.token(), 0] {
+            for nr in &self.numbers {
+                let found = self.difference_at(accepted, profile, arch, *nr);
+                if found.is_some() {
+                    return found;
+                }
             }
         }
-        Ok(Grid {
-            tokens: [Arch::X86_64.token(), Arch::Aarch64.token(), 0],
-            numbers,
-            arguments: arguments(alloc, profile)?,
-        })
+        None
     }
-}
 
-// Each pair of words as one argument, and zeros as the others.
-fn arguments(alloc: Global, profile: &Profile) -> Result<Vec<[u64; 6]>, AllocError> {
-    let halves = halves(alloc, profile)?;
-    let plain = profile.rules().iter().all(|rule| rule.conds.is_empty());
-    let mut all = Vec::new(alloc);
-    for index in 0..6u8 {
-        if plain || names_argument(profile, index) {
-            place_pairs(&mut all, index, &halves)?;
-        }
-    }
-    Ok(all)
-}
-
-// Whether some condition is on the argument.
-fn names_argument(profile: &Profile, index: u8) -> bool {
-    profile
-        .rules()
-        .iter()
-        .any(|rule| rule.conds.iter().any(|cond| cond.index == index))
-}
-
-// Adds the arguments where one is a pair of words, and the others are 0.
-fn place_pairs(all: &mut Vec<[u64; 6]>, index: u8, halves: &[u32]) -> Result<(), AllocError>
-    requires { index < 6 }
-{
-    for high in halves {
-        for low in halves {
-            let mut args = [0; 6];
-            args[index as usize] = u64::from(*high) << 32 | u64::from(*low);
-            all.push(args)?;
-        }
-    }
-    Ok(())
-}
-
-// The words 0, 1 and the greatest, and the words of conditions with their neighbours.
-fn halves(alloc: Global, profile: &Profile) -> Result<Vec<u32>, AllocError> {
-    let mut halves = vec![in alloc; 0, 1, u32::MAX]?;
-    for rule in profile.rules() {
-        for cond in rule.conds.iter() {
-            add_words(&mut halves, cond.value)?;
-            add_words(&mut halves, cond.datum)?;
-        }
-    }
-    Ok(halves)
-}
-
-// Adds both words of a number, and their neighbours, where they are new.
-fn add_words(halves: &mut Vec<u32>, number: u64) -> Result<(), AllocError> {
-    for word in [(number >> 32) as u32, (number % (1 << 32)) as u32] {
-        for near in [word.wrapping_sub(1), word, word.wrapping_add(1)] {
-            if !halves.contains(&near) {
-                halves.push(near)?;
+    // The first one with this token and number.
+    fn difference_at(
+        &self,
+        accepted: &Accepted<'_>,
+        profile: &Profile,
+        arch: u32,
+        nr: u32,
+    ) -> Option<Record> {
+        for args in &self.arguments {
+            let args = *args;
+            let call = Record {
+                nr,
+                arch,
+                ip: 0,
+                args,
+            };
+            if verdict(accepted, &call) != profile.decide(&call) {
+                return Some(call);
             }
         }
+        None
     }
-    Ok(())
+}
+
+// The number with these halves.
+fn joined(high: u32, low: u32) -> u64 {
+    u64::from(high) << 32 | u64::from(low)
 }

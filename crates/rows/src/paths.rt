@@ -1,12 +1,12 @@
 //! How long a compiled filter is, and the paths through it.
 
+use crate::tell::tell;
+use crate::text::record;
 use anyhow::Result;
 use bpf_insn::{Insn, Operation, Program};
 use bpf_interp::verdict_counted;
 use kernel_check::{Accepted, accept};
 use profile::Profile;
-use row_parts::tell::tell;
-use row_parts::text::record;
 use rule_compile::compile;
 use std::alloc::{AllocError, Global};
 

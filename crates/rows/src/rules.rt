@@ -1,26 +1,27 @@
 //! Rules of profiles.
 
-use anyhow::{Context, Result, bail};
+use crate::tell::tell;
+use crate::text::{expanded, machine, machine_name, narrow, number, verdict_word};
+use anyhow::{Context, Result};
 use arrayvec::ArrayVec;
 use call_record::Word;
 use call_tables::Arch;
 use profile::{Cond, Op, Profile, Rule, overlap};
-use row_parts::tell::tell;
-use row_parts::text::{expanded, machine, machine_name, narrow, number, verdict_word};
 use std::alloc::Global;
 use std::fmt::Write;
 
-/// Adds the answer to a question on conditions and rules.
-pub fn answer(out: &mut String, alloc: Global, word: &str, rest: &str) -> Result<()> {
+/// Adds the answer to a question on conditions and rules, and says whether it is one.
+pub fn answer(out: &mut String, alloc: Global, word: &str, rest: &str) -> Result<bool> {
     match word {
         "condition" => match condition(rest)? {
-            Some(_) => tell(out, "a condition"),
-            None => tell(out, "none"),
+            Some(_) => tell(out, "a condition")?,
+            None => tell(out, "none")?,
         },
-        "overlap" => overlaps(out, rest),
-        "build" => build(out, alloc, expanded(alloc, rest)?.as_str()),
-        _ => bail!("no word of this program"),
+        "overlap" => overlaps(out, rest)?,
+        "build" => build(out, alloc, expanded(alloc, rest)?.as_str())?,
+        _ => return Ok(false),
     }
+    Ok(true)
 }
 
 const OPS: [(&str, Op); 7] = [

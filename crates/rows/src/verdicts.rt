@@ -1,22 +1,23 @@
 //! Words of verdicts, and records of calls.
 
-use anyhow::{Context, Result, bail, ensure};
+use crate::bytes::tell_bytes;
+use crate::tell::tell;
+use crate::text::{call, number, record, verdict_word};
+use anyhow::{Context, Result, ensure};
 use call_record::{Ends, Record, Word, least_below, lets_through, strictest};
-use row_parts::bytes::tell_bytes;
-use row_parts::tell::tell;
-use row_parts::text::{call, number, record, verdict_word};
 use std::alloc::Global;
 use std::fmt::Write;
 
-/// Adds the answer to a question on words and records.
-pub fn answer(out: &mut String, alloc: Global, word: &str, rest: &str) -> Result<()> {
+/// Adds the answer to a question on words and records, and says whether it is one.
+pub fn answer(out: &mut String, alloc: Global, word: &str, rest: &str) -> Result<bool> {
     match word {
-        "strictest" => strictest_of(out, alloc, rest),
-        "effect" => effect(out, verdict_word(rest)?),
-        "record" => tell_record(out, alloc, rest),
-        "least" => least(out, rest),
-        _ => bail!("no word of this program"),
+        "strictest" => strictest_of(out, alloc, rest)?,
+        "effect" => effect(out, verdict_word(rest)?)?,
+        "record" => tell_record(out, alloc, rest)?,
+        "least" => least(out, rest)?,
+        _ => return Ok(false),
     }
+    Ok(true)
 }
 
 // The strictest of words, the newest filter's first.

@@ -1,20 +1,20 @@
 //! The answers of one line.
 
+use crate::tell::tell;
 use anyhow::Result;
-use row_parts::tell::tell;
 use std::alloc::Global;
 
 /// The last answer so far, and how many of the last are like it.
 #[derive(Drop)]
-pub struct Tally {
+pub struct Repeats {
     last: String,
     times: u64,
 }
 
-impl Tally {
+impl Repeats {
     /// No answers.
-    pub fn new(alloc: Global) -> Tally {
-        Tally {
+    pub fn new(alloc: Global) -> Repeats {
+        Repeats {
             last: String::new(alloc),
             times: 0,
         }

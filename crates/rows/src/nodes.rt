@@ -1,40 +1,45 @@
 //! Certificates: their nodes, read and written.
 
+use crate::bytes::tell_bytes;
 use crate::changes::{bits, flipped};
+use crate::shelf::Shelf;
 use crate::tally::Tally;
-use anyhow::{Result, bail};
+use crate::tell::tell;
+use crate::text::narrow;
+use anyhow::{Context, Result};
 use cert_form::{CertView, ChainNode, Kind, Node, NodeView, write, write_chained};
 use cert_state::{AVal, Lit, Regs, State};
-use cli::Files;
-use row_parts::bytes::tell_bytes;
-use row_parts::shelf::Shelf;
-use row_parts::tell::tell;
-use row_parts::text::narrow;
 use std::alloc::Global;
 
-/// Adds the answer to a question on certificates.
+/// Adds the answer to a question on certificates, and says whether it is one.
 pub fn answer(
     out: &mut String,
     alloc: Global,
-    shelf: &mut Shelf,
+    shelf: &Shelf,
     word: &str,
     rest: &str,
-) -> Result<()> {
-    let (name, other) = rest.split_once(' ').unwrap_or((rest, ""));
-    let bytes = shelf.read(alloc, name)?;
+) -> Result<bool> {
     match word {
-        "nodes" => tell_nodes(out, alloc, &bytes),
-        "nodes-flipped" => tell_flipped(out, alloc, &bytes),
+        "nodes" => tell_nodes(out, alloc, shelf.bytes_of(rest)?)?,
+        "nodes-flipped" => tell_flipped(out, alloc, shelf.bytes_of(rest)?)?,
         "written" => {
-            let written = listed(alloc, &bytes)?;
-            tell_alike(out, alloc, &written, &shelf.read(alloc, other)?)
+            let (bytes, other) = two_files(shelf, rest)?;
+            tell_alike(out, alloc, &listed(alloc, bytes)?, other)?;
         }
         "chained" => {
-            let written = chained(alloc, &bytes)?;
-            tell_alike(out, alloc, &written, &shelf.read(alloc, other)?)
+            let (bytes, other) = two_files(shelf, rest)?;
+            tell_alike(out, alloc, &chained(alloc, bytes)?, other)?;
         }
-        _ => bail!("no word of this program"),
+        "long-chain" => tell_long(out, alloc, rest)?,
+        _ => return Ok(false),
     }
+    Ok(true)
+}
+
+// The bytes of the files `ONE OTHER`.
+fn two_files<'a>(shelf: &'a Shelf, text: &str) -> Result<(&'a [u8], &'a [u8])> {
+    let (one, other) = text.split_once(' ').context("two files")?;
+    Ok((shelf.bytes_of(one)?, shelf.bytes_of(other)?))
 }
 
 // How many nodes a certificate has, or its fault.
@@ -45,8 +50,8 @@ fn tell_nodes(out: &mut String, alloc: Global, bytes: &[u8]) -> Result<()> {
     }
 }
 
-/// Adds the answer to reading a certificate of one node with a chain of so many literals.
-pub fn tell_long(out: &mut String, alloc: Global, count: &str) -> Result<()> {
+// Adds the answer to reading a certificate of one node with a chain of so many literals.
+fn tell_long(out: &mut String, alloc: Global, count: &str) -> Result<()> {
     let count = narrow(count)?;
     let mut entries = Vec::new(alloc);
     for parent in 0..count {

@@ -1,33 +1,32 @@
-//! Input and output that give out, at every place: worked examples read from files and printed with their answers.
-//!
-//! As in the program `rows`, the words after the program's name are names of files in `data/`, each line of a file is
-//! printed as it stands, and answers follow on lines that begin by four spaces. The file `stdout` has the same lines with
-//! the answers that the rules give, worked out apart from this program. In a file a line is one of these.
-//!
-//! - An empty line, or one that begins with `#`: nothing is asked.
-//! - `file NAME KIND ..` puts a file into memory, and `more NAME HEX` adds bytes to it.
-//! - `outputs ccell WORD .. < FILE` runs the program on these words and this input, which may be left out, with an output
-//!   that has room for each beginning of what is written: it fails then, or takes nothing more; and it takes all bytes of
-//!   a call at once, or one. Each time the output has to hold that beginning, with status 3 and the line of a failed write
-//!   on standard error, and nothing more may be read. The answer is how many beginnings there are.
-//! - `inputs ccell WORD .. < FILE` runs it with an input that fails at each of its calls, where a call gives all bytes that
-//!   there are, or one. Each time the output has to hold the replies to the lines that were read whole, with status 3 and
-//!   the line of a failed read. The answer is how many calls there are, one byte a call.
-//! - `names COUNT` runs it with the name of a file of so many bytes that cannot be read: in how many writes the line on
-//!   standard error came.
-#![tactic(auto)]
+//! Input and output that give out, at every place of a session.
 
-mod ends;
-mod trial;
+pub mod ends;
+pub mod trial;
 
-use crate::ends::{AT_ONCE, BYTE_BY_BYTE, Manner};
-use crate::trial::Case;
-use anyhow::{Context, Result, bail};
-use row_parts::shelf::Shelf;
-use row_parts::tell::tell;
-use row_parts::text::number;
+use crate::shelf::Shelf;
+use crate::streams::ends::{AT_ONCE, BYTE_BY_BYTE, Manner};
+use crate::streams::trial::Case;
+use crate::tell::tell;
+use crate::text::number;
+use anyhow::Result;
 use std::alloc::Global;
-use std::{env, fs};
+
+/// Adds the answer to a question on streams, and says whether it is one.
+pub fn answer(
+    out: &mut String,
+    alloc: Global,
+    shelf: &mut Shelf,
+    word: &str,
+    rest: &str,
+) -> Result<bool> {
+    match word {
+        "outputs" => outputs(out, alloc, shelf, rest)?,
+        "inputs" => inputs(out, alloc, shelf, rest)?,
+        "names" => names(out, alloc, shelf, rest)?,
+        _ => return Ok(false),
+    }
+    Ok(true)
+}
 
 // The first so many lines of a text.
 fn first_lines(text: &[u8], count: usize) -> &[u8] {
@@ -146,38 +145,4 @@ fn names(out: &mut String, alloc: Global, shelf: &mut Shelf, rest: &str) -> Resu
             ended.status
         ),
     )
-}
-
-// Adds the answer to a line.
-fn answer(out: &mut String, alloc: Global, shelf: &mut Shelf, line: &str) -> Result<()> {
-    let (word, rest) = line.split_once(' ').unwrap_or((line, ""));
-    match word {
-        "" | "#" => Ok(()),
-        "file" => shelf.put(alloc, rest),
-        "more" => shelf.add(alloc, rest),
-        "outputs" => outputs(out, alloc, shelf, rest),
-        "inputs" => inputs(out, alloc, shelf, rest),
-        "names" => names(out, alloc, shelf, rest),
-        _ => bail!("no word of this program"),
-    }
-}
-
-// The lines of a file with their answers.
-fn answered(alloc: Global, text: &str) -> Result<String> {
-    let mut out = String::new(alloc);
-    let mut shelf = Shelf::new(alloc);
-    for line in text.lines() {
-        out.push_str(line)?;
-        out.push_str("\n")?;
-        answer(&mut out, alloc, &mut shelf, line).context(format_args!("at {line}"))?;
-    }
-    Ok(out)
-}
-
-fn main(rt: HostRuntime) -> Result<()> {
-    for name in env::args(&rt)?.skip(1) {
-        let text = fs::read_to_string(&rt, name.as_str())?;
-        rt.print(answered(rt.alloc(), text.as_str())?)?;
-    }
-    Ok(())
 }

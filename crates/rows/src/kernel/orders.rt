@@ -1,9 +1,9 @@
 //! From the lines of a block to what they order.
 
+use crate::text::{expanded, record};
 use anyhow::{Context, Result};
 use call_record::Record;
 use call_tables::Arch;
-use row_parts::text::{expanded, record};
 use script::{Hex, Request, read_line};
 use std::alloc::Global;
 

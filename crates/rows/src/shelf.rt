@@ -59,8 +59,8 @@ impl Shelf {
         Ok(())
     }
 
-    // The bytes of a file.
-    fn bytes_of(&self, name: &str) -> Result<&[u8]> {
+    /// The bytes of a file.
+    pub fn bytes_of(&self, name: &str) -> Result<&[u8]> {
         match self.files.get(name) {
             Some(Content::Bytes(bytes)) => Ok(bytes),
             _ => bail!("no bytes of {name}"),

@@ -1,12 +1,7 @@
-//! Containers on the modelled kernel, alone and with the runtime over it: worked examples read from files and printed with
-//! their answers.
+//! Containers on the modelled kernel, alone and with the runtime over it: files of blocks with an empty line between any
+//! two.
 //!
-//! As in the program `rows`, the words after the program's name are names of files in `data/`, each line of a file is
-//! printed as it stands, and answers follow on lines that begin by four spaces. The file `stdout` has the same lines with
-//! the answers that the rules give, written by hand.
-//!
-//! A file is blocks with an empty line between any two. A block begins with a line that says which way it is carried out
-//! and on which machine, and may say more.
+//! A block begins with a line that says which way it is carried out and on which machine, and may say more.
 //!
 //! - `runtime MACHINE ..`: its lines are commands of a script, or `id N`, which asks for the id of a container by its place.
 //!   They are carried out by single calls, one after the other, and once more by one call on a runtime of its own; an
@@ -17,24 +12,22 @@
 //! - `# ..`: nothing is asked.
 //!
 //! In all of these a line `bundle NAME TEXT` reads a bundle whose part `seccomp` has these members, and gets it a filter
-//! that is checked. `<N TEXT>` stands for a run, as in `rows`, and `repeat N LINES` for so many times these lines, with the
+//! that is checked. `<N TEXT>` stands for a run, as in rows, and `repeat N LINES` for so many times these lines, with the
 //! number of each, from 0, in the place of `@`. Of several answers the last is told, and how many of the last are alike.
-#![tactic(auto)]
 
-mod bundles;
-mod direct;
-mod orders;
-mod running;
-mod tally;
-mod texts;
+pub mod bench;
+pub mod direct;
+pub mod orders;
+pub mod repeats;
+pub mod running;
+pub mod texts;
 
-use crate::bundles::{Bench, made_of};
-use crate::direct::tell_kernel;
-use crate::running::tell_runtime;
+use crate::kernel::bench::{Bench, made_of};
+use crate::kernel::direct::tell_kernel;
+use crate::kernel::running::tell_runtime;
+use crate::text::machine;
 use anyhow::{Context, Result, bail};
-use row_parts::text::machine;
 use std::alloc::Global;
-use std::{env, fs};
 
 // Adds a block with its answers.
 fn tell_block(out: &mut String, alloc: Global, block: &str) -> Result<()> {
@@ -54,8 +47,8 @@ fn tell_block(out: &mut String, alloc: Global, block: &str) -> Result<()> {
     }
 }
 
-// The blocks of a file with their answers.
-fn answered(alloc: Global, text: &str) -> Result<String> {
+/// The blocks of a file with their answers.
+pub fn answered(alloc: Global, text: &str) -> Result<String> {
     let mut out = String::new(alloc);
     for (place, block) in text.split("\n\n").enumerate() {
         if place > 0 {
@@ -64,12 +57,4 @@ fn answered(alloc: Global, text: &str) -> Result<String> {
         tell_block(&mut out, alloc, block)?;
     }
     Ok(out)
-}
-
-fn main(rt: HostRuntime) -> Result<()> {
-    for name in env::args(&rt)?.skip(1) {
-        let text = fs::read_to_string(&rt, name.as_str())?;
-        rt.print(answered(rt.alloc(), text.as_str())?)?;
-    }
-    Ok(())
 }

@@ -1,15 +1,15 @@
 //! Commands of a runtime, by single calls and by one call for all.
 
-use crate::bundles::{Bench, Made};
-use crate::orders::{Order, written_out};
-use crate::tally::Tally;
-use crate::texts::reply_text;
+use crate::kernel::bench::{Bench, Made};
+use crate::kernel::orders::{Order, written_out};
+use crate::kernel::repeats::Repeats;
+use crate::kernel::texts::reply_text;
+use crate::tell::tell;
+use crate::text::number;
 use anyhow::{Context, Result};
 use call_tables::Arch;
 use lifecycle::{Command, Reply, Runtime};
 use processes::TaskTable;
-use row_parts::tell::tell;
-use row_parts::text::number;
 use script::Request;
 use std::alloc::{AllocError, Global};
 
@@ -97,15 +97,15 @@ fn tell_replies<'a>(
     commands: &[Command<'a>],
     replies: &[Reply],
 ) -> Result<()> {
-    let mut tally = Tally::new(alloc);
+    let mut repeats = Repeats::new(alloc);
     for (command, other) in commands.iter().zip(replies) {
         let reply = reply_to(runtime, command)?;
         if reply != *other {
             tell(out, format_args!("by one run: {other:?}"))?;
         }
-        tally.add(reply_text(alloc, reply)?);
+        repeats.add(reply_text(alloc, reply)?);
     }
-    tally.tell(out)
+    repeats.tell(out)
 }
 
 // Adds the id at a place.

@@ -1,12 +1,12 @@
 //! The bundles of a block, with filters that are checked.
 
+use crate::profiles::profile_of;
 use anyhow::{Context, Result, bail};
 use bpf_insn::Program;
 use call_tables::Arch;
 use cert_check::{Checked, check};
 use certify::certify;
 use profile::Profile;
-use profile_json::read_bundle;
 use rule_compile::compile;
 use std::alloc::Global;
 
@@ -20,10 +20,7 @@ pub struct Made {
 }
 
 fn prepare(alloc: Global, native: Arch, name: &str, members: &str) -> Result<Made> {
-    let text = format!(in alloc;
-        "{{\"ociVersion\":\"1.0.2\",\"linux\":{{\"seccomp\":{{{members}}}}}}}"
-    )?;
-    let profile = read_bundle(alloc, text.as_bytes(), native)?.profile;
+    let profile = profile_of(alloc, native, members)?;
     let filter = compile(alloc, &profile)?;
     let cert = certify(alloc, &profile, &Program::view(&filter)?)?;
     Ok(Made {

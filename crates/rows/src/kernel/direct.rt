@@ -1,14 +1,14 @@
 //! Calls of the kernel itself.
 
-use crate::bundles::Bench;
-use crate::orders::{Order, written_out};
-use crate::tally::Tally;
-use crate::texts::{outcome_text, view_text};
+use crate::kernel::bench::Bench;
+use crate::kernel::orders::{Order, written_out};
+use crate::kernel::repeats::Repeats;
+use crate::kernel::texts::{outcome_text, view_text};
+use crate::tell::tell;
+use crate::text::{number, record};
 use anyhow::{Context, Result, bail};
 use cert_check::Checked;
 use processes::{Id, Kernel, Outcome, TaskTable};
-use row_parts::tell::tell;
-use row_parts::text::{number, record};
 use script::Request;
 use std::alloc::{AllocError, Global};
 
@@ -35,11 +35,11 @@ fn tell_line(
         return tell_every_call(out, alloc, kernel, bench, name);
     }
     let whole = written_out(alloc, line)?;
-    let mut tally = Tally::new(alloc);
+    let mut repeats = Repeats::new(alloc);
     for part in whole.lines() {
-        tally.add(answer(alloc, kernel, bench, part)?);
+        repeats.add(answer(alloc, kernel, bench, part)?);
     }
-    tally.tell(out)
+    repeats.tell(out)
 }
 
 // The answer to a call of the kernel.

@@ -1,5 +1,7 @@
 //! Certificates, as the maker makes them and the checker judges them.
 
+use crate::tell::tell;
+use crate::text::expanded;
 use anyhow::Result;
 use bpf_asm::assemble;
 use bpf_insn::Program;
@@ -7,8 +9,6 @@ use cert_check::check;
 use cert_form::CertView;
 use certify::certify;
 use profile::Profile;
-use row_parts::tell::tell;
-use row_parts::text::expanded;
 use rule_compile::compile;
 use std::alloc::Global;
 

@@ -1,8 +1,10 @@
 //! Random profiles.
 
-use crate::certificates::certified;
+use crate::certified::certified;
 use crate::dice::Dice;
-use crate::records::first_difference;
+use crate::grid::near::first_difference_near;
+use crate::tell::tell;
+use crate::text::number;
 use anyhow::{Context, Result, bail};
 use arrayvec::ArrayVec;
 use bpf_insn::Program;
@@ -10,13 +12,11 @@ use call_record::Word;
 use call_tables::Arch;
 use kernel_check::accept;
 use profile::{Cond, Op, Profile, Rule, overlap};
-use row_parts::tell::tell;
-use row_parts::text::number;
 use rule_compile::compile;
 use std::alloc::Global;
 
 /// Adds how many random profiles are certified, and agree with their filters: `SEED COUNT`.
-pub fn answer(out: &mut String, alloc: Global, text: &str) -> Result<()> {
+pub fn tell_random(out: &mut String, alloc: Global, text: &str) -> Result<()> {
     let (seed, count) = text.split_once(' ').context("a seed and a count")?;
     let mut dice = Dice::new(number(seed)?);
     let count = number(count)?;
@@ -32,7 +32,7 @@ fn try_profile(alloc: Global, profile: &Profile) -> Result<()> {
     let filter = compile(alloc, profile)?;
     certified(alloc, profile, &filter)?;
     let program = Program::view(&filter)?;
-    match first_difference(alloc, &accept(&program)?, profile)? {
+    match first_difference_near(alloc, &accept(&program)?, profile)? {
         Some(call) => bail!("it differs at {call:?}"),
         None => Ok(()),
     }

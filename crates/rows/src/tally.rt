@@ -1,7 +1,7 @@
 //! How often each answer comes.
 
+use crate::tell::tell;
 use anyhow::Result;
-use row_parts::tell::tell;
 use std::alloc::Global;
 use std::collections::BTreeMap;
 use std::fmt::Display;

@@ -1,10 +1,10 @@
 //! Runs of the program between ends that give out.
 
-use crate::ends::{AT_ONCE, Manner, Room, Supply};
-use anyhow::{Context, Result};
-use cli::{Files, dispatch};
+use crate::shelf::Shelf;
+use crate::streams::ends::{AT_ONCE, Manner, Room, Supply};
+use anyhow::Result;
+use cli::dispatch;
 use export::{FromRead, ToWrite};
-use row_parts::shelf::Shelf;
 use std::alloc::Global;
 
 /// What the program is run on: the words after its name, and its input.
@@ -28,7 +28,7 @@ pub struct Ended {
 
 impl<'a> Case<'a> {
     /// The case `ccell WORD ..`, or `ccell WORD .. < FILE`.
-    pub fn read(alloc: Global, shelf: &mut Shelf, line: &'a str) -> Result<Case<'a>> {
+    pub fn read(alloc: Global, shelf: &Shelf, line: &'a str) -> Result<Case<'a>> {
         let (line, name) = match line.split_once(" < ") {
             Some((line, name)) => (line, Some(name)),
             None => (line, None),
@@ -38,7 +38,7 @@ impl<'a> Case<'a> {
             words.push(word)?;
         }
         let text = match name {
-            Some(name) => shelf.read(alloc, name).context("a file of input")?,
+            Some(name) => Vec::from_slice(alloc, shelf.bytes_of(name)?)?,
             None => Vec::new(alloc),
         };
         Ok(Case { words, text })
