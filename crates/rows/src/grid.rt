@@ -1,5 +1,6 @@
 //! Records to run a filter on beside its profile.
 
+use crate::text::record;
 use bpf_interp::verdict;
 use call_record::Record;
 use call_tables::Arch;
@@ -40,13 +41,7 @@ impl Grid {
         nr: u32,
     ) -> Option<Record> {
         for args in &self.arguments {
-            let args = *args;
-            let call = Record {
-                nr,
-                arch,
-                ip: 0,
-                args,
-            };
+            let call = record(nr, arch, 0, *args);
             if verdict(accepted, &call) != profile.decide(&call) {
                 return Some(call);
             }
