@@ -1,4 +1,4 @@
-//! The words of a command line of `ccell`. It is a crate of its own since a check of clap's calls takes minutes.
+//! The words of a command line of `ccell`. It is a crate of its own since a check of clap's calls takes a minute.
 #![tactic(auto)]
 
 ghost use Rattle.std.specs.Prelude.{◌≡◌, ◌↔◌, IsTrue, true, false, Any, IfOk, IsErrOf};
