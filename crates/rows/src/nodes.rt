@@ -23,23 +23,19 @@ pub fn answer(
         "nodes" => tell_nodes(out, alloc, shelf.bytes_of(rest)?)?,
         "nodes-flipped" => tell_flipped(out, alloc, shelf.bytes_of(rest)?)?,
         "written" => {
-            let (bytes, other) = two_files(shelf, rest)?;
-            tell_alike(out, alloc, &listed(alloc, bytes)?, other)?;
+            let (name, other) = rest.split_once(' ').context("two files")?;
+            let written = listed(alloc, shelf.bytes_of(name)?)?;
+            tell_alike(out, alloc, &written, shelf.bytes_of(other)?)?;
         }
         "chained" => {
-            let (bytes, other) = two_files(shelf, rest)?;
-            tell_alike(out, alloc, &chained(alloc, bytes)?, other)?;
+            let (name, other) = rest.split_once(' ').context("two files")?;
+            let written = chained(alloc, shelf.bytes_of(name)?)?;
+            tell_alike(out, alloc, &written, shelf.bytes_of(other)?)?;
         }
         "long-chain" => tell_long(out, alloc, rest)?,
         _ => return Ok(false),
     }
     Ok(true)
-}
-
-// The bytes of the files `ONE OTHER`.
-fn two_files<'a>(shelf: &'a Shelf, text: &str) -> Result<(&'a [u8], &'a [u8])> {
-    let (one, other) = text.split_once(' ').context("two files")?;
-    Ok((shelf.bytes_of(one)?, shelf.bytes_of(other)?))
 }
 
 // How many nodes a certificate has, or its fault.

@@ -70,11 +70,12 @@ fn overlaps(out: &mut String, text: &str) -> Result<()> {
     let (one, other) = text.split_once('/').context("two lists of conditions")?;
     let one = rule(Arch::X86_64, 135, one, Word::ALLOW)?;
     let other = rule(Arch::X86_64, 135, other, Word::TRAP)?;
-    match (overlap(&one, &other), overlap(&other, &one)) {
-        (true, true) => tell(out, "yes"),
-        (false, false) => tell(out, "no"),
-        _ => tell(out, "it depends on the order"),
-    }
+    let answer = match (overlap(&one, &other), overlap(&other, &one)) {
+        (true, true) => "yes",
+        (false, false) => "no",
+        _ => "it depends on the order",
+    };
+    tell(out, answer)
 }
 
 // The profile of `NATIVE MACHINE,.. WORD; RULE; ..`.
@@ -131,17 +132,24 @@ pub fn tell_profile(out: &mut String, alloc: Global, profile: &Profile) -> Resul
 fn tell_rule(out: &mut String, alloc: Global, rule: &Rule) -> Result<()> {
     let mut line = format!(in alloc; "{} {} {}", machine_name(rule.arch), rule.nr, rule.word)?;
     for (i, cond) in rule.conds.iter().enumerate() {
-        let comma = if i > 0 { "," } else { "" };
-        write!(
-            line,
-            "{comma} {} {} {:#x}",
-            cond.index,
-            op_name(cond.op),
-            cond.value
-        )?;
-        if cond.op == Op::MaskedEq {
-            write!(line, " {:#x}", cond.datum)?;
+        if i > 0 {
+            line.push_str(",")?;
         }
+        push_condition(&mut line, cond)?;
     }
     tell(out, line.as_str())
+}
+
+fn push_condition(line: &mut String, cond: &Cond) -> Result<()> {
+    write!(
+        line,
+        " {} {} {:#x}",
+        cond.index,
+        op_name(cond.op),
+        cond.value
+    )?;
+    if cond.op == Op::MaskedEq {
+        write!(line, " {:#x}", cond.datum)?;
+    }
+    Ok(())
 }

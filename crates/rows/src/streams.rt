@@ -7,7 +7,7 @@ use crate::shelf::Shelf;
 use crate::streams::ends::{AT_ONCE, BYTE_BY_BYTE, Manner};
 use crate::streams::trial::Case;
 use crate::tell::tell;
-use crate::text::number;
+use crate::text::expanded;
 use anyhow::Result;
 use std::alloc::Global;
 
@@ -129,11 +129,8 @@ fn inputs(out: &mut String, alloc: Global, shelf: &mut Shelf, line: &str) -> Res
 
 // Adds the answer on a name of so many bytes.
 fn names(out: &mut String, alloc: Global, shelf: &mut Shelf, rest: &str) -> Result<()> {
-    let mut line = String::from_str(alloc, "ccell verdict ")?;
-    for _ in 0..number(rest)? {
-        line.push_str("x")?;
-    }
-    line.push_str(" y")?;
+    let line = format!(in alloc; "ccell verdict <{rest} x> y")?;
+    let line = expanded(alloc, line.as_str())?;
     let case = Case::read(alloc, shelf, line.as_str())?;
     let ended = case.run(alloc, shelf, AT_ONCE, usize::MAX, usize::MAX);
     tell(
