@@ -1,5 +1,5 @@
 //! What is found of a bundle, a filter and a certificate, and the line of `ccell check`.
-ghost use Rattle.std.specs.Prelude.{◌≡◌, ◌≢◌, ◌↔◌, IsTrue, IfOk};
+ghost use Rattle.std.specs.Prelude.{◌≡◌, ◌≢◌, ◌↔◌, IsTrue, IfErr, IfOk};
 ghost use Rattle.cert_check.specs.declared.fault.CheckError.TheVariants as fault;
 ghost use Rattle.profile_json.specs.declared.fault.ProfileError.TheVariants as refusal;
 ghost use Rattle.cli.specs.declared.finding.Finding.TheVariants.{NoProfile};
@@ -41,7 +41,8 @@ impl fmt::Display for Finding {
 
 // What is found of a bundle that is refused, if not for want of memory.
 fn refused(error: ProfileError) -> Result<Finding, AllocError>
-    ensures { IfOk result (λ finding. (finding ≡ NoProfile error) × (error ≢ refusal.OutOfMemory)) }
+    ensures found { IfOk result (λ finding. (finding ≡ NoProfile error) × (error ≢ refusal.OutOfMemory)) }
+    ensures memory { IfErr result (λ _. error ≡ refusal.OutOfMemory) }
 {
     match error {
         ProfileError::OutOfMemory => Err(AllocError),
