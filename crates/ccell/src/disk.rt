@@ -1,7 +1,43 @@
 //! Files of the file system.
 use cli::{FileFault, Files};
 use std::alloc::Global;
+use std::io::Read;
 use std::{fs, io};
+
+fn fault_of(error: io::Error) -> FileFault {
+    match error.kind() {
+        io::ErrorKind::OutOfMemory => FileFault::OutOfMemory,
+        _ => FileFault::CannotRead,
+    }
+}
+
+// Reads to the end, and says how many bytes came.
+fn count_rest(reader: &mut impl Read) -> io::Result<u64> {
+    let mut buffer = [0; 4096];
+    let mut count: u64 = 0;
+    for _ in 0..u64::MAX {
+        let n = reader.read(&mut buffer)?;
+        if n == 0 {
+            break;
+        }
+        count = count.saturating_add(n as u64);
+    }
+    Ok(count)
+}
+
+// All bytes of a reader, or what stands for them where there are more than so many.
+fn read_up_to(alloc: Global, reader: &mut impl Read, most: u32) -> io::Result<Vec<u8>> {
+    let mut bytes = Vec::new(alloc);
+    reader
+        .by_ref()
+        .take(u64::from(most) + 8)
+        .read_to_end(&mut bytes)?;
+    let rest = count_rest(reader)?;
+    if rest > 0 {
+        bytes.truncate(most as usize + 1 + ((rest - 1) % 8) as usize);
+    }
+    Ok(bytes)
+}
 
 /// Reads files by their paths.
 #[derive(Drop)]
@@ -9,9 +45,11 @@ pub struct Disk<'a>(pub &'a HostRuntime);
 
 impl Files for Disk<'_> {
     fn read(&mut self, _alloc: Global, name: &str) -> Result<Vec<u8>, FileFault> {
-        fs::read(self.0, name).map_err(|error| match error.kind() {
-            io::ErrorKind::OutOfMemory => FileFault::OutOfMemory,
-            _ => FileFault::CannotRead,
-        })
+        fs::read(self.0, name).map_err(fault_of)
+    }
+
+    fn read_up_to(&mut self, alloc: Global, name: &str, most: u32) -> Result<Vec<u8>, FileFault> {
+        let mut file = fs::open(self.0, name).map_err(fault_of)?;
+        read_up_to(alloc, &mut file, most).map_err(fault_of)
     }
 }

@@ -9,16 +9,22 @@ use crate::words::words_of;
 use cli::{Stop, dispatch, report};
 use export::{FromRead, ToWrite};
 use std::alloc::{AllocError, Global};
+use std::io::BufReader;
 use std::process::ExitCode;
 
 fn texts_of(alloc: Global, words: &[String]) -> Result<Vec<&str>, AllocError> {
-    words.iter().map(|word| word.as_str()).collect(alloc)
+    let mut texts = Vec::new(alloc);
+    for word in words {
+        texts.push(word.as_str())?;
+    }
+    Ok(texts)
 }
 
 fn status_of(rt: &HostRuntime) -> Result<u8, Stop<'static>> {
     let words = words_of(rt, rt.alloc())?;
     let texts = texts_of(rt.alloc(), &words).map_err(|_| Stop::OutOfMemory)?;
-    let mut input = FromRead::new(rt.stdin());
+    let input = BufReader::new(rt.alloc(), rt.stdin()).map_err(|_| Stop::OutOfMemory)?;
+    let mut input = FromRead::new(input);
     let mut out = ToWrite::new(rt.stdout());
     let mut err = ToWrite::new(rt.stderr());
     Ok(dispatch(

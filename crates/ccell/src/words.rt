@@ -34,6 +34,9 @@ fn stop_of(error: io::Error) -> Stop<'static> {
 
 /// The words after the program's name.
 pub fn words_of(rt: &HostRuntime, alloc: Global) -> Result<Vec<String>, Stop<'static>> {
-    let words = env::args(&(Nameless(rt), alloc)).map_err(stop_of)?.skip(1);
-    words.collect(alloc).map_err(|_| Stop::OutOfMemory)
+    let mut words = Vec::new(alloc);
+    for word in env::args(&(Nameless(rt), alloc)).map_err(stop_of)?.skip(1) {
+        words.push(word).map_err(|_| Stop::OutOfMemory)?;
+    }
+    Ok(words)
 }

@@ -13,11 +13,35 @@ use command_line::{Order, read_words};
 use export::{Sink, Source};
 use std::alloc::Global;
 
-fn read<'a>(alloc: Global, files: &mut impl Files, name: &'a str) -> Result<Vec<u8>, Stop<'a>> {
-    files.read(alloc, name).map_err(|fault| match fault {
+// The longest files that are judged by more than their length, in bytes: a call record, a filter, a certificate.
+const RECORD_SIZE: u32 = 64;
+
+const FILTER_SIZE: u32 = 8 * 4096;
+
+const CERTIFICATE_SIZE: u32 = 4 * 1024 * 1024;
+
+fn stop_of<'a>(fault: FileFault, name: &'a str) -> Stop<'a> {
+    match fault {
         FileFault::CannotRead => Stop::CannotRead(name),
         FileFault::OutOfMemory => Stop::OutOfMemory,
-    })
+    }
+}
+
+fn read<'a>(alloc: Global, files: &mut impl Files, name: &'a str) -> Result<Vec<u8>, Stop<'a>> {
+    files
+        .read(alloc, name)
+        .map_err(|fault| stop_of(fault, name))
+}
+
+fn read_up_to<'a>(
+    alloc: Global,
+    files: &mut impl Files,
+    name: &'a str,
+    most: u32,
+) -> Result<Vec<u8>, Stop<'a>> {
+    files
+        .read_up_to(alloc, name, most)
+        .map_err(|fault| stop_of(fault, name))
 }
 
 // The bytes of files, in the order of their names.
@@ -43,8 +67,8 @@ fn answer<'a>(
     files: &mut impl Files,
     out: &mut impl Sink,
 ) -> Result<bool, Stop<'a>> {
-    let filter = read(alloc, files, filter)?;
-    let record = read(alloc, files, record)?;
+    let filter = read_up_to(alloc, files, filter, FILTER_SIZE)?;
+    let record = read_up_to(alloc, files, record, RECORD_SIZE)?;
     Ok(verdict_line(&filter, &record, out)?)
 }
 
@@ -57,8 +81,8 @@ fn judge<'a>(
     out: &mut impl Sink,
 ) -> Result<bool, Stop<'a>> {
     let bundle = read(alloc, files, bundle)?;
-    let filter = read(alloc, files, filter)?;
-    let certificate = read(alloc, files, certificate)?;
+    let filter = read_up_to(alloc, files, filter, FILTER_SIZE)?;
+    let certificate = read_up_to(alloc, files, certificate, CERTIFICATE_SIZE)?;
     Ok(check_line(alloc, native, &bundle, &filter, &certificate, out)?)
 }
 
