@@ -25,8 +25,6 @@
 //! - `inputs ccell WORD .. < FILE` runs it with an input that fails at each of its calls, where a call gives all bytes that
 //!   there are, or one. Each time the output has to hold the replies to the lines that were read whole, with status 3 and
 //!   the line of a failed read. The answer is how many calls there are, one byte a call.
-//! - `ends ccell WORD .. < FILE` runs it with an input that gives a byte a call, and none behind each of its beginnings: it
-//!   has to do what it does on that beginning alone. The answer is how many there are.
 //! - `names COUNT` runs it with the name of a file of so many bytes that cannot be read: in how many writes the line on
 //!   standard error came.
 //!
@@ -71,7 +69,6 @@ mod conformance;
 mod dice;
 mod filters;
 mod grid;
-mod growths;
 mod input;
 mod kernel;
 mod nodes;
@@ -183,17 +180,7 @@ fn answered(alloc: Global, text: &str) -> Result<String> {
 }
 
 fn main(rt: HostRuntime) -> Result<()> {
-    let mut words = env::args(&rt)?.skip(1).peekable();
-    if words.next_if(|word| word.as_str() == "growths").is_some() {
-        return growths::growths(&rt);
-    }
-    if words
-        .next_if(|word| word.as_str() == "without-memory")
-        .is_some()
-    {
-        return growths::without_memory(&rt, words.next());
-    }
-    for name in words {
+    for name in env::args(&rt)?.skip(1) {
         let text = fs::read_to_string(&rt, name.as_str())?;
         let answers = if name.ends_with(".blocks") {
             kernel::answered(rt.alloc(), text.as_str())?
