@@ -163,6 +163,46 @@ strictest_of-cons v ws =
           ]
     ]
 
+least_rank-front : (v w : ℕ) (ws : List ℕ) → least_rank (strictest_of (v ∷ w ∷ []) ∷ ws) ≡ least_rank (v ∷ w ∷ ws)
+unfolding least_rank
+least_rank-front v w ws =
+    let e : rank (strictest_of (v ∷ w ∷ [])) ≡ least_rank (v ∷ w ∷ []) = rank-strictest_of (v ∷ w ∷ []) in
+    let h : least_rank ws ≤ top = least_rank_le_top ws in
+    omega arith
+
+-- the two newest words may be taken first
+pub strictest_of-front : (v w : ℕ) (ws : List ℕ) → strictest_of (strictest_of (v ∷ w ∷ []) ∷ ws) ≡ strictest_of (v ∷ w ∷ ws)
+unfolding least_rank
+strictest_of-front v w ws =
+    let s : ℕ = strictest_of (v ∷ w ∷ []) in
+    let t : ℕ = least_rank (v ∷ w ∷ ws) in
+    let front : least_rank (s ∷ ws) ≡ t = least_rank-front v w ws in
+    let rs : rank s ≡ least_rank (v ∷ w ∷ []) = rank-strictest_of (v ∷ w ∷ []) in
+    elim (cases_lt t top) [
+      | inr high ↦ strictest_of-allow (s ∷ ws) (omega arith) ∙ sym (strictest_of-allow (v ∷ w ∷ ws) high)
+      | inl low ↦
+          let a : strictest_of (v ∷ w ∷ ws) ≡ first_at t (v ∷ w ∷ ws) = strictest_of-first (v ∷ w ∷ ws) low in
+          let b : strictest_of (s ∷ ws) ≡ first_at t (s ∷ ws) = strictest_of-first (s ∷ ws) (omega arith) ∙ ap (λ u. first_at u (s ∷ ws)) front in
+          elim (cases_lt t (rank v)) [
+            | inr here ↦
+                let same : s ≡ v = strictest_of-first (v ∷ w ∷ []) (omega arith) ∙ first_at-here _ v (w ∷ []) (omega arith) in
+                b ∙ first_at-here t s ws (omega arith) ∙ same ∙ sym (a ∙ first_at-here t v (w ∷ ws) here)
+            | inl past ↦ elim (cases_lt t (rank w)) [
+              | inr here ↦
+                  let same : s ≡ w =
+                  strictest_of-first (v ∷ w ∷ []) (omega arith) ∙ first_at-past _ v (w ∷ []) (omega arith) ∙ first_at-here _ w [] (omega arith) in
+                  b ∙ first_at-here t s ws (omega arith) ∙ same ∙ sym (a ∙ first_at-past t v (w ∷ ws) past ∙ first_at-here t w ws here)
+              | inl older ↦
+                  b ∙ first_at-past t s ws (omega arith) ∙ sym (a ∙ first_at-past t v (w ∷ ws) past ∙ first_at-past t w ws older)
+            ]
+          ]
+    ]
+
+-- a word that is the strictest alone stays
+pub strictest_of-alone : (v : ℕ) → strictest_of (v ∷ allow ∷ []) ≡ strictest_of (v ∷ [])
+unfolding strictest_of
+strictest_of-alone v = sym (strictest_of-cons v [])
+
 -- Of two words the newer one, unless the older one is stricter. Data of ALLOW are dropped.
 pub older_is_stricter : (newer older : ℕ) → is_stricter older newer ≡ true → strictest_of (newer ∷ older ∷ []) ≡ older
 unfolding least_rank

@@ -1,2 +1,4 @@
 pub mod TableLaws
 pub mod ArchLaws
+pub mod PlaceLaws
+pub mod HalvingLaws

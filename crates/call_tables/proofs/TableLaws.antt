@@ -6,7 +6,6 @@ use Rattle.std.proofs.lemmas.Bool.{and_parts, cases_Bool}
 use Rattle.std.proofs.lemmas.Bool.Decides.{Decides-eqb}
 use Rattle.std.proofs.lemmas.Option.{same_Some}
 use Rattle.std.proofs.lemmas.Slice.Eq.{bytes_eq-Decides}
-use Rattle.call_tables.specs.Machines.{x86_64_table, aarch64_table}
 use Rattle.call_tables.specs.Table.{Table, number_in, name_in, IsInverse, is_one_to_one}
 
 not_some : {X : Type 0} (o : Option X) (x : X) → is_none o ≡ true → o ≡ Some x → ⊥
@@ -68,11 +67,3 @@ numbered ((n, k) ∷ es) h name nr e =
 
 pub one_to_one-inverse : (t : Table) → is_one_to_one t ≡ true → IsInverse t
 one_to_one-inverse t h name nr = (named t h name nr, numbered t h name nr)
-
-pub x86_64-inverse : IsInverse x86_64_table
-unfolding x86_64_table
-x86_64-inverse = one_to_one-inverse x86_64_table refl
-
-pub aarch64-inverse : IsInverse aarch64_table
-unfolding aarch64_table
-aarch64-inverse = one_to_one-inverse aarch64_table refl

@@ -1,3 +1,4 @@
 pub mod Table
 pub mod Machines
 pub mod Arch
+pub mod inner

@@ -2,20 +2,80 @@ ghost use Rattle.std.specs.Prelude.{◌≡◌, option_copied};
 ghost use Rattle.call_tables.specs.Table.{number_in, name_in, IsInverse};
 ghost use Rattle.call_tables.specs.Arch.{table_of};
 
-use crate::machines::{Aarch64, Machine, X86_64};
+use crate::machines::{Aarch64, LinuxAarch64, LinuxX86_64, Machine, X86_64};
 
 /// A machine as a value.
 #[derive(Clone, Copy, Debug, PartialEq, Eq)]
 pub enum Arch {
     X86_64,
     Aarch64,
+    LinuxX86_64,
+    LinuxAarch64,
+}
+
+/// What two machines share that may stand in one profile: the extent of their tables.
+#[derive(Clone, Copy, Debug, PartialEq, Eq)]
+pub enum Family {
+    /// The lists that this project chose.
+    Chosen,
+    /// All calls of Linux.
+    Whole,
+}
+
+impl Family {
+    ghost use Rattle.call_tables.specs.Arch.{x86_64_of, aarch64_of, machines_of};
+
+    /// The family's x86-64.
+    pub fn x86_64(self) -> Arch
+        ensures { result ≡ x86_64_of self }
+    {
+        match self {
+            Family::Chosen => Arch::X86_64,
+            Family::Whole => Arch::LinuxX86_64,
+        }
+    }
+
+    /// The family's AArch64.
+    pub fn aarch64(self) -> Arch
+        ensures { result ≡ aarch64_of self }
+    {
+        match self {
+            Family::Chosen => Arch::Aarch64,
+            Family::Whole => Arch::LinuxAarch64,
+        }
+    }
+
+    /// The machines of the family, x86-64 first.
+    pub fn machines(self) -> &'static [Arch]
+        ensures { result.now ≡ machines_of self }
+    {
+        match self {
+            Family::Chosen => &[Arch::X86_64, Arch::Aarch64],
+            Family::Whole => &[Arch::LinuxX86_64, Arch::LinuxAarch64],
+        }
+    }
 }
 
 impl Arch {
-    ghost use Rattle.call_tables.specs.Arch.{table_of, token_of, scmp_of};
+    ghost use Rattle.call_tables.specs.Arch.{table_of, token_of, scmp_of, word_of, machine_called, family_of};
 
-    /// All machines, in the order in which lists of machines name them.
-    pub const ALL: [Arch; 2] = [Arch::X86_64, Arch::Aarch64];
+    /// All machines, family by family, in the order in which lists of machines name them.
+    pub const ALL: [Arch; 4] = [
+        Arch::X86_64,
+        Arch::Aarch64,
+        Arch::LinuxX86_64,
+        Arch::LinuxAarch64,
+    ];
+
+    /// Which tables the machine's is one of.
+    pub fn family(self) -> Family
+        ensures { result ≡ family_of self }
+    {
+        match self {
+            Arch::X86_64 | Arch::Aarch64 => Family::Chosen,
+            Arch::LinuxX86_64 | Arch::LinuxAarch64 => Family::Whole,
+        }
+    }
 
     /// The machine's token in the `arch` field of `struct seccomp_data`.
     pub fn token(self) -> u32
@@ -24,6 +84,8 @@ impl Arch {
         match self {
             Arch::X86_64 => X86_64::TOKEN,
             Arch::Aarch64 => Aarch64::TOKEN,
+            Arch::LinuxX86_64 => LinuxX86_64::TOKEN,
+            Arch::LinuxAarch64 => LinuxAarch64::TOKEN,
         }
     }
 
@@ -34,7 +96,41 @@ impl Arch {
         match self {
             Arch::X86_64 => X86_64::SCMP,
             Arch::Aarch64 => Aarch64::SCMP,
+            Arch::LinuxX86_64 => LinuxX86_64::SCMP,
+            Arch::LinuxAarch64 => LinuxAarch64::SCMP,
         }
+    }
+
+    /// The word by which a user of the program calls the machine.
+    pub fn word(self) -> &'static str
+        ensures { result.now ≡ word_of self }
+    {
+        match self {
+            Arch::X86_64 => "x86-64",
+            Arch::Aarch64 => "aarch64",
+            Arch::LinuxX86_64 => "linux-x86-64",
+            Arch::LinuxAarch64 => "linux-aarch64",
+        }
+    }
+
+    /// The machine that a word calls.
+    #[tactic(auto, unfolding(crate::specs::Arch::machine_called))]
+    pub fn called(word: &str) -> Option<Arch>
+        ensures { result ≡ machine_called word.now }
+    {
+        if word == "x86-64" {
+            return Some(Arch::X86_64);
+        }
+        if word == "aarch64" {
+            return Some(Arch::Aarch64);
+        }
+        if word == "linux-x86-64" {
+            return Some(Arch::LinuxX86_64);
+        }
+        if word == "linux-aarch64" {
+            return Some(Arch::LinuxAarch64);
+        }
+        None
     }
 
     /// The number of the call of that name, or `None` where the machine has no such call.
@@ -44,6 +140,8 @@ impl Arch {
         match self {
             Arch::X86_64 => X86_64::number(name),
             Arch::Aarch64 => Aarch64::number(name),
+            Arch::LinuxX86_64 => LinuxX86_64::number(name),
+            Arch::LinuxAarch64 => LinuxAarch64::number(name),
         }
     }
 
@@ -54,6 +152,8 @@ impl Arch {
         match self {
             Arch::X86_64 => X86_64::name(number),
             Arch::Aarch64 => Aarch64::name(number),
+            Arch::LinuxX86_64 => LinuxX86_64::name(number),
+            Arch::LinuxAarch64 => LinuxAarch64::name(number),
         }
     }
 }

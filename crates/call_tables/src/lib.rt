@@ -1,14 +1,22 @@
-//! The system calls of two machines: their names in a bundle and their numbers in a call record.
+//! The system calls of machines: their names in a bundle and their numbers in a call record.
 //!
 //! A machine is known as a type by [`Machine`], and as a value by [`Arch`]. Each has a token, as a
 //! call record carries it, a name, as a bundle lists it, and a table of calls. A table holds each
 //! name and each number once, so that looking up a name and looking up a number undo each other.
+//!
+//! x86-64 and AArch64 stand here twice: with a list of calls that this project chose, and with all
+//! calls of Linux. Machines of one [`Family`] may stand in one profile.
 #![tactic(auto)]
 
 mod arch;
 mod calls;
+mod linux_aarch64;
+mod linux_x86_64;
 mod machines;
 mod table;
+mod whole;
 
-pub use arch::{Arch, look_ups_are_inverse};
-pub use machines::{Aarch64, Machine, X86_64, machine_look_ups_are_inverse};
+pub use arch::{Arch, Family, look_ups_are_inverse};
+pub use machines::{
+    Aarch64, LinuxAarch64, LinuxX86_64, Machine, X86_64, machine_look_ups_are_inverse,
+};

@@ -1,9 +1,13 @@
 ghost use Rattle.std.specs.Prelude.{◌≡◌, ℕ, option_copied, IsTrue, refl};
 ghost use Rattle.call_tables.specs.Table.{Table, number_in, name_in, is_one_to_one, IsInverse};
 ghost use Rattle.call_tables.specs.Machines as spec;
+ghost use Rattle.call_tables.specs.inner.WholeTables.{linux_x86_64-one_to_one, linux_aarch64-one_to_one};
 
 use crate::calls::{AARCH64_CALLS, X86_64_CALLS};
+use crate::linux_aarch64::{LINUX_AARCH64_CALLS, LINUX_AARCH64_PLACES};
+use crate::linux_x86_64::{LINUX_X86_64_CALLS, LINUX_X86_64_PLACES};
 use crate::table::{find_name, find_number};
+use crate::whole::{name_of, number_of};
 
 /// A machine, with the table of its calls.
 pub trait Machine {
@@ -35,13 +39,29 @@ pub fn machine_look_ups_are_inverse<M: Machine>()
     ensures { IsInverse M.table }
 {}
 
-/// x86-64, with the calls of its 64-bit interface.
+const X86_64_TOKEN: u32 = 0xc000_003e;
+
+const AARCH64_TOKEN: u32 = 0xc000_00b7;
+
+const X86_64_SCMP: &str = "SCMP_ARCH_X86_64";
+
+const AARCH64_SCMP: &str = "SCMP_ARCH_AARCH64";
+
+/// x86-64, with calls of its 64-bit interface that this project chose.
 #[derive(Clone, Copy, Debug)]
 pub struct X86_64;
 
-/// AArch64.
+/// AArch64, with calls that this project chose.
 #[derive(Clone, Copy, Debug)]
 pub struct Aarch64;
+
+/// x86-64, with all calls of its 64-bit interface on Linux 6.1.
+#[derive(Clone, Copy, Debug)]
+pub struct LinuxX86_64;
+
+/// AArch64, with all its calls on Linux 6.1.
+#[derive(Clone, Copy, Debug)]
+pub struct LinuxAarch64;
 
 impl Machine for X86_64 {
     ghost TOKEN = { spec.x86_64_token };
@@ -50,9 +70,9 @@ impl Machine for X86_64 {
 
     ghost one_to_one = { unfold spec.x86_64_table in refl };
 
-    const TOKEN: u32 = 0xc000_003e;
+    const TOKEN: u32 = X86_64_TOKEN;
 
-    const SCMP: &'static str = "SCMP_ARCH_X86_64";
+    const SCMP: &'static str = X86_64_SCMP;
 
     #[tactic(auto, unfolding(crate::specs::Machines::x86_64_table))]
     fn number(name: &str) -> Option<u32> {
@@ -72,9 +92,9 @@ impl Machine for Aarch64 {
 
     ghost one_to_one = { unfold spec.aarch64_table in refl };
 
-    const TOKEN: u32 = 0xc000_00b7;
+    const TOKEN: u32 = AARCH64_TOKEN;
 
-    const SCMP: &'static str = "SCMP_ARCH_AARCH64";
+    const SCMP: &'static str = AARCH64_SCMP;
 
     #[tactic(auto, unfolding(crate::specs::Machines::aarch64_table))]
     fn number(name: &str) -> Option<u32> {
@@ -84,5 +104,49 @@ impl Machine for Aarch64 {
     #[tactic(auto, unfolding(crate::specs::Machines::aarch64_table))]
     fn name(number: u32) -> Option<&'static str> {
         find_name(AARCH64_CALLS, number)
+    }
+}
+
+impl Machine for LinuxX86_64 {
+    ghost TOKEN = { spec.x86_64_token };
+
+    ghost table = { spec.linux_x86_64_table };
+
+    ghost one_to_one = { linux_x86_64-one_to_one };
+
+    const TOKEN: u32 = X86_64_TOKEN;
+
+    const SCMP: &'static str = X86_64_SCMP;
+
+    #[tactic(auto, unfolding(crate::specs::Machines::linux_x86_64_table))]
+    fn number(name: &str) -> Option<u32> {
+        number_of(LINUX_X86_64_CALLS, name)
+    }
+
+    #[tactic(auto, unfolding(crate::specs::Machines::linux_x86_64_table))]
+    fn name(number: u32) -> Option<&'static str> {
+        name_of(LINUX_X86_64_CALLS, LINUX_X86_64_PLACES, number)
+    }
+}
+
+impl Machine for LinuxAarch64 {
+    ghost TOKEN = { spec.aarch64_token };
+
+    ghost table = { spec.linux_aarch64_table };
+
+    ghost one_to_one = { linux_aarch64-one_to_one };
+
+    const TOKEN: u32 = AARCH64_TOKEN;
+
+    const SCMP: &'static str = AARCH64_SCMP;
+
+    #[tactic(auto, unfolding(crate::specs::Machines::linux_aarch64_table))]
+    fn number(name: &str) -> Option<u32> {
+        number_of(LINUX_AARCH64_CALLS, name)
+    }
+
+    #[tactic(auto, unfolding(crate::specs::Machines::linux_aarch64_table))]
+    fn name(number: u32) -> Option<&'static str> {
+        name_of(LINUX_AARCH64_CALLS, LINUX_AARCH64_PLACES, number)
     }
 }

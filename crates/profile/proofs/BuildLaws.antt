@@ -5,25 +5,26 @@ use Rattle.std.proofs.lemmas.List.Elements.{All-contains, All-contains_itself, A
 use Rattle.call_tables.specs.declared.arch.Arch.{Arch}
 use Rattle.profile.specs.declared.rules.Rule.{Rule}
 use Rattle.profile.specs.declared.fault.BuildError.{BuildError}
-use Rattle.profile.specs.declared.fault.BuildError.TheVariants.{NativeMissing, ForeignRule, Overlap, TooMany, OutOfMemory}
+use Rattle.profile.specs.declared.fault.BuildError.TheVariants.{NativeMissing, MixedFamilies, ForeignRule, Overlap, TooMany, OutOfMemory}
 use Rattle.profile.specs.Policy.{Policy, InOrder, IsClear, IsProfile, most_rules}
-use Rattle.profile.specs.Build.{KeepsOnce, AreListed, IsFirstCause, IsFirstClash}
+use Rattle.profile.specs.Build.{KeepsOnce, AreMachinesFor, AreListed, IsFirstCause, IsFirstClash}
 use Rattle.profile.specs.inner.Kept.{KeepsAt, IsKeepError}
 use Rattle.profile.proofs.KeptLaws.{kept_in}
 use Rattle.profile.proofs.Clashing.{first_clash_at}
 use Rattle.profile.proofs.OneBuilt.{kept_differ, not_many}
 
 -- why the different rules are not kept is an error of `build`
-pub not_kept : (native : Arch) (archs : List Arch) (rules : List Rule) (e : BuildError) → Contains archs native → AreListed archs rules
+pub not_kept : (native : Arch) (archs : List Arch) (rules : List Rule) (e : BuildError) → AreMachinesFor native archs → AreListed archs rules
     → IsKeepError rules e → IsFirstCause native archs rules e
 not_kept native archs rules TooMany n l many = (n, l, many)
 not_kept native archs rules OutOfMemory n l _ = (n, l)
 not_kept native archs rules NativeMissing n l h = absurd h
+not_kept native archs rules MixedFamilies n l h = absurd h
 not_kept native archs rules (ForeignRule i) n l h = absurd h
 not_kept native archs rules (Overlap i j) n l h = absurd h
 
 -- the first clash of the different rules is an error of `build`
-pub overlapping : (native : Arch) (archs : List Arch) (rules kept : List Rule) (places : List ℕ) (i j : ℕ) → Contains archs native
+pub overlapping : (native : Arch) (archs : List Arch) (rules kept : List Rule) (places : List ℕ) (i j : ℕ) → AreMachinesFor native archs
     → AreListed archs rules → KeepsAt rules kept places → length kept ≤ most_rules → IsFirstClash kept i j
     → IsFirstCause native archs rules (Overlap (get_or places i 0) (get_or places j 0))
 overlapping native archs rules kept places i j n l h few first =

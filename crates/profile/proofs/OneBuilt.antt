@@ -5,12 +5,15 @@ use Rattle.std.specs.List.{Contains}
 use Rattle.std.proofs.lemmas.List.Elements.{All-contains}
 use Rattle.std.proofs.lemmas.Option.{slice_get_within, get_or_from_slice_get}
 use Rattle.call_tables.specs.declared.arch.Arch.{Arch}
-use Rattle.call_tables.specs.declared.arch.Arch.TheVariants.{X86_64, Aarch64}
+use Rattle.call_tables.specs.declared.arch.Family.{Family}
+use Rattle.call_tables.specs.declared.arch.Family.TheVariants.{Chosen, Whole}
+use Rattle.call_tables.specs.Arch.{x86_64_of, aarch64_of}
 use Rattle.profile.specs.declared.rules.Rule.{Rule}
-use Rattle.profile.specs.Policy.{Policy, InOrder, AreDifferent, most_rules}
+use Rattle.profile.specs.Policy.{Policy, InOrder, InOrderOf, AreDifferent, most_rules}
 use Rattle.profile.specs.Build.{KeepsOnce, IsBuiltOf, BuildingIsOne, AreTooMany}
 use Rattle.profile.specs.Build as build
 use Rattle.profile.proofs.KeptLaws.{kept_in, place_cases}
+use Rattle.profile.proofs.MachineLaws.{listed, family_in}
 
 -- ---- rules
 
@@ -79,36 +82,55 @@ kept_differ _ _ (build.first rules kept x h new) i j rule at-i at-j =
 abbrev Within : List Arch → List Arch → Type 0
 Within xs ys = (a : Arch) → Contains xs a → Contains ys a
 
-only_x86_64 : Contains (X86_64 ∷ []) Aarch64 → ⊥
-only_x86_64 (zero, lt, at) = cc
-only_x86_64 (suc k, lt, at) = omega (arith, lt)
+only_x86_64 : (family : Family) → Contains (x86_64_of family ∷ []) (aarch64_of family) → ⊥
+only_x86_64 Chosen (zero, lt, at) = cc
+only_x86_64 Whole (zero, lt, at) = cc
+only_x86_64 family (suc k, lt, at) = omega (arith, lt)
 
-only_aarch64 : Contains (Aarch64 ∷ []) X86_64 → ⊥
-only_aarch64 (zero, lt, at) = cc
-only_aarch64 (suc k, lt, at) = omega (arith, lt)
+only_aarch64 : (family : Family) → Contains (aarch64_of family ∷ []) (x86_64_of family) → ⊥
+only_aarch64 Chosen (zero, lt, at) = cc
+only_aarch64 Whole (zero, lt, at) = cc
+only_aarch64 family (suc k, lt, at) = omega (arith, lt)
 
 first_in : (a : Arch) (more : List Arch) → Contains (a ∷ more) a
 first_in a more = (0, omega arith, refl)
 
-second_in : Contains (X86_64 ∷ Aarch64 ∷ []) Aarch64
-second_in = (1, omega arith, refl)
+second_in : (family : Family) → Contains (x86_64_of family ∷ aarch64_of family ∷ []) (aarch64_of family)
+second_in family = (1, omega arith, refl)
 
 moved : (xs ys us vs : List Arch) → xs ≡ us → ys ≡ vs → Within xs ys → Within us vs
 moved xs ys us vs ex ey w a has = subst (λ zs. Contains zs a) ey (w a (subst (λ zs. Contains zs a) (sym ex) has))
 
--- machines in order that list each other are the same
+-- machines of a family in order that list each other are the same
+module _ (family : Family) where
+  abbrev x : Arch
+  x = x86_64_of family
+
+  abbrev a : Arch
+  a = aarch64_of family
+
+  one_order_of : (xs ys : List Arch) → InOrderOf family xs → InOrderOf family ys → Within xs ys → Within ys xs → xs ≡ ys
+  one_order_of xs ys (inl e) (inl f) there back = e ∙ sym f
+  one_order_of xs ys (inl e) (inr (inl f)) there back = absurd (only_aarch64 family (moved xs ys _ _ e f there x (first_in x [])))
+  one_order_of xs ys (inl e) (inr (inr f)) there back = absurd (only_x86_64 family (moved ys xs _ _ f e back a (second_in family)))
+  one_order_of xs ys (inr (inl e)) (inl f) there back = absurd (only_x86_64 family (moved xs ys _ _ e f there a (first_in a [])))
+  one_order_of xs ys (inr (inl e)) (inr (inl f)) there back = e ∙ sym f
+  one_order_of xs ys (inr (inl e)) (inr (inr f)) there back =
+      absurd (only_aarch64 family (moved ys xs _ _ f e back x (first_in x (a ∷ []))))
+  one_order_of xs ys (inr (inr e)) (inl f) there back = absurd (only_x86_64 family (moved xs ys _ _ e f there a (second_in family)))
+  one_order_of xs ys (inr (inr e)) (inr (inl f)) there back =
+      absurd (only_aarch64 family (moved xs ys _ _ e f there x (first_in x (a ∷ []))))
+  one_order_of xs ys (inr (inr e)) (inr (inr f)) there back = e ∙ sym f
+
+-- machines in order that list each other are of one family
+same_family : (f g : Family) (xs ys : List Arch) → InOrderOf f xs → InOrderOf g ys → Within xs ys → f ≡ g
+same_family f g xs ys p q there =
+    let some = listed f xs p in
+    sym (family_in f xs p some.0 some.1) ∙ family_in g ys q some.0 (there some.0 some.1)
+
 pub one_order : (xs ys : List Arch) → InOrder xs → InOrder ys → Within xs ys → Within ys xs → xs ≡ ys
-one_order xs ys (inl e) (inl f) there back = e ∙ sym f
-one_order xs ys (inl e) (inr (inl f)) there back = absurd (only_aarch64 (moved xs ys _ _ e f there X86_64 (first_in X86_64 [])))
-one_order xs ys (inl e) (inr (inr f)) there back = absurd (only_x86_64 (moved ys xs _ _ f e back Aarch64 second_in))
-one_order xs ys (inr (inl e)) (inl f) there back = absurd (only_x86_64 (moved xs ys _ _ e f there Aarch64 (first_in Aarch64 [])))
-one_order xs ys (inr (inl e)) (inr (inl f)) there back = e ∙ sym f
-one_order xs ys (inr (inl e)) (inr (inr f)) there back =
-    absurd (only_aarch64 (moved ys xs _ _ f e back X86_64 (first_in X86_64 (Aarch64 ∷ []))))
-one_order xs ys (inr (inr e)) (inl f) there back = absurd (only_x86_64 (moved xs ys _ _ e f there Aarch64 second_in))
-one_order xs ys (inr (inr e)) (inr (inl f)) there back =
-    absurd (only_aarch64 (moved xs ys _ _ e f there X86_64 (first_in X86_64 (Aarch64 ∷ []))))
-one_order xs ys (inr (inr e)) (inr (inr f)) there back = e ∙ sym f
+one_order xs ys (f, p) (g, q) there back =
+    one_order_of g xs ys (subst (λ family. InOrderOf family xs) (same_family f g xs ys p q there) p) q there back
 
 -- ---- profiles
 

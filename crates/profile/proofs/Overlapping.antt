@@ -14,7 +14,7 @@ use Rattle.profile.specs.Condition.{Meets}
 use Rattle.profile.specs.Rule.{Overlap}
 use Rattle.profile.specs.inner.Meeting.{HaveCommon, AllHaveCommon, CanOverlap}
 use Rattle.call_record.proofs.RecordLemmas.{argument-words_from, words_from-is_record}
-use Rattle.call_tables.proofs.ArchLaws.{token_of-same, token_of-fits}
+use Rattle.call_tables.proofs.ArchLaws.{token_of-fits}
 
 -- ---- from a record
 
@@ -26,7 +26,7 @@ argument_fits r j h =
 
 pub can_meet : (a b : Rule) → Overlap a b → CanOverlap a b
 can_meet a b (r, is_r, ma, mb) = record {
-  machine = token_of-same a.arch b.arch (sym ma.machine ∙ mb.machine);
+  machine = sym ma.machine ∙ mb.machine;
   number = sym ma.number ∙ mb.number;
   left = λ k c lt n d lt-n same. (
     argument r _,
@@ -173,7 +173,7 @@ overlaps a b small m =
           (six_fits u (λ j. (fill a b m j).1)),
       record { machine = refl; number = refl; conditions = met a.conds.items a.nr (token_of a.arch) u (λ j. (fill a b m j).2) },
       record {
-        machine = ap token_of m.machine;
+        machine = m.machine;
         number = m.number;
         conditions =
             met b.conds.items a.nr (token_of a.arch) u (λ j. (fill a b m j).3);

@@ -2,9 +2,10 @@
 use Rattle.std.specs.Prelude.{◌≡◌, ◌<◌, ◌≤◌, ℕ, List, [], ◌∷◌, ◌++◌, length, take, Some, slice_get}
 use Rattle.std.specs.List.{All, Contains}
 use Rattle.call_tables.specs.declared.arch.Arch.{Arch}
+use Rattle.call_tables.specs.Arch.{family_of, AreOfFamily}
 use Rattle.profile.specs.declared.rules.Rule.{Rule}
 use Rattle.profile.specs.declared.fault.BuildError.{BuildError}
-use Rattle.profile.specs.declared.fault.BuildError.TheVariants.{NativeMissing, ForeignRule, Overlap, TooMany, OutOfMemory}
+use Rattle.profile.specs.declared.fault.BuildError.TheVariants.{NativeMissing, MixedFamilies, ForeignRule, Overlap, TooMany, OutOfMemory}
 use Rattle.profile.specs.Rule.{Clash}
 use Rattle.profile.specs.Policy.{Policy, IsProfile, IsClear, most_rules}
 
@@ -30,6 +31,10 @@ BuildingIsOne = (native : Arch) (archs : List Arch) (default_word : ℕ) (rules 
     → IsBuiltOf native archs default_word rules p → IsBuiltOf native archs default_word rules q → p ≡ q
 
 -- ---- errors
+
+-- the native machine is listed, and machines of its family alone
+abbrev pub AreMachinesFor : Arch → List Arch → Type 0
+AreMachinesFor native archs = Contains archs native × AreOfFamily (family_of native) archs
 
 -- the machines of these rules are listed
 abbrev pub AreListed : List Arch → List Rule → Type 0
@@ -57,11 +62,12 @@ pub record IsFirstClash (rules : List Rule) (i j : ℕ) : Type 0 where
   pub first_least : (k : ℕ) → ClashAt rules k j → i ≤ k
 
 -- The cause of an error stands in the arguments, and none that is looked for before it. Memory is asked for
--- only where all machines are listed.
+-- only where all machines are listed and are of one family.
 abbrev pub IsFirstCause : Arch → List Arch → List Rule → BuildError → Type 0
 IsFirstCause native archs rules NativeMissing = ¬ Contains archs native
-IsFirstCause native archs rules (ForeignRule i) = Contains archs native × IsFirstForeign archs rules i
-IsFirstCause native archs rules TooMany = Contains archs native × AreListed archs rules × AreTooMany rules
+IsFirstCause native archs rules MixedFamilies = Contains archs native × ¬ AreOfFamily (family_of native) archs
+IsFirstCause native archs rules (ForeignRule i) = AreMachinesFor native archs × IsFirstForeign archs rules i
+IsFirstCause native archs rules TooMany = AreMachinesFor native archs × AreListed archs rules × AreTooMany rules
 IsFirstCause native archs rules (Overlap i j) =
-    Contains archs native × AreListed archs rules × ¬ AreTooMany rules × IsFirstClash rules i j
-IsFirstCause native archs rules OutOfMemory = Contains archs native × AreListed archs rules
+    AreMachinesFor native archs × AreListed archs rules × ¬ AreTooMany rules × IsFirstClash rules i j
+IsFirstCause native archs rules OutOfMemory = AreMachinesFor native archs × AreListed archs rules

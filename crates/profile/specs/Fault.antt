@@ -2,13 +2,14 @@
 use Rattle.std.specs.Prelude.{ℕ, List, [], ◌++◌, codes}
 use Rattle.std.specs.Fmt.{decimal}
 use Rattle.profile.specs.declared.fault.BuildError.{BuildError}
-use Rattle.profile.specs.declared.fault.BuildError.TheVariants.{NativeMissing, ForeignRule, Overlap, TooMany, OutOfMemory}
+use Rattle.profile.specs.declared.fault.BuildError.TheVariants.{NativeMissing, MixedFamilies, ForeignRule, Overlap, TooMany, OutOfMemory}
 
 abbrev pub label_of : BuildError → ℕ × List ℕ
 label_of NativeMissing = (1, codes "NativeMissing")
 label_of (ForeignRule i) = (2, codes "ForeignRule")
 label_of (Overlap i j) = (3, codes "Overlap")
 label_of TooMany = (4, codes "TooMany")
+label_of MixedFamilies = (5, codes "MixedFamilies")
 label_of OutOfMemory = (9, codes "OutOfMemory")
 
 -- the places, each after a space
@@ -17,6 +18,7 @@ places_of NativeMissing = []
 places_of (ForeignRule i) = codes " " ++ decimal i
 places_of (Overlap i j) = codes " " ++ decimal i ++ codes " " ++ decimal j
 places_of TooMany = []
+places_of MixedFamilies = []
 places_of OutOfMemory = []
 
 -- the text that says it

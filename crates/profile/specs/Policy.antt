@@ -4,8 +4,9 @@ use Rattle.std.specs.Prelude.{◌≡◌, ◌<◌, ◌≤◌, ◌⊎◌, ℕ, Lis
 use Rattle.std.specs.List.{All, Any, Contains}
 use Rattle.call_record.specs.Words.{IsRecord, word}
 use Rattle.call_tables.specs.declared.arch.Arch.{Arch}
-use Rattle.call_tables.specs.declared.arch.Arch.TheVariants.{X86_64, Aarch64}
-use Rattle.call_tables.specs.Arch.{token_of}
+use Rattle.call_tables.specs.declared.arch.Arch.TheVariants.{X86_64}
+use Rattle.call_tables.specs.declared.arch.Family.{Family}
+use Rattle.call_tables.specs.Arch.{token_of, x86_64_of, aarch64_of}
 use Rattle.profile.specs.declared.rules.Rule.{Rule}
 use Rattle.profile.specs.Rule.{Matches}
 
@@ -34,9 +35,14 @@ pub record Says (p : Policy) (r : List ℕ) (v : ℕ) : Type 0 where
 
 -- ---- what each profile is
 
--- machines, each once, x86-64 first
+-- machines of one family, each once, x86-64 first
+abbrev pub InOrderOf : Family → List Arch → Type 0
+InOrderOf family machines =
+    (machines ≡ x86_64_of family ∷ [])
+    ⊎ ((machines ≡ aarch64_of family ∷ []) ⊎ (machines ≡ x86_64_of family ∷ aarch64_of family ∷ []))
+
 abbrev pub InOrder : List Arch → Type 0
-InOrder machines = (machines ≡ X86_64 ∷ []) ⊎ ((machines ≡ Aarch64 ∷ []) ⊎ (machines ≡ X86_64 ∷ Aarch64 ∷ []))
+InOrder machines = (family : Family) × InOrderOf family machines
 
 -- a rule stands at one place
 abbrev pub AreDifferent : List Rule → Type 0

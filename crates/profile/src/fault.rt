@@ -14,6 +14,8 @@ pub enum BuildError {
     Overlap(usize, usize),
     /// More of the rules are different than a profile may have.
     TooMany,
+    /// A listed machine is of another family than the native one.
+    MixedFamilies,
     /// Memory was refused.
     OutOfMemory,
 }
@@ -32,6 +34,7 @@ impl BuildError {
             BuildError::ForeignRule(_) => (2, "ForeignRule"),
             BuildError::Overlap(_, _) => (3, "Overlap"),
             BuildError::TooMany => (4, "TooMany"),
+            BuildError::MixedFamilies => (5, "MixedFamilies"),
             BuildError::OutOfMemory => (9, "OutOfMemory"),
         }
     }

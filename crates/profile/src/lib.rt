@@ -23,5 +23,7 @@ pub use distinct::MAX_RULES;
 pub use fault::BuildError;
 pub use machines::in_order;
 pub use overlaps::overlap;
-pub use policy::{LEAST_X32_NUMBER, Profile, building_is_one, each_record_is_said_one_word};
+pub use policy::{
+    LEAST_X32_NUMBER, Profile, building_is_one, each_record_is_said_one_word, has_x32_calls,
+};
 pub use rules::{Rule, has_index};

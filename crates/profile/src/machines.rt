@@ -1,28 +1,43 @@
 //! Which machines are listed.
 ghost use Rattle.std.specs.Prelude.{◌↔◌, IsTrue, IfSome, IfNone, All, Contains};
+ghost use Rattle.std.specs.Prelude.{◌≡◌};
 ghost use Rattle.call_tables.specs.declared.arch.Arch.{Arch};
+ghost use Rattle.call_tables.specs.Arch.{family_of, AreOfFamily};
 ghost use Rattle.profile.specs.Policy.{InOrder};
 ghost use Rattle.profile.specs.Build.{AreListed, IsFirstForeign};
 
 use crate::rules::Rule;
-use call_tables::Arch;
+use call_tables::{Arch, Family};
 
-/// The listed machines, each once, x86-64 first.
-pub fn in_order(archs: &[Arch]) -> &'static [Arch]
-    requires { (arch : Arch) × Contains archs.now arch }
+/// The listed machines, of one family, each once, x86-64 first.
+pub fn in_order(family: Family, archs: &[Arch]) -> &'static [Arch]
+    requires some { (arch : Arch) × Contains archs.now arch }
+    requires of_family { AreOfFamily family archs.now }
     ensures ordered { InOrder result.now }
     ensures listed { (arch : Arch) → Contains result.now arch → Contains archs.now arch }
     ensures all { All (Contains result.now) archs.now }
 {
-    if lists(archs, Arch::X86_64) {
-        if lists(archs, Arch::Aarch64) {
-            &[Arch::X86_64, Arch::Aarch64]
-        } else {
-            &[Arch::X86_64]
-        }
-    } else {
-        &[Arch::Aarch64]
+    let both = family.machines();
+    if !lists(archs, family.x86_64()) {
+        return &both[1..];
     }
+    if !lists(archs, family.aarch64()) {
+        return &both[..1];
+    }
+    both
+}
+
+/// Whether all machines are of the family.
+pub(crate) fn are_of_family(family: Family, archs: &[Arch]) -> bool
+    ensures { IsTrue result ↔ AreOfFamily family archs.now }
+{
+    archs.iter().all(|arch| is_of_family(family, *arch))
+}
+
+fn is_of_family(family: Family, arch: Arch) -> bool
+    ensures { IsTrue result ↔ (family_of arch ≡ family) }
+{
+    arch.family() == family
 }
 
 /// Whether the machine is listed.

@@ -21,7 +21,7 @@ fn can_overlap(a: &Rule, b: &Rule) -> bool
     if a.nr != b.nr {
         return false;
     }
-    if a.arch != b.arch {
+    if a.arch.token() != b.arch.token() {
         return false;
     }
     let first = a.conds.as_slice();

@@ -10,7 +10,7 @@ use crate::clashes::first_clash;
 use crate::distinct::{Kept, keep_once};
 use crate::fault::BuildError;
 use crate::index::Index;
-use crate::machines::{first_foreign, in_order, lists};
+use crate::machines::{are_of_family, first_foreign, in_order, lists};
 use crate::rules::Rule;
 use call_record::{Record, Word};
 use call_tables::Arch;
@@ -57,8 +57,9 @@ impl Profile {
     /// The profile of these machines and rules, of which equal ones are kept once.
     ///
     /// The causes of an error are looked for in this order, and the first is told:
-    /// `NativeMissing`, `ForeignRule` at the least place, `TooMany`, and `Overlap`, whose second
-    /// place is the least, and then its first. Memory is asked for after the first two.
+    /// `NativeMissing`, `MixedFamilies`, `ForeignRule` at the least place, `TooMany`, and `Overlap`,
+    /// whose second place is the least, and then its first. Memory is asked for after the first
+    /// three.
     pub fn build(
         alloc: Global,
         native: Arch,
@@ -71,6 +72,9 @@ impl Profile {
     {
         if !lists(archs, native) {
             return Err(BuildError::NativeMissing);
+        }
+        if !are_of_family(native.family(), archs) {
+            return Err(BuildError::MixedFamilies);
         }
         if let Some(place) = first_foreign(archs, &rules) {
             return Err(BuildError::ForeignRule(place));
@@ -85,7 +89,7 @@ impl Profile {
         }
         Ok(Profile {
             native,
-            machines: in_order(archs),
+            machines: in_order(native.family(), archs),
             default_word,
             rules,
             index,
@@ -99,7 +103,7 @@ impl Profile {
         self.native
     }
 
-    /// The listed machines, each once, x86-64 first.
+    /// The listed machines, of one family, each once, x86-64 first.
     pub fn machines(&self) -> &[Arch]
         ensures machines { result.now ≡ self.now.machines }
         ensures is_profile { IsProfile self.now }
@@ -161,6 +165,13 @@ fn is_listed(token: u32, machines: &[Arch]) -> bool
 /// The least number of an x32 call. These calls carry the token of x86-64, and are foreign to every
 /// profile.
 pub const LEAST_X32_NUMBER: u32 = 0x4000_0000;
+
+/// Whether x32 calls carry the token of this machine.
+pub fn has_x32_calls(arch: Arch) -> bool
+    ensures { IsTrue result ↔ (token_of arch ≡ token_of X86_64) }
+{
+    arch.token() == Arch::X86_64.token()
+}
 
 fn is_x32_call(token: u32, number: u32) -> bool
     ensures { IsTrue result ↔ (token ≡ token_of X86_64) × (least_x32_number ≤ number) }

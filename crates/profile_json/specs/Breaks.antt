@@ -5,6 +5,8 @@ use Rattle.std.specs.Str.{IsUtf8}
 use Rattle.serde_json.specs.Read.{read}
 use Rattle.serde_json.specs.Data.{Data}
 use Rattle.call_tables.specs.declared.arch.Arch.{Arch}
+use Rattle.call_tables.specs.declared.arch.Family.{Family}
+use Rattle.call_tables.specs.Arch.{family_of}
 use Rattle.profile.specs.declared.conditions.Op.{Op}
 use Rattle.profile.specs.declared.rules.Rule.{Rule}
 use Rattle.profile.specs.Operator.{mask_of}
@@ -18,7 +20,7 @@ use Rattle.profile_json.specs.Fault.{native_missing, unknown_call, empty_names, 
 use Rattle.profile_json.specs.Fault.{repeated_index, stray_datum, overlap, unsupported_key, too_many}
 use Rattle.profile_json.specs.Parts.{EntryParts, rule_parts}
 use Rattle.profile_json.specs.Lookup.{Member, missing, other_type, holds, member, or_default, object, text, whole, list}
-use Rattle.profile_json.specs.Names.{editions, action_named, takes_data, op_named, arch_named, is_known}
+use Rattle.profile_json.specs.Names.{editions, action_named, takes_data, op_named, arch_named, is_known, most_names}
 use Rattle.profile_json.specs.Rules.{in_order, rules_under, rules_of}
 use Rattle.profile_json.specs.CallName.{short_name}
 use Rattle.profile_json.specs.Meaning.{IsText, IsSeccomp, NamesAction, ListsArchs, EntryMeans, EntriesMean}
@@ -65,7 +67,7 @@ pub data ArchsBreak (s : Data) (native : Arch) : Fault → Type 0 where
   no_text : (ds : List Data) (d : Data) → or_default [] (member list key.architectures s) ≡ Some ds → Contains ds d → text d ≡ None
       → ArchsBreak s native wrong_type
   unknown : (ds : List Data) (d : Data) (name : List ℕ) → or_default [] (member list key.architectures s) ≡ Some ds → Contains ds d
-      → text d ≡ Some name → arch_named name ≡ None → ArchsBreak s native unknown_arch
+      → text d ≡ Some name → arch_named (family_of native) name ≡ None → ArchsBreak s native unknown_arch
   not_native : (archs : List Arch) → ListsArchs s native archs → ¬ Contains archs native → ArchsBreak s native native_missing
 
 -- a member of `args`
@@ -89,19 +91,19 @@ pub data ArgsBreak (d : Data) : Fault → Type 0 where
       → slice_get ds i ≡ Some x → slice_get ds j ≡ Some y
       → member whole key.index x ≡ holds n → member whole key.index y ≡ holds n → ArgsBreak d repeated_index
 
-pub data NamesBreak (d : Data) : Fault → Type 0 where
-  no_list : (f : Fault) → NeededBreaks (member list key.names d) f → NamesBreak d f
-  none : member list key.names d ≡ holds [] → NamesBreak d empty_names
-  many : (ds : List Data) → member list key.names d ≡ holds ds → 128 < length ds → NamesBreak d too_many
-  no_text : (ds : List Data) (x : Data) → member list key.names d ≡ holds ds → Contains ds x → text x ≡ None → NamesBreak d wrong_type
+pub data NamesBreak (family : Family) (d : Data) : Fault → Type 0 where
+  no_list : (f : Fault) → NeededBreaks (member list key.names d) f → NamesBreak family d f
+  none : member list key.names d ≡ holds [] → NamesBreak family d empty_names
+  many : (ds : List Data) → member list key.names d ≡ holds ds → most_names family < length ds → NamesBreak family d too_many
+  no_text : (ds : List Data) (x : Data) → member list key.names d ≡ holds ds → Contains ds x → text x ≡ None → NamesBreak family d wrong_type
   unknown : (ds : List Data) (x : Data) (name : List ℕ) → member list key.names d ≡ holds ds → Contains ds x → text x ≡ Some name
-      → is_known name ≡ false → NamesBreak d (unknown_call (short_name name))
+      → is_known family name ≡ false → NamesBreak family d (unknown_call (short_name name))
 
-pub data EntryBreaks (d : Data) : Fault → Type 0 where
-  no_object : object d ≡ None → EntryBreaks d wrong_type
-  names : (f : Fault) → IsSome (object d) → NamesBreak d f → EntryBreaks d f
-  word : (f : Fault) → IsSome (object d) → WordBreaks key.action key.errno_ret d f → EntryBreaks d f
-  args : (f : Fault) → IsSome (object d) → ArgsBreak d f → EntryBreaks d f
+pub data EntryBreaks (family : Family) (d : Data) : Fault → Type 0 where
+  no_object : object d ≡ None → EntryBreaks family d wrong_type
+  names : (f : Fault) → IsSome (object d) → NamesBreak family d f → EntryBreaks family d f
+  word : (f : Fault) → IsSome (object d) → WordBreaks key.action key.errno_ret d f → EntryBreaks family d f
+  args : (f : Fault) → IsSome (object d) → ArgsBreak d f → EntryBreaks family d f
 
 -- Under this name both entries have rules with unlike words, and one record matches both.
 pub record ClashUnder (machines : List Arch) (x y : EntryParts) (name : List ℕ) : Type 0 where
@@ -117,13 +119,13 @@ pub data EntriesBreak (s : Data) (native : Arch) : Fault → Type 0 where
   no_list : or_default [] (member list key.syscalls s) ≡ None → EntriesBreak s native wrong_type
   many : (ds : List Data) → or_default [] (member list key.syscalls s) ≡ Some ds → 256 < length ds → EntriesBreak s native too_many
   in_entry : (ds : List Data) (d : Data) (f : Fault) → or_default [] (member list key.syscalls s) ≡ Some ds → Contains ds d
-      → EntryBreaks d f → EntriesBreak s native f
-  many_rules : (archs : List Arch) (entries : List EntryParts) (said kept : List Rule) → ListsArchs s native archs → EntriesMean s entries
+      → EntryBreaks (family_of native) d f → EntriesBreak s native f
+  many_rules : (archs : List Arch) (entries : List EntryParts) (said kept : List Rule) → ListsArchs s native archs → EntriesMean (family_of native) s entries
       → map rule_parts said ≡ rules_of (in_order archs) entries → KeepsOnce said kept → most_rules < length kept
       → EntriesBreak s native too_many
   overlapping : (archs : List Arch) (ds : List Data) (i j : ℕ) (d e : Data) (x y : EntryParts) (name : List ℕ) → ListsArchs s native archs
       → or_default [] (member list key.syscalls s) ≡ Some ds → i < j → slice_get ds i ≡ Some d → slice_get ds j ≡ Some e
-      → EntryMeans d x → EntryMeans e y → ClashUnder (in_order archs) x y name → EntriesBreak s native (overlap (short_name name) i j)
+      → EntryMeans (family_of native) d x → EntryMeans (family_of native) e y → ClashUnder (in_order archs) x y name → EntriesBreak s native (overlap (short_name name) i j)
 
 -- the rules that the object under linux.seccomp breaks
 pub data SeccompBreaks (s : Data) (native : Arch) : Fault → Type 0 where

@@ -5,6 +5,8 @@ use Rattle.std.specs.Str.{IsUtf8}
 use Rattle.serde_json.specs.Read.{read}
 use Rattle.serde_json.specs.Data.{Data}
 use Rattle.call_tables.specs.declared.arch.Arch.{Arch}
+use Rattle.call_tables.specs.declared.arch.Family.{Family}
+use Rattle.call_tables.specs.Arch.{family_of}
 use Rattle.profile.specs.declared.rules.Rule.{Rule}
 use Rattle.profile.specs.Operator.{are_distinct, mask_of}
 use Rattle.profile.specs.Policy.{Policy, IsClear, most_rules}
@@ -13,7 +15,7 @@ use Rattle.profile_json.specs.declared.action.Action.{Action}
 use Rattle.profile_json.specs.Keys as key
 use Rattle.profile_json.specs.Parts.{CondParts, EntryParts, rule_parts}
 use Rattle.profile_json.specs.Lookup.{missing, holds, member, or_default, object, text, whole, list}
-use Rattle.profile_json.specs.Names.{editions, action_named, takes_data, word_of, op_named, arch_named, is_known}
+use Rattle.profile_json.specs.Names.{editions, action_named, takes_data, word_of, op_named, arch_named, is_known, most_names}
 use Rattle.profile_json.specs.Rules.{or_native, in_order, rules_of}
 
 -- the text of these bytes is the value t
@@ -55,16 +57,16 @@ pub record KeysMean (s : Data) : Type 0 where
   pub no_path : or_default [] (member text key.listener_path s) ≡ Some []
   pub no_metadata : or_default [] (member text key.listener_metadata s) ≡ Some []
 
--- a text that names the machine a
-abbrev pub NamesArch : Data → Arch → Type 0
-NamesArch d a = (name : List ℕ) × (text d ≡ Some name) × (arch_named name ≡ Some a)
+-- a text that names the machine a of a family
+abbrev pub NamesArch : Family → Data → Arch → Type 0
+NamesArch family d a = (name : List ℕ) × (text d ≡ Some name) × (arch_named family name ≡ Some a)
 
 -- the machines that are listed, in the order of the text: the native one alone where there is none
 pub record ListsArchs (s : Data) (native : Arch) (archs : List Arch) : Type 0 where
   pub values : List Data
   pub values_are : or_default [] (member list key.architectures s) ≡ Some values
   pub named : List Arch
-  pub names : AllZip NamesArch values named
+  pub names : AllZip (NamesArch (family_of native)) values named
   pub archs_are : archs ≡ or_native native named
 
 -- the condition that a member of `args` says. The second value counts under MASKED_EQ alone.
@@ -88,26 +90,26 @@ pub record ArgsMean (d : Data) (conds : List CondParts) : Type 0 where
   pub each : AllZip ArgMeans values conds
   pub apart : are_distinct (map (λ c. c.index) conds) ≡ true
 
--- the call names of an entry: at least one and at most 128, each in the table of some machine
-pub record NamesMean (d : Data) (names : List (List ℕ)) : Type 0 where
+-- the call names of an entry: at least one and at most 128, in whole tables 512, each in the table of some machine
+pub record NamesMean (family : Family) (d : Data) (names : List (List ℕ)) : Type 0 where
   pub values : List Data
   pub values_are : member list key.names d ≡ holds values
   pub some : 0 < length values
-  pub few : length values ≤ 128
-  pub each : AllZip (λ value name. (text value ≡ Some name) × (is_known name ≡ true)) values names
+  pub few : length values ≤ most_names family
+  pub each : AllZip (λ value name. (text value ≡ Some name) × (is_known family name ≡ true)) values names
 
-pub record EntryMeans (d : Data) (e : EntryParts) : Type 0 where
+pub record EntryMeans (family : Family) (d : Data) (e : EntryParts) : Type 0 where
   pub is_object : IsSome (object d)
-  pub names : NamesMean d e.names
+  pub names : NamesMean family d e.names
   pub word_is : WordMeans key.action key.errno_ret d e.word
   pub args : ArgsMean d e.conds
 
 -- the entries, at most 256
-pub record EntriesMean (s : Data) (entries : List EntryParts) : Type 0 where
+pub record EntriesMean (family : Family) (s : Data) (entries : List EntryParts) : Type 0 where
   pub values : List Data
   pub values_are : or_default [] (member list key.syscalls s) ≡ Some values
   pub few : length values ≤ 256
-  pub each : AllZip EntryMeans values entries
+  pub each : AllZip (EntryMeans family) values entries
 
 -- what the object under linux.seccomp says of machines and calls
 pub record CallsMean (s : Data) (native : Arch) (p : Policy) : Type 0 where
@@ -118,7 +120,7 @@ pub record CallsMean (s : Data) (native : Arch) (p : Policy) : Type 0 where
   pub native_listed : Contains archs native
   pub machines_are : p.machines ≡ in_order archs
   pub entries : List EntryParts
-  pub entries_are : EntriesMean s entries
+  pub entries_are : EntriesMean (family_of native) s entries
   -- one rule for each entry, name and listed machine that has the name
   pub said : List Rule
   pub said_is : map rule_parts said ≡ rules_of p.machines entries

@@ -3,8 +3,9 @@ use Rattle.std.specs.Prelude.{codes, ℕ, ◌+◌, List, [], ◌∷◌, Bool, tr
 use Rattle.std.specs.Str.{bytes_eq}
 use Rattle.call_record.specs.Verdict as verdict
 use Rattle.call_tables.specs.declared.arch.Arch.{Arch}
-use Rattle.call_tables.specs.declared.arch.Arch.TheVariants.{X86_64, Aarch64}
-use Rattle.call_tables.specs.Arch.{scmp_of, table_of}
+use Rattle.call_tables.specs.declared.arch.Family.{Family}
+use Rattle.call_tables.specs.declared.arch.Family.TheVariants.{Chosen, Whole}
+use Rattle.call_tables.specs.Arch.{scmp_of, table_of, x86_64_of, aarch64_of}
 use Rattle.call_tables.specs.Table.{number_in}
 use Rattle.profile.specs.declared.conditions.Op.{Op}
 use Rattle.profile.specs.declared.conditions.Op.TheVariants as op
@@ -64,9 +65,17 @@ op_named = named (
     (codes "SCMP_CMP_GT", op.Gt) ∷
     (codes "SCMP_CMP_MASKED_EQ", op.MaskedEq) ∷ [])
 
-unfoldable pub arch_named : List ℕ → Option Arch
-arch_named = named ((scmp_of X86_64, X86_64) ∷ (scmp_of Aarch64, Aarch64) ∷ [])
+-- the member of the native machine's family
+unfoldable pub arch_named : Family → List ℕ → Option Arch
+arch_named family =
+    named ((scmp_of (x86_64_of family), x86_64_of family) ∷ (scmp_of (aarch64_of family), aarch64_of family) ∷ [])
 
--- the call stands in the table of some machine, listed or not
-abbrev pub is_known : List ℕ → Bool
-is_known name = is_some (number_in (table_of X86_64) name) || is_some (number_in (table_of Aarch64) name)
+-- the call stands in the table of some machine of the family, listed or not
+abbrev pub is_known : Family → List ℕ → Bool
+is_known family name =
+    is_some (number_in (table_of (x86_64_of family)) name) || is_some (number_in (table_of (aarch64_of family)) name)
+
+-- how many names an entry may have
+abbrev pub most_names : Family → ℕ
+most_names Chosen = 128
+most_names Whole = 512

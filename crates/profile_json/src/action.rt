@@ -14,7 +14,7 @@ use serde_json::Value;
 
 /// What is done with a call.
 #[derive(Clone, Copy)]
-pub(crate) enum Action {
+pub enum Action {
     KillThread,
     KillProcess,
     Trap,

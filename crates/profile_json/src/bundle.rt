@@ -3,6 +3,7 @@ ghost use Rattle.std.specs.Prelude.{◌≡◌, true, IfOk, IfErr, IfSome};
 ghost use Rattle.std.specs.List.{list_any};
 ghost use Rattle.serde_json.specs.Data.{Data};
 ghost use Rattle.serde_json.specs.View.{view};
+ghost use Rattle.call_tables.specs.Arch.{family_of, AreOfFamily};
 ghost use Rattle.profile_json.specs.Breaks.{Breaks};
 ghost use Rattle.profile_json.specs.Fault.{fault_of};
 ghost use Rattle.profile_json.specs.inner.Making.{IsMade, IsNotMade};
@@ -56,7 +57,7 @@ fn said_of<'a>(alloc: Global, seccomp: &'a Value, native: Arch) -> Result<Said<'
     let default_word = default_of(seccomp)?;
     refuse_keys(seccomp)?;
     let archs = archs_of(alloc, seccomp, native)?;
-    let entries = entries_of(alloc, seccomp)?;
+    let entries = entries_of(alloc, seccomp, native.family())?;
     Ok(Said {
         default_word,
         archs,
@@ -66,11 +67,12 @@ fn said_of<'a>(alloc: Global, seccomp: &'a Value, native: Arch) -> Result<Said<'
 
 /// The profile of the rules that the entries say.
 fn profile_of(alloc: Global, said: &Said, native: Arch) -> Result<Profile, ProfileError>
-    requires { list_any (same_arch native) said.now.archs.items ≡ true }
+    requires native_listed { list_any (same_arch native) said.now.archs.items ≡ true }
+    requires of_family { AreOfFamily (family_of native) said.now.archs.items }
     ensures ok { IfOk result (IsMade (said_parts said.now) native) }
     ensures err { IfErr result (λ e. IfSome (fault_of e) (IsNotMade (said_parts said.now))) }
 {
-    let machines = machines_of(&said.archs);
+    let machines = machines_of(native.family(), &said.archs);
     let Rules { list, ends } = rules_of(alloc, &said.entries, machines)?;
     match Profile::build(alloc, native, machines, said.default_word, list) {
         Ok(profile) => Ok(profile),
@@ -80,6 +82,7 @@ fn profile_of(alloc: Global, said: &Said, native: Arch) -> Result<Profile, Profi
         Err(BuildError::TooMany) => Err(ProfileError::TooMany),
         Err(BuildError::OutOfMemory) => Err(ProfileError::OutOfMemory),
         Err(BuildError::NativeMissing) => unreachable!(),
+        Err(BuildError::MixedFamilies) => unreachable!(),
         Err(BuildError::ForeignRule(_)) => unreachable!(),
     }
 }

@@ -19,6 +19,7 @@ mod rules;
 mod said;
 mod syscalls;
 
+pub use action::Action;
 pub use bundle::{Bundle, read_bundle};
 pub use fault::ProfileError;
 pub use law::{meaning_is_kept, meaning_is_one, meaning_is_unbroken};

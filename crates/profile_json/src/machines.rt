@@ -1,8 +1,10 @@
 //! The machines that a bundle lists.
-ghost use Rattle.std.specs.Prelude.{◌≡◌, map, true, IfOk};
+ghost use Rattle.std.specs.Prelude.{◌≡◌, map, true, IfOk, All, Contains};
 ghost use Rattle.std.specs.List.{list_any};
 ghost use Rattle.serde_json.specs.View.{view};
 ghost use Rattle.call_tables.specs.declared.arch.Arch.{Arch};
+ghost use Rattle.call_tables.specs.Arch.{AreOfFamily};
+ghost use Rattle.profile.specs.Policy.{InOrder};
 ghost use Rattle.profile_json.specs.Names as names;
 ghost use Rattle.profile_json.specs.Rules.{same_arch, in_order};
 ghost use Rattle.profile_json.specs.inner.Outcome.{Gives, GivesWithMemory};
@@ -11,39 +13,39 @@ ghost use Rattle.profile_json.specs.inner.Reading as spec;
 use crate::fault::ProfileError;
 use crate::key::ARCHITECTURES;
 use crate::lookup::{list_or_empty, text_of};
-use call_tables::Arch;
+use call_tables::{Arch, Family};
 use profile::in_order;
 use serde_json::Value;
 use std::alloc::Global;
 
-/// The machine of a name.
+/// The machine of a name, in the native machine's family.
 #[tactic(auto, unfolding(crate::specs::Names::arch_named))]
-fn arch_named(name: &str) -> Option<Arch>
-    ensures { result ≡ names.arch_named name.now }
+fn arch_named(family: Family, name: &str) -> Option<Arch>
+    ensures { result ≡ names.arch_named family name.now }
 {
-    if name == Arch::X86_64.scmp() {
-        Some(Arch::X86_64)
-    } else if name == Arch::Aarch64.scmp() {
-        Some(Arch::Aarch64)
+    if name == family.x86_64().scmp() {
+        Some(family.x86_64())
+    } else if name == family.aarch64().scmp() {
+        Some(family.aarch64())
     } else {
         None
     }
 }
 
 #[tactic(auto, unfolding(crate::specs::inner::Reading::arch_of))]
-fn arch_of(value: &Value) -> Result<Arch, ProfileError>
-    ensures { Gives (λ a. a) result (spec.arch_of (view value.now)) }
+fn arch_of(value: &Value, family: Family) -> Result<Arch, ProfileError>
+    ensures { Gives (λ a. a) result (spec.arch_of family (view value.now)) }
 {
     let name = text_of(value)?;
-    arch_named(name).ok_or(ProfileError::UnknownArch)
+    arch_named(family, name).ok_or(ProfileError::UnknownArch)
 }
 
-fn archs_in(alloc: Global, mut values: &[Value]) -> Result<Vec<Arch>, ProfileError>
-    ensures { GivesWithMemory (λ v. v.items) result (spec.each spec.arch_of (map view values.entry.now)) }
+fn archs_in(alloc: Global, mut values: &[Value], family: Family) -> Result<Vec<Arch>, ProfileError>
+    ensures { GivesWithMemory (λ v. v.items) result (spec.each (spec.arch_of family) (map view values.entry.now)) }
 {
     let mut found = Vec::new(alloc);
     while let [first, rest @ ..] = values {
-        let arch = arch_of(first)?;
+        let arch = arch_of(first, family)?;
         found.push(arch)?;
         values = rest;
     }
@@ -54,7 +56,7 @@ fn archs_in(alloc: Global, mut values: &[Value]) -> Result<Vec<Arch>, ProfileErr
 fn archs_or_native(alloc: Global, values: &[Value], native: Arch) -> Result<Vec<Arch>, ProfileError>
     ensures { GivesWithMemory (λ v. v.items) result (spec.archs_or_native native (map view values.now)) }
 {
-    let mut archs = archs_in(alloc, values)?;
+    let mut archs = archs_in(alloc, values, native.family())?;
     if archs.is_empty() {
         archs.push(native)?;
     }
@@ -92,10 +94,14 @@ pub(crate) fn archs_of(
     }
 }
 
-/// The listed machines, each once, x86-64 first.
-pub(crate) fn machines_of(archs: &[Arch]) -> &'static [Arch]
-    requires { (arch : Arch) × (list_any (same_arch arch) archs.now ≡ true) }
-    ensures { result.now ≡ in_order archs.now }
+/// The listed machines, of one family, each once, x86-64 first.
+pub(crate) fn machines_of(family: Family, archs: &[Arch]) -> &'static [Arch]
+    requires some { (arch : Arch) × (list_any (same_arch arch) archs.now ≡ true) }
+    requires of_family { AreOfFamily family archs.now }
+    ensures machines { result.now ≡ in_order archs.now }
+    ensures ordered { InOrder result.now }
+    ensures all { All (Contains result.now) archs.now }
+    ensures of_family { AreOfFamily family result.now }
 {
-    in_order(archs)
+    in_order(family, archs)
 }

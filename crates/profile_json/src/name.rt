@@ -4,13 +4,13 @@ ghost use Rattle.profile_json.specs.Names as names;
 ghost use Rattle.profile_json.specs.CallName as spec;
 
 use arrayvec::ArrayString;
-use call_tables::Arch;
+use call_tables::Family;
 
-/// Whether some machine has the call, listed or not.
-pub(crate) fn is_known(name: &str) -> bool
-    ensures { result ≡ names.is_known name.now }
+/// Whether some machine of the family has the call, listed or not.
+pub(crate) fn is_known(family: Family, name: &str) -> bool
+    ensures { result ≡ names.is_known family name.now }
 {
-    Arch::X86_64.number(name).is_some() || Arch::Aarch64.number(name).is_some()
+    family.x86_64().number(name).is_some() || family.aarch64().number(name).is_some()
 }
 
 /// The longest beginning of a name with at most 64 bytes and whole characters.

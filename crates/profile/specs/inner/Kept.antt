@@ -2,7 +2,7 @@
 use Rattle.std.specs.Prelude.{◌≡◌, ◌<◌, ◌≤◌, ℕ, List, length, Some, slice_get, slice_index, slice_index_or}
 use Rattle.profile.specs.declared.rules.Rule.{Rule}
 use Rattle.profile.specs.declared.fault.BuildError.{BuildError}
-use Rattle.profile.specs.declared.fault.BuildError.TheVariants.{NativeMissing, ForeignRule, Overlap, TooMany, OutOfMemory}
+use Rattle.profile.specs.declared.fault.BuildError.TheVariants.{NativeMissing, MixedFamilies, ForeignRule, Overlap, TooMany, OutOfMemory}
 use Rattle.profile.specs.Build.{KeepsOnce, AreTooMany}
 
 -- the different rules, with the place of each in the list: its first
@@ -20,5 +20,6 @@ abbrev pub IsKeepError : List Rule → BuildError → Type 0
 IsKeepError rules TooMany = AreTooMany rules
 IsKeepError rules OutOfMemory = Unit {0}
 IsKeepError rules NativeMissing = ⊥
+IsKeepError rules MixedFamilies = ⊥
 IsKeepError rules (ForeignRule i) = ⊥
 IsKeepError rules (Overlap i j) = ⊥

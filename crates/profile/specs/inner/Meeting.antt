@@ -1,6 +1,7 @@
 -- What decides whether two rules overlap: numbers that meet the conditions of both.
 use Rattle.std.specs.Prelude.{◌≡◌, ℕ, ◌<◌, ◌-◌, ◌^◌, List, bit_or}
 use Rattle.std.specs.List.{All}
+use Rattle.call_tables.specs.Arch.{token_of}
 use Rattle.profile.specs.declared.conditions.Cond.{Cond}
 use Rattle.profile.specs.declared.rules.Rule.{Rule}
 use Rattle.profile.specs.Operator.{mask_of}
@@ -27,7 +28,7 @@ AllHaveCommon xs ys = All (λ c. All (λ d. c.index ≡ d.index → HaveCommon c
 
 -- the machine and the number are one, and on each argument the conditions of both can be met
 pub record CanOverlap (a b : Rule) : Type 0 where
-  pub machine : a.arch ≡ b.arch
+  pub machine : token_of a.arch ≡ token_of b.arch
   pub number : a.nr ≡ b.nr
   pub left : AllHaveCommon a.conds.items a.conds.items
   pub right : AllHaveCommon b.conds.items b.conds.items

@@ -6,7 +6,9 @@ use Rattle.std.proofs.lemmas.Option.{same_Some}
 use Rattle.call_tables.specs.declared.arch.Arch.{Arch}
 use Rattle.call_tables.specs.Arch.{table_of}
 use Rattle.call_tables.specs.Table.{number_in, name_in}
-use Rattle.call_tables.proofs.ArchLaws.{table_of-inverse, token_of-same}
+use Rattle.call_tables.proofs.ArchLaws.{table_of-inverse}
+use Rattle.profile.specs.Policy.{InOrder}
+use Rattle.profile.proofs.MachineLaws.{token_of-one}
 use Rattle.profile.specs.declared.rules.Rule.{Rule}
 use Rattle.profile.specs.Rule.{Overlap, Clash}
 use Rattle.profile_json.specs.Parts.{EntryParts, RuleParts, rule_parts}
@@ -81,18 +83,19 @@ clash_under machines x y name unlike in_x in_y any =
     }
 
 -- rules that clash are of one call, and so of one name: a search over the names finds it
-pub must_clash : (machines : List Arch) (x y : EntryParts) (a b : Rule) → Contains (rules_of_entry machines x) (rule_parts a)
+pub must_clash : (machines : List Arch) (x y : EntryParts) (a b : Rule) → InOrder machines → Contains (rules_of_entry machines x) (rule_parts a)
     → Contains (rules_of_entry machines y) (rule_parts b) → Clash a b → NoClash machines x y → ⊥
-must_clash machines x y a b in_x in_y clash none =
+must_clash machines x y a b order in_x in_y clash none =
     let m = contains_flat_back (rules_under machines x) x.names (rule_parts a) in_x in
     let n = contains_flat_back (rules_under machines y) y.names (rule_parts b) in_y in
     let p : IsUnder machines x m.0 (rule_parts a) = under_back machines x m.0 (rule_parts a) m.2 in
     let q : IsUnder machines y n.0 (rule_parts b) = under_back machines y n.0 (rule_parts b) n.2 in
     let r = clash.1 in
-    let one_arch : a.arch ≡ b.arch = token_of-same a.arch b.arch (sym r.2.machine ∙ r.3.machine) in
     let one_nr : a.nr ≡ b.nr = sym r.2.number ∙ r.3.number in
     let arch_a : a.arch ≡ p.arch = ap (λ (s : RuleParts). s.arch) p.is in
     let arch_b : b.arch ≡ q.arch = ap (λ (s : RuleParts). s.arch) q.is in
+    let one_arch : a.arch ≡ b.arch = token_of-one machines order a.arch b.arch (subst (Contains machines) (sym arch_a) p.listed)
+    (subst (Contains machines) (sym arch_b) q.listed) (sym r.2.machine ∙ r.3.machine) in
     let nr_a : a.nr ≡ p.nr = ap (λ (s : RuleParts). s.nr) p.is in
     let nr_b : b.nr ≡ q.nr = ap (λ (s : RuleParts). s.nr) q.is in
     let archs : q.arch ≡ p.arch = sym arch_b ∙ sym one_arch ∙ arch_a in

@@ -3,10 +3,12 @@ use Rattle.std.proofs.Common.{◌≡◌, ℕ, List, map, Option, Some, None, IsS
 use Rattle.std.specs.List.{Contains, slice_get}
 use Rattle.std.proofs.lemmas.Option.{slice_get-map}
 use Rattle.call_tables.specs.declared.arch.Arch.{Arch}
+use Rattle.call_tables.specs.Arch.{family_of, AreOfFamily}
 use Rattle.profile.specs.declared.rules.Rule.{Rule}
 use Rattle.profile.specs.declared.fault.BuildError.{BuildError}
-use Rattle.profile.specs.declared.fault.BuildError.TheVariants.{ForeignRule, Overlap, TooMany}
-use Rattle.profile.specs.Build.{IsFirstCause, IsFirstClash, IsFirstForeign, AreListed, ClashAt, AreTooMany}
+use Rattle.profile.specs.declared.fault.BuildError.TheVariants.{NativeMissing, MixedFamilies, ForeignRule, Overlap, TooMany}
+use Rattle.profile.specs.Policy.{InOrder}
+use Rattle.profile.specs.Build.{IsFirstCause, AreMachinesFor, IsFirstClash, IsFirstForeign, AreListed, ClashAt, AreTooMany}
 use Rattle.profile_json.specs.Fault.{Fault, too_many}
 use Rattle.profile_json.specs.Parts.{EntryParts, RuleParts, rule_parts}
 use Rattle.profile_json.specs.Rules.{in_order, rules_of_entry, rules_of, rules_under}
@@ -20,13 +22,14 @@ pub if_is_some_and : {X : Type 0} (o : Option X) {P Q : X → Type 0} → IsSome
 if_is_some_and None h then = absurd h
 if_is_some_and (Some x) h then = then x h
 
-pub has_clash : (native : Arch) (machines : List Arch) (es : List EntryParts) (rules : List Rule) (e : BuildError) (i j : ℕ)
+pub has_clash : (native : Arch) (machines : List Arch) (es : List EntryParts) (rules : List Rule) (e : BuildError) (i j : ℕ) → InOrder machines
     → map rule_parts rules ≡ rules_of machines es → e ≡ Overlap i j → IsFirstCause native machines rules e → HasClash machines es j
-has_clash native machines es rules e i j said is stands =
-    let cause : Contains machines native × AreListed machines rules × (¬ AreTooMany rules) × IsFirstClash rules i j =
+has_clash native machines es rules e i j order said is stands =
+    let cause : AreMachinesFor native machines × AreListed machines rules × (¬ AreTooMany rules) × IsFirstClash rules i j =
     subst (IsFirstCause native machines rules) is stands in
     let at : ClashAt rules i j = cause.3.clash in
     record {
+      order = order;
       said = rules;
       said_is = said;
       earlier = i;
@@ -39,10 +42,22 @@ has_clash native machines es rules e i j said is stands =
       clash = at.5;
     }
 
+pub not_missing : (native : Arch) (machines : List Arch) (rules : List Rule) (e : BuildError) → Contains machines native
+    → e ≡ NativeMissing → IsFirstCause native machines rules e → ⊥
+not_missing native machines rules e listed is stands =
+    let cause : ¬ Contains machines native = subst (IsFirstCause native machines rules) is stands in
+    cause listed
+
+pub not_mixed : (native : Arch) (machines : List Arch) (rules : List Rule) (e : BuildError) → AreOfFamily (family_of native) machines
+    → e ≡ MixedFamilies → IsFirstCause native machines rules e → ⊥
+not_mixed native machines rules e of is stands =
+    let cause : Contains machines native × ¬ AreOfFamily (family_of native) machines = subst (IsFirstCause native machines rules) is stands in
+    cause.1 of
+
 pub no_foreign : (native : Arch) (machines : List Arch) (es : List EntryParts) (rules : List Rule) (e : BuildError) (i : ℕ)
     → map rule_parts rules ≡ rules_of machines es → e ≡ ForeignRule i → IsFirstCause native machines rules e → ⊥
 no_foreign native machines es rules e i said is stands =
-    let cause : Contains machines native × IsFirstForeign machines rules i = subst (IsFirstCause native machines rules) is stands in
+    let cause : AreMachinesFor native machines × IsFirstForeign machines rules i = subst (IsFirstCause native machines rules) is stands in
     let at : (rule : Rule) × (slice_get rules i ≡ Some rule) × ¬ Contains machines rule.arch =
     (cause.1.rule, cause.1.at, cause.1.foreign) in
     let here : slice_get (rules_of machines es) i ≡ Some (rule_parts at.0) = ap (λ rs. slice_get rs i) (sym said)
@@ -58,7 +73,7 @@ pub too_many_rules : (said : Said) (native : Arch) (machines : List Arch) (rules
     → machines ≡ in_order said.archs → map rule_parts rules ≡ rules_of machines said.entries → e ≡ TooMany
     → IsFirstCause native machines rules e → IsNotMade said too_many
 too_many_rules said native machines rules e order are is stands =
-    let cause : Contains machines native × AreListed machines rules × AreTooMany rules =
+    let cause : AreMachinesFor native machines × AreListed machines rules × AreTooMany rules =
     subst (IsFirstCause native machines rules) is stands in
     let at : AreTooMany rules = cause.2 in
     many rules (are ∙ ap (λ ms. rules_of ms said.entries) order) at

@@ -56,7 +56,7 @@ second_of machines es place h =
         must = λ none. elim (is.earlier h.earlier (rule_parts h.first) (let lt = h.before in omega (arith, lt)) before) [
           | inl same_entry ↦ h.clash.0 (word_of_entry machines is.entry (rule_parts h.first) same_entry
               ∙ sym (word_of_entry machines is.entry (rule_parts h.second) is.has))
-          | inr lower ↦ must_clash machines lower.1 is.entry h.first h.second lower.4 is.has h.clash (none lower.0 lower.2 lower.1 lower.3)
+          | inr lower ↦ must_clash machines lower.1 is.entry h.first h.second h.order lower.4 is.has h.clash (none lower.0 lower.2 lower.1 lower.3)
         ];
       },
     )

@@ -1,18 +1,25 @@
 -- Listed machines: what reading gives is meant, and what it refuses is broken.
-use Rattle.std.proofs.Common.{◌≡◌, ℕ, List, [], cond, Ok, Err, Some, None, true, inl, inr, refl, sym, ◌∙◌, ap, subst}
+use Rattle.std.proofs.Common.{◌≡◌, ℕ, ◌==◌, List, [], ◌∷◌, cond, if◌then◌else◌, Ok, Err, Some, None, true, false, inl, inr, refl, sym, ◌∙◌, ap, subst}
 use Rattle.std.specs.Option.{ok_or}
-use Rattle.std.specs.List.{AllZip, Contains, list_any}
+use Rattle.std.specs.List.{All, AllZip, Contains, list_any}
+use Rattle.std.specs.Str.{bytes_eq}
+use Rattle.std.proofs.lemmas.Bool.{cases_Bool}
+use Rattle.std.proofs.lemmas.Bool.Decides.{Decides-eqb}
+use Rattle.std.proofs.lemmas.List.Elements.{All-nil, All-cons}
 use Rattle.std.proofs.lemmas.List.Folds.{list_any_at}
 use Rattle.std.proofs.lemmas.Map.Views.{Contains-from_any}
 use Rattle.std.proofs.lemmas.Option.{same_Some}
 use Rattle.serde_json.specs.Data.{Data}
 use Rattle.call_tables.specs.declared.arch.Arch.{Arch}
-use Rattle.call_tables.specs.declared.arch.Arch.TheVariants.{X86_64, Aarch64}
+use Rattle.call_tables.specs.declared.arch.Arch.TheVariants.{X86_64, Aarch64, LinuxX86_64, LinuxAarch64}
+use Rattle.call_tables.specs.declared.arch.Family.{Family}
+use Rattle.call_tables.specs.Arch.{family_of, x86_64_of, aarch64_of, scmp_of, AreOfFamily}
+use Rattle.call_tables.proofs.ArchLaws.{family_of-x86_64_of, family_of-aarch64_of}
 use Rattle.profile_json.specs.Keys as key
 use Rattle.profile_json.specs.Fault.{Fault, wrong_type, unknown_arch, native_missing}
 use Rattle.profile_json.specs.Lookup.{member, or_default, text, list}
-use Rattle.profile_json.specs.Names.{arch_named}
-use Rattle.profile_json.specs.Rules.{same_arch, or_native}
+use Rattle.profile_json.specs.Names.{named, arch_named}
+use Rattle.profile_json.specs.Rules.{place_of, same_arch, or_native}
 use Rattle.profile_json.specs.inner.Outcome.{◌>>=◌}
 use Rattle.profile_json.specs.inner.Reading.{typed, each, arch_of, archs_or_native, archs_of}
 use Rattle.profile_json.specs.Meaning.{NamesArch, ListsArchs}
@@ -21,40 +28,46 @@ use Rattle.profile_json.proofs.Lists.{related, one_related}
 use Rattle.profile_json.proofs.reading.Steps.{bind_ok, bind_err, ok_or_ok, ok_or_err, cond_ok, cond_err, each_ok, each_err, none_some}
 use Rattle.profile_json.proofs.reading.Steps.{ok_same, not_ok, true_false}
 
-arch_means : (d : Data) (a : Arch) → arch_of d ≡ Ok a → NamesArch d a
+arch_means : (family : Family) (d : Data) (a : Arch) → arch_of family d ≡ Ok a → NamesArch family d a
 unfolding arch_of
-arch_means d a h =
-    let step = bind_ok (typed (text d)) (λ name. ok_or (arch_named name) unknown_arch) a h in
-    (step.0, ok_or_ok (text d) wrong_type step.0 step.1, ok_or_ok (arch_named step.0) unknown_arch a step.2)
+arch_means family d a h =
+    let step = bind_ok (typed (text d)) (λ name. ok_or (arch_named family name) unknown_arch) a h in
+    (step.0, ok_or_ok (text d) wrong_type step.0 step.1, ok_or_ok (arch_named family step.0) unknown_arch a step.2)
 
 -- a value that names no machine
-data ArchBreaks (d : Data) : Fault → Type 0 where
-  has_no_text : text d ≡ None → ArchBreaks d wrong_type
-  is_unknown : (name : List ℕ) → text d ≡ Some name → arch_named name ≡ None → ArchBreaks d unknown_arch
+data ArchBreaks (family : Family) (d : Data) : Fault → Type 0 where
+  has_no_text : text d ≡ None → ArchBreaks family d wrong_type
+  is_unknown : (name : List ℕ) → text d ≡ Some name → arch_named family name ≡ None → ArchBreaks family d unknown_arch
 
-arch_breaks : (d : Data) (f : Fault) → arch_of d ≡ Err f → ArchBreaks d f
+arch_breaks : (family : Family) (d : Data) (f : Fault) → arch_of family d ≡ Err f → ArchBreaks family d f
 unfolding arch_of
-arch_breaks d f h =
-    elim (bind_err (typed (text d)) (λ name. ok_or (arch_named name) unknown_arch) f h) [
-      | inl bad ↦ (let at = ok_or_err (text d) wrong_type f bad in subst (ArchBreaks d) at.1 (has_no_text at.0))
-      | inr step ↦ (let at = ok_or_err (arch_named step.0) unknown_arch f step.2 in subst (ArchBreaks d) at.1
+arch_breaks family d f h =
+    elim (bind_err (typed (text d)) (λ name. ok_or (arch_named family name) unknown_arch) f h) [
+      | inl bad ↦ (let at = ok_or_err (text d) wrong_type f bad in subst (ArchBreaks family d) at.1 (has_no_text at.0))
+      | inr step ↦ (let at = ok_or_err (arch_named family step.0) unknown_arch f step.2 in subst (ArchBreaks family d) at.1
           (is_unknown step.0 (ok_or_ok (text d) wrong_type step.0 step.1) at.0))
     ]
 
 value_breaks : (s : Data) (native : Arch) (ds : List Data) (d : Data) (f : Fault)
-    → or_default [] (member list key.architectures s) ≡ Some ds → Contains ds d → ArchBreaks d f → ArchsBreak s native f
+    → or_default [] (member list key.architectures s) ≡ Some ds → Contains ds d → ArchBreaks (family_of native) d f → ArchsBreak s native f
 value_breaks s native ds d _ at in_ds (has_no_text e) = no_text ds d at in_ds e
 value_breaks s native ds d _ at in_ds (is_unknown name e u) = unknown ds d name at in_ds e u
 
-same_is : (a b : Arch) → same_arch a b ≡ true → a ≡ b
-same_is X86_64 X86_64 h = refl
-same_is X86_64 Aarch64 h = cc
-same_is Aarch64 X86_64 h = cc
-same_is Aarch64 Aarch64 h = refl
+-- the machine at a place
+abbrev arch_at : ℕ → Arch
+arch_at n = if n == 0 then X86_64 else if n == 1 then Aarch64 else if n == 2 then LinuxX86_64 else LinuxAarch64
+
+arch_at-place_of : (a : Arch) → arch_at (place_of a) ≡ a
+arch_at-place_of X86_64 = refl
+arch_at-place_of Aarch64 = refl
+arch_at-place_of LinuxX86_64 = refl
+arch_at-place_of LinuxAarch64 = refl
+
+pub same_is : (a b : Arch) → same_arch a b ≡ true → a ≡ b
+same_is a b h = sym (arch_at-place_of a) ∙ ap arch_at ((Decides-eqb (place_of a) (place_of b)).0 h) ∙ arch_at-place_of b
 
 same_self : (a : Arch) → same_arch a a ≡ true
-same_self X86_64 = refl
-same_self Aarch64 = refl
+same_self a = (Decides-eqb (place_of a) (place_of a)).1 refl
 
 pub lists_native : (a : Arch) (archs : List Arch) → list_any (same_arch a) archs ≡ true → Contains archs a
 lists_native a archs h = Contains-from_any same_is a archs h
@@ -65,12 +78,12 @@ native_lists a archs h = list_any_at (same_arch a) archs h.0 a h.1 (ap (same_arc
 lists_of : (s : Data) (native : Arch) (ds : List Data) (archs : List Arch) → or_default [] (member list key.architectures s) ≡ Some ds
     → archs_or_native native ds ≡ Ok archs → ListsArchs s native archs
 lists_of s native ds archs at h =
-    let step = bind_ok (each arch_of ds) (λ xs0. Ok (or_native native xs0)) archs h in
+    let step = bind_ok (each (arch_of (family_of native)) ds) (λ xs0. Ok (or_native native xs0)) archs h in
     record {
       values = ds;
       values_are = at;
       named = step.0;
-      names = each_ok arch_of NamesArch arch_means ds step.0 step.1;
+      names = each_ok (arch_of (family_of native)) (NamesArch (family_of native)) (arch_means (family_of native)) ds step.0 step.1;
       archs_are =
           sym (ok_same (or_native native step.0) archs step.2);
     }
@@ -102,9 +115,9 @@ archs_refused s native f h =
           let values = ok_or_ok (or_default [] (member list key.architectures s)) wrong_type at_d.0 at_d.1 in
           elim (bind_err (archs_or_native native at_d.0) (λ xs0. cond (list_any (same_arch native) xs0) (Ok xs0) (Err native_missing)) f
           at_d.2) [
-            | inl bad ↦ elim (bind_err (each arch_of at_d.0) (λ xs0. Ok (or_native native xs0)) f bad) [
-              | inl worse ↦ (let at = each_err arch_of at_d.0 f worse in value_breaks s native at_d.0 at.0 f values at.1
-                  (arch_breaks at.0 f at.2))
+            | inl bad ↦ elim (bind_err (each (arch_of (family_of native)) at_d.0) (λ xs0. Ok (or_native native xs0)) f bad) [
+              | inl worse ↦ (let at = each_err (arch_of (family_of native)) at_d.0 f worse in value_breaks s native at_d.0 at.0 f values at.1
+                  (arch_breaks (family_of native) at.0 f at.2))
               | inr step ↦ absurd (not_ok (or_native native step.0) f step.2)
             ]
             | inr at_a ↦
@@ -118,28 +131,60 @@ archs_refused s native f h =
 
 -- ---- one list of machines
 
-one_arch : (d : Data) (a b : Arch) → NamesArch d a → NamesArch d b → a ≡ b
-one_arch d a b x y =
+one_arch : (family : Family) (d : Data) (a b : Arch) → NamesArch family d a → NamesArch family d b → a ≡ b
+one_arch family d a b x y =
     let same : x.0 ≡ y.0 = same_Some x.0 y.0 (sym x.1 ∙ y.1) in
-    same_Some a b (sym x.2 ∙ ap arch_named same ∙ y.2)
+    same_Some a b (sym x.2 ∙ ap (arch_named family) same ∙ y.2)
 
 pub one_archs : (s : Data) (native : Arch) (xs ys : List Arch) → ListsArchs s native xs → ListsArchs s native ys → xs ≡ ys
 one_archs s native xs ys p q =
     let values : p.values ≡ q.values = same_Some p.values q.values (sym p.values_are ∙ q.values_are) in
-    let names : AllZip NamesArch q.values p.named = subst (λ ds. AllZip NamesArch ds p.named) values p.names in
-    p.archs_are ∙ ap (or_native native) (one_related NamesArch one_arch q.values p.named q.named names q.names) ∙ sym q.archs_are
+    let names : AllZip (NamesArch (family_of native)) q.values p.named = subst (λ ds. AllZip (NamesArch (family_of native)) ds p.named) values p.names in
+    p.archs_are ∙ ap (or_native native) (one_related (NamesArch (family_of native)) (one_arch (family_of native)) q.values p.named q.named names q.names) ∙ sym q.archs_are
 
 pub archs_unbroken : (s : Data) (native : Arch) (archs : List Arch) (f : Fault) → ListsArchs s native archs → Contains archs native
     → ArchsBreak s native f → ⊥
 archs_unbroken s native archs _ m has (no_list e) = none_some (or_default [] (member list key.architectures s)) m.values e m.values_are
 archs_unbroken s native archs _ m has (no_text ds d at in_ds e) =
     let same : m.values ≡ ds = same_Some m.values ds (sym m.values_are ∙ at) in
-    let name = related NamesArch m.values m.named d m.names (subst (λ xs. Contains xs d) (sym same) in_ds) in
+    let name = related (NamesArch (family_of native)) m.values m.named d m.names (subst (λ xs. Contains xs d) (sym same) in_ds) in
     none_some (text d) name.1.0 e name.1.1
 archs_unbroken s native archs _ m has (unknown ds d t at in_ds e u) =
     let same : m.values ≡ ds = same_Some m.values ds (sym m.values_are ∙ at) in
-    let name = related NamesArch m.values m.named d m.names (subst (λ xs. Contains xs d) (sym same) in_ds) in
+    let name = related (NamesArch (family_of native)) m.values m.named d m.names (subst (λ xs. Contains xs d) (sym same) in_ds) in
     let names : name.1.0 ≡ t = same_Some name.1.0 t (sym name.1.1 ∙ e) in
-    none_some (arch_named t) name.0 u (ap arch_named (sym names) ∙ name.1.2)
+    none_some (arch_named (family_of native) t) name.0 u (ap (arch_named (family_of native)) (sym names) ∙ name.1.2)
 archs_unbroken s native archs _ m has (not_native others lists lost) =
     lost (subst (λ (xs0 : List Arch). Contains xs0 native) (one_archs s native archs others m lists) has)
+
+-- ---- of one family
+
+-- a name stands for a machine of the family
+named_is : (family : Family) (name : List ℕ) (a : Arch) → arch_named family name ≡ Some a → family_of a ≡ family
+unfolding arch_named
+named_is family name a h =
+    elim (cases_Bool (bytes_eq name (scmp_of (x86_64_of family)))) [
+      | inl first ↦ ap family_of (same_Some a (x86_64_of family) (sym h ∙ rw first refl)) ∙ family_of-x86_64_of family
+      | inr other ↦ elim (cases_Bool (bytes_eq name (scmp_of (aarch64_of family)))) [
+        | inl second ↦ ap family_of (same_Some a (aarch64_of family) (sym h ∙ rw (other, second) refl)) ∙ family_of-aarch64_of family
+        | inr none ↦ absurd (none_some (arch_named family name) a (rw (other, none) refl) h)
+      ]
+    ]
+
+named_of_family : (family : Family) (ds : List Data) (archs : List Arch) → AllZip (NamesArch family) ds archs → AreOfFamily family archs
+named_of_family family [] [] each = All-nil (λ a. family_of a ≡ family)
+named_of_family family [] (a ∷ archs) each = absurd each
+named_of_family family (d ∷ ds) [] each = absurd each
+named_of_family family (d ∷ ds) (a ∷ archs) each =
+    All-cons (λ b. family_of b ≡ family) a archs (named_is family each.0.0 a each.0.2) (named_of_family family ds archs each.1)
+
+or_native_of_family : (native : Arch) (archs : List Arch) → AreOfFamily (family_of native) archs
+    → AreOfFamily (family_of native) (or_native native archs)
+or_native_of_family native [] h =
+    All-cons (λ b. family_of b ≡ family_of native) native [] refl (All-nil (λ b. family_of b ≡ family_of native))
+or_native_of_family native (a ∷ more) h = h
+
+pub listed_of_family : (s : Data) (native : Arch) (archs : List Arch) → ListsArchs s native archs → AreOfFamily (family_of native) archs
+listed_of_family s native archs m =
+    subst (AreOfFamily (family_of native)) (sym m.archs_are)
+    (or_native_of_family native m.named (named_of_family (family_of native) m.values m.named m.names))

@@ -1,12 +1,17 @@
 -- A bundle as a whole: what is read and made is meant, and what is refused is broken.
-use Rattle.std.proofs.Common.{◌≡◌, ℕ, zero, suc, List, [], ◌∷◌, cond, Bool, Result, Ok, Err, Option, Some, None, IfSome, IsSomeAnd, true}
+use Rattle.std.proofs.Common.{◌≡◌, ℕ, zero, suc, List, [], ◌∷◌, ◌&&◌, cond, Bool, Result, Ok, Err, Option, Some, None, IfSome, IsSomeAnd, true}
 use Rattle.std.proofs.Common.{false, inl, inr, refl, sym, ◌∙◌, ap, subst}
 use Rattle.std.specs.List.{All, AllZip, Contains, list_any, slice_get}
 use Rattle.std.proofs.lemmas.List.Elements.{All-contains}
+use Rattle.std.proofs.Math.Bool.{and-true}
+use Rattle.std.proofs.lemmas.Map.Views.{any-filter_same}
 use Rattle.std.proofs.lemmas.Option.{same_Some}
 use Rattle.serde_json.specs.Data.{Data}
 use Rattle.call_tables.specs.declared.arch.Arch.{Arch}
-use Rattle.call_tables.specs.declared.arch.Arch.TheVariants.{X86_64, Aarch64}
+use Rattle.call_tables.specs.declared.arch.Arch.TheVariants.{X86_64, Aarch64, LinuxX86_64, LinuxAarch64}
+use Rattle.call_tables.specs.declared.arch.Family.{Family}
+use Rattle.call_tables.specs.declared.arch.Family.TheVariants.{Chosen, Whole}
+use Rattle.call_tables.specs.Arch.{family_of}
 use Rattle.profile.specs.Policy.{Policy}
 use Rattle.profile.specs.Policy.{InOrder}
 use Rattle.profile_json.specs.Keys as key
@@ -24,7 +29,7 @@ use Rattle.profile_json.proofs.reading.Steps.{bind_ok, bind_err, ok_same, not_ok
 use Rattle.profile_json.proofs.reading.RootLaws.{root_breaks}
 use Rattle.profile_json.proofs.reading.ActionLaws.{word_means, word_breaks}
 use Rattle.profile_json.proofs.reading.KeyLaws.{keys_mean, keys_break}
-use Rattle.profile_json.proofs.reading.ArchLaws.{lists_archs, archs_refused, lists_native, native_lists}
+use Rattle.profile_json.proofs.reading.ArchLaws.{lists_archs, archs_refused, same_is, lists_native, native_lists}
 use Rattle.profile_json.proofs.reading.EntryLaws.{entries_mean, EntriesRefused, is_no_list, are_many, in_one_entry, entries_refused}
 
 -- what is read of the object under linux.seccomp
@@ -33,7 +38,7 @@ pub record SaidMeans (s : Data) (native : Arch) (said : Said) : Type 0 where
   pub keys : KeysMean s
   pub archs : ListsArchs s native said.archs
   pub native_listed : Contains said.archs native
-  pub entries : EntriesMean s said.entries
+  pub entries : EntriesMean (family_of native) s said.entries
 
 default_means : (s : Data) (w : ℕ) → default_of s ≡ Ok w → WordMeans key.default_action key.default_errno_ret s w
 unfolding default_of
@@ -47,11 +52,11 @@ said : ℕ → List Arch → List EntryParts → Said
 said word archs entries = record { default_word = word; archs = archs; entries = entries }
 
 -- what is read after the machines, the refused keys, and the default word
-after_archs : Data → ℕ → List Arch → Result Said Fault
-after_archs s word archs = entries_of s >>= (λ entries. Ok (said word archs entries))
+after_archs : Arch → Data → ℕ → List Arch → Result Said Fault
+after_archs native s word archs = entries_of (family_of native) s >>= (λ entries. Ok (said word archs entries))
 
 after_keys : Arch → Data → ℕ → Unit {0} → Result Said Fault
-after_keys native s word r = archs_of native s >>= after_archs s word
+after_keys native s word r = archs_of native s >>= after_archs native s word
 
 after_default : Arch → Data → ℕ → Result Said Fault
 after_default native s word = refused_of s >>= after_keys native s word
@@ -61,19 +66,19 @@ unfolding said_of said after_default after_keys after_archs
 said_means s native x h =
     let w = bind_ok (default_of s) (after_default native s) x h in
     let r = bind_ok (refused_of s) (after_keys native s w.0) x w.2 in
-    let a = bind_ok (archs_of native s) (after_archs s w.0) x r.2 in
-    let e = bind_ok (entries_of s) (λ entries. Ok (said w.0 a.0 entries)) x a.2 in
+    let a = bind_ok (archs_of native s) (after_archs native s w.0) x r.2 in
+    let e = bind_ok (entries_of (family_of native) s) (λ entries. Ok (said w.0 a.0 entries)) x a.2 in
     let archs = lists_archs s native a.0 a.1 in
     let means : SaidMeans s native (said w.0 a.0 e.0) = record {
       default_is = default_means s w.0 w.1;
       keys = keys_mean s r.0 r.1;
       archs = archs.0;
       native_listed = archs.1;
-      entries = entries_mean s e.0 e.1;
+      entries = entries_mean (family_of native) s e.0 e.1;
     } in
     subst (SaidMeans s native) (ok_same (said w.0 a.0 e.0) x e.2) means
 
-entries_break : (s : Data) (native : Arch) (f : Fault) → EntriesRefused s f → EntriesBreak s native f
+entries_break : (s : Data) (native : Arch) (f : Fault) → EntriesRefused (family_of native) s f → EntriesBreak s native f
 entries_break s native _ (is_no_list e) = broken.EntriesBreak.no_list e
 entries_break s native _ (are_many ds at e) = broken.EntriesBreak.many ds at e
 entries_break s native f (in_one_entry ds d _ at in_ds e) = broken.EntriesBreak.in_entry ds d f at in_ds e
@@ -85,10 +90,10 @@ said_breaks s native f h =
       | inl bad ↦ broken.SeccompBreaks.default_word f (default_breaks s f bad)
       | inr w ↦ elim (bind_err (refused_of s) (after_keys native s w.0) f w.2) [
         | inl bad ↦ broken.SeccompBreaks.keys f (keys_break s f bad)
-        | inr r ↦ elim (bind_err (archs_of native s) (after_archs s w.0) f r.2) [
+        | inr r ↦ elim (bind_err (archs_of native s) (after_archs native s w.0) f r.2) [
           | inl bad ↦ broken.SeccompBreaks.archs f (archs_refused s native f bad)
-          | inr a ↦ elim (bind_err (entries_of s) (λ entries. Ok (said w.0 a.0 entries)) f a.2) [
-            | inl bad ↦ broken.SeccompBreaks.entries f (entries_break s native f (entries_refused s f bad))
+          | inr a ↦ elim (bind_err (entries_of (family_of native) s) (λ entries. Ok (said w.0 a.0 entries)) f a.2) [
+            | inl bad ↦ broken.SeccompBreaks.entries f (entries_break s native f (entries_refused (family_of native) s f bad))
             | inr e ↦ absurd (not_ok (said w.0 a.0 e.0) f e.2)
           ]
         ]
@@ -104,24 +109,43 @@ same_test false true f g = g refl
 same_test false false f g = refl
 
 ordered : (machines : List Arch) → InOrder machines → in_order machines ≡ machines
-ordered machines (inl e) = ap in_order e ∙ sym e
-ordered machines (inr (inl e)) = ap in_order e ∙ sym e
-ordered machines (inr (inr e)) = ap in_order e ∙ sym e
+ordered machines (Chosen, inl e) = ap in_order e ∙ sym e
+ordered machines (Chosen, inr (inl e)) = ap in_order e ∙ sym e
+ordered machines (Chosen, inr (inr e)) = ap in_order e ∙ sym e
+ordered machines (Whole, inl e) = ap in_order e ∙ sym e
+ordered machines (Whole, inr (inl e)) = ap in_order e ∙ sym e
+ordered machines (Whole, inr (inr e)) = ap in_order e ∙ sym e
 
-chosen : Bool → Bool → List Arch
-chosen x a = cond x (X86_64 ∷ cond a (Aarch64 ∷ []) []) (cond a (Aarch64 ∷ []) [])
+abbrev kept : Bool → Arch → List Arch → List Arch
+kept b a rest = cond b (a ∷ rest) rest
 
-in_order_by : (xs ys : List Arch) → list_any (same_arch X86_64) xs ≡ list_any (same_arch X86_64) ys
-    → list_any (same_arch Aarch64) xs ≡ list_any (same_arch Aarch64) ys → in_order xs ≡ in_order ys
-unfolding chosen
-in_order_by xs ys x a = ap (λ b. chosen b (list_any (same_arch Aarch64) xs)) x ∙ ap (chosen (list_any (same_arch X86_64) ys)) a
+abbrev chosen : Bool → Bool → Bool → Bool → List Arch
+chosen a b c d = kept a X86_64 (kept b Aarch64 (kept c LinuxX86_64 (kept d LinuxAarch64 [])))
 
-test_in_order : (b c : Bool) → (list_any (same_arch X86_64) (chosen b c) ≡ b) × (list_any (same_arch Aarch64) (chosen b c) ≡ c)
-unfolding chosen
-test_in_order true true = (refl, refl)
-test_in_order true false = (refl, refl)
-test_in_order false true = (refl, refl)
-test_in_order false false = (refl, refl)
+-- which machines are listed decides their order
+in_order_by : (xs ys : List Arch) → ((a : Arch) → list_any (same_arch a) xs ≡ list_any (same_arch a) ys) → in_order xs ≡ in_order ys
+in_order_by xs ys agree =
+    let p : Arch → List Arch → Bool = λ a zs. list_any (same_arch a) zs in
+    ap (λ b. chosen b (p Aarch64 xs) (p LinuxX86_64 xs) (p LinuxAarch64 xs)) (agree X86_64)
+    ∙ ap (λ b. chosen (p X86_64 ys) b (p LinuxX86_64 xs) (p LinuxAarch64 xs)) (agree Aarch64)
+    ∙ ap (λ b. chosen (p X86_64 ys) (p Aarch64 ys) b (p LinuxAarch64 xs)) (agree LinuxX86_64)
+    ∙ ap (chosen (p X86_64 ys) (p Aarch64 ys) (p LinuxX86_64 ys)) (agree LinuxAarch64)
+
+abbrev all_machines : List Arch
+all_machines = X86_64 ∷ Aarch64 ∷ LinuxX86_64 ∷ LinuxAarch64 ∷ []
+
+among_all : (a : Arch) → list_any (same_arch a) all_machines ≡ true
+among_all X86_64 = refl
+among_all Aarch64 = refl
+among_all LinuxX86_64 = refl
+among_all LinuxAarch64 = refl
+
+-- a machine is among those in order where it is listed
+listed_in_order : (archs : List Arch) (a : Arch) → list_any (same_arch a) (in_order archs) ≡ list_any (same_arch a) archs
+listed_in_order archs a =
+    let listed : Arch → Bool = λ b. list_any (same_arch b) archs in
+    any-filter_same (same_arch a) listed (listed a) (λ k same. ap listed (sym (same_is a k same))) all_machines
+    ∙ ap (λ b. listed a && b) (among_all a) ∙ and-true (listed a)
 
 -- machines in order are told by which there are
 pub one_order : (machines archs : List Arch) → InOrder machines → ((a : Arch) → Contains machines a → Contains archs a)
@@ -132,13 +156,10 @@ one_order machines archs order listed all =
     λ a. same_test (list_any (same_arch a) machines) (list_any (same_arch a) archs)
     (λ t. native_lists a archs (listed a (lists_native a machines t)))
     (λ t. native_lists a machines (All-contains (Contains machines) archs a all (lists_native a archs t))) in
-    sym (ordered machines order) ∙ in_order_by machines archs (agree X86_64) (agree Aarch64)
+    sym (ordered machines order) ∙ in_order_by machines archs agree
 
 in_order_again : (archs : List Arch) → in_order (in_order archs) ≡ in_order archs
-unfolding chosen
-in_order_again archs =
-    let tests = test_in_order (list_any (same_arch X86_64) archs) (list_any (same_arch Aarch64) archs) in
-    in_order_by (in_order archs) archs tests.0 tests.1
+in_order_again archs = in_order_by (in_order archs) archs (listed_in_order archs)
 
 -- ---- the whole
 
@@ -170,20 +191,20 @@ bundle_means t s native x p root said made =
       };
     }
 
-entry_at : (ds : List Data) (es : List EntryParts) (i : ℕ) (e : EntryParts) → AllZip EntryMeans ds es → slice_get es i ≡ Some e
-    → (d : Data) × (slice_get ds i ≡ Some d) × EntryMeans d e
-entry_at [] [] i e z h = cc
-entry_at [] (y ∷ ys) i e z h = absurd z
-entry_at (d ∷ ds) [] i e z h = absurd z
-entry_at (d ∷ ds) (y ∷ ys) zero e z h = (d, refl, subst (EntryMeans d) (same_Some y e h) z.0)
-entry_at (d ∷ ds) (y ∷ ys) (suc i) e z h = entry_at ds ys i e z.1 h
+entry_at : (family : Family) (ds : List Data) (es : List EntryParts) (i : ℕ) (e : EntryParts) → AllZip (EntryMeans family) ds es
+    → slice_get es i ≡ Some e → (d : Data) × (slice_get ds i ≡ Some d) × EntryMeans family d e
+entry_at family [] [] i e z h = cc
+entry_at family [] (y ∷ ys) i e z h = absurd z
+entry_at family (d ∷ ds) [] i e z h = absurd z
+entry_at family (d ∷ ds) (y ∷ ys) zero e z h = (d, refl, subst (EntryMeans family d) (same_Some y e h) z.0)
+entry_at family (d ∷ ds) (y ∷ ys) (suc i) e z h = entry_at family ds ys i e z.1 h
 
 pub not_made_breaks : (s : Data) (native : Arch) (x : Said) (f : Fault) → SaidMeans s native x → IsNotMade x f → SeccompBreaks s native f
 not_made_breaks s native x _ said (many rules are more) =
     broken.SeccompBreaks.entries _ (broken.EntriesBreak.many_rules x.archs x.entries rules more.0 said.archs said.entries are more.1 more.2)
 not_made_breaks s native x f said (clash _ o) =
-    let d = entry_at said.entries.values x.entries o.first o.x said.entries.each o.x_at in
-    let e = entry_at said.entries.values x.entries o.second o.y said.entries.each o.y_at in
+    let d = entry_at (family_of native) said.entries.values x.entries o.first o.x said.entries.each o.x_at in
+    let e = entry_at (family_of native) said.entries.values x.entries o.second o.y said.entries.each o.y_at in
     let break : EntriesBreak s native (overlap (short_name o.name) o.first o.second) =
     broken.EntriesBreak.overlapping x.archs said.entries.values o.first o.second d.0 e.0 o.x o.y o.name said.archs
     said.entries.values_are o.in_order d.1 e.1 d.2 e.2 o.clash in

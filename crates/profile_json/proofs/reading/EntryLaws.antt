@@ -9,12 +9,13 @@ use Rattle.std.proofs.lemmas.List.Folds.{list_any-append}
 use Rattle.std.proofs.lemmas.Bool.Decides.{nat_tests}
 use Rattle.std.proofs.lemmas.List.{append_assoc, append-nil, map_push}
 use Rattle.serde_json.specs.Data.{Data}
+use Rattle.call_tables.specs.declared.arch.Family.{Family}
 use Rattle.profile.specs.Operator.{are_distinct}
 use Rattle.profile_json.specs.Keys as key
 use Rattle.profile_json.specs.Fault.{Fault, wrong_type, missing_key, unknown_call, empty_names, repeated_index, too_many}
 use Rattle.profile_json.specs.Parts.{CondParts, EntryParts}
 use Rattle.profile_json.specs.Lookup.{holds, member, or_default, object, text, whole, list}
-use Rattle.profile_json.specs.Names.{is_known}
+use Rattle.profile_json.specs.Names.{is_known, most_names}
 use Rattle.profile_json.specs.CallName.{short_name}
 use Rattle.profile_json.specs.inner.Outcome.{◌>>=◌}
 use Rattle.profile_json.specs.inner.Reading.{typed, needed, is_empty, each, arg_of, args_after, args_of, name_of, names_of, entry_word}
@@ -138,64 +139,64 @@ args_break d f h =
 
 -- ---- names
 
-name_ok : (d : Data) (name : List ℕ) → name_of d ≡ Ok name → (text d ≡ Some name) × (is_known name ≡ true)
+name_ok : (family : Family) (d : Data) (name : List ℕ) → name_of family d ≡ Ok name → (text d ≡ Some name) × (is_known family name ≡ true)
 unfolding name_of
-name_ok d name h =
-    let step = bind_ok (typed (text d)) (λ n. cond (is_known n) (Ok n) (Err (unknown_call (short_name n)))) name h in
-    let known = cond_ok (is_known step.0) (unknown_call (short_name step.0)) step.0 name step.2 in
-    (ok_or_ok (text d) wrong_type step.0 step.1 ∙ ap Some known.1, ap is_known (sym known.1) ∙ known.0)
+name_ok family d name h =
+    let step = bind_ok (typed (text d)) (λ n. cond (is_known family n) (Ok n) (Err (unknown_call (short_name n)))) name h in
+    let known = cond_ok (is_known family step.0) (unknown_call (short_name step.0)) step.0 name step.2 in
+    (ok_or_ok (text d) wrong_type step.0 step.1 ∙ ap Some known.1, ap (is_known family) (sym known.1) ∙ known.0)
 
 -- a value that is no call name
-data NameBreaks (d : Data) : Fault → Type 0 where
-  has_no_text : text d ≡ None → NameBreaks d wrong_type
-  is_unknown : (name : List ℕ) → text d ≡ Some name → is_known name ≡ false → NameBreaks d (unknown_call (short_name name))
+data NameBreaks (family : Family) (d : Data) : Fault → Type 0 where
+  has_no_text : text d ≡ None → NameBreaks family d wrong_type
+  is_unknown : (name : List ℕ) → text d ≡ Some name → is_known family name ≡ false → NameBreaks family d (unknown_call (short_name name))
 
-name_err : (d : Data) (f : Fault) → name_of d ≡ Err f → NameBreaks d f
+name_err : (family : Family) (d : Data) (f : Fault) → name_of family d ≡ Err f → NameBreaks family d f
 unfolding name_of
-name_err d f h =
-    elim (bind_err (typed (text d)) (λ n. cond (is_known n) (Ok n) (Err (unknown_call (short_name n)))) f h) [
-      | inl bad ↦ (let at = ok_or_err (text d) wrong_type f bad in subst (NameBreaks d) at.1 (has_no_text at.0))
-      | inr step ↦ (let at = cond_err (is_known step.0) (unknown_call (short_name step.0)) f step.0 step.2 in subst (NameBreaks d) at.1
+name_err family d f h =
+    elim (bind_err (typed (text d)) (λ n. cond (is_known family n) (Ok n) (Err (unknown_call (short_name n)))) f h) [
+      | inl bad ↦ (let at = ok_or_err (text d) wrong_type f bad in subst (NameBreaks family d) at.1 (has_no_text at.0))
+      | inr step ↦ (let at = cond_err (is_known family step.0) (unknown_call (short_name step.0)) f step.0 step.2 in subst (NameBreaks family d) at.1
           (is_unknown step.0 (ok_or_ok (text d) wrong_type step.0 step.1) at.0))
     ]
 
 not_zero : (n : ℕ) → (n == 0) ≡ false → 0 < n
 not_zero n h = grind (arith, nat_tests)
 
-names_mean : (d : Data) (names : List (List ℕ)) → names_of d ≡ Ok names → NamesMean d names
+names_mean : (family : Family) (d : Data) (names : List (List ℕ)) → names_of family d ≡ Ok names → NamesMean family d names
 unfolding names_of
-names_mean d names h =
+names_mean family d names h =
     let step = bind_ok (needed missing_key (member list key.names d))
-    (λ ds. cond (is_empty ds) (Err empty_names) (cond (nat_lt 128 (length ds)) (Err too_many) (each name_of ds))) names h in
-    let some = guard_ok (is_empty step.0) empty_names (cond (nat_lt 128 (length step.0)) (Err too_many) (each name_of step.0)) names
+    (λ ds. cond (is_empty ds) (Err empty_names) (cond (nat_lt (most_names family) (length ds)) (Err too_many) (each (name_of family) ds))) names h in
+    let some = guard_ok (is_empty step.0) empty_names (cond (nat_lt (most_names family) (length step.0)) (Err too_many) (each (name_of family) step.0)) names
     step.2 in
-    let few = guard_ok (nat_lt 128 (length step.0)) too_many (each name_of step.0) names some.1 in
+    let few = guard_ok (nat_lt (most_names family) (length step.0)) too_many (each (name_of family) step.0) names some.1 in
     record {
       values = step.0;
       values_are = needed_ok missing_key (member list key.names d) step.0 step.1;
       some = not_zero (length step.0) some.0;
-      few = ltb-false 128 (length step.0) few.0;
-      each = each_ok name_of _ name_ok step.0 names few.1;
+      few = ltb-false (most_names family) (length step.0) few.0;
+      each = each_ok (name_of family) _ (name_ok family) step.0 names few.1;
     }
 
-name_refused : (d : Data) (ds : List Data) (x : Data) (f : Fault) → member list key.names d ≡ holds ds → Contains ds x → NameBreaks x f
-    → NamesBreak d f
-name_refused d ds x _ at in_ds (has_no_text e) = broken.NamesBreak.no_text ds x at in_ds e
-name_refused d ds x _ at in_ds (is_unknown name e u) = broken.NamesBreak.unknown ds x name at in_ds e u
+name_refused : (family : Family) (d : Data) (ds : List Data) (x : Data) (f : Fault) → member list key.names d ≡ holds ds → Contains ds x → NameBreaks family x f
+    → NamesBreak family d f
+name_refused family d ds x _ at in_ds (has_no_text e) = broken.NamesBreak.no_text ds x at in_ds e
+name_refused family d ds x _ at in_ds (is_unknown name e u) = broken.NamesBreak.unknown ds x name at in_ds e u
 
-names_break : (d : Data) (f : Fault) → names_of d ≡ Err f → NamesBreak d f
+names_break : (family : Family) (d : Data) (f : Fault) → names_of family d ≡ Err f → NamesBreak family d f
 unfolding names_of
-names_break d f h =
+names_break family d f h =
     elim (bind_err (needed missing_key (member list key.names d))
-    (λ ds. cond (is_empty ds) (Err empty_names) (cond (nat_lt 128 (length ds)) (Err too_many) (each name_of ds))) f h) [
+    (λ ds. cond (is_empty ds) (Err empty_names) (cond (nat_lt (most_names family) (length ds)) (Err too_many) (each (name_of family) ds))) f h) [
       | inl bad ↦ broken.NamesBreak.no_list f (needed_breaks (member list key.names d) f bad)
       | inr step ↦
           let at = needed_ok missing_key (member list key.names d) step.0 step.1 in
-          elim (guard_err (is_empty step.0) empty_names f (cond (nat_lt 128 (length step.0)) (Err too_many) (each name_of step.0)) step.2) [
-            | inl none ↦ subst (NamesBreak d) none.1 (broken.NamesBreak.none (at ∙ ap holds (is_nil step.0 none.0)))
-            | inr some ↦ elim (guard_err (nat_lt 128 (length step.0)) too_many f (each name_of step.0) some.1) [
-              | inl many ↦ subst (NamesBreak d) many.1 (broken.NamesBreak.many step.0 at (ltb-true 128 (length step.0) many.0))
-              | inr few ↦ (let bad = each_err name_of step.0 f few.1 in name_refused d step.0 bad.0 f at bad.1 (name_err bad.0 f bad.2))
+          elim (guard_err (is_empty step.0) empty_names f (cond (nat_lt (most_names family) (length step.0)) (Err too_many) (each (name_of family) step.0)) step.2) [
+            | inl none ↦ subst (NamesBreak family d) none.1 (broken.NamesBreak.none (at ∙ ap holds (is_nil step.0 none.0)))
+            | inr some ↦ elim (guard_err (nat_lt (most_names family) (length step.0)) too_many f (each (name_of family) step.0) some.1) [
+              | inl many ↦ subst (NamesBreak family d) many.1 (broken.NamesBreak.many step.0 at (ltb-true (most_names family) (length step.0) many.0))
+              | inr few ↦ (let bad = each_err (name_of family) step.0 f few.1 in name_refused family d step.0 bad.0 f at bad.1 (name_err family bad.0 f bad.2))
             ]
           ]
     ]
@@ -220,33 +221,33 @@ after_word d names word = args_of d >>= (λ conds. Ok (parts names word conds))
 after_names : Data → List (List ℕ) → Result EntryParts Fault
 after_names d names = entry_word d >>= after_word d names
 
-entry_ok_in : (d : Data) (e : EntryParts) → IsSome (object d) → (names_of d >>= after_names d) ≡ Ok e → EntryMeans d e
+entry_ok_in : (family : Family) (d : Data) (e : EntryParts) → IsSome (object d) → (names_of family d >>= after_names d) ≡ Ok e → EntryMeans family d e
 unfolding after_names after_word parts
-entry_ok_in d e is_object h =
-    let at_n = bind_ok (names_of d) (after_names d) e h in
+entry_ok_in family d e is_object h =
+    let at_n = bind_ok (names_of family d) (after_names d) e h in
     let at_w = bind_ok (entry_word d) (after_word d at_n.0) e at_n.2 in
     let at_c = bind_ok (args_of d) (λ conds. Ok (parts at_n.0 at_w.0 conds)) e at_w.2 in
-    let means : EntryMeans d (parts at_n.0 at_w.0 at_c.0) = record {
+    let means : EntryMeans family d (parts at_n.0 at_w.0 at_c.0) = record {
       is_object = is_object;
-      names = names_mean d at_n.0 at_n.1;
+      names = names_mean family d at_n.0 at_n.1;
       word_is = entry_word_means d at_w.0 at_w.1;
       args = args_mean d at_c.0 at_c.1;
     } in
-    subst (EntryMeans d) (ok_same (parts at_n.0 at_w.0 at_c.0) e at_c.2) means
+    subst (EntryMeans family d) (ok_same (parts at_n.0 at_w.0 at_c.0) e at_c.2) means
 
-entry_means : (d : Data) (e : EntryParts) → entry_of d ≡ Ok e → EntryMeans d e
+entry_means : (family : Family) (d : Data) (e : EntryParts) → entry_of family d ≡ Ok e → EntryMeans family d e
 unfolding entry_of after_names after_word parts
-entry_means d e h =
-    let at = bind_ok (typed (object d)) (λ o. names_of o >>= after_names o) e h in
+entry_means family d e h =
+    let at = bind_ok (typed (object d)) (λ o. names_of family o >>= after_names o) e h in
     let o = object_is d at.0 at.1 in
     let some : IsSome (object at.0) = subst (λ (x : Data). IsSome (object x)) o.1 o.0 in
-    subst (λ (x : Data). EntryMeans x e) (sym o.1) (entry_ok_in at.0 e some at.2)
+    subst (λ (x : Data). EntryMeans family x e) (sym o.1) (entry_ok_in family at.0 e some at.2)
 
-entry_err_in : (d : Data) (f : Fault) → IsSome (object d) → (names_of d >>= after_names d) ≡ Err f → EntryBreaks d f
+entry_err_in : (family : Family) (d : Data) (f : Fault) → IsSome (object d) → (names_of family d >>= after_names d) ≡ Err f → EntryBreaks family d f
 unfolding after_names after_word
-entry_err_in d f is_object h =
-    elim (bind_err (names_of d) (after_names d) f h) [
-      | inl bad ↦ broken.names f is_object (names_break d f bad)
+entry_err_in family d f is_object h =
+    elim (bind_err (names_of family d) (after_names d) f h) [
+      | inl bad ↦ broken.names f is_object (names_break family d f bad)
       | inr at_n ↦ elim (bind_err (entry_word d) (after_word d at_n.0) f at_n.2) [
         | inl bad ↦ broken.word f is_object (entry_word_breaks d f bad)
         | inr at_w ↦ elim (bind_err (args_of d) (λ conds. Ok (parts at_n.0 at_w.0 conds)) f at_w.2) [
@@ -256,48 +257,48 @@ entry_err_in d f is_object h =
       ]
     ]
 
-entry_breaks : (d : Data) (f : Fault) → entry_of d ≡ Err f → EntryBreaks d f
+entry_breaks : (family : Family) (d : Data) (f : Fault) → entry_of family d ≡ Err f → EntryBreaks family d f
 unfolding entry_of after_names after_word parts
-entry_breaks d f h =
-    elim (bind_err (typed (object d)) (λ o. names_of o >>= after_names o) f h) [
-      | inl bad ↦ (let at = object_not d f bad in subst (EntryBreaks d) at.1 (broken.EntryBreaks.no_object at.0))
+entry_breaks family d f h =
+    elim (bind_err (typed (object d)) (λ o. names_of family o >>= after_names o) f h) [
+      | inl bad ↦ (let at = object_not d f bad in subst (EntryBreaks family d) at.1 (broken.EntryBreaks.no_object at.0))
       | inr at ↦
           let o = object_is d at.0 at.1 in
           let is_object : IsSome (object at.0) = subst (λ (x : Data). IsSome (object x)) o.1 o.0 in
-          subst (λ (x : Data). EntryBreaks x f) (sym o.1) (entry_err_in at.0 f is_object at.2)
+          subst (λ (x : Data). EntryBreaks family x f) (sym o.1) (entry_err_in family at.0 f is_object at.2)
     ]
 
-pub entries_mean : (s : Data) (es : List EntryParts) → entries_of s ≡ Ok es → EntriesMean s es
+pub entries_mean : (family : Family) (s : Data) (es : List EntryParts) → entries_of family s ≡ Ok es → EntriesMean family s es
 unfolding entries_of
-entries_mean s es h =
+entries_mean family s es h =
     let step = bind_ok (typed (or_default [] (member list key.syscalls s)))
-    (λ ds. cond (nat_lt 256 (length ds)) (Err too_many) (each entry_of ds)) es h in
-    let few = guard_ok (nat_lt 256 (length step.0)) too_many (each entry_of step.0) es step.2 in
+    (λ ds. cond (nat_lt 256 (length ds)) (Err too_many) (each (entry_of family) ds)) es h in
+    let few = guard_ok (nat_lt 256 (length step.0)) too_many (each (entry_of family) step.0) es step.2 in
     record {
       values = step.0;
       values_are = ok_or_ok (or_default [] (member list key.syscalls s)) wrong_type step.0 step.1;
       few = ltb-false 256 (length step.0) few.0;
-      each = each_ok entry_of EntryMeans entry_means step.0 es few.1;
+      each = each_ok (entry_of family) (EntryMeans family) (entry_means family) step.0 es few.1;
     }
 
 -- why entries are refused, each by itself
-pub data EntriesRefused (s : Data) : Fault → Type 0 where
-  is_no_list : or_default [] (member list key.syscalls s) ≡ None → EntriesRefused s wrong_type
-  are_many : (ds : List Data) → or_default [] (member list key.syscalls s) ≡ Some ds → 256 < length ds → EntriesRefused s too_many
+pub data EntriesRefused (family : Family) (s : Data) : Fault → Type 0 where
+  is_no_list : or_default [] (member list key.syscalls s) ≡ None → EntriesRefused family s wrong_type
+  are_many : (ds : List Data) → or_default [] (member list key.syscalls s) ≡ Some ds → 256 < length ds → EntriesRefused family s too_many
   in_one_entry : (ds : List Data) (d : Data) (f : Fault) → or_default [] (member list key.syscalls s) ≡ Some ds → Contains ds d
-      → EntryBreaks d f → EntriesRefused s f
+      → EntryBreaks family d f → EntriesRefused family s f
 
-pub entries_refused : (s : Data) (f : Fault) → entries_of s ≡ Err f → EntriesRefused s f
+pub entries_refused : (family : Family) (s : Data) (f : Fault) → entries_of family s ≡ Err f → EntriesRefused family s f
 unfolding entries_of
-entries_refused s f h =
+entries_refused family s f h =
     elim (bind_err (typed (or_default [] (member list key.syscalls s)))
-    (λ ds. cond (nat_lt 256 (length ds)) (Err too_many) (each entry_of ds)) f h) [
-      | inl bad ↦ (let at = ok_or_err (or_default [] (member list key.syscalls s)) wrong_type f bad in subst (EntriesRefused s) at.1
+    (λ ds. cond (nat_lt 256 (length ds)) (Err too_many) (each (entry_of family) ds)) f h) [
+      | inl bad ↦ (let at = ok_or_err (or_default [] (member list key.syscalls s)) wrong_type f bad in subst (EntriesRefused family s) at.1
           (is_no_list at.0))
       | inr step ↦
           let at = ok_or_ok (or_default [] (member list key.syscalls s)) wrong_type step.0 step.1 in
-          elim (guard_err (nat_lt 256 (length step.0)) too_many f (each entry_of step.0) step.2) [
-            | inl many ↦ subst (EntriesRefused s) many.1 (are_many step.0 at (ltb-true 256 (length step.0) many.0))
-            | inr few ↦ (let bad = each_err entry_of step.0 f few.1 in in_one_entry step.0 bad.0 f at bad.1 (entry_breaks bad.0 f bad.2))
+          elim (guard_err (nat_lt 256 (length step.0)) too_many f (each (entry_of family) step.0) step.2) [
+            | inl many ↦ subst (EntriesRefused family s) many.1 (are_many step.0 at (ltb-true 256 (length step.0) many.0))
+            | inr few ↦ (let bad = each_err (entry_of family) step.0 f few.1 in in_one_entry step.0 bad.0 f at bad.1 (entry_breaks family bad.0 f bad.2))
           ]
     ]

@@ -6,6 +6,8 @@ use Rattle.serde_json.specs.Read.{read}
 use Rattle.std.proofs.lemmas.Option.{same_Some}
 use Rattle.serde_json.specs.Data.{Data}
 use Rattle.call_tables.specs.declared.arch.Arch.{Arch}
+use Rattle.call_tables.specs.declared.arch.Family.{Family}
+use Rattle.call_tables.specs.Arch.{family_of}
 use Rattle.profile.specs.declared.rules.Rule.{Rule}
 use Rattle.profile.specs.Policy.{Policy}
 use Rattle.profile.proofs.KeptLaws.{in_kept}
@@ -34,22 +36,22 @@ one_values : (s : Data) (xs ys : List Data) → or_default [] (member list key.s
     → or_default [] (member list key.syscalls s) ≡ Some ys → xs ≡ ys
 one_values s xs ys p q = same_Some xs ys (sym p ∙ q)
 
-one_entries : (s : Data) (xs ys : List EntryParts) → EntriesMean s xs → EntriesMean s ys → xs ≡ ys
-one_entries s xs ys m n =
+one_entries : (family : Family) (s : Data) (xs ys : List EntryParts) → EntriesMean family s xs → EntriesMean family s ys → xs ≡ ys
+one_entries family s xs ys m n =
     let same : m.values ≡ n.values = one_values s m.values n.values m.values_are n.values_are in
-    one_related EntryMeans one_entry n.values xs ys (subst (λ ds. AllZip EntryMeans ds xs) same m.each) n.each
+    one_related (EntryMeans family) (one_entry family) n.values xs ys (subst (λ ds. AllZip (EntryMeans family) ds xs) same m.each) n.each
 
 module _ (s : Data) (native : Arch) (p : Policy) (m : CallsMean s native p) where
   -- the meaning of a value in the list is among the entries
   among : (ds : List Data) (i : ℕ) (d : Data) (x : EntryParts) → or_default [] (member list key.syscalls s) ≡ Some ds
       → slice_get ds i ≡ Some d
-      → EntryMeans d x → Contains m.entries x
+      → EntryMeans (family_of native) d x → Contains m.entries x
   among ds i d x at at_i is =
       let means = m.entries_are in
       let same : ds ≡ means.values = one_values s ds means.values at means.values_are in
       let in_d : slice_get means.values i ≡ Some d = ap (λ xs. slice_get xs i) (sym same) ∙ at_i in
-      let e = related_at EntryMeans means.values m.entries i d means.each in_d in
-      subst (Contains m.entries) (one_entry d e.0 x e.2 is) (contains_at m.entries i e.0 e.1)
+      let e = related_at (EntryMeans (family_of native)) means.values m.entries i d means.each in_d in
+      subst (Contains m.entries) (one_entry (family_of native) d e.0 x e.2 is) (contains_at m.entries i e.0 e.1)
 
   said_is : map rule_parts m.said ≡ rules_of (in_order m.archs) m.entries
   said_is = m.said_is ∙ ap (λ machines. rules_of machines m.entries) m.machines_are
@@ -81,11 +83,11 @@ module _ (s : Data) (native : Arch) (p : Policy) (m : CallsMean s native p) wher
   entries_unbroken f (in_entry ds d _ at in_ds bad) =
       let means = m.entries_are in
       let same : ds ≡ means.values = one_values s ds means.values at means.values_are in
-      let e = related EntryMeans means.values m.entries d means.each (subst (λ xs. Contains xs d) same in_ds) in
-      entry_unbroken d e.0 f e.1 bad
+      let e = related (EntryMeans (family_of native)) means.values m.entries d means.each (subst (λ xs. Contains xs d) same in_ds) in
+      entry_unbroken (family_of native) d e.0 f e.1 bad
   entries_unbroken _ (many_rules machines es said kept lists means is keeps long) =
       let archs_same : machines ≡ m.archs = one_archs s native machines m.archs lists m.lists_archs in
-      let entries_same : es ≡ m.entries = one_entries s es m.entries means m.entries_are in
+      let entries_same : es ≡ m.entries = one_entries (family_of native) s es m.entries means m.entries_are in
       let rules_are : rules_of (in_order machines) es ≡ rules_of (in_order m.archs) m.entries =
       ap (λ listed. rules_of (in_order listed) es) archs_same ∙ ap (rules_of (in_order m.archs)) entries_same in
       let kept_same : kept ≡ p.rules = one_kept_of said m.said kept p.rules keeps m.kept
@@ -125,7 +127,7 @@ one_policy : (s : Data) (native : Arch) (p q : Policy) → p.default_word ≡ q.
 one_policy s native p q words m n =
     let archs : m.archs ≡ n.archs = one_archs s native m.archs n.archs m.lists_archs n.lists_archs in
     let machines : p.machines ≡ q.machines = m.machines_are ∙ ap in_order archs ∙ sym n.machines_are in
-    let entries : m.entries ≡ n.entries = one_entries s m.entries n.entries m.entries_are n.entries_are in
+    let entries : m.entries ≡ n.entries = one_entries (family_of native) s m.entries n.entries m.entries_are n.entries_are in
     let parts : map rule_parts m.said ≡ map rule_parts n.said = m.said_is ∙ ap (λ ms. rules_of ms m.entries) machines
     ∙ ap (rules_of q.machines) entries ∙ sym n.said_is in
     let rules : p.rules ≡ q.rules = one_kept_of m.said n.said p.rules q.rules m.kept n.kept (rules_same m.said n.said parts) in

@@ -3,6 +3,7 @@ use Rattle.std.proofs.Common.{◌≡◌, ℕ, List, [], length, Some, true, sym,
 use Rattle.std.specs.List.{AllZip, Contains}
 use Rattle.std.proofs.lemmas.Option.{same_Some}
 use Rattle.serde_json.specs.Data.{Data}
+use Rattle.call_tables.specs.declared.arch.Family.{Family}
 use Rattle.profile_json.specs.Keys as key
 use Rattle.profile_json.specs.Fault.{Fault}
 use Rattle.profile_json.specs.Parts.{CondParts, EntryParts}
@@ -19,49 +20,49 @@ use Rattle.profile_json.proofs.unbroken.UnbrokenArgs.{args_unbroken, one_args}
 -- ---- names
 
 -- the value is the text of a call that is known
-abbrev IsName : Data → List ℕ → Type 0
-IsName value name = (text value ≡ Some name) × (is_known name ≡ true)
+abbrev IsName : Family → Data → List ℕ → Type 0
+IsName family value name = (text value ≡ Some name) × (is_known family name ≡ true)
 
 one_values : (d : Data) (ds xs : List Data) → member list key.names d ≡ holds ds → member list key.names d ≡ holds xs → ds ≡ xs
 one_values d ds xs p q = holds_same ds xs (sym p ∙ q)
 
-names_unbroken : (d : Data) (ns : List (List ℕ)) (f : Fault) → NamesMean d ns → NamesBreak d f → ⊥
-names_unbroken d ns f m (no_list _ e) = needed_unbroken (member list key.names d) m.values f m.values_are e
-names_unbroken d ns _ m (breaks.none e) =
+names_unbroken : (family : Family) (d : Data) (ns : List (List ℕ)) (f : Fault) → NamesMean family d ns → NamesBreak family d f → ⊥
+names_unbroken family d ns f m (no_list _ e) = needed_unbroken (member list key.names d) m.values f m.values_are e
+names_unbroken family d ns _ m (breaks.none e) =
     let same : m.values ≡ [] = one_values d m.values [] m.values_are e in
     let some = m.some in
     let empty : length m.values ≡ 0 = ap length same in
     omega (arith, some, empty)
-names_unbroken d ns _ m (many ds at e) =
+names_unbroken family d ns _ m (many ds at e) =
     let same : m.values ≡ ds = one_values d m.values ds m.values_are at in
     let few = m.few in
     let long : length m.values ≡ length ds = ap length same in
     omega (arith, few, long, e)
-names_unbroken d ns _ m (no_text ds x at in_ds e) =
+names_unbroken family d ns _ m (no_text ds x at in_ds e) =
     let same : ds ≡ m.values = one_values d ds m.values at m.values_are in
-    let name = related IsName m.values ns x m.each (subst (λ xs. Contains xs x) same in_ds) in
+    let name = related (IsName family) m.values ns x m.each (subst (λ xs. Contains xs x) same in_ds) in
     none_some (text x) name.0 e name.1.0
-names_unbroken d ns _ m (unknown ds x t at in_ds e u) =
+names_unbroken family d ns _ m (unknown ds x t at in_ds e u) =
     let same : ds ≡ m.values = one_values d ds m.values at m.values_are in
-    let name = related IsName m.values ns x m.each (subst (λ xs. Contains xs x) same in_ds) in
+    let name = related (IsName family) m.values ns x m.each (subst (λ xs. Contains xs x) same in_ds) in
     let names_it : name.0 ≡ t = same_Some name.0 t (sym name.1.0 ∙ e) in
-    true_false (is_known t) (ap is_known (sym names_it) ∙ name.1.1) u
+    true_false (is_known family t) (ap (is_known family) (sym names_it) ∙ name.1.1) u
 
-one_name : (d : Data) (x y : List ℕ) → IsName d x → IsName d y → x ≡ y
-one_name d x y p q = same_Some x y (sym p.0 ∙ q.0)
+one_name : (family : Family) (d : Data) (x y : List ℕ) → IsName family d x → IsName family d y → x ≡ y
+one_name family d x y p q = same_Some x y (sym p.0 ∙ q.0)
 
-one_names : (d : Data) (xs ys : List (List ℕ)) → NamesMean d xs → NamesMean d ys → xs ≡ ys
-one_names d xs ys m n =
+one_names : (family : Family) (d : Data) (xs ys : List (List ℕ)) → NamesMean family d xs → NamesMean family d ys → xs ≡ ys
+one_names family d xs ys m n =
     let same : m.values ≡ n.values = one_values d m.values n.values m.values_are n.values_are in
-    one_related IsName one_name n.values xs ys (subst (λ ds. AllZip IsName ds xs) same m.each) n.each
+    one_related (IsName family) (one_name family) n.values xs ys (subst (λ ds. AllZip (IsName family) ds xs) same m.each) n.each
 
 -- ---- entries
 
-pub entry_unbroken : (d : Data) (e : EntryParts) (f : Fault) → EntryMeans d e → EntryBreaks d f → ⊥
-entry_unbroken d e _ m (no_object bad) = is_some_not_none (object d) m.is_object bad
-entry_unbroken d e f m (names _ is_object bad) = names_unbroken d e.names f m.names bad
-entry_unbroken d e f m (word _ is_object bad) = word_unbroken key.action key.errno_ret d e.word f m.word_is bad
-entry_unbroken d e f m (args _ is_object bad) = args_unbroken d e.conds f m.args bad
+pub entry_unbroken : (family : Family) (d : Data) (e : EntryParts) (f : Fault) → EntryMeans family d e → EntryBreaks family d f → ⊥
+entry_unbroken family d e _ m (no_object bad) = is_some_not_none (object d) m.is_object bad
+entry_unbroken family d e f m (names _ is_object bad) = names_unbroken family d e.names f m.names bad
+entry_unbroken family d e f m (word _ is_object bad) = word_unbroken key.action key.errno_ret d e.word f m.word_is bad
+entry_unbroken family d e f m (args _ is_object bad) = args_unbroken d e.conds f m.args bad
 
 entry_of : List (List ℕ) → List CondParts → ℕ → EntryParts
 entry_of ns cs w = record { names = ns; conds = cs; word = w }
@@ -71,7 +72,7 @@ unfolding entry_of
 same_entry x y en ec ew = ap (λ ns. entry_of ns x.conds x.word) en ∙ ap (λ cs. entry_of y.names cs x.word) ec
     ∙ ap (entry_of y.names y.conds) ew
 
-pub one_entry : (d : Data) (x y : EntryParts) → EntryMeans d x → EntryMeans d y → x ≡ y
-one_entry d x y m n =
+pub one_entry : (family : Family) (d : Data) (x y : EntryParts) → EntryMeans family d x → EntryMeans family d y → x ≡ y
+one_entry family d x y m n =
     let words : x.word ≡ y.word = one_word key.action key.errno_ret d x.word y.word m.word_is n.word_is in
-    same_entry x y (one_names d x.names y.names m.names n.names) (one_args d x.conds y.conds m.args n.args) words
+    same_entry x y (one_names family d x.names y.names m.names n.names) (one_args d x.conds y.conds m.args n.args) words

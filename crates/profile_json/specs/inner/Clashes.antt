@@ -6,6 +6,7 @@ use Rattle.call_tables.specs.Arch.{table_of}
 use Rattle.call_tables.specs.Table.{number_in}
 use Rattle.profile.specs.declared.rules.Rule.{Rule}
 use Rattle.profile.specs.Rule.{Overlap, Clash}
+use Rattle.profile.specs.Policy.{InOrder}
 use Rattle.profile_json.specs.Fault.{Fault, overlap}
 use Rattle.profile_json.specs.Parts.{EntryParts, rule_parts}
 use Rattle.profile_json.specs.Rules.{rule_of, rules_of_entry, rules_of}
@@ -34,6 +35,7 @@ NoClash machines x y = x.word ≢ y.word → (name : List ℕ) → Contains x.na
 
 -- the rule at this place overlaps an earlier one, with another word
 pub record HasClash (machines : List Arch) (es : List EntryParts) (place : ℕ) : Type 0 where
+  pub order : InOrder machines
   pub said : List Rule
   pub said_is : map rule_parts said ≡ rules_of machines es
   pub earlier : ℕ

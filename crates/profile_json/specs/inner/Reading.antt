@@ -6,6 +6,8 @@ use Rattle.std.specs.List.{list_any}
 use Rattle.std.specs.Str.{bytes_eq}
 use Rattle.serde_json.specs.Data.{Data}
 use Rattle.call_tables.specs.declared.arch.Arch.{Arch}
+use Rattle.call_tables.specs.declared.arch.Family.{Family}
+use Rattle.call_tables.specs.Arch.{family_of}
 use Rattle.profile.specs.declared.conditions.Op.{Op}
 use Rattle.profile.specs.Operator.{mask_of}
 use Rattle.profile_json.specs.declared.action.Action.{Action}
@@ -15,7 +17,7 @@ use Rattle.profile_json.specs.Fault.{unknown_call, empty_names, errno_not_taken,
 use Rattle.profile_json.specs.Fault.{stray_datum, unsupported_key, too_many}
 use Rattle.profile_json.specs.Parts.{CondParts, EntryParts}
 use Rattle.profile_json.specs.Lookup.{Member, missing, other_type, holds, member, or_default, object, text, whole, list}
-use Rattle.profile_json.specs.Names.{editions, action_named, takes_data, word_of, op_named, arch_named, is_known}
+use Rattle.profile_json.specs.Names.{editions, action_named, takes_data, word_of, op_named, arch_named, is_known, most_names}
 use Rattle.profile_json.specs.Rules.{or_native, same_arch}
 use Rattle.profile_json.specs.CallName.{short_name}
 use Rattle.profile_json.specs.inner.Outcome.{◌>>=◌}
@@ -103,13 +105,13 @@ refused_of s = do
 
 -- ---- machines
 
-unfoldable pub arch_of : Data → Result Arch Fault
-arch_of d = do
+unfoldable pub arch_of : Family → Data → Result Arch Fault
+arch_of family d = do
   name ← typed (text d)
-  ok_or (arch_named name) unknown_arch
+  ok_or (arch_named family name) unknown_arch
 
 abbrev pub archs_or_native : Arch → List Data → Result (List Arch) Fault
-archs_or_native native ds = each arch_of ds >>= (λ archs. Ok (or_native native archs))
+archs_or_native native ds = each (arch_of (family_of native)) ds >>= (λ archs. Ok (or_native native archs))
 
 unfoldable pub archs_of : Arch → Data → Result (List Arch) Fault
 archs_of native s = do
@@ -157,28 +159,28 @@ args_of d = do
 
 -- ---- entries
 
-unfoldable pub name_of : Data → Result (List ℕ) Fault
-name_of d = do
+unfoldable pub name_of : Family → Data → Result (List ℕ) Fault
+name_of family d = do
   name ← typed (text d)
-  if is_known name then Ok name else Err (unknown_call (short_name name))
+  if is_known family name then Ok name else Err (unknown_call (short_name name))
 
-unfoldable pub names_of : Data → Result (List (List ℕ)) Fault
-names_of d = do
+unfoldable pub names_of : Family → Data → Result (List (List ℕ)) Fault
+names_of family d = do
   ds ← needed missing_key (member list key.names d)
-  if is_empty ds then Err empty_names else (if nat_lt 128 (length ds) then Err too_many else each name_of ds)
+  if is_empty ds then Err empty_names else (if nat_lt (most_names family) (length ds) then Err too_many else each (name_of family) ds)
 
-unfoldable pub entry_of : Data → Result EntryParts Fault
-entry_of d = do
+unfoldable pub entry_of : Family → Data → Result EntryParts Fault
+entry_of family d = do
   o ← typed (object d)
-  names ← names_of o
+  names ← names_of family o
   word ← entry_word o
   conds ← args_of o
   Ok (record { names = names; conds = conds; word = word })
 
-unfoldable pub entries_of : Data → Result (List EntryParts) Fault
-entries_of s = do
+unfoldable pub entries_of : Family → Data → Result (List EntryParts) Fault
+entries_of family s = do
   ds ← typed (or_default [] (member list key.syscalls s))
-  if nat_lt 256 (length ds) then Err too_many else each entry_of ds
+  if nat_lt 256 (length ds) then Err too_many else each (entry_of family) ds
 
 -- ---- the whole
 
@@ -193,5 +195,5 @@ said_of native s = do
   word ← default_of s
   r ← refused_of s
   archs ← archs_of native s
-  entries ← entries_of s
+  entries ← entries_of (family_of native) s
   Ok (record { default_word = word; archs = archs; entries = entries })

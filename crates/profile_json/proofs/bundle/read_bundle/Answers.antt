@@ -2,6 +2,7 @@ use Rattle.std.proofs.lemmas.Result.{err_from_is_err_and}
 use Rattle.serde_json.specs.View.{view}
 use Rattle.profile_json.specs.inner.View.{said_parts}
 use Rattle.profile_json.proofs.reading.RootLaws.{root_means}
+use Rattle.profile_json.proofs.reading.ArchLaws.{listed_of_family}
 use Rattle.profile_json.proofs.reading.BundleLaws.{said_means, bundle_means, root_fault, said_fault, made_fault}
 use Rattle.profile_json.proofs.bundle.read_bundle.Goals as goal
 
@@ -34,3 +35,8 @@ returns-clause-ok c =
       bundle_means (view c.in_ok-value.value) (view c.in_ok-seccomp.seccomp.now) c.args.native (said_parts c.in_ok-said.said)
           c.in_ok-profile.profile root said c.in_ok-profile.ensures.ok,
     )
+
+pub profile_of-requires-clause-of_family : goal.profile_of-requires-clause-of_family
+profile_of-requires-clause-of_family c =
+    let said = said_means (view c.in_ok-seccomp.seccomp.now) c.args.native (said_parts c.in_ok-said.said) c.in_ok-said.ensures.reading in
+    listed_of_family (view c.in_ok-seccomp.seccomp.now) c.args.native c.in_ok-said.said.archs.items said.archs

@@ -4,7 +4,7 @@ use Rattle.profile_json.specs.inner.Reading.{arch_of, each, with_front}
 use Rattle.profile_json.proofs.machines.archs_in.Given as goal
 
 abbrev pub invariant-loop-values : goal.invariant-loop-values
-invariant-loop-values l = with_front l.found.items (each arch_of (map view l.values)) ≡ each arch_of (map view l.initial.values)
+invariant-loop-values l = with_front l.found.items (each (arch_of l.family) (map view l.values)) ≡ each (arch_of l.family) (map view l.initial.values)
 
 abbrev pub decreases-loop-values : goal.decreases-loop-values
 decreases-loop-values l = length l.values

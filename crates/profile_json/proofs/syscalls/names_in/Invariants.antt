@@ -4,7 +4,7 @@ use Rattle.profile_json.specs.inner.Reading.{name_of, each, with_front}
 use Rattle.profile_json.proofs.syscalls.names_in.Given as goal
 
 abbrev pub invariant-loop-values : goal.invariant-loop-values
-invariant-loop-values l = with_front (map (λ n. n.now) l.found.items) (each name_of (map view l.values)) ≡ each name_of
+invariant-loop-values l = with_front (map (λ n. n.now) l.found.items) (each (name_of l.family) (map view l.values)) ≡ each (name_of l.family)
     (map view l.initial.values)
 
 abbrev pub decreases-loop-values : goal.decreases-loop-values

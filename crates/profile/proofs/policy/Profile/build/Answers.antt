@@ -1,5 +1,8 @@
 use Rattle.std.proofs.Common.{rules, ◌≡◌, ℕ, List, get_or, refl, sym, ◌∙◌, subst, arith}
 use Rattle.std.proofs.lemmas.List.{get_or_default}
+use Rattle.call_tables.specs.declared.arch.Arch.{Arch}
+use Rattle.call_tables.specs.declared.arch.Family.{Family}
+use Rattle.call_tables.specs.Arch.{AreOfFamily}
 use Rattle.profile.specs.declared.rules.Rule.{Rule}
 use Rattle.profile.specs.declared.fault.BuildError.TheVariants.{Overlap}
 use Rattle.profile.specs.Policy.{IsClear}
@@ -9,9 +12,12 @@ use Rattle.profile.proofs.Clashing.{first_clash_in}
 use Rattle.profile.proofs.BuildLaws.{not_kept, overlapping, profile_of}
 use Rattle.profile.proofs.policy.Profile.build.Goals as goal
 
+of_family : (f g : Family) (archs : List Arch) → f ≡ g → AreOfFamily f archs → AreOfFamily g archs
+of_family f g archs same h = subst (λ family. AreOfFamily family archs) same h
+
 pub returns-in-Some-clause-err : goal.returns-in-Some-clause-err
 returns-in-Some-clause-err c = (
-  c.lists.ensures.0 c.if-not-lists.false,
+  (c.lists.ensures.0 c.if-not-lists.false, of_family _ _ _ c.family.ensures (c.are_of_family.ensures.0 c.if-not-are_of_family.false)),
   subst (λ (rules : List Rule). IsFirstForeign c.args.archs.now rules c.in-Some.place) c.deref.ensures.value c.in-Some.ensures.some,
 )
 
@@ -44,7 +50,8 @@ returns-in-Some-first_clash-clause-err c =
     get_or_default places i 0 c.index.result.now first.1 ∙ sym c.index.ensures in
     let at-second : get_or places j 0 ≡ c.index-in-Some-first_clash.result.now =
     get_or_default places j 0 c.index-in-Some-first_clash.result.now first.2 ∙ sym c.index-in-Some-first_clash.ensures in
-    let cause = overlapping c.args.native archs rules kept places i j (c.lists.ensures.0 c.if-not-lists.false) listed
+    let cause = overlapping c.args.native archs rules kept places i j
+    (c.lists.ensures.0 c.if-not-lists.false, of_family _ _ _ c.family.ensures (c.are_of_family.ensures.0 c.if-not-are_of_family.false)) listed
     c.in_ok-rules.ensures.ok c.in_ok-rules.ensures.few first.0 in
     subst (λ (n : ℕ). IsFirstCause c.args.native archs rules (Overlap c.index.result.now n)) at-second
     (subst (λ (m : ℕ). IsFirstCause c.args.native archs rules (Overlap m (get_or places j 0))) at-first cause)
@@ -65,7 +72,8 @@ returns-clause-ok c = record {
 
 pub returns-in_err-rules-clause-err : goal.returns-in_err-rules-clause-err
 returns-in_err-rules-clause-err c =
-    let cause = not_kept c.args.native c.args.archs.now c.args.rules.items c.in_err-rules.field-0.0 (c.lists.ensures.0 c.if-not-lists.false)
+    let cause = not_kept c.args.native c.args.archs.now c.args.rules.items c.in_err-rules.field-0.0
+    (c.lists.ensures.0 c.if-not-lists.false, of_family _ _ _ c.family.ensures (c.are_of_family.ensures.0 c.if-not-are_of_family.false))
     (subst (AreListed c.args.archs.now) c.deref.ensures.value c.in_default.ensures.none) c.in_err-rules.ensures.err in
     search (rules, cause)
 

@@ -1,0 +1,3 @@
+pub mod Order
+pub mod OrderLaws
+pub mod WholeTables
