@@ -1,2 +1,4 @@
 pub mod Fault
+pub mod Moves
+pub mod Shape
 pub mod inner

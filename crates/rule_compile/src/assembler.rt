@@ -2,12 +2,13 @@
 //!
 //! The jumps of a filter go forward. So where a jump goes to is there already when the jump is
 //! written, and how many instructions it skips is known.
-ghost use Rattle.std.specs.Prelude.{◌≡◌, ◌+◌, ◌≤◌, ◌<◌, ◌↔◌, [], ◌∷◌, None, length, IfOk, IfSome, IsErrOf, OnOk};
+ghost use Rattle.std.specs.Prelude.{◌≡◌, ◌+◌, ◌≤◌, ◌<◌, ◌↔◌, [], ◌∷◌, None, Some, length, slice_get, IfOk, IfSome, IsErrOf, OnOk};
 ghost use Rattle.bpf_insn.specs.Bytes.{insns_of, view_fault};
 ghost use Rattle.bpf_insn.specs.declared.code.Operation.TheVariants.{Compute, LoadWord};
 ghost use Rattle.bpf_insn.specs.declared.code.Arithmetic.TheVariants.{And};
 ghost use Rattle.bpf_insn.specs.declared.code.Operand.TheVariants.{K};
-ghost use Rattle.rule_compile.specs.inner.Code.{Grows, HasExits, IsIn, IsStart, IsTarget, insn_of};
+ghost use Rattle.rule_compile.specs.inner.Code.{Grows, HasExits, IsIn, IsStart, IsTarget, insn_of, position};
+ghost use Rattle.rule_compile.specs.inner.Goes.{Branches, JumpsTo, Reaches};
 
 use crate::fault::CompileError;
 use crate::label::{Exits, Label, Target};
@@ -82,6 +83,7 @@ impl Assembler {
     pub(crate) fn load(&mut self, offset: u32) -> Result<Label, CompileError>
         ensures written { OnOk result (self.new ≡ insn_of LoadWord offset ∷ self.old) }
         ensures start { IfOk result (IsStart self.new) }
+        ensures full { IsErrOf result CompileError.TooLong ↔ (length self.old ≡ LIMIT) }
     {
         self.write(insn(Operation::LoadWord, offset))
     }
@@ -107,7 +109,7 @@ impl Assembler {
     // The place of an instruction, where the code has it.
     fn find(&self, insn: Insn) -> Option<Label>
         ensures placed { IfSome result (IsIn self.now) }
-        ensures some { IfSome result (λ place. 1 ≤ place.to_end) }
+        ensures found { IfSome result (λ place. slice_get self.now (position self.now place) ≡ Some insn) }
     {
         for (after, other) in self.backwards.iter().enumerate() {
             if *other == insn {
@@ -123,6 +125,7 @@ impl Assembler {
         requires { IsIn self.now to }
         ensures placed { IfSome result (IsIn self.now) }
         ensures near { IfSome result (λ place. length self.now < place.to_end + FARTHEST) }
+        ensures found { IfSome result (JumpsTo self.now to) }
     {
         let len = self.backwards.len();
         for after in (len - (FARTHEST - 1).min(len))..len {
@@ -143,10 +146,8 @@ impl Assembler {
     // written next reaches it, even after one more instruction.
     fn near(&mut self, to: Label) -> Result<Label, CompileError>
         requires { IsIn self.old to }
-        ensures grows { OnOk result (Grows self.old self.new) }
-        ensures placed { IfOk result (IsIn self.new) }
-        ensures near { IfOk result (λ place. length self.new < place.to_end + FARTHEST) }
-        ensures one { OnOk result (length self.new ≤ length self.old + 1) }
+        ensures reached { IfOk result (Reaches self.old self.new (Target.Place to)) }
+        ensures full { IsErrOf result CompileError.TooLong → length self.old ≡ LIMIT }
     {
         let skipped = self.distance(to);
         if skipped < FARTHEST {
@@ -160,11 +161,8 @@ impl Assembler {
 
     /// The one return of the word, or where it is far from here, that of a jump to it, as `near`.
     pub(crate) fn near_return(&mut self, word: Word) -> Result<Label, CompileError>
-        ensures some { OnOk result (1 ≤ length self.new) }
-        ensures grows { OnOk result (Grows self.old self.new) }
-        ensures placed { IfOk result (IsIn self.new) }
-        ensures near { IfOk result (λ place. length self.new < place.to_end + FARTHEST) }
-        ensures one { OnOk result (length self.new ≤ length self.old + 1) }
+        ensures reached { IfOk result (Reaches self.old self.new (Target.Return word)) }
+        ensures full { IsErrOf result CompileError.TooLong → length self.old ≡ LIMIT }
     {
         let ending = insn(Operation::ReturnK, word.0);
         match self.find(ending) {
@@ -176,10 +174,8 @@ impl Assembler {
     // Where to go on at the target, as `near`.
     fn near_target(&mut self, to: Target) -> Result<Label, CompileError>
         requires { IsTarget self.old to }
-        ensures grows { OnOk result (Grows self.old self.new) }
-        ensures placed { IfOk result (IsIn self.new) }
-        ensures near { IfOk result (λ place. length self.new < place.to_end + FARTHEST) }
-        ensures one { OnOk result (length self.new ≤ length self.old + 1) }
+        ensures reached { IfOk result (Reaches self.old self.new to) }
+        ensures full { IsErrOf result CompileError.TooLong → length self.old ≡ LIMIT }
     {
         match to {
             Target::Place(place) => self.near(place),
@@ -190,8 +186,9 @@ impl Assembler {
     /// Goes on by how the word that is loaded compares with a number.
     pub(crate) fn branch(&mut self, test: Test, k: u32, exits: Exits) -> Result<Label, CompileError>
         requires { HasExits self.old exits }
-        ensures grows { OnOk result (Grows self.old self.new) }
         ensures start { IfOk result (IsStart self.new) }
+        ensures written { OnOk result (Branches self.old self.new test k exits) }
+        ensures full { IsErrOf result CompileError.TooLong → LIMIT < length self.old + 3 }
     {
         let no = self.near_target(exits.no)?;
         let yes = self.near_target(exits.yes)?;
@@ -212,11 +209,26 @@ impl Assembler {
     {
         if let Target::Place(place) = to {
             let after = place.to_end.saturating_sub(1);
-            if self.backwards.get(after) == Some(&insn(Operation::LoadWord, loaded)) {
+            if 0 < after && self.backwards.get(after) == Some(&insn(Operation::LoadWord, loaded)) {
                 return Target::Place(Label { to_end: after });
             }
         }
         to
+    }
+
+    /// The target, if it is in the code.
+    pub(crate) fn placed(&self, to: Target) -> Target
+        ensures { IsTarget self.now result }
+    {
+        match to {
+            Target::Place(place) => {
+                if place.to_end == 0 || place.to_end > self.backwards.len() {
+                    return Target::Return(Word::KILL_THREAD);
+                }
+                Target::Place(place)
+            }
+            Target::Return(word) => Target::Return(word),
+        }
     }
 
     /// The code as the bytes of a filter.

@@ -1,14 +1,18 @@
 //! The filter of a profile.
-ghost use Rattle.std.specs.Prelude.{◌≡◌, ◌≤◌, None, length, OnOk, IfOk};
-ghost use Rattle.bpf_insn.specs.Bytes.{view_fault};
-ghost use Rattle.rule_compile.specs.inner.Code.{Grows, IsTarget};
+ghost use Rattle.std.specs.Prelude.{◌≡◌, ◌≤◌, ◌<◌, ◌+◌, ◌*◌, [], None, length, vec_len, All, Contains, OnOk, IfErr, IfOk, IsErrOf, MatchOption};
+ghost use Rattle.bpf_insn.specs.Bytes.{insns_of, view_fault};
+ghost use Rattle.call_tables.specs.Arch.{token_of};
+ghost use Rattle.rule_compile.specs.Shape.{IsCallFilter, IsPlain};
+ghost use Rattle.rule_compile.specs.inner.Calls.{Apart, CallsOf};
+ghost use Rattle.rule_compile.specs.inner.Numbers.{IsListed};
 
 use crate::assembler::Assembler;
+use crate::blocks::Blocks;
 use crate::fault::CompileError;
 use crate::label::{Exits, Target};
-use crate::plan::DEPTH;
-use crate::ranges::{ranges_of, rules_of};
-use crate::search::search;
+use crate::ranges::ranges_of;
+use crate::search::{search_word, write_blocks};
+use crate::written::Written;
 use bpf_insn::Test;
 use call_record::Word;
 use call_record::offset::{MACHINE, NUMBER};
@@ -18,43 +22,80 @@ use std::alloc::Global;
 
 /// A filter of the profile, as the bytes of its instructions.
 ///
-/// Nothing is promised of its verdicts: who relies on them has the filter checked against the profile.
+/// Where no rule has a condition, and each number is one of a table, there is a filter if there is
+/// memory, and it answers each call what the profile says. Of other profiles nothing is promised: who
+/// relies on the verdicts has the filter checked against the profile.
 pub fn compile(alloc: Global, profile: &Profile) -> Result<Vec<u8>, CompileError>
     ensures program { IfOk result (λ bytes. view_fault bytes.items ≡ None) }
+    ensures shape { IsPlain profile.now → IfOk result (λ bytes. IsCallFilter profile.now (insns_of bytes.items)) }
+    ensures never { IsPlain profile.now → IfErr result (λ error. error ≡ CompileError.OutOfMemory) }
 {
     let mut code = Assembler::new(alloc);
-    tell_machines_apart(&mut code, alloc, profile)?;
+    filter(&mut code, alloc, profile)?;
     Ok(code.into_bytes(alloc)?)
 }
 
-// Goes on at the calls of the record's machine. A record of no listed machine is foreign.
+// The whole code. A record of no listed machine is foreign.
+fn filter(code: &mut Assembler, alloc: Global, profile: &Profile) -> Result<(), CompileError>
+    requires { code.old ≡ [] }
+    ensures some { OnOk result (1 ≤ length code.new) }
+    ensures shape { IsPlain profile.now → OnOk result (IsCallFilter profile.now code.new) }
+    ensures never { IsPlain profile.now → IsErrOf result CompileError.TooLong → ⊥ }
+{
+    let machines = profile.machines();
+    let mut blocks = Blocks::new(alloc);
+    let mut written = Vec::new(alloc);
+    match tell_machines_apart(code, alloc, profile, machines, &mut blocks, &mut written)? {
+        Target::Place(_) => {
+            code.load(MACHINE)?;
+            Ok(())
+        }
+        Target::Return(word) => {
+            code.near_return(word)?;
+            Ok(())
+        }
+    }
+}
+
+// Goes on at the calls of the machine whose token is loaded, or at the return of a foreign record.
 fn tell_machines_apart(
     code: &mut Assembler,
     alloc: Global,
     profile: &Profile,
-) -> Result<(), CompileError>
-    ensures { OnOk result (1 ≤ length code.new) }
+    machines: &[Arch],
+    blocks: &mut Blocks,
+    written: &mut Vec<Written>,
+) -> Result<Target, CompileError>
+    ensures apart { IfOk result (Apart profile.now machines.now (vec_len blocks.old.blocks) code.old code.new) }
+    ensures no_block { IsPlain profile.now → OnOk result (blocks.new ≡ blocks.old) }
+    ensures full { IsErrOf result CompileError.TooLong → IsPlain profile.now → vec_len blocks.old.blocks ≡ 0 → All (Contains profile.now.machines) machines.now → 4096 < length code.old + 1543 * length machines.now }
 {
-    let mut next = Target::Return(Word::KILL_THREAD);
-    for machine in profile.machines().iter().rev() {
-        let yes = calls_of(code, alloc, profile, *machine)?;
-        if !is_foreign(yes) {
-            let exits = Exits { yes, no: next };
-            next = Target::Place(code.branch(Test::Equal, machine.token(), exits)?);
+    let [machine, others @ ..] = machines else {
+        return Ok(Target::Return(Word::KILL_THREAD));
+    };
+    let no = tell_machines_apart(code, alloc, profile, others, blocks, written)?;
+    match native(calls_of(code, alloc, profile, *machine, blocks, written)?) {
+        None => Ok(no),
+        Some(yes) => {
+            let exits = Exits { yes, no };
+            let start = code.branch(Test::Equal, machine.token(), exits)?;
+            Ok(Target::Place(start))
         }
     }
-    match next {
-        Target::Place(_) => code.load(MACHINE)?,
-        Target::Return(word) => code.near_return(word)?,
-    };
-    Ok(())
 }
 
-// Whether each call of the machine gets the word of a foreign record.
-fn is_foreign(calls: Target) -> bool {
+// The calls of a machine, if not each of them gets the word of a foreign record.
+fn native(calls: Target) -> Option<Target>
+    ensures { MatchOption result (calls ≡ Target.Return 0) (λ native. native ≡ calls) }
+{
     match calls {
-        Target::Return(word) => word == Word::KILL_THREAD,
-        Target::Place(_) => false,
+        Target::Return(word) => {
+            if word == Word::KILL_THREAD {
+                return None;
+            }
+            Some(Target::Return(word))
+        }
+        Target::Place(place) => Some(Target::Place(place)),
     }
 }
 
@@ -64,15 +105,15 @@ fn calls_of(
     alloc: Global,
     profile: &Profile,
     machine: Arch,
+    blocks: &mut Blocks,
+    written: &mut Vec<Written>,
 ) -> Result<Target, CompileError>
-    ensures grows { OnOk result (Grows code.old code.new) }
-    ensures placed { IfOk result (IsTarget code.new) }
+    ensures calls { IfOk result (CallsOf profile.now (token_of machine) (vec_len blocks.old.blocks) code.old code.new) }
+    ensures no_block { IsPlain profile.now → OnOk result (blocks.new ≡ blocks.old) }
+    ensures full { IsErrOf result CompileError.TooLong → IsPlain profile.now → vec_len blocks.old.blocks ≡ 0 → IsListed profile.now (token_of machine) → 4096 < length code.old + 1540 }
 {
-    let default = profile.default_word();
-    let rules = rules_of(alloc, profile, machine)?;
-    let ranges = ranges_of(alloc, &rules, machine, default)?;
-    match search(code, &rules, &ranges, DEPTH, default)? {
-        Target::Return(word) => Ok(Target::Return(word)),
-        Target::Place(_) => Ok(Target::Place(code.load(NUMBER)?)),
-    }
+    let ranges = ranges_of(alloc, profile, machine, blocks)?;
+    write_blocks(code, alloc, blocks, written)?;
+    let found = search_word(code, alloc, &ranges, written, NUMBER)?;
+    Ok(found.target)
 }

@@ -1,5 +1,4 @@
 //! Places in the code, and where the code goes on.
-ghost use Rattle.std.specs.Prelude.{◌≡◌};
 
 use call_record::Word;
 
@@ -24,17 +23,4 @@ pub(crate) enum Target {
 pub(crate) struct Exits {
     pub(crate) yes: Target,
     pub(crate) no: Target,
-}
-
-impl Exits {
-    /// The exits of the opposite test.
-    pub(crate) fn swapped(self) -> Exits
-        ensures yes { result.yes ≡ self.no }
-        ensures no { result.no ≡ self.yes }
-    {
-        Exits {
-            yes: self.no,
-            no: self.yes,
-        }
-    }
 }

@@ -5,13 +5,18 @@
 #![tactic(auto)]
 
 mod assembler;
-mod condition;
+mod blocks;
 mod fault;
 mod filter;
+mod fronts;
+mod groups;
 mod label;
+mod open;
 mod plan;
+mod question;
 mod ranges;
 mod search;
+mod written;
 
 pub use fault::CompileError;
 pub use filter::compile;

@@ -1,9 +1,14 @@
 //! What decides the calls of one machine, as ranges of call numbers.
-ghost use Rattle.std.specs.Prelude.{◌≤◌, ◌<◌, ◌^◌, length, vec_len, IfOk, OnOk};
+ghost use Rattle.std.specs.Prelude.{◌≡◌, ◌↔◌, ◌≤◌, ◌<◌, ◌^◌, [], length, max, All, IfOk, IfSome, IsSome, IsTrue, OnOk};
+ghost use Rattle.call_tables.specs.Arch.{token_of};
+ghost use Rattle.rule_compile.specs.Shape.{IsPlain};
+ghost use Rattle.rule_compile.specs.inner.Numbers.{AreUnconditional, IsExtended, IsFor, IsLastAlike, IsListed, IsNativeEnd, IsNext, IsWorded, LeafFor, Reached, Tiles, said_of};
+ghost use Rattle.rule_compile.specs.inner.Ranges.{IsLike};
 
+use crate::blocks::Blocks;
 use call_record::Word;
 use call_tables::Arch;
-use profile::{LEAST_X32_NUMBER, Profile, Rule};
+use profile::{LEAST_X32_NUMBER, Profile, Rule, has_x32_calls};
 use std::alloc::{AllocError, Global};
 
 /// What decides a call.
@@ -11,35 +16,67 @@ use std::alloc::{AllocError, Global};
 pub(crate) enum Leaf {
     /// It gets this word.
     Word(Word),
-    /// It gets the word of a rule of its number whose conditions hold, or else the default word.
-    Rules,
+    /// The block at this place decides, by the arguments.
+    Block(usize),
 }
 
 impl Leaf {
-    // What decides the calls of a number that has these rules. Where one has no conditions, the
-    // others that match have its word, since no record matches two rules with unlike words.
-    fn of(rules: &[&Rule], default: Word) -> Leaf {
+    // What decides the calls of a number of the machine with the token, where it is a word. Where a
+    // rule for it has no conditions, the others that match have its word, since no record matches two
+    // rules with unlike words.
+    fn of(rules: &[Rule], token: u32, number: u32, default: Word) -> Option<Leaf>
+        ensures some { AreUnconditional rules.now → IsSome result }
+        ensures word { AreUnconditional rules.now → IfSome result (LeafFor rules.now token number default) }
+    {
+        let mut conditions = false;
         for rule in rules {
-            if rule.conds.is_empty() {
-                return Leaf::Word(rule.word);
+            if is_for(rule, token, number) {
+                if rule.conds.is_empty() {
+                    return Some(Leaf::Word(rule.word));
+                }
+                if rule.word != default {
+                    conditions = true;
+                }
             }
         }
-        if rules.iter().all(|rule| rule.word == default) {
-            return Leaf::Word(default);
+        if conditions {
+            return None;
         }
-        Leaf::Rules
+        Some(Leaf::Word(default))
     }
 
     // Whether each call gets the word.
-    fn is_word(self, word: Word) -> bool {
+    fn is_word(&self, word: Word) -> bool
+        ensures { IsTrue result ↔ (self.now ≡ Leaf.Word word) }
+    {
         match self {
-            Leaf::Word(own) => own == word,
-            Leaf::Rules => false,
+            Leaf::Word(own) => *own == word,
+            Leaf::Block(_) => false,
+        }
+    }
+
+    // Whether the block decides.
+    fn is_block(&self, block: usize) -> bool
+        ensures { IsTrue result ↔ (self.now ≡ Leaf.Block block) }
+    {
+        match self {
+            Leaf::Word(_) => false,
+            Leaf::Block(own) => *own == block,
+        }
+    }
+
+    /// Whether both decide alike.
+    pub(crate) fn is_like(&self, other: &Leaf) -> bool
+        ensures { IsTrue result ↔ (self.now ≡ other.now) }
+    {
+        match other {
+            Leaf::Word(word) => self.is_word(*word),
+            Leaf::Block(block) => self.is_block(*block),
         }
     }
 }
 
-/// Neighbouring call numbers that are decided alike. Where rules decide, this is one number.
+/// Neighbouring numbers that are decided alike.
 #[derive(Clone, Copy)]
 pub(crate) struct Range {
     pub(crate) first: u32,
@@ -49,15 +86,16 @@ pub(crate) struct Range {
 
 impl Range {
     /// Whether the calls of both are decided alike.
-    pub(crate) fn is_like(&self, other: &Range) -> bool {
-        match other.leaf {
-            Leaf::Word(word) => self.leaf.is_word(word),
-            Leaf::Rules => self.first == other.first,
-        }
+    pub(crate) fn is_like(&self, other: &Range) -> bool
+        ensures { IsTrue result ↔ IsLike self.now other.now }
+    {
+        self.leaf.is_like(&other.leaf)
     }
 
     /// Whether this is one number.
-    pub(crate) fn is_single(&self) -> bool {
+    pub(crate) fn is_single(&self) -> bool
+        ensures { IsTrue result ↔ (self.now.first ≡ self.now.last) }
+    {
         self.first == self.last
     }
 }
@@ -67,99 +105,204 @@ const NUMBERS: u64 = 1 << 32;
 
 /// Ranges from number 0 on.
 #[derive(Drop)]
-struct Ranges {
+pub(crate) struct Ranges {
     ranges: Vec<Range>,
     /// The least number that is in none of them.
     end: u64,
-    ghost some: { 1 ≤ end → 1 ≤ vec_len ranges },
 }
 
 impl Ranges {
-    // Adds the numbers up to an end, where any of them are missing: to the last range where they are
-    // decided alike, and else as a range of their own.
-    fn extend(&mut self, end: u64, leaf: Leaf) -> Result<(), AllocError>
+    /// No ranges.
+    pub(crate) fn new(alloc: Global) -> Ranges
+        ensures ranges { result.ranges.items ≡ [] }
+        ensures end { result.end ≡ 0 }
+    {
+        Ranges {
+            ranges: Vec::new(alloc),
+            end: 0,
+        }
+    }
+
+    // The first number of the last range, where this is decided as the next one.
+    fn first_alike(&self, next: &Range) -> Option<u32>
+        ensures { IfSome result (IsLastAlike self.now.ranges.items next.now.leaf) }
+    {
+        let before = self.ranges.last()?;
+        if before.leaf.is_like(&next.leaf) {
+            return Some(before.first);
+        }
+        None
+    }
+
+    /// Adds the numbers up to an end, where any of them are missing: to the last range where they are
+    /// decided alike, and else as a range of their own.
+    pub(crate) fn extend(&mut self, end: u64, leaf: Leaf) -> Result<(), AllocError>
         requires { end ≤ 2 ^ 32 }
-        ensures { OnOk result (end ≤ self.new.end) }
+        ensures end { OnOk result (self.new.end ≡ max self.old.end end) }
+        ensures extended { OnOk result (IsExtended self.old.ranges.items self.old.end end leaf self.new.ranges.items) }
     {
         if end <= self.end {
             return Ok(());
         }
         let first = self.end as u32;
         let last = (end - 1) as u32;
-        if let Leaf::Word(word) = leaf
-            && let Some(before) = self.ranges.last_mut()
-            && before.leaf.is_word(word)
-        {
-            before.last = last;
-        } else {
-            self.ranges.push(Range { first, last, leaf })?;
+        let mut range = Range { first, last, leaf };
+        if let Some(first) = self.first_alike(&range) {
+            self.ranges.pop();
+            range.first = first;
+            self.ranges.push(range)?;
+            self.end = end;
+            return Ok(());
         }
+        self.ranges.push(range)?;
         self.end = end;
+        Ok(())
+    }
+
+    /// Adds the numbers up to an end, where any of them are missing, as a range of their own.
+    pub(crate) fn push(&mut self, end: u64, leaf: Leaf) -> Result<(), AllocError>
+        requires { end ≤ 2 ^ 32 }
+    {
+        if end > self.end {
+            let first = self.end as u32;
+            let last = (end - 1) as u32;
+            self.ranges.push(Range { first, last, leaf })?;
+            self.end = end;
+        }
+        Ok(())
+    }
+
+    /// The ranges in order.
+    pub(crate) fn into_vec(self) -> Vec<Range> {
+        let Ranges { ranges, end: _ } = self;
+        ranges
+    }
+
+    // Adds the numbers up to the next one that has a rule, and that one, or all up to the end.
+    fn add_next(
+        &mut self,
+        alloc: Global,
+        profile: &Profile,
+        token: u32,
+        end: u64,
+        blocks: &mut Blocks,
+    ) -> Result<(), AllocError>
+        requires before { self.old.end < end }
+        requires native { IsNativeEnd token end }
+        ensures further { OnOk result ((self.old.end < self.new.end) × (self.new.end ≤ end)) }
+        ensures no_block { IsPlain profile.now → OnOk result (blocks.new ≡ blocks.old) }
+        ensures reached { Reached profile.now token end self.old.end self.old.ranges.items → OnOk result (Reached profile.now token end self.new.end self.new.ranges.items) }
+    {
+        let default = profile.default_word();
+        let rules = profile.rules();
+        let next = next_number(rules, token, self.end, end);
+        self.extend(next, Leaf::Word(default))?;
+        if next == end {
+            return Ok(());
+        }
+        let leaf = leaf_of(alloc, rules, token, next as u32, default, blocks)?;
+        self.extend(next + 1, leaf)?;
         Ok(())
     }
 }
 
-/// The rules of the machine, by their numbers. Those of one number stay in order.
-pub(crate) fn rules_of(
+// What decides the calls of a number of the machine with the token. The blocks that decide are added
+// to the others.
+fn leaf_of(
+    alloc: Global,
+    rules: &[Rule],
+    token: u32,
+    number: u32,
+    default: Word,
+    blocks: &mut Blocks,
+) -> Result<Leaf, AllocError>
+    ensures no_block { AreUnconditional rules.now → OnOk result (blocks.new ≡ blocks.old) }
+    ensures word { AreUnconditional rules.now → IfOk result (LeafFor rules.now token number default) }
+{
+    match Leaf::of(rules, token, number, default) {
+        Some(leaf) => Ok(leaf),
+        None => {
+            let own = rules_for(alloc, rules, token, number)?;
+            blocks.leaf_of(alloc, &own, default)
+        }
+    }
+}
+
+// The rules for a number of the machine with the token, in order.
+fn rules_for(
+    alloc: Global,
+    rules: &[Rule],
+    token: u32,
+    number: u32,
+) -> Result<Vec<&Rule>, AllocError> {
+    let mut own = Vec::new(alloc);
+    for rule in rules {
+        if is_for(rule, token, number) {
+            own.push(rule)?;
+        }
+    }
+    Ok(own)
+}
+
+/// All call numbers of the machine, in order. No two neighbouring ranges are decided alike. The blocks
+/// that decide are added to the others.
+pub(crate) fn ranges_of(
     alloc: Global,
     profile: &Profile,
     machine: Arch,
-) -> Result<Vec<&Rule>, AllocError> {
-    let mut rules = Vec::new(alloc);
-    for rule in profile.rules() {
-        if rule.arch == machine {
-            rules.push(rule)?;
-        }
-    }
-    rules.sort_by_key(|rule| rule.nr)?;
-    Ok(rules)
-}
-
-/// All call numbers of the machine, in order. No two neighbouring ranges have one word.
-pub(crate) fn ranges_of(
-    alloc: Global,
-    rules: &[&Rule],
-    machine: Arch,
-    default: Word,
+    blocks: &mut Blocks,
 ) -> Result<Vec<Range>, AllocError>
-    ensures { IfOk result (λ ranges. 1 ≤ vec_len ranges) }
+    ensures no_block { IsPlain profile.now → OnOk result (blocks.new ≡ blocks.old) }
+    ensures tiled { IfOk result (λ ranges. Tiles 0 ranges.items (2 ^ 32)) }
+    ensures some { IfOk result (λ ranges. 1 ≤ length ranges.items) }
+    ensures few { IsPlain profile.now → IfOk result (λ ranges. length ranges.items ≤ 514) }
+    ensures worded { IsPlain profile.now → IsListed profile.now (token_of machine) → IfOk result (λ ranges. All (IsWorded (said_of profile.now (token_of machine))) ranges.items) }
 {
-    let native = native_numbers(machine);
-    let mut ranges = Ranges {
-        ranges: Vec::new(alloc),
-        end: 0,
-    };
-    let mut start = 0;
-    for (place, rule) in rules.iter().enumerate() {
-        if is_last_of_number(rules, place) {
-            let number = u64::from(rule.nr);
-            let leaf = Leaf::of(&rules[start..place + 1], default);
-            ranges.extend(number.min(native), Leaf::Word(default))?;
-            ranges.extend((number + 1).min(native), leaf)?;
-            start = place + 1;
-        }
+    let token = machine.token();
+    let native = native_numbers(token);
+    let mut ranges = Ranges::new(alloc);
+    'native: while ranges.end < native {
+        ranges.add_next(alloc, profile, token, native, blocks)?;
     }
-    ranges.extend(native, Leaf::Word(default))?;
     ranges.extend(NUMBERS, Leaf::Word(Word::KILL_THREAD))?;
     Ok(ranges.ranges)
 }
 
 // How many call numbers are the machine's own. From there on they are foreign.
-fn native_numbers(machine: Arch) -> u64
-    ensures { result ≤ 2 ^ 32 }
+fn native_numbers(token: u32) -> u64
+    ensures { IsNativeEnd token result }
 {
-    match machine {
-        Arch::X86_64 => u64::from(LEAST_X32_NUMBER),
-        Arch::Aarch64 => NUMBERS,
+    if token == Arch::X86_64.token() {
+        return u64::from(LEAST_X32_NUMBER);
     }
+    NUMBERS
 }
 
-// Whether the next rule has another number, or there is none.
-fn is_last_of_number(rules: &[&Rule], place: usize) -> bool
-    requires { place < length rules.now }
+// Whether the rule is for the number of the machine with the token.
+fn is_for(rule: &Rule, token: u32, number: u32) -> bool
+    ensures { IsTrue result ↔ IsFor token number rule.now }
 {
-    if place + 1 == rules.len() {
-        return true;
+    rule.arch.token() == token && rule.nr == number
+}
+
+// The least number, from one on, that has a rule of the machine with the token, or else the end.
+fn next_number(rules: &[Rule], token: u32, from: u64, end: u64) -> u64
+    requires { from ≤ end }
+    ensures { IsNext rules.now token from end result }
+{
+    let mut next = end;
+    for rule in rules {
+        let number = u64::from(rule.nr);
+        if number < next && is_after(rule, token, from) {
+            next = number;
+        }
     }
-    rules[place].nr != rules[place + 1].nr
+    next
+}
+
+// Whether the rule is for a number of the machine with the token, from one number on.
+fn is_after(rule: &Rule, token: u32, from: u64) -> bool
+    ensures { IsTrue result ↔ (token_of rule.now.arch ≡ token) × (from ≤ rule.now.nr) }
+{
+    rule.arch.token() == token && from <= u64::from(rule.nr)
 }

@@ -1,0 +1,90 @@
+-- The ranges of all call numbers of one machine.
+use Rattle.std.specs.Prelude.{ℕ, ◌≡◌, ◌≢◌, ◌≤◌, ◌<◌, ◌+◌, ◌-◌, ◌^◌, ◌⊎◌, List, [], ◌∷◌, ◌++◌, length}
+use Rattle.std.specs.List.{All, Contains}
+use Rattle.call_tables.specs.declared.arch.Arch.{Arch}
+use Rattle.call_tables.specs.declared.arch.Arch.TheVariants.{X86_64}
+use Rattle.call_tables.specs.Arch.{token_of}
+use Rattle.profile.specs.Policy.{Policy, least_x32_number}
+use Rattle.profile.specs.Said.{said}
+use Rattle.profile.specs.declared.rules.Rule.{Rule}
+use Rattle.rule_compile.specs.declared.ranges.Leaf.{Leaf}
+use Rattle.rule_compile.specs.declared.ranges.Leaf.TheVariants.{Word}
+use Rattle.rule_compile.specs.declared.ranges.Range.{Range}
+use Rattle.rule_compile.specs.Shape.{IsPlain, call}
+use Rattle.rule_compile.specs.inner.Ranges.{IsWithin}
+
+-- ---- rules
+
+-- the rule is for this number of the machine with the token
+abbrev pub IsFor : ℕ → ℕ → Rule → Type 0
+IsFor token nr rule = (token_of rule.arch ≡ token) × (rule.nr ≡ nr)
+
+abbrev pub NoneFor : ℕ → ℕ → List Rule → Type 0
+NoneFor token nr rules = All (λ rule. IsFor token nr rule → ⊥) rules
+
+abbrev pub AreUnconditional : List Rule → Type 0
+AreUnconditional rules = All (λ rule. rule.conds.items ≡ []) rules
+
+-- each number is less than this one
+abbrev pub AreBelow : ℕ → List Rule → Type 0
+AreBelow above rules = All (λ rule. rule.nr < above) rules
+
+-- what decides a number: the word of a rule for it, or the default word where there is none
+pub data LeafFor (rules : List Rule) (token nr default : ℕ) (leaf : Leaf) : Type 0 where
+  ruled : (rule : Rule) → Contains rules rule → IsFor token nr rule → leaf ≡ Word rule.word → LeafFor rules token nr default leaf
+  unruled : NoneFor token nr rules → leaf ≡ Word default → LeafFor rules token nr default leaf
+
+-- the next number that has a rule, or the end
+pub record IsNext (rules : List Rule) (token from end next : ℕ) : Type 0 where
+  pub least : from ≤ next
+  pub most : next ≤ end
+  pub none : (nr : ℕ) → from ≤ nr → nr < next → NoneFor token nr rules
+  pub small : (above : ℕ) → AreBelow above rules → (next < above) ⊎ (next ≡ end)
+
+-- ---- ranges
+
+-- the last range has this leaf, and begins at this number
+pub record IsLastAlike (ranges : List Range) (leaf : Leaf) (first : ℕ) : Type 0 where
+  pub front : List Range
+  pub last : Range
+  pub is : ranges ≡ front ++ last ∷ []
+  pub alike : last.leaf ≡ leaf
+  pub begins : last.first ≡ first
+
+-- ranges that reached `from` reach `end` by this leaf: by one range more, or by the last one
+pub data IsExtended (old : List Range) (from end : ℕ) (leaf : Leaf) (new : List Range) : Type 0 where
+  nothing : end ≤ from → new ≡ old → IsExtended old from end leaf new
+  more : from < end → new ≡ old ++ record { first = from; last = end - 1; leaf = leaf } ∷ [] → IsExtended old from end leaf new
+  wider : from < end → (front : List Range) (x : Range) → old ≡ front ++ x ∷ [] → x.leaf ≡ leaf
+      → new ≡ front ++ record { first = x.first; last = end - 1; leaf = leaf } ∷ [] → IsExtended old from end leaf new
+
+-- the ranges follow one another from a number up to an end
+abbrev pub Tiles : ℕ → List Range → ℕ → Type 0
+Tiles from [] end = from ≡ end
+Tiles from (x ∷ xs) end = (x.first ≡ from) × (from ≤ x.last) × Tiles (x.last + 1) xs end
+
+-- each number of the range has its word
+abbrev pub IsWorded : (ℕ → ℕ) → Range → Type 0
+IsWorded word_of range = (word : ℕ) × (range.leaf ≡ Word word) × ((u : ℕ) → IsWithin range u → word_of u ≡ word)
+
+-- the word of a call of the machine with this token
+abbrev pub said_of : Policy → ℕ → ℕ → ℕ
+said_of policy token nr = said policy (call token nr)
+
+-- the machine is listed
+abbrev pub IsListed : Policy → ℕ → Type 0
+IsListed policy token = (arch : Arch) × Contains policy.machines arch × (token_of arch ≡ token)
+
+-- how many ranges there are of the numbers so far: as many as numbers, or one more than there are small numbers
+abbrev pub AreFew : ℕ → ℕ → ℕ → Type 0
+AreFew native end count = ((end ≤ 512) × (count ≤ end)) ⊎ ((end ≡ native) × (count ≤ 513))
+
+-- the ranges of a machine's numbers up to an end that is none of a foreign call
+pub record Reached (policy : Policy) (token native end : ℕ) (ranges : List Range) : Type 0 where
+  pub tiles : Tiles 0 ranges end
+  pub worded : IsPlain policy → IsListed policy token → All (IsWorded (said_of policy token)) ranges
+  pub few : IsPlain policy → AreFew native end (length ranges)
+
+-- the machine's own numbers end here
+abbrev pub IsNativeEnd : ℕ → ℕ → Type 0
+IsNativeEnd token native = ((token ≡ token_of X86_64) × (native ≡ least_x32_number)) ⊎ ((token ≢ token_of X86_64) × (native ≡ 2 ^ 32))

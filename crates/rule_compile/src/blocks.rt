@@ -1,0 +1,205 @@
+//! What decides calls of which rules ask for arguments, as blocks.
+//!
+//! A block asks for bits of one word, and goes on at a word or at another block, by the range that
+//! has the number of these bits. So what is known of a word is used by all rules, and what a failed
+//! half leaves of them is a block as well. Where the same is left to ask, it is the same block,
+//! whichever calls and machines come to it.
+ghost use Rattle.std.specs.Prelude.{◌≡◌, ◌≤◌, ◌<◌, ◌^◌, length, vec_len, IfSome};
+
+use crate::open::{Open, Rest, left, questions_of};
+use crate::question::Subject;
+use crate::ranges::{Leaf, Range, Ranges};
+use call_record::Word;
+use profile::Rule;
+use std::alloc::{AllocError, Global};
+
+/// Where to go on, by some bits of a word.
+#[derive(Drop)]
+pub(crate) struct Block {
+    pub(crate) subject: Subject,
+    /// The numbers that the bits may have.
+    pub(crate) ranges: Vec<Range>,
+    // What it stands for: these questions, and where to go on if none of their rules holds.
+    rules: Vec<Open>,
+    other: Leaf,
+}
+
+/// Blocks. Each goes on at blocks before it.
+#[derive(Drop)]
+pub(crate) struct Blocks {
+    pub(crate) blocks: Vec<Block>,
+    /// How many ranges may be added, until the rules are tried in turn.
+    room: usize,
+}
+
+/// How many words are asked for on a path at most: two of each argument, and each under some masks.
+const STEPS: usize = 4096;
+
+/// How many ranges there are for each question at most.
+const RANGES: usize = 6;
+
+impl Blocks {
+    /// No blocks.
+    pub(crate) fn new(alloc: Global) -> Blocks
+        ensures { vec_len result.blocks ≡ 0 }
+    {
+        Blocks {
+            blocks: Vec::new(alloc),
+            room: 0,
+        }
+    }
+
+    /// What decides the calls of a number that has these rules.
+    pub(crate) fn leaf_of(
+        &mut self,
+        alloc: Global,
+        rules: &[&Rule],
+        default: Word,
+    ) -> Result<Leaf, AllocError> {
+        match questions_of(alloc, rules, default)? {
+            Rest::Met(word) => Ok(Leaf::Word(word)),
+            Rest::Open(open) => self.add(alloc, &open, &Leaf::Word(default)),
+        }
+    }
+
+    // The block of these rules. Where it would be long, the first half of them is tried before the
+    // second.
+    fn add(&mut self, alloc: Global, rules: &[Open], other: &Leaf) -> Result<Leaf, AllocError> {
+        let before = self.blocks.len();
+        self.room = RANGES.saturating_mul(rules.len().saturating_add(1));
+        if let Some(leaf) = self.decide(alloc, rules, other, STEPS)? {
+            return Ok(leaf);
+        }
+        self.blocks.truncate(before);
+        match middle(rules) {
+            Some(place) => {
+                let (first, second) = rules.split_at(place);
+                let next = self.add(alloc, second, other)?;
+                self.add(alloc, first, &next)
+            }
+            None => Ok(Leaf::Word(Word::KILL_THREAD)),
+        }
+    }
+
+    // The block that looks at all questions for the same bits at once, unless it is too long.
+    fn decide(
+        &mut self,
+        alloc: Global,
+        rules: &[Open],
+        other: &Leaf,
+        steps: usize,
+    ) -> Result<Option<Leaf>, AllocError> {
+        let Some(subject) = subject_of(rules) else {
+            return Ok(Some(*other));
+        };
+        if let Some(block) = self.find(rules, other) {
+            return Ok(Some(Leaf::Block(block)));
+        }
+        let starts = starts_of(alloc, rules, subject)?;
+        if steps == 0 || starts.len() > self.room {
+            return Ok(None);
+        }
+        self.room -= starts.len();
+        let mut ranges = Ranges::new(alloc);
+        for (place, start) in starts.iter().enumerate() {
+            let leaf = match left(alloc, rules, subject, *start)? {
+                Rest::Met(word) => Some(Leaf::Word(word)),
+                Rest::Open(open) => self.decide(alloc, &open, other, steps - 1)?,
+            };
+            let Some(leaf) = leaf else {
+                return Ok(None);
+            };
+            let end = end_of(&starts, place);
+            if subject.mask == u32::MAX {
+                ranges.extend(end, leaf)?;
+            } else {
+                ranges.push(end, leaf)?;
+            }
+        }
+        self.push(alloc, subject, ranges, rules, other)
+    }
+
+    // Adds a block, unless it always goes on alike.
+    fn push(
+        &mut self,
+        alloc: Global,
+        subject: Subject,
+        ranges: Ranges,
+        rules: &[Open],
+        other: &Leaf,
+    ) -> Result<Option<Leaf>, AllocError> {
+        let ranges = ranges.into_vec();
+        if let [only] = ranges.as_slice() {
+            return Ok(Some(only.leaf));
+        }
+        let block = self.blocks.len();
+        self.blocks.push(Block {
+            subject,
+            ranges,
+            rules: Vec::from_slice(alloc, rules)?,
+            other: *other,
+        })?;
+        Ok(Some(Leaf::Block(block)))
+    }
+
+    // The block that stands for this.
+    fn find(&self, rules: &[Open], other: &Leaf) -> Option<usize> {
+        self.blocks.iter().position(|block| block.other.is_like(other)
+            && block.rules.as_slice() == rules)
+    }
+}
+
+// The bits that are asked for first: a low word where the high one is known, or those of the first
+// question.
+fn subject_of(rules: &[Open]) -> Option<Subject> {
+    let last = rules.iter().find(|open| open.question.is_last());
+    let open = match last {
+        Some(open) => open,
+        None => rules.first()?,
+    };
+    Some(open.question.subject)
+}
+
+// The numbers of the bits from which on something else may be left to ask, in order, from 0 on.
+fn starts_of(alloc: Global, rules: &[Open], subject: Subject) -> Result<Vec<u32>, AllocError> {
+    let mut starts = Vec::new(alloc);
+    starts.push(0)?;
+    for open in rules {
+        if open.question.subject == subject {
+            for turn in open.question.turns() {
+                if let Some(start) = turn {
+                    starts.push(start)?;
+                }
+            }
+        }
+    }
+    starts.sort()?;
+    starts.dedup();
+    Ok(starts)
+}
+
+// Where the range ends that begins at a start: it is the next one's beginning.
+fn end_of(starts: &[u32], place: usize) -> u64
+    ensures { result ≤ 2 ^ 32 }
+{
+    match starts.get(place.saturating_add(1)) {
+        Some(next) => u64::from(*next),
+        None => 1 << 32,
+    }
+}
+
+// The place of the rule that begins nearest behind the middle, or else of the last one.
+fn middle(rules: &[Open]) -> Option<usize>
+    ensures { IfSome result (λ place. (1 ≤ place) × (place < length rules.now)) }
+{
+    let mut found = None;
+    for place in 1..rules.len() {
+        if rules[place].begins {
+            found = Some(place);
+            if place >= rules.len() / 2 {
+                return found;
+            }
+        }
+    }
+    found
+}

@@ -1,0 +1,20 @@
+//! Blocks that are in the code.
+
+use crate::label::Target;
+use crate::ranges::Leaf;
+
+/// A block that is in the code.
+#[derive(Clone, Copy)]
+pub(crate) struct Written {
+    pub(crate) target: Target,
+    /// How many instructions there are at most from its first one to a return.
+    pub(crate) height: usize,
+}
+
+/// How many instructions there are at most before the return of what decides.
+pub(crate) fn height_of(written: &[Written], leaf: Leaf) -> usize {
+    match leaf {
+        Leaf::Word(_) => 0,
+        Leaf::Block(block) => written.get(block).map_or(0, |block| block.height),
+    }
+}
