@@ -11,7 +11,6 @@ use Rattle.call_record.specs.Words.{IsRecord, word, argument}
 use Rattle.call_tables.specs.declared.arch.Arch.{Arch}
 use Rattle.call_tables.specs.declared.arch.Arch.TheVariants.{X86_64}
 use Rattle.call_tables.specs.Arch.{token_of}
-use Rattle.call_tables.proofs.ArchLaws.{token_of-same}
 use Rattle.profile.specs.declared.conditions.Op.{Op}
 use Rattle.profile.specs.declared.conditions.Op.TheVariants.{Ne, Lt, Le, Eq, Ge, Gt, MaskedEq}
 use Rattle.profile.specs.declared.rules.Rule.{Rule}
@@ -160,16 +159,17 @@ module _ (r : List ℕ) (rec : IsRecord r) (known : List Lit) (so : All (λ l. H
 
   module _ (policy : Policy) (v : ℕ) (clear : IsClear policy.rules) (h : Agrees policy known v) where
     -- a rule that matches has the word, where the record's machine agrees
-    rule_agrees : (rule : Rule) → Contains policy.rules rule → Matches rule r → RulesAgree policy known v rule.arch → v ≡ rule.word
-    rule_agrees rule has m (inl (sure, of, holds, e)) =
-        sym e ∙ clear r rec sure rule of.stands has (yes_rule sure (m.machine ∙ ap token_of (sym of.is_for)) holds) m
-    rule_agrees rule has m (inr (none, default, each)) =
-        elim (each rule (record { stands = has; is_for = refl })) [ inl denied ↦ absurd (no_rule rule denied m) | inr e ↦ sym e ]
+    rule_agrees : (arch : Arch) (rule : Rule) → word r 1 ≡ token_of arch → Contains policy.rules rule → Matches rule r
+        → RulesAgree policy known v arch → v ≡ rule.word
+    rule_agrees arch rule machine has m (inl (sure, of, holds, e)) =
+        sym e ∙ clear r rec sure rule of.stands has (yes_rule sure (machine ∙ sym of.is_for) holds) m
+    rule_agrees arch rule machine has m (inr (none, default, each)) =
+        elim (each rule (record { stands = has; is_for = sym m.machine ∙ machine })) [ inl denied ↦ absurd (no_rule rule denied m) | inr e ↦ sym e ]
 
     -- where none matches, the default is the word
     default_agrees : (arch : Arch) → word r 1 ≡ token_of arch → All (λ rule. ¬ Matches rule r) policy.rules → RulesAgree policy known v arch → v ≡ policy.default_word
     default_agrees arch machine none (inl (sure, of, holds, e)) =
-        absurd (All-contains (λ rule. ¬ Matches rule r) policy.rules sure none of.stands (yes_rule sure (machine ∙ ap token_of (sym of.is_for)) holds))
+        absurd (All-contains (λ rule. ¬ Matches rule r) policy.rules sure none of.stands (yes_rule sure (machine ∙ sym of.is_for) holds))
     default_agrees arch machine none (inr (no_yes, default, each)) = sym default
 
     -- a listed machine whose token the record has agrees
@@ -182,7 +182,7 @@ module _ (r : List ℕ) (rec : IsRecord r) (known : List Lit) (so : All (λ l. H
     rules_agree arch native listed machine =
         elim (machine_agrees arch listed machine).rules [
           | inl (is, above) ↦
-              let low = native.no_x32 (machine ∙ ap token_of is) in
+              let low = native.no_x32 (machine ∙ is) in
               let high = entailed_is_true r rec known so (In 0 0x40000000 all_bits) above in
               absurd (omega (arith, low, high.0))
           | inr agrees ↦ agrees
@@ -201,8 +201,7 @@ module _ (r : List ℕ) (rec : IsRecord r) (known : List Lit) (so : All (λ l. H
           elim (cases_eq (word r 1) (token_of X86_64)) [
             | inr other ↦ absurd (alien (record { listed = some; no_x32 = λ e. absurd (other e) }))
             | inl is ↦
-                let same : arch ≡ X86_64 = token_of-same arch X86_64 (sym machine ∙ is) in
-                elim ((machine_agrees arch listed machine).foreign_numbers same) [
+                elim ((machine_agrees arch listed machine).foreign_numbers (sym machine ∙ is)) [
                   | inr zero ↦ zero
                   | inl low ↦
                       let at = entailed_is_true r rec known so (In 0 0 0x3fffffff) low in
@@ -217,8 +216,7 @@ module _ (r : List ℕ) (rec : IsRecord r) (known : List Lit) (so : All (λ l. H
       foreign = foreign_agrees;
       matched = λ native rule has m.
           let at = listed_machine native.listed in
-          let same : at.0 ≡ rule.arch = token_of-same at.0 rule.arch (sym at.2 ∙ m.machine) in
-          rule_agrees rule has m (subst (RulesAgree policy known v) same (rules_agree at.0 native at.1 at.2));
+          rule_agrees at.0 rule at.2 has m (rules_agree at.0 native at.1 at.2);
       unmatched = λ native none.
           let at = listed_machine native.listed in
           default_agrees at.0 at.2 none (rules_agree at.0 native at.1 at.2);

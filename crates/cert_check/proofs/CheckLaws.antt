@@ -1,12 +1,16 @@
 -- What the whole check tells: of the certificate's bytes, and of its nodes.
-use Rattle.std.proofs.Common.{◌≡◌, ◌≢◌, ℕ, ◌≤◌, List, length, refl, inl, inr, arith}
-use Rattle.std.specs.Prelude.{None}
+use Rattle.std.proofs.Common.{◌≡◌, ◌≢◌, ℕ, ◌≤◌, List, length, refl, inl, inr, arith, ap, sym, ◌∙◌}
+use Rattle.std.specs.Prelude.{None, Option, Some}
+use Rattle.std.specs.Option.{option_map}
 use Rattle.std.proofs.lemmas.List.{length-map}
 use Rattle.bpf_insn.specs.Bytes.{insns_of, view_fault}
 use Rattle.kernel_check.specs.Accepted.{IsAccepted}
+use Rattle.kernel_check.proofs.RunLaws.{runs}
 use Rattle.profile.specs.Policy.{Policy, IsClear}
+use Rattle.profile.specs.Said.{said as word_of}
 use Rattle.profile.proofs.SaidLaws.{each_record_is_said_one_word}
 use Rattle.bpf_insn.specs.declared.instruction.Insn.{Insn}
+use Rattle.bpf_insn.specs.Machine.{verdict_of}
 use Rattle.cert_form.specs.declared.fault.FormError.{FormError}
 use Rattle.cert_form.specs.declared.fault.FormError.TheVariants as form
 use Rattle.cert_form.specs.Nodes.{PlainNode, said}
@@ -43,17 +47,23 @@ module _ (policy : Policy) (filter cert : List ℕ) where
       → ((ns : List PlainNode) → Spells cert ns → e ≡ form.OutOfMemory) → error_of e ≢ OutOfMemory → IsFirst policy filter cert (error_of e)
   form_is_first whole accepted form.OutOfMemory fault only other = absurd (other refl)
   form_is_first whole accepted form.BadMagic fault only other =
-      first_form policy filter cert whole accepted form.BadMagic fault (none_spelled whole accepted form.BadMagic (λ same. cc) only)
+      first_form policy filter cert whole accepted form.BadMagic fault (λ same. cc)
+      (none_spelled whole accepted form.BadMagic (λ same. cc) only)
   form_is_first whole accepted form.BadVersion fault only other =
-      first_form policy filter cert whole accepted form.BadVersion fault (none_spelled whole accepted form.BadVersion (λ same. cc) only)
+      first_form policy filter cert whole accepted form.BadVersion fault (λ same. cc)
+      (none_spelled whole accepted form.BadVersion (λ same. cc) only)
   form_is_first whole accepted form.Truncated fault only other =
-      first_form policy filter cert whole accepted form.Truncated fault (none_spelled whole accepted form.Truncated (λ same. cc) only)
+      first_form policy filter cert whole accepted form.Truncated fault (λ same. cc)
+      (none_spelled whole accepted form.Truncated (λ same. cc) only)
   form_is_first whole accepted form.BadNode fault only other =
-      first_form policy filter cert whole accepted form.BadNode fault (none_spelled whole accepted form.BadNode (λ same. cc) only)
+      first_form policy filter cert whole accepted form.BadNode fault (λ same. cc)
+      (none_spelled whole accepted form.BadNode (λ same. cc) only)
   form_is_first whole accepted form.BadCount fault only other =
-      first_form policy filter cert whole accepted form.BadCount fault (none_spelled whole accepted form.BadCount (λ same. cc) only)
+      first_form policy filter cert whole accepted form.BadCount fault (λ same. cc)
+      (none_spelled whole accepted form.BadCount (λ same. cc) only)
   form_is_first whole accepted form.Trailing fault only other =
-      first_form policy filter cert whole accepted form.Trailing fault (none_spelled whole accepted form.Trailing (λ same. cc) only)
+      first_form policy filter cert whole accepted form.Trailing fault (λ same. cc)
+      (none_spelled whole accepted form.Trailing (λ same. cc) only)
 
 -- memory is asked for in form 1 alone
 pub form_memory : (cert : List ℕ) (e : FormError) → Faulty e cert → error_of e ≡ OutOfMemory → version_of cert ≡ 1
@@ -80,3 +90,14 @@ no_memory policy p ns (Return i) found same = cc
 -- what is right gives no other word
 pub only_the_profiles : (policy : Policy) (p : List Insn) → IsClear policy.rules → IsRight policy p → GivesOnly policy p
 only_the_profiles policy p clear right r rec v given = (each_record_is_said_one_word policy r v clear rec).0 ((right r rec v).0 given)
+
+-- and an accepted program that gives no other word is right
+pub right_of : (policy : Policy) (p : List Insn) → IsClear policy.rules → IsAccepted p → GivesOnly policy p → IsRight policy p
+right_of policy p clear accepted only r rec v =
+    let one = each_record_is_said_one_word policy r v clear rec in
+    let word = runs p r accepted rec.length_is in
+    let found : verdict_of p r ≡ Some word.0 = ap (λ (o : Option (ℕ × ℕ)). option_map (λ (end : ℕ × ℕ). end.0) o) word.2 in
+    let is : word.0 ≡ word_of policy r = only r rec word.0 found in (
+      λ gives. one.1 (only r rec v gives),
+      λ says. found ∙ ap Some (is ∙ sym (one.0 says)),
+    )

@@ -1,5 +1,5 @@
 -- Elements of a list.
-use Rattle.std.proofs.Common.{◌≡◌, ℕ, Bool, List, [], ◌∷◌, ◌++◌, Some}
+use Rattle.std.proofs.Common.{◌≡◌, ℕ, Bool, List, [], ◌∷◌, Some, sym, subst}
 use Rattle.std.specs.Prelude.{slice_get, All, Contains, IsTrue, ◌↔◌}
 use Rattle.std.proofs.lemmas.List.Elements.{All-contains_itself, All-weaker, All-nil, All-cons, All-head, All-tail}
 use Rattle.std.proofs.lemmas.Option.{slice_get_within, get_or_from_slice_get}
@@ -23,7 +23,7 @@ all_two P x y b first h =
 pub all_none : {X : Type 0} (P : X → Type 0) (x : X) (xs : List X) (b : Bool) → (IsTrue b → ⊥) → (P x → ⊥) → (IsTrue b ↔ All P (x ∷ xs))
 all_none P x xs b untrue never = (λ t. absurd (untrue t), λ all. absurd (never (All-head P x xs all)))
 
--- what holds of each element of two lists in a row holds of each of the second
-pub all_after : {X : Type 0} (P : X → Type 0) (xs ys : List X) → All P (xs ++ ys) → All P ys
-all_after P [] ys h = h
-all_after P (x ∷ xs) ys h = all_after P xs ys (All-tail P x (xs ++ ys) h)
+-- where it holds of the first element, it holds of all where it holds of the rest
+pub all_but_first : {X : Type 0} (P : X → Type 0) (x : X) (all rest : List X) → all ≡ x ∷ rest → P x → All P all ↔ All P rest
+all_but_first P x all rest is first =
+    (λ h. All-tail P x rest (subst (All P) is h), λ h. subst (All P) (sym is) (All-cons P x rest first h))

@@ -1,6 +1,6 @@
 -- The first rule that is broken, and that none is.
 use Rattle.std.proofs.Common.{◌≡◌, ℕ, ◌+◌, ◌*◌, ◌<◌, ◌≤◌, List, sym, ◌∙◌, subst, inl, inr, arith}
-use Rattle.std.specs.Prelude.{slice_get, Some, None}
+use Rattle.std.specs.Prelude.{◌≢◌, slice_get, Some, None}
 use Rattle.std.proofs.lemmas.Bool.{cases_lt}
 use Rattle.std.proofs.lemmas.Option.{same_Some, none-some}
 use Rattle.bpf_insn.specs.declared.fault.ViewError.{ViewError}
@@ -10,6 +10,7 @@ use Rattle.kernel_check.specs.Accepted.{IsAccepted, IsRefusal}
 use Rattle.kernel_check.proofs.RefusalLaws.{one as one_refusal}
 use Rattle.profile.specs.Policy.{Policy}
 use Rattle.cert_form.specs.declared.fault.FormError.{FormError}
+use Rattle.cert_form.specs.declared.fault.FormError.TheVariants as form
 use Rattle.cert_form.specs.declared.node.Kind.TheVariants as kind
 use Rattle.cert_form.specs.Nodes.{PlainNode}
 use Rattle.cert_form.specs.Spelling.{Spells}
@@ -36,8 +37,9 @@ module _ (policy : Policy) (filter cert : List ℕ) where
 
     module _ (accepted : IsAccepted (insns_of filter)) where
       -- the bytes are no certificate
-      pub first_form : (e : FormError) → Faulty e cert → (IsCertificate cert → ⊥) → IsFirst policy filter cert (Form e)
-      first_form e fault none = record { broken = none; earlier = before; told = fault } where
+      pub first_form : (e : FormError) → Faulty e cert → e ≢ form.OutOfMemory → (IsCertificate cert → ⊥)
+          → IsFirst policy filter cert (Form e)
+      first_form e fault other none = record { broken = none; earlier = before; told = (fault, other) } where
         before : KeptBefore policy filter cert 2
         before (View d) lt = whole
         before (Kernel d) lt = accepted

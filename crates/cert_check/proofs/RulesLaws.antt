@@ -2,6 +2,7 @@
 use Rattle.std.proofs.Common.{◌≡◌, ◌≢◌, ℕ, ◌<◌, ◌≤◌, Bool, true, false, List, length, refl, subst, inl, inr, ◌⊎◌, arith}
 use Rattle.std.specs.Prelude.{slice_index_or, Contains, IsTrue, ◌↔◌}
 use Rattle.call_tables.specs.declared.arch.Arch.{Arch}
+use Rattle.call_tables.specs.Arch.{token_of}
 use Rattle.profile.specs.declared.rules.Rule.{Rule}
 use Rattle.profile.specs.Policy.{Policy}
 use Rattle.cert_state.specs.declared.literal.Lit.{Lit}
@@ -17,7 +18,7 @@ module _ (policy : Policy) (known : List Lit) (v : ℕ) (arch : Arch) (n : ℕ) 
   -- no rule is yes with the word
   none_sure : (others : Bool) → RulesSoFar known v arch policy.rules n others → (rule : Rule) → IsRuleOf policy arch rule → IsYesRule known rule → rule.word ≢ v
   none_sure others so rule of =
-      each_at (λ x. x.arch ≡ arch → IsYesRule known x → x.word ≢ v) policy.rules n rule enough of.stands so.none_sure of.is_for
+      each_at (λ x. token_of x.arch ≡ token_of arch → IsYesRule known x → x.word ≢ v) policy.rules n rule enough of.stands so.none_sure of.is_for
 
   -- where one differs, the rules do not agree
   pub none_agree : RulesSoFar known v arch policy.rules n true → RulesAgree policy known v arch → ⊥
@@ -32,7 +33,7 @@ module _ (policy : Policy) (known : List Lit) (v : ℕ) (arch : Arch) (n : ℕ) 
   default_agrees so b test = (λ t. agree (test.0 t), λ h. test.1 (is_default h)) where
     settled : (rule : Rule) → IsRuleOf policy arch rule → IsNoRule known rule ⊎ (rule.word ≡ v)
     settled rule of =
-        each_at (λ x. x.arch ≡ arch → IsNoRule known x ⊎ (x.word ≡ v)) policy.rules n rule enough of.stands (so.settled refl) of.is_for
+        each_at (λ x. token_of x.arch ≡ token_of arch → IsNoRule known x ⊎ (x.word ≡ v)) policy.rules n rule enough of.stands (so.settled refl) of.is_for
 
     agree : policy.default_word ≡ v → RulesAgree policy known v arch
     agree default = inr (

@@ -4,6 +4,7 @@ use Rattle.std.specs.Prelude.{slice_index_or}
 use Rattle.std.proofs.lemmas.Bool.{cases_lt}
 use Rattle.std.proofs.lemmas.List.{get_or_default}
 use Rattle.call_tables.specs.declared.arch.Arch.{Arch}
+use Rattle.call_tables.specs.Arch.{token_of}
 use Rattle.profile.specs.declared.conditions.Cond.{Cond}
 use Rattle.profile.specs.declared.rules.Rule.{Rule}
 use Rattle.cert_state.specs.declared.literal.Lit.{Lit}
@@ -46,25 +47,25 @@ condition_is_open known conds n b c inside at not_yes not_no so = record {
 module _ (known : List Lit) (v : ℕ) (arch : Arch) (rules : List Rule) (n : ℕ) (others : Bool) (rule : Rule)
     (inside : n < length rules) (at : slice_index_or rules n rule ≡ rule) (so : RulesSoFar known v arch rules n others) where
   -- a rule of another machine
-  pub rule_passed : rule.arch ≢ arch → RulesSoFar known v arch rules (n + 1) others
+  pub rule_passed : token_of rule.arch ≢ token_of arch → RulesSoFar known v arch rules (n + 1) others
   rule_passed other = record {
-    none_sure = one_more (λ x. x.arch ≡ arch → IsYesRule known x → x.word ≢ v) rules n rule inside at so.none_sure (λ is. absurd (other is));
-    settled = λ e. one_more (λ x. x.arch ≡ arch → IsNoRule known x ⊎ (x.word ≡ v)) rules n rule inside at (so.settled e) (λ is. absurd (other is));
+    none_sure = one_more (λ x. token_of x.arch ≡ token_of arch → IsYesRule known x → x.word ≢ v) rules n rule inside at so.none_sure (λ is. absurd (other is));
+    settled = λ e. one_more (λ x. token_of x.arch ≡ token_of arch → IsNoRule known x ⊎ (x.word ≡ v)) rules n rule inside at (so.settled e) (λ is. absurd (other is));
     another = so.another;
   }
 
   -- a rule with the word, or one that is no
   pub rule_settled : (IsYesRule known rule → rule.word ≢ v) → IsNoRule known rule ⊎ (rule.word ≡ v) → RulesSoFar known v arch rules (n + 1) others
   rule_settled not_sure fine = record {
-    none_sure = one_more (λ x. x.arch ≡ arch → IsYesRule known x → x.word ≢ v) rules n rule inside at so.none_sure (λ _. not_sure);
-    settled = λ e. one_more (λ x. x.arch ≡ arch → IsNoRule known x ⊎ (x.word ≡ v)) rules n rule inside at (so.settled e) (λ _. fine);
+    none_sure = one_more (λ x. token_of x.arch ≡ token_of arch → IsYesRule known x → x.word ≢ v) rules n rule inside at so.none_sure (λ _. not_sure);
+    settled = λ e. one_more (λ x. token_of x.arch ≡ token_of arch → IsNoRule known x ⊎ (x.word ≡ v)) rules n rule inside at (so.settled e) (λ _. fine);
     another = so.another;
   }
 
   -- a rule with another word that is not no
-  pub rule_is_other : rule.arch ≡ arch → IsOther known v rule → RulesSoFar known v arch rules (n + 1) true
+  pub rule_is_other : token_of rule.arch ≡ token_of arch → IsOther known v rule → RulesSoFar known v arch rules (n + 1) true
   rule_is_other its other = record {
-    none_sure = one_more (λ x. x.arch ≡ arch → IsYesRule known x → x.word ≢ v) rules n rule inside at so.none_sure (λ _ _. other.1);
+    none_sure = one_more (λ x. token_of x.arch ≡ token_of arch → IsYesRule known x → x.word ≢ v) rules n rule inside at so.none_sure (λ _ _. other.1);
     settled = λ e. cc;
     another = λ e. (rule, (n, inside, at), its, other);
   }

@@ -79,7 +79,7 @@ IsNoRule known rule =
 -- a rule of the profile for the machine
 pub record IsRuleOf (policy : Policy) (arch : Arch) (rule : Rule) : Type 0 where
   pub stands : Contains policy.rules rule
-  pub is_for : rule.arch ≡ arch
+  pub is_for : token_of rule.arch ≡ token_of arch
 
 -- the rules of a machine agree with v: a rule that is yes has the word v; or none is yes, the default is v, and each
 -- rule that is not no has the word v
@@ -92,8 +92,8 @@ RulesAgree policy known v arch =
 
 -- a machine agrees with v: v is 0 where an x32 number is possible, and its rules agree unless the number is one
 pub record MachineAgrees (policy : Policy) (known : List Lit) (v : ℕ) (arch : Arch) : Type 0 where
-  pub foreign_numbers : arch ≡ X86_64 → Entails known (In 0 0 0x3fffffff) ⊎ (v ≡ 0)
-  pub rules : ((arch ≡ X86_64) × Entails known (In 0 0x40000000 all_bits)) ⊎ RulesAgree policy known v arch
+  pub foreign_numbers : token_of arch ≡ token_of X86_64 → Entails known (In 0 0 0x3fffffff) ⊎ (v ≡ 0)
+  pub rules : ((token_of arch ≡ token_of X86_64) × Entails known (In 0 0x40000000 all_bits)) ⊎ RulesAgree policy known v arch
 
 -- a listed machine is known to be another than the record's, or agrees
 abbrev pub ListedAgrees : Policy → List Lit → ℕ → Arch → Type 0

@@ -1,8 +1,9 @@
 -- Which rule of a certificate is broken first.
-use Rattle.std.specs.Prelude.{◌≡◌, ℕ, ◌+◌, ◌*◌, ◌<◌, ⊤, List, Some, None, slice_get}
+use Rattle.std.specs.Prelude.{◌≡◌, ◌≢◌, ℕ, ◌+◌, ◌*◌, ◌<◌, ⊤, List, Some, None, slice_get}
 use Rattle.bpf_insn.specs.Bytes.{insns_of, view_fault}
 use Rattle.kernel_check.specs.Accepted.{IsAccepted, IsRefusal}
 use Rattle.profile.specs.Policy.{Policy}
+use Rattle.cert_form.specs.declared.fault.FormError.TheVariants as form
 use Rattle.cert_form.specs.declared.node.Kind.TheVariants as kind
 use Rattle.cert_form.specs.Nodes.{PlainNode}
 use Rattle.cert_form.specs.Spelling.{Spells}
@@ -51,11 +52,11 @@ turn_of OutOfMemory = 0
 abbrev pub KeptBefore : Policy → List ℕ → List ℕ → ℕ → Type 0
 KeptBefore policy filter cert turn = (e : CheckError) → turn_of e < turn → Kept policy filter cert e
 
--- what an error tells beyond its rule: the fault of the bytes that stands
+-- what an error tells beyond its rule: the fault of the bytes that stands. Want of memory is no such fault.
 abbrev pub Tells : List ℕ → List ℕ → CheckError → Type 0
 Tells filter cert (View e) = view_fault filter ≡ Some e
 Tells filter cert (Kernel e) = IsRefusal (insns_of filter) e
-Tells filter cert (Form e) = Faulty e cert
+Tells filter cert (Form e) = Faulty e cert × (e ≢ form.OutOfMemory)
 Tells filter cert _ = ⊤
 
 -- the rule that the error names is broken, none that is looked for earlier is, and what it tells is so

@@ -4,17 +4,17 @@ ghost use Rattle.call_tables.specs.Arch.{token_of};
 ghost use Rattle.call_tables.specs.declared.arch.Arch.{Arch as TheArch};
 ghost use Rattle.call_tables.specs.declared.arch.Arch.TheVariants as machine;
 ghost use Rattle.cert_state.specs.declared.literal.Lit.TheVariants.{Bits};
-ghost use Rattle.cert_state.specs.Literals.{all_bits, index_of};
+ghost use Rattle.cert_state.specs.Literals.{all_bits};
 ghost use Rattle.cert_state.specs.Entailment.{Entails};
 ghost use Rattle.cert_check.specs.Agree.{Agrees, IsNoRule, IsYesRule, ListedAgrees, MachineAgrees, RulesAgree};
-ghost use Rattle.cert_check.specs.inner.Judged.{AreYes, Bears, IsJudged, SomeIsNo};
+ghost use Rattle.cert_check.specs.inner.Judged.{AreKnownNumbers, AreYes, Bears, IsAnswered, IsJudged, IsKnownNumber, SomeIsNo};
 
 use crate::conditions::judge_conditions;
-use crate::judged::{Bearing, Judged};
+use crate::judged::{Answered, Bearing, Judged, Number};
 use call_record::Word;
 use call_tables::Arch;
 use cert_state::{Facts, Lit, State};
-use profile::{Profile, Rule};
+use profile::{Cond, Op, Profile, Rule, has_x32_calls};
 
 // The words of a record that hold the call's number and the machine's token.
 const NUMBER: u8 = 0;
@@ -24,23 +24,109 @@ const TOKEN: u8 = 1;
 // The least number of an x32 call.
 const LEAST_X32_NUMBER: u32 = 0x4000_0000;
 
-// Whether the conditions of a rule are all yes, or one is no.
-fn judge_all<S: State>(facts: &Facts<'_, S>, rule: &Rule) -> Judged
-    ensures { IsJudged (AreYes (S.known facts.now.state.now) rule.now.conds.items) (SomeIsNo (S.known facts.now.state.now) rule.now.conds.items) result }
+// What is known of a number.
+fn ask_number<S: State>(facts: &Facts<'_, S>, nr: u32) -> Number
+    ensures { IsKnownNumber (S.known facts.now.state.now) nr result }
 {
-    judge_conditions(facts, rule.conds.as_slice())
+    Number {
+        own: facts.entails(&Lit::Bits(NUMBER, u32::MAX, nr)),
+        other: facts.entails(&Lit::NotBits(NUMBER, u32::MAX, nr)),
+    }
 }
 
-// Whether a rule is settled whose number is known to be the call's.
-fn judge_own<S: State>(facts: &Facts<'_, S>, rule: &Rule) -> Judged
-    requires { Entails (S.known facts.now.state.now) (Bits 0 all_bits rule.now.nr) }
+// The same, asked once for each of the least numbers: the numbers of all calls are among them.
+fn number_of<S: State>(facts: &Facts<'_, S>, numbers: &mut [Option<Number>; 512], nr: u32) -> Number
+    requires { AreKnownNumbers (S.known facts.now.state.now) numbers.old }
+    ensures number { IsKnownNumber (S.known facts.now.state.now) nr result }
+    ensures kept { AreKnownNumbers (S.known facts.now.state.now) numbers.new }
+{
+    if nr >= 512 {
+        return ask_number(facts, nr);
+    }
+    let i = nr as usize;
+    if let Some(number) = numbers[i] {
+        return number;
+    }
+    let number = ask_number(facts, nr);
+    numbers[i] = Some(number);
+    number
+}
+
+// Whether two operators are the same one.
+fn is_same_op(a: Op, b: Op) -> bool
+    ensures { IsTrue result ↔ (a ≡ b) }
+{
+    a == b
+}
+
+// Whether two conditions are the same one.
+fn is_same(a: &Cond, b: &Cond) -> bool
+    ensures { IsTrue result → a.now ≡ b.now }
+{
+    if !is_same_op(a.op, b.op) {
+        return false;
+    }
+    if a.index != b.index {
+        return false;
+    }
+    if a.value != b.value {
+        return false;
+    }
+    a.datum == b.datum
+}
+
+// Whether these are the same conditions in the same order.
+fn are_same(a: &[Cond], b: &[Cond]) -> bool
+    ensures { IsTrue result → a.now ≡ b.now }
+{
+    if a.len() != b.len() {
+        return false;
+    }
+    for i in 0..a.len() {
+        if !is_same(&a[i], &b[i]) {
+            return false;
+        }
+    }
+    true
+}
+
+// The answer to the conditions of a rule: the last one, where that was to the same conditions.
+fn answer_of<'a, S: State>(facts: &Facts<'_, S>, rule: &'a Rule, last: Answered<'a>) -> Answered<'a>
+    requires { IsAnswered (S.known facts.now.state.now) last }
+    ensures answer { IsAnswered (S.known facts.now.state.now) result }
+    ensures conds { result.conds.now ≡ rule.now.conds.items }
+{
+    let conds = rule.conds.as_slice();
+    if are_same(last.conds, conds) {
+        return last;
+    }
+    Answered {
+        conds,
+        judged: judge_conditions(facts, conds),
+    }
+}
+
+// Whether a rule of the record's machine is settled, by the answers to its number and to its conditions.
+fn judge_rule<S: State>(facts: &Facts<'_, S>, rule: &Rule, number: Number, conds: Judged) -> Judged
+    requires number { IsKnownNumber (S.known facts.now.state.now) rule.now.nr number }
+    requires conds { let known = S.known facts.now.state.now in
+        IsJudged (AreYes known rule.now.conds.items) (SomeIsNo known rule.now.conds.items) conds }
     ensures { IsJudged (IsYesRule (S.known facts.now.state.now) rule.now) (IsNoRule (S.known facts.now.state.now) rule.now) result }
 {
-    match judge_all(facts, rule) {
-        Judged::Yes => Judged::Yes,
+    match conds {
         Judged::No => Judged::No,
+        Judged::Yes => {
+            if number.own {
+                return Judged::Yes;
+            }
+            if number.other {
+                Judged::No
+            } else {
+                Judged::Open
+            }
+        }
         Judged::Open => {
-            if facts.entails(&Lit::NotBits(NUMBER, u32::MAX, rule.nr)) {
+            if number.other {
                 return Judged::No;
             }
             Judged::Open
@@ -48,28 +134,11 @@ fn judge_own<S: State>(facts: &Facts<'_, S>, rule: &Rule) -> Judged
     }
 }
 
-// Whether a rule of the record's machine is settled.
-fn judge_rule<S: State>(facts: &Facts<'_, S>, rule: &Rule) -> Judged
-    ensures { IsJudged (IsYesRule (S.known facts.now.state.now) rule.now) (IsNoRule (S.known facts.now.state.now) rule.now) result }
-{
-    if facts.entails(&Lit::Bits(NUMBER, u32::MAX, rule.nr)) {
-        return judge_own(facts, rule);
-    }
-    if facts.entails(&Lit::NotBits(NUMBER, u32::MAX, rule.nr)) {
-        return Judged::No;
-    }
-    match judge_all(facts, rule) {
-        Judged::Yes => Judged::Open,
-        Judged::No => Judged::No,
-        Judged::Open => Judged::Open,
-    }
-}
-
-// How a rule of the record's machine bears on a word.
-fn bearing_of<S: State>(facts: &Facts<'_, S>, rule: &Rule, word: Word) -> Bearing
+// How a rule of the record's machine bears on a word, by whether it is settled.
+fn bearing_of<S: State>(facts: &Facts<'_, S>, rule: &Rule, word: Word, judged: Judged) -> Bearing
+    requires { IsJudged (IsYesRule (S.known facts.now.state.now) rule.now) (IsNoRule (S.known facts.now.state.now) rule.now) judged }
     ensures { Bears (S.known facts.now.state.now) word rule.now result }
 {
-    let judged = judge_rule(facts, rule);
     if rule.word == word {
         match judged {
             Judged::Yes => Bearing::Settles,
@@ -87,9 +156,33 @@ fn bearing_of<S: State>(facts: &Facts<'_, S>, rule: &Rule, word: Word) -> Bearin
 
 // Whether a rule is for the machine.
 fn is_for(rule: &Rule, arch: Arch) -> bool
-    ensures { IsTrue result ↔ (rule.now.arch ≡ arch) }
+    ensures { IsTrue result ↔ (token_of rule.now.arch ≡ token_of arch) }
 {
-    rule.arch == arch
+    rule.arch.token() == arch.token()
+}
+
+// How a rule of the record's machine bears on a word, with the last answer to conditions. That of a rule of another
+// number is not asked for.
+fn weigh<'a, S: State>(
+    facts: &Facts<'_, S>,
+    rule: &'a Rule,
+    word: Word,
+    number: Number,
+    last: Answered<'a>,
+) -> (Bearing, Answered<'a>)
+    requires number { IsKnownNumber (S.known facts.now.state.now) rule.now.nr number }
+    requires last { IsAnswered (S.known facts.now.state.now) last }
+    ensures bearing { Bears (S.known facts.now.state.now) word rule.now result.0 }
+    ensures answer { IsAnswered (S.known facts.now.state.now) result.1 }
+{
+    if number.other {
+        if !number.own {
+            return (Bearing::Agrees, last);
+        }
+    }
+    let answer = answer_of(facts, rule, last);
+    let judged = judge_rule(facts, rule, number, answer.judged);
+    (bearing_of(facts, rule, word, judged), answer)
 }
 
 // Whether the rules of a machine agree with a word.
@@ -97,9 +190,17 @@ fn rules_agree<S: State>(profile: &Profile, facts: &Facts<'_, S>, word: Word, ar
     ensures { IsTrue result ↔ RulesAgree profile.now (S.known facts.now.state.now) word arch }
 {
     let mut others = false;
+    let mut numbers = [None; 512];
+    let mut last = Answered {
+        conds: &[],
+        judged: Judged::Yes,
+    };
     for rule in profile.rules() {
         if is_for(rule, arch) {
-            match bearing_of(facts, rule, word) {
+            let number = number_of(facts, &mut numbers, rule.nr);
+            let (bearing, answer) = weigh(facts, rule, word, number, last);
+            last = answer;
+            match bearing {
                 Bearing::Settles => return true,
                 Bearing::Agrees => {}
                 Bearing::Differs => others = true,
@@ -114,7 +215,6 @@ fn rules_agree<S: State>(profile: &Profile, facts: &Facts<'_, S>, word: Word, ar
 
 // Whether a literal follows, or the word is that of what is foreign.
 fn follows_or_kills<S: State>(facts: &Facts<'_, S>, literal: &Lit, word: Word) -> bool
-    requires { index_of literal.now < 16 }
     ensures { IsTrue result ↔ Entails (S.known facts.now.state.now) literal.now ⊎ (word ≡ 0) }
 {
     if word == Word::KILL_THREAD {
@@ -123,9 +223,10 @@ fn follows_or_kills<S: State>(facts: &Facts<'_, S>, literal: &Lit, word: Word) -
     facts.entails(literal)
 }
 
-// Whether x86-64 agrees with a word: an x32 call is foreign.
-fn x86_64_agrees<S: State>(profile: &Profile, facts: &Facts<'_, S>, word: Word) -> bool
-    ensures { IsTrue result ↔ MachineAgrees profile.now (S.known facts.now.state.now) word machine.X86_64 }
+// Whether an x86-64 agrees with a word: an x32 call is foreign.
+fn x86_64_agrees<S: State>(profile: &Profile, facts: &Facts<'_, S>, word: Word, arch: Arch) -> bool
+    requires { token_of arch ≡ token_of machine.X86_64 }
+    ensures { IsTrue result ↔ MachineAgrees profile.now (S.known facts.now.state.now) word arch }
 {
     if !follows_or_kills(facts, &Lit::In(NUMBER, 0, LEAST_X32_NUMBER - 1), word) {
         return false;
@@ -133,17 +234,17 @@ fn x86_64_agrees<S: State>(profile: &Profile, facts: &Facts<'_, S>, word: Word) 
     if facts.entails(&Lit::In(NUMBER, LEAST_X32_NUMBER, u32::MAX)) {
         return true;
     }
-    rules_agree(profile, facts, word, Arch::X86_64)
+    rules_agree(profile, facts, word, arch)
 }
 
 // Whether a machine agrees with a word.
 fn machine_agrees<S: State>(profile: &Profile, facts: &Facts<'_, S>, word: Word, arch: Arch) -> bool
     ensures { IsTrue result ↔ MachineAgrees profile.now (S.known facts.now.state.now) word arch }
 {
-    match arch {
-        Arch::X86_64 => x86_64_agrees(profile, facts, word),
-        Arch::Aarch64 => rules_agree(profile, facts, word, Arch::Aarch64),
+    if has_x32_calls(arch) {
+        return x86_64_agrees(profile, facts, word, arch);
     }
+    rules_agree(profile, facts, word, arch)
 }
 
 // Whether a listed machine is another than the record's, or agrees with a word.

@@ -22,7 +22,8 @@ impl<'a> Checked<'a> {
     ghost use Rattle.std.specs.Prelude.{◌≡◌};
     ghost use Rattle.kernel_check.specs.Lent.{accepted_insns};
     ghost use Rattle.cert_check.specs.Checked.{cert_of, profile_of, program_of};
-    ghost use Rattle.cert_check.specs.Right.{GivesOnly};
+    ghost use Rattle.cert_check.specs.Right.{IsRight};
+    ghost use Rattle.kernel_check.specs.Accepted.{IsAccepted};
 
     /// The profile.
     pub fn profile(&self) -> &'a Profile
@@ -34,8 +35,10 @@ impl<'a> Checked<'a> {
     /// The filter, which the kernel accepts.
     pub fn program(&self) -> Accepted<'a>
         ensures same { accepted_insns result ≡ program_of self.now }
-        ensures right { GivesOnly (profile_of self.now) (program_of self.now) }
+        ensures accepted { IsAccepted (program_of self.now) }
+        ensures right { IsRight (profile_of self.now) (program_of self.now) }
     {
+        self.profile.rules();
         self.program
     }
 

@@ -1,5 +1,5 @@
 //! Whether what is known on an edge gives what its node says.
-ghost use Rattle.std.specs.Prelude.{ℕ, ◌≡◌, ◌≢◌, ◌<◌, ◌++◌, ◌↔◌, IsTrue, MatchOption, All, Contains, slice_get, Some, slice_index_or, length, option_to_list};
+ghost use Rattle.std.specs.Prelude.{ℕ, ◌≡◌, ◌≢◌, ◌<◌, ◌++◌, ◌↔◌, IfSome, IsTrue, MatchOption, All, Contains, slice_get, Some, slice_index_or, length, option_to_list};
 ghost use Rattle.cert_state.specs.declared.literal.AVal.{AVal as TheValue};
 ghost use Rattle.cert_state.specs.declared.literal.AVal.TheVariants.{Unknown};
 ghost use Rattle.cert_state.specs.Entailment.{Entails, IsDead};
@@ -12,7 +12,7 @@ ghost use Rattle.cert_check.specs.inner.Ways.{edge_list, edge_of};
 
 use crate::edges::{Way, Ways};
 use cert_form::{CertView, Kind, NodeView};
-use cert_state::{AVal, Lit, State, With, dead, entails};
+use cert_state::{AVal, Facts, Lit, State, With, dead};
 
 // Whether a node may say this of a register of which that is known.
 fn allows(there: AVal, here: AVal) -> bool
@@ -34,14 +34,19 @@ fn allows_scratch(there: &[AVal; 16], here: &[AVal; 16]) -> bool
     true
 }
 
-// The place after a literal among those of a state from a place on, or none where each of those is another.
+// How many literals are looked at for one that stands in its turn: as many as nodes in a row seldom leave out.
+const AHEAD: usize = 8;
+
+// The place after a literal among the next few of a state from a place on, if it is one of them.
 fn after<S: State>(state: &S, from: usize, wanted: &Lit) -> Option<usize>
     requires { AreAmong (S.rest state.now from) (S.known state.now) }
-    ensures { MatchOption result (All (λ l. l ≢ wanted.now) (S.rest state.now from))
-        (λ next. Contains (S.known state.now) wanted.now × AreAmong (S.rest state.now next) (S.known state.now)) }
+    ensures { IfSome result (λ next. Contains (S.known state.now) wanted.now × AreAmong (S.rest state.now next) (S.known state.now)) }
 {
     let mut at = from;
-    while let Some((literal, next)) = state.next(at) {
+    for _ in 0..AHEAD {
+        let Some((literal, next)) = state.next(at) else {
+            return None;
+        };
         if literal == *wanted {
             return Some(next);
         }
@@ -50,37 +55,95 @@ fn after<S: State>(state: &S, from: usize, wanted: &Lit) -> Option<usize>
     None
 }
 
-// Whether a literal follows. If so, the place from which on the next one is looked for first: nodes in a row know the
-// same literals in the same order, and so each is found in one step.
-fn look<S: State>(known: &With<'_, S>, from: usize, literal: &Lit) -> Option<usize>
+// Whether a literal is the fact of an edge.
+fn is_fact(fact: Option<Lit>, literal: &Lit) -> bool
+    ensures { IsTrue result ↔ (fact ≡ Some literal.now) }
+{
+    fact == Some(*literal)
+}
+
+// The place from which on the next literal is looked for first, where this one stands in its turn or is the fact of the
+// edge: nodes in a row know the same literals in the same order.
+fn in_turn<S: State>(known: &With<'_, S>, from: usize, literal: &Lit) -> Option<usize>
     requires { AreAmong (S.rest known.now.state.now from) (S.known known.now.state.now) }
-    ensures { let all = S.known known.now.state.now ++ option_to_list known.now.more in
-        MatchOption result (Entails all literal.now → ⊥)
-        (λ next. Entails all literal.now × AreAmong (S.rest known.now.state.now next) (S.known known.now.state.now)) }
+    ensures { IfSome result (λ next. Contains (S.known known.now.state.now ++ option_to_list known.now.more) literal.now
+        × AreAmong (S.rest known.now.state.now next) (S.known known.now.state.now)) }
 {
     if let Some(next) = after(known.state, from, literal) {
         return Some(next);
     }
-    if entails(known, literal) {
+    if is_fact(known.more, literal) {
         return Some(from);
     }
     None
 }
 
-// Whether each literal that a node says follows.
-fn entails_all<S: State, T: State>(known: &With<'_, S>, there: &T) -> bool
-    ensures { IsTrue result ↔ All (Entails (S.known known.now.state.now ++ option_to_list known.now.more)) (T.known there.now) }
+// The places, at a node and where its literals are looked for, up to which each one stands in its turn.
+fn first_out_of_turn<S: State, T: State>(known: &With<'_, S>, there: &T) -> (usize, usize)
+    ensures so_far { let all = S.known known.now.state.now ++ option_to_list known.now.more in
+        All (Entails all) (T.rest there.now result.0) ↔ All (Entails all) (T.known there.now) }
+    ensures place { AreAmong (S.rest known.now.state.now result.1) (S.known known.now.state.now) }
 {
     let mut at = there.start();
     let mut from = known.state.start();
     while let Some((literal, next)) = there.next(at) {
-        let Some(later) = look(known, from, &literal) else {
+        let Some(later) = in_turn(known, from, &literal) else {
+            return (at, from);
+        };
+        from = later;
+        at = next;
+    }
+    (at, from)
+}
+
+// Whether a literal follows. If so, the place from which on the next one is looked for first.
+fn look<S: State>(facts: &Facts<'_, With<'_, S>>, from: usize, literal: &Lit) -> Option<usize>
+    requires { AreAmong (S.rest facts.now.state.now.state.now from) (S.known facts.now.state.now.state.now) }
+    ensures { let all = S.known facts.now.state.now.state.now ++ option_to_list facts.now.state.now.more in
+        MatchOption result (Entails all literal.now → ⊥)
+        (λ next. Entails all literal.now × AreAmong (S.rest facts.now.state.now.state.now next) (S.known facts.now.state.now.state.now)) }
+{
+    if let Some(next) = in_turn(facts.state, from, literal) {
+        return Some(next);
+    }
+    if facts.entails(literal) {
+        return Some(from);
+    }
+    None
+}
+
+// Whether each literal follows that a node says from a place on. What is known of each word is gathered once.
+fn follow_from<S: State, T: State>(
+    known: &With<'_, S>,
+    there: &T,
+    start: usize,
+    first: usize,
+) -> bool
+    requires { AreAmong (S.rest known.now.state.now first) (S.known known.now.state.now) }
+    ensures { IsTrue result ↔ All (Entails (S.known known.now.state.now ++ option_to_list known.now.more)) (T.rest there.now start) }
+{
+    let facts = Facts::of(known);
+    let mut at = start;
+    let mut from = first;
+    while let Some((literal, next)) = there.next(at) {
+        let Some(later) = look(&facts, from, &literal) else {
             return false;
         };
         from = later;
         at = next;
     }
     true
+}
+
+// Whether each literal that a node says follows.
+fn entails_all<S: State, T: State>(known: &With<'_, S>, there: &T) -> bool
+    ensures { IsTrue result ↔ All (Entails (S.known known.now.state.now ++ option_to_list known.now.more)) (T.known there.now) }
+{
+    let (at, from) = first_out_of_turn(known, there);
+    if there.next(at).is_none() {
+        return true;
+    }
+    follow_from(known, there, at, from)
 }
 
 // Whether what is known on a way gives what its node says.

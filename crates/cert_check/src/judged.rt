@@ -1,4 +1,5 @@
 //! Answers to questions of which too little may be known.
+use profile::Cond;
 
 /// The answer to a question that may be open.
 #[derive(Clone, Copy)]
@@ -17,4 +18,18 @@ pub(crate) enum Bearing {
     Agrees,
     /// Some record may match it, and it says another word.
     Differs,
+}
+
+/// What is known of a number: whether it is the call's, and whether the call's is another.
+#[derive(Clone, Copy)]
+pub(crate) struct Number {
+    pub(crate) own: bool,
+    pub(crate) other: bool,
+}
+
+/// Conditions, and the answer to them.
+#[derive(Clone, Copy)]
+pub(crate) struct Answered<'a> {
+    pub(crate) conds: &'a [Cond],
+    pub(crate) judged: Judged,
 }

@@ -1,11 +1,13 @@
 -- What is spelled, in whichever form, has no fault, and its nodes are those that are read.
-use Rattle.std.proofs.Common.{◌≡◌, ℕ, List, refl, sym, ◌∙◌, inl, inr}
+use Rattle.std.proofs.Common.{◌≡◌, ℕ, List, refl, sym, ◌∙◌, inl, inr, arith}
+use Rattle.std.specs.Prelude.{IfErr, Result, Ok, Err}
 use Rattle.cert_form.specs.declared.fault.FormError.{FormError}
 use Rattle.cert_form.specs.declared.fault.FormError.TheVariants.{BadMagic, BadVersion, Truncated, BadNode, BadCount, Trailing, OutOfMemory}
 use Rattle.cert_form.specs.Nodes.{PlainNode}
 use Rattle.cert_form.specs.Spelling.{Spells}
 use Rattle.cert_form.specs.Reading.{nodes_in}
-use Rattle.cert_form.specs.Faults.{Faulty, NoneSpelledIsFaulty}
+use Rattle.cert_form.specs.Faults.{Faulty, IsOtherVersion, IsToldFirst, NoneSpelledIsFaulty, OneSpelling}
+use Rattle.cert_form.specs.inner.Standing.{IsTopOfFile}
 use Rattle.cert_form.proofs.ChainedFaults.{chained_no_fault, chained_nodes}
 use Rattle.cert_form.proofs.ListedAgain.{listed_no_fault, listed_nodes}
 
@@ -28,3 +30,12 @@ only_memory bytes ns BadNode s bad = absurd (none_faulty bytes ns BadNode s (λ 
 only_memory bytes ns BadCount s bad = absurd (none_faulty bytes ns BadCount s (λ e. cc) bad)
 only_memory bytes ns Trailing s bad = absurd (none_faulty bytes ns Trailing s (λ e. cc) bad)
 only_memory bytes ns OutOfMemory s bad = refl
+
+pub one_spelling : OneSpelling
+one_spelling bytes ns ms s t = sym (nodes_are bytes ns s) ∙ nodes_are bytes ms t
+
+-- a file with a head has one of the three versions
+pub not_other : {T : Type 0} (r : Result T FormError) (bytes : List ℕ) → IsTopOfFile bytes
+    → IfErr r (λ e. IsOtherVersion bytes → IsToldFirst e bytes)
+not_other (Ok x) bytes top = tt
+not_other (Err e) bytes top = λ other. absurd (omega (arith, top.form, top.known, other.not_1, other.not_2, other.not_3))

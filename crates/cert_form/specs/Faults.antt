@@ -98,6 +98,18 @@ Faulty BadCount bytes = HasBadCount bytes
 Faulty Trailing bytes = place_of bytes (node_count bytes) < length bytes
 Faulty OutOfMemory bytes = version_of bytes ≡ 1
 
+-- The faults that are looked for before the version: with a version that is none of the three, no other is told but the
+-- version itself. So no fault is told of a field that a file does not have.
+abbrev pub IsToldFirst : FormError → List ℕ → Type 0
+IsToldFirst BadMagic bytes = Unit {0}
+IsToldFirst BadVersion bytes = Unit {0}
+IsToldFirst BadCount bytes = 4194304 < length bytes
+IsToldFirst e bytes = ⊥
+
 -- no certificate has a fault of its bytes
 abbrev pub NoneSpelledIsFaulty : Type 0
 NoneSpelledIsFaulty = (bytes : List ℕ) (ns : List PlainNode) (e : FormError) → Spells bytes ns → e ≢ OutOfMemory → Faulty e bytes → ⊥
+
+-- bytes spell one list of nodes at most
+abbrev pub OneSpelling : Type 0
+OneSpelling = (bytes : List ℕ) (ns ms : List PlainNode) → Spells bytes ns → Spells bytes ms → ns ≡ ms

@@ -16,7 +16,7 @@ mod writing;
 
 pub use chain_writing::write_chained;
 pub use fault::FormError;
-pub use law::certificates_have_no_fault;
+pub use law::{certificates_have_no_fault, one_spelling};
 pub use lent::NodeView;
 pub use node::{ChainNode, Kind, Node};
 pub use view::CertView;

@@ -1,6 +1,6 @@
 //! The nodes of a certificate, read in its bytes.
 ghost use Rattle.std.specs.Prelude.{◌≡◌, ◌≢◌, ◌<◌, OnOk, IfErr};
-ghost use Rattle.cert_form.specs.Faults.{Faulty};
+ghost use Rattle.cert_form.specs.Faults.{Faulty, IsOtherVersion, IsToldFirst};
 ghost use Rattle.cert_form.specs.inner.Standing.{IsTopOfFile};
 ghost use Rattle.cert_form.specs.inner.Places.{AreNodesThere, IsHeadThere};
 ghost use Rattle.cert_form.specs.Reading.{node_count, place_of};
@@ -23,7 +23,7 @@ pub struct CertView<'a> {
 
 impl<'a> CertView<'a> {
     ghost use Rattle.std.specs.Prelude.{◌≡◌, ◌<◌, List, Some, IfOk, IfErr, MatchResult, length, slice_get};
-    ghost use Rattle.cert_form.specs.Faults.{Faulty};
+    ghost use Rattle.cert_form.specs.Faults.{Faulty, IsOtherVersion, IsToldFirst};
     ghost use Rattle.cert_form.specs.Nodes.{PlainNode};
     ghost use Rattle.cert_form.specs.Spelling.{Spells};
     ghost use Rattle.cert_form.specs.Views.{nodes_of, says};
@@ -37,6 +37,8 @@ impl<'a> CertView<'a> {
             → MatchResult result (λ view. nodes_of view ≡ ns) (λ e. e ≡ FormError.OutOfMemory) }
         // An error's fault stands in the bytes.
         ensures fault { IfErr result (λ e. Faulty e bytes.now) }
+        // Of another version nothing is told that stands behind it.
+        ensures version { IfErr result (λ e. IsOtherVersion bytes.now → IsToldFirst e bytes.now) }
     {
         judge_head(bytes)?;
         if read_long(bytes, 4) == 1 {
@@ -73,6 +75,7 @@ impl<'a> CertView<'a> {
 fn judge_head(bytes: &[u8]) -> Result<(), FormError>
     ensures sound { OnOk result (IsTopOfFile bytes.now) }
     ensures fault { IfErr result (λ e. Faulty e bytes.now × (e ≢ FormError.OutOfMemory)) }
+    ensures version { IfErr result (λ e. IsOtherVersion bytes.now → IsToldFirst e bytes.now) }
 {
     if bytes.len() > 4194304 {
         return Err(FormError::BadCount);

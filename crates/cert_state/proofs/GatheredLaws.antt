@@ -1,11 +1,13 @@
 -- What follows of a word, by what was gathered of it.
 use Rattle.std.proofs.Common.{◌≡◌, ℕ, ◌≤◌, List, sym, subst, arith, inl, inr, ◌↔◌}
-use Rattle.std.specs.Prelude.{bit_and}
+use Rattle.std.specs.Prelude.{Contains, bit_and}
+use Rattle.std.specs.Int.Bits.{and_self}
 use Rattle.std.proofs.lemmas.Bool.{cases_lt}
 use Rattle.cert_state.specs.declared.literal.Lit.{Lit}
+use Rattle.cert_state.specs.declared.literal.Lit.TheVariants.{NotBits}
 use Rattle.cert_state.specs.declared.gathered.WordFacts.{WordFacts}
 use Rattle.cert_state.specs.Points.{AreKnown, IsMissed, IsWithin, NoneBetween, datum_of, mask_of}
-use Rattle.cert_state.specs.Entailment.{Differ, IsBounded, IsOnePoint}
+use Rattle.cert_state.specs.Entailment.{Differ, IsBounded, IsExcluded, IsOnePoint}
 use Rattle.cert_state.specs.inner.Gathered.{AreFactsOf}
 use Rattle.cert_state.proofs.RangeLaws.{bounded_at, missed_at, one_point_at}
 
@@ -48,3 +50,7 @@ module _ (ls : List Lit) (w : ℕ) (f : WordFacts) (so : AreFactsOf ls w f) wher
     λ h. subst (λ x. Differ x f.datum m d) (sym so.mask) (subst (λ x. Differ (mask_of ls w) x m d) (sym so.datum) h),
     λ h. subst (λ x. Differ x (datum_of ls w) m d) so.mask (subst (λ x. Differ f.mask x m d) so.datum h),
   )
+
+-- a NotBits that is stated excludes its own datum, where no bit of that lies outside the mask
+pub excludes_itself : (ls : List Lit) (w m d : ℕ) → Contains ls (NotBits w m d) → bit_and d m ≡ d → IsExcluded ls w m d
+excludes_itself ls w m d has exact = record { mask = m; datum = d; stated = has; within = and_self m; same = exact }

@@ -8,3 +8,5 @@ pub mod WindowLaws
 pub mod SummaryLaws
 pub mod RangeLaws
 pub mod GatheredLaws
+pub mod WordLaws
+pub mod SortedLaws

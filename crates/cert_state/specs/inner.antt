@@ -2,3 +2,4 @@ pub mod Summary
 pub mod Window
 pub mod Exclusion
 pub mod Gathered
+pub mod Sorted

@@ -1,10 +1,10 @@
 //! What follows from what is known, and what can not be so.
 ghost use Rattle.std.specs.Prelude.{◌≡◌, ◌↔◌, ℕ, IsTrue, Contains};
-ghost use Rattle.cert_state.specs.declared.literal.Lit.TheVariants.{In, Bits, NotBits};
-ghost use Rattle.cert_state.specs.Points.{AreKnown, IsMissed, NoneBetween, datum_of, mask_of};
-ghost use Rattle.cert_state.specs.Entailment.{Derives, Differ, Entails, IsDead, IsDeadAt, IsExcluded, IsBounded, IsOnePoint};
+ghost use Rattle.cert_state.specs.Points.{NoneBetween};
+ghost use Rattle.cert_state.specs.Entailment.{Entails, IsDead, IsDeadAt, IsExcluded};
 ghost use Rattle.cert_state.specs.inner.Exclusion.{IsSuch};
 
+use crate::gathered::{briefly_of, gives};
 use crate::literal::Lit;
 use crate::points::range;
 use crate::state::State;
@@ -30,7 +30,7 @@ fn excludes(literal: Lit, word: u8, mask: u32, datum: u32) -> bool
     ensures { IsTrue result ↔ IsSuch word mask datum literal }
 {
     match literal {
-        Lit::NotBits(w, m, d) => w == word && m & mask == m && datum & m == d,
+        Lit::NotBits(w, m, d) => datum & m == d && m & mask == m && w == word,
         _ => false,
     }
 }
@@ -59,77 +59,11 @@ pub(crate) fn none_between(low: u32, high: u32, mask: u32, datum: u32) -> bool
     }
 }
 
-// Whether no number from the least to the greatest point has the datum under the mask.
-fn is_missed<S: State>(state: &S, word: u8, mask: u32, datum: u32) -> bool
-    ensures { IsTrue result ↔ IsMissed (S.known state.now) word mask datum }
-{
-    match range(state, word) {
-        Some((low, high)) => none_between(low, high, mask, datum),
-        None => false,
-    }
-}
-
-// Whether the points lie from `low` to `high`.
-fn is_bounded<S: State>(state: &S, word: u8, low: u32, high: u32) -> bool
-    ensures { IsTrue result ↔ IsBounded (S.known state.now) word low high }
-{
-    match range(state, word) {
-        Some((least, greatest)) => low <= least && greatest <= high,
-        None => false,
-    }
-}
-
-// Whether there is just one point, with the datum under the mask.
-fn is_one_point<S: State>(state: &S, word: u8, mask: u32, datum: u32) -> bool
-    ensures { IsTrue result ↔ IsOnePoint (S.known state.now) word mask datum }
-{
-    match range(state, word) {
-        Some((least, greatest)) => least == greatest && least & mask == datum,
-        None => false,
-    }
-}
-
-// Whether the `Bits` of a word say the datum under the mask.
-fn are_known<S: State>(state: &S, word: u8, mask: u32, datum: u32) -> bool
-    ensures { IsTrue result ↔ AreKnown (S.known state.now) word mask datum }
-{
-    let summary = summarize(state, word);
-    mask & summary.mask == mask && summary.datum & mask == datum
-}
-
-// Whether they say another one.
-fn differ<S: State>(state: &S, word: u8, mask: u32, datum: u32) -> bool
-    ensures { IsTrue result ↔ Differ (mask_of (S.known state.now) word) (datum_of (S.known state.now) word) mask datum }
-{
-    let summary = summarize(state, word);
-    summary.mask & mask & (summary.datum ^ datum) != 0
-}
-
-// Whether the literals of a word say that it has not the datum under the mask.
-fn rules_out<S: State>(state: &S, word: u8, mask: u32, datum: u32) -> bool
-    ensures { IsTrue result ↔ Derives (S.known state.now) (NotBits word mask datum) }
-{
-    if differ(state, word, mask, datum) {
-        return true;
-    }
-    if is_excluded(state, word, mask, datum) {
-        return true;
-    }
-    is_missed(state, word, mask, datum)
-}
-
 /// Whether a literal follows from those of a state: it is stated, or the others of its word give it.
 pub fn entails<S: State>(state: &S, literal: &Lit) -> bool
     ensures { IsTrue result ↔ Entails (S.known state.now) literal.now }
 {
-    if states(state, literal) {
-        return true;
-    }
-    match *literal {
-        Lit::In(w, low, high) => is_bounded(state, w, low, high),
-        Lit::Bits(w, m, d) => are_known(state, w, m, d) || is_one_point(state, w, m, d),
-        Lit::NotBits(w, m, d) => rules_out(state, w, m, d),
-    }
+    gives(state, &briefly_of(state, literal.word()), literal)
 }
 
 // Whether the literals of a word can not all be true.

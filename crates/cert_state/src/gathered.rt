@@ -1,10 +1,11 @@
-//! What a state says of each word, gathered once for a state that is asked often.
+//! What the literals of a word say of it, gathered; and what follows of the word.
 ghost use Rattle.std.specs.Prelude.{◌≡◌, ◌↔◌, ◌<◌, ◌≤◌, IsTrue, All, bit_and};
 ghost use Rattle.cert_state.specs.declared.literal.Lit.TheVariants.{In, Bits, NotBits};
 ghost use Rattle.cert_state.specs.declared.gathered.WordFacts.{WordFacts as TheFacts};
+ghost use Rattle.cert_state.specs.Literals.{index_of};
 ghost use Rattle.cert_state.specs.Points.{HasNoPoint, IsRange, IsWithin, NoneBetween};
 ghost use Rattle.cert_state.specs.Entailment.{Differ, Entails};
-ghost use Rattle.cert_state.specs.inner.Gathered.{AreFactsOf, AreGathered, AreGathered-prop, Follows, IsOther};
+ghost use Rattle.cert_state.specs.inner.Gathered.{AreFactsOf, Follows, IsExact, IsOther};
 
 use crate::entailment::{is_excluded, none_between, states};
 use crate::literal::Lit;
@@ -14,10 +15,10 @@ use crate::summary::summarize;
 
 /// What the literals of one word say of it.
 #[derive(Clone, Copy)]
-struct WordFacts {
+pub(crate) struct WordFacts {
     /// Its least and its greatest point. Where it has none, the first is above the second.
-    low: u32,
-    high: u32,
+    pub(crate) low: u32,
+    pub(crate) high: u32,
     /// The union of the masks of its `Bits`, and of their data.
     mask: u32,
     datum: u32,
@@ -25,16 +26,19 @@ struct WordFacts {
     whole: bool,
     /// Whether none of its literals is a `NotBits`.
     free: bool,
+    /// Whether the datum of each of its `NotBits` has no bit outside the mask.
+    exact: bool,
 }
 
 // What is known of a word of which no literal speaks.
-const NOTHING: WordFacts = WordFacts {
+pub(crate) const NOTHING: WordFacts = WordFacts {
     low: 0,
     high: u32::MAX,
     mask: 0,
     datum: 0,
     whole: true,
     free: true,
+    exact: true,
 };
 
 // Whether a literal, if it is a `Bits` of the word, follows from the union of masks and that of data.
@@ -92,6 +96,36 @@ fn all_other<S: State>(state: &S, word: u8) -> bool
     true
 }
 
+// Whether the datum of a literal, if it is a `NotBits` of the word, has no bit outside the mask.
+fn is_exact(literal: Lit, word: u8) -> bool
+    ensures { IsTrue result ↔ IsExact word literal }
+{
+    match literal {
+        Lit::NotBits(w, m, d) => {
+            if w != word {
+                return true;
+            }
+            d & m == d
+        }
+        Lit::In(_, _, _) => true,
+        Lit::Bits(_, _, _) => true,
+    }
+}
+
+// Whether this is so of each one.
+fn all_exact<S: State>(state: &S, word: u8) -> bool
+    ensures { IsTrue result ↔ All (IsExact word) (S.known state.now) }
+{
+    let mut at = state.start();
+    while let Some((literal, next)) = state.next(at) {
+        if !is_exact(literal, word) {
+            return false;
+        }
+        at = next;
+    }
+    true
+}
+
 // The least and the greatest point of a word, or two numbers of which the first is above the second.
 fn ends_of<S: State>(state: &S, word: u8) -> (u32, u32)
     ensures some { result.0 ≤ result.1 → IsRange (S.known state.now) word result.0 result.1 }
@@ -103,8 +137,25 @@ fn ends_of<S: State>(state: &S, word: u8) -> (u32, u32)
     }
 }
 
-// What a state says of a word.
-fn facts_of<S: State>(state: &S, word: u8) -> WordFacts
+/// What a state says of a word that is asked about once: whether more follows than is gathered is left open.
+pub(crate) fn briefly_of<S: State>(state: &S, word: u8) -> WordFacts
+    ensures { AreFactsOf (S.known state.now) word result }
+{
+    let summary = summarize(state, word);
+    let (low, high) = ends_of(state, word);
+    WordFacts {
+        low,
+        high,
+        mask: summary.mask,
+        datum: summary.datum,
+        whole: false,
+        free: false,
+        exact: false,
+    }
+}
+
+/// What a state says of a word.
+pub(crate) fn facts_of<S: State>(state: &S, word: u8) -> WordFacts
     ensures { AreFactsOf (S.known state.now) word result }
 {
     let summary = summarize(state, word);
@@ -116,18 +167,8 @@ fn facts_of<S: State>(state: &S, word: u8) -> WordFacts
         datum: summary.datum,
         whole: all_follow(state, word, summary.mask, summary.datum),
         free: all_other(state, word),
+        exact: all_exact(state, word),
     }
-}
-
-// What a state says of each word.
-fn gather<S: State>(state: &S) -> [WordFacts; 16]
-    ensures { AreGathered (S.known state.now) result }
-{
-    let mut words = [NOTHING; 16];
-    for i in 0..16_usize {
-        words[i] = facts_of(state, i as u8);
-    }
-    words
 }
 
 // Whether the points of a word lie from `low` to `high`.
@@ -223,67 +264,20 @@ fn excludes<S: State>(state: &S, facts: &WordFacts, word: u8, mask: u32, datum: 
     if is_excluded(state, word, mask, datum) {
         return true;
     }
+    if facts.exact {
+        return false;
+    }
     states(state, &Lit::NotBits(word, mask, datum))
 }
 
-/// A state with what it says of each word, gathered once: most questions cost a few comparisons, where [`entails`]
-/// walks over the literals.
-///
-/// [`entails`]: crate::entails
-#[derive(Drop)]
-pub struct Facts<'a, S: State> {
-    pub state: &'a S,
-    words: [WordFacts; 16],
-    ghost gathered: { AreGathered (S.known state.now) words } by { AreGathered-prop (S.known state.now) words },
-}
-
-impl<'a, S: State> Facts<'a, S> {
-    ghost use Rattle.std.specs.Prelude.{◌≡◌, ◌↔◌, ◌<◌, IsTrue, MatchOption};
-    ghost use Rattle.cert_state.specs.Literals.{index_of};
-    ghost use Rattle.cert_state.specs.Points.{HasNoPoint, IsRange};
-    ghost use Rattle.cert_state.specs.Entailment.{Entails};
-    ghost use Rattle.cert_state.specs.inner.Gathered.{AreFactsOf};
-
-    /// What a state says of each word.
-    pub fn of(state: &'a S) -> Facts<'a, S>
-        ensures { result.state.now ≡ state.now }
-    {
-        Facts {
-            state,
-            words: gather(state),
-        }
-    }
-
-    // What was gathered of a word.
-    fn of_word(&self, word: u8) -> WordFacts
-        requires { word < 16 }
-        ensures { AreFactsOf (S.known self.now.state.now) word result }
-    {
-        self.words[word as usize]
-    }
-
-    /// Whether a literal of one of the record's words follows from those of the state.
-    pub fn entails(&self, literal: &Lit) -> bool
-        requires { index_of literal.now < 16 }
-        ensures { IsTrue result ↔ Entails (S.known self.now.state.now) literal.now }
-    {
-        match *literal {
-            Lit::In(w, low, high) => bounds(self.state, &self.of_word(w), w, low, high),
-            Lit::Bits(w, m, d) => fixes(self.state, &self.of_word(w), w, m, d),
-            Lit::NotBits(w, m, d) => excludes(self.state, &self.of_word(w), w, m, d),
-        }
-    }
-
-    /// The least and the greatest point of a word, if it has one.
-    pub fn range(&self, word: u8) -> Option<(u32, u32)>
-        requires { word < 16 }
-        ensures { let known = S.known self.now.state.now in
-            MatchOption result (HasNoPoint known word) (λ p. IsRange known word p.0 p.1) }
-    {
-        let facts = self.of_word(word);
-        if facts.low > facts.high {
-            return None;
-        }
-        Some((facts.low, facts.high))
+/// Whether a literal follows, by what was gathered of its word.
+pub(crate) fn gives<S: State>(state: &S, facts: &WordFacts, literal: &Lit) -> bool
+    requires { AreFactsOf (S.known state.now) (index_of literal.now) facts.now }
+    ensures { IsTrue result ↔ Entails (S.known state.now) literal.now }
+{
+    match *literal {
+        Lit::In(w, low, high) => bounds(state, facts, w, low, high),
+        Lit::Bits(w, m, d) => fixes(state, facts, w, m, d),
+        Lit::NotBits(w, m, d) => excludes(state, facts, w, m, d),
     }
 }

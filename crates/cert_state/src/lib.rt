@@ -12,13 +12,14 @@ mod gathered;
 mod laws;
 mod literal;
 mod points;
+mod sorted;
 mod state;
 mod summary;
 
 pub use after::{edge_fact, transfer};
 pub use entailment::{dead, entails};
-pub use gathered::Facts;
 pub use laws::{dead_is_sound, edge_fact_is_sound, entails_is_sound, transfer_is_sound};
 pub use literal::{AVal, Lit, Regs};
 pub use points::range;
+pub use sorted::Facts;
 pub use state::{Listed, State, With};

@@ -11,6 +11,20 @@ pub enum Lit {
     NotBits(u8, u32, u32),
 }
 
+impl Lit {
+    ghost use Rattle.std.specs.Prelude.{◌≡◌};
+    ghost use Rattle.cert_state.specs.Literals.{index_of};
+
+    /// The index of the word of which it speaks.
+    pub fn word(self) -> u8
+        ensures { result ≡ index_of self }
+    {
+        match self {
+            Lit::In(word, _, _) | Lit::Bits(word, _, _) | Lit::NotBits(word, _, _) => word,
+        }
+    }
+}
+
 /// What is known of a register or of a scratch word.
 #[derive(Clone, Copy, Debug, PartialEq, Eq)]
 pub enum AVal {

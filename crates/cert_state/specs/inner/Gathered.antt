@@ -1,5 +1,5 @@
--- What was gathered of a word, and of each.
-use Rattle.std.specs.Prelude.{◌≡◌, ◌≢◌, ℕ, ◌<◌, ◌≤◌, ⊤, true, List, Contains, bit_and, slice_index_or}
+-- What was gathered of a word.
+use Rattle.std.specs.Prelude.{◌≡◌, ◌≢◌, ℕ, ◌<◌, ◌≤◌, ⊤, true, List, Contains, bit_and}
 use Rattle.std.proofs.Props.{props}
 use Rattle.cert_state.specs.declared.literal.Lit.{Lit}
 use Rattle.cert_state.specs.declared.literal.Lit.TheVariants.{In, Bits, NotBits}
@@ -19,6 +19,12 @@ IsOther w (NotBits v m d) = v ≢ w
 IsOther w (In v lo hi) = ⊤
 IsOther w (Bits v m d) = ⊤
 
+-- the datum of a literal, if it is a NotBits of w, has no bit outside the mask
+abbrev pub IsExact : ℕ → Lit → Type 0
+IsExact w (NotBits v m d) = v ≡ w → bit_and d m ≡ d
+IsExact w (In v lo hi) = ⊤
+IsExact w (Bits v m d) = ⊤
+
 -- what was gathered of w is what the literals say of it
 pub record AreFactsOf (lits : List Lit) (w : ℕ) (facts : WordFacts) : Type 0 where
   pub range : facts.low ≤ facts.high → IsRange lits w facts.low facts.high
@@ -27,10 +33,7 @@ pub record AreFactsOf (lits : List Lit) (w : ℕ) (facts : WordFacts) : Type 0 w
   pub datum : facts.datum ≡ datum_of lits w
   pub whole : facts.whole ≡ true → (m d : ℕ) → Contains lits (Bits w m d) → AreKnown lits w m d
   pub free : facts.free ≡ true → (m d : ℕ) → Contains lits (NotBits w m d) → ⊥
-
--- and so of each of the sixteen words
-abbrev pub AreGathered : List Lit → List WordFacts → Type 0
-AreGathered lits words = (w : ℕ) (facts : WordFacts) → w < 16 → AreFactsOf lits w (slice_index_or words w facts)
+  pub exact : facts.exact ≡ true → (m d : ℕ) → Contains lits (NotBits w m d) → bit_and d m ≡ d
 
 -- all of this has at most one proof
 Meets-prop : (l : Lit) (u : ℕ) → IsProp (Meets l u)
@@ -41,8 +44,5 @@ Meets-prop (NotBits w m d) u = hlevel props
 IsRange-prop : (lits : List Lit) (w lo hi : ℕ) → IsProp (IsRange lits w lo hi)
 IsRange-prop lits w lo hi = hlevel (props, Meets-prop)
 
-AreFactsOf-prop : (lits : List Lit) (w : ℕ) (facts : WordFacts) → IsProp (AreFactsOf lits w facts)
+pub AreFactsOf-prop : (lits : List Lit) (w : ℕ) (facts : WordFacts) → IsProp (AreFactsOf lits w facts)
 AreFactsOf-prop lits w facts = hlevel (props, IsRange-prop)
-
-pub AreGathered-prop : (lits : List Lit) (words : List WordFacts) → IsProp (AreGathered lits words)
-AreGathered-prop lits words = hlevel (props, AreFactsOf-prop)

@@ -1,26 +1,17 @@
-use Rattle.std.proofs.Common.{◌≡◌, true, false, refl, inl, inr}
+use Rattle.std.proofs.Common.{subst, inr}
+use Rattle.cert_check.specs.inner.Judged.{AreYes, IsJudged, SomeIsNo}
 use Rattle.cert_check.proofs.agree.judge_rule.Goals as goal
 
-pub returns-then-entails-2 : goal.returns-then-entails-2
-returns-then-entails-2 g c = (inl (c.if-entails-2.ensures.0 refl), λ holds. let e : false ≡ true = c.if-entails.ensures.1 holds.0 in cc)
-
-pub returns-in-Yes : goal.returns-in-Yes
-returns-in-Yes g c = (
-  λ holds. let e : false ≡ true = c.if-entails.ensures.1 holds.0 in cc,
-  λ fails. elim fails.0 [
-    | inl another ↦ let e : false ≡ true = c.if-entails-2.ensures.1 another in cc
-    | inr some ↦ some.2.1 (c.in-Yes.ensures some.0 some.1)
-  ],
-)
-
 pub returns-in-No : goal.returns-in-No
-returns-in-No g c = (inr c.in-No.ensures, λ holds. let e : false ≡ true = c.if-entails.ensures.1 holds.0 in cc)
+returns-in-No g c =
+    let known = g.S.State.known c.args.facts.now.state.now in
+    let conds = c.args.rule.now.conds.items in
+    let some = subst (IsJudged (AreYes known conds) (SomeIsNo known conds)) c.in-No.is c.requires.conds in
+    (inr some, λ holds. some.2.1 (holds.1 some.0 some.1))
 
-pub returns-in-Open : goal.returns-in-Open
-returns-in-Open g c = (
-  λ holds. let e : false ≡ true = c.if-entails.ensures.1 holds.0 in cc,
-  λ fails. elim fails.0 [
-    | inl another ↦ let e : false ≡ true = c.if-entails-2.ensures.1 another in cc
-    | inr some ↦ c.in-Open.ensures.1 some
-  ],
-)
+pub returns-then-number : goal.returns-then-number
+returns-then-number g c =
+    let known = g.S.State.known c.args.facts.now.state.now in
+    let conds = c.args.rule.now.conds.items in
+    let all = subst (IsJudged (AreYes known conds) (SomeIsNo known conds)) c.in-Yes.is c.requires.conds in
+    (c.requires.number.0.0 c.if-number.true, all)

@@ -1,5 +1,9 @@
-use Rattle.cert_check.specs.inner.Judged.{RulesSoFar}
+use Rattle.cert_check.specs.inner.Judged.{AreKnownNumbers, IsAnswered, RulesSoFar}
 use Rattle.cert_check.proofs.agree.rules_agree.Given as goal
 
 abbrev pub invariant-loop-rule : goal.invariant-loop-rule
-invariant-loop-rule g l = RulesSoFar (g.S.State.known l.facts.state.now) l.word l.arch l.rule-items l.rule-index l.others
+invariant-loop-rule g l = record {
+  rules : RulesSoFar (g.S.State.known l.facts.state.now) l.word l.arch l.rule-items l.rule-index l.others;
+  numbers : AreKnownNumbers (g.S.State.known l.facts.state.now) l.numbers;
+  last : IsAnswered (g.S.State.known l.facts.state.now) l.last;
+}

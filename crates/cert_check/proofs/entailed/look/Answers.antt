@@ -1,13 +1,8 @@
 use Rattle.std.proofs.Common.{◌≡◌, true, false, refl, inl}
-use Rattle.std.specs.Prelude.{option_to_list}
-use Rattle.std.proofs.lemmas.List.Elements.{Contains-append_left}
 use Rattle.cert_check.proofs.entailed.look.Goals as goal
 
 pub returns-in-Some : goal.returns-in-Some
-returns-in-Some g c = (
-  inl (Contains-append_left (g.S.State.known c.args.known.now.state.now) (option_to_list c.args.known.now.more) c.args.literal.now c.in-Some.ensures.0),
-  c.in-Some.ensures.1,
-)
+returns-in-Some g c = (inl c.in-Some.ensures.0, c.in-Some.ensures.1)
 
 pub returns-then-entails : goal.returns-then-entails
 returns-then-entails g c = (c.if-entails.ensures.0 refl, c.requires)

@@ -3,7 +3,7 @@ use Rattle.std.specs.Prelude.{◌≢◌}
 use Rattle.std.proofs.lemmas.Result.{err_from_is_err_and}
 use Rattle.cert_form.specs.Views.{nodes_of}
 use Rattle.cert_form.specs.Reading.{version_of}
-use Rattle.cert_form.proofs.SpellingLaws.{nodes_are, only_memory}
+use Rattle.cert_form.proofs.SpellingLaws.{nodes_are, not_other, only_memory}
 use Rattle.cert_form.proofs.ViewLaws.{head_listed, nodes_listed, head_chained, nodes_chained, spells_listed, spells_chained}
 use Rattle.cert_form.proofs.view.CertView.read.Goals as goal
 
@@ -60,3 +60,15 @@ returns-clause-found c =
 pub returns-clause-only : goal.returns-clause-only
 unfolding nodes_of
 returns-clause-only c = λ ns s. nodes_are c.args.bytes.now ns s
+
+pub returns-in_err-offsets-clause-version : goal.returns-in_err-offsets-clause-version
+returns-in_err-offsets-clause-version c = not_other c.from_residual-in_err-offsets.result c.args.bytes.now c.in_ok-judge_head.ensures.sound
+
+pub returns-in_err-judge_all-clause-version : goal.returns-in_err-judge_all-clause-version
+returns-in_err-judge_all-clause-version c = not_other c.from_residual-in_err-judge_all.result c.args.bytes.now
+    c.in_ok-judge_head.ensures.sound
+
+pub returns-in_err-judge_head-clause-version : goal.returns-in_err-judge_head-clause-version
+returns-in_err-judge_head-clause-version c =
+    let p = err_from_is_err_and c.from_residual.result c.from_residual.ensures.1 in
+    rw (p.1, p.2) c.in_err-judge_head.ensures.version

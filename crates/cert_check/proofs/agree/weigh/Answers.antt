@@ -1,0 +1,22 @@
+use Rattle.std.proofs.Common.{◌≡◌, Bool, true, false, not, subst, inl, List}
+use Rattle.profile.specs.declared.conditions.Cond.{Cond}
+use Rattle.cert_check.specs.inner.Judged.{AreYes, IsJudged, SomeIsNo}
+use Rattle.cert_check.proofs.agree.weigh.Goals as goal
+
+-- a test has one answer
+apart : (b : Bool) → not b ≡ true → b ≡ true → ⊥
+apart true untrue is = let e : false ≡ true = untrue in cc
+apart false untrue is = let e : false ≡ true = is in cc
+
+pub returns-then-not-number-clause-bearing : goal.returns-then-not-number-clause-bearing
+returns-then-not-number-clause-bearing g c =
+    let number = c.requires.number in (
+      λ holds _. absurd (apart c.args.number.own c.if-not-number.true (number.0.1 holds.0)),
+      inl (inl (number.1.0 c.if-number.true), λ holds. apart c.args.number.own c.if-not-number.true (number.0.1 holds.0)),
+    )
+
+pub judge_rule-judged-requires-clause-conds : goal.judge_rule-judged-requires-clause-conds
+judge_rule-judged-requires-clause-conds g c =
+    let known = g.S.State.known c.args.facts.now.state.now in
+    subst (λ (cs : List Cond). IsJudged (AreYes known cs) (SomeIsNo known cs) c.answer_of-answer.result.judged)
+    c.answer_of-answer.ensures.conds c.answer_of-answer.ensures.answer

@@ -1,0 +1,14 @@
+use Rattle.std.proofs.Common.{◌↔◌, ◌++◌, length}
+use Rattle.std.specs.Prelude.{All, option_to_list}
+use Rattle.cert_state.specs.Entailment.{Entails}
+use Rattle.cert_check.specs.inner.Among.{AreAmong}
+use Rattle.cert_check.proofs.entailed.first_out_of_turn.Given as goal
+
+abbrev pub invariant-loop-literal : goal.invariant-loop-literal
+invariant-loop-literal g l =
+    (All (Entails (g.S.State.known l.known.state.now ++ option_to_list l.known.more)) (g.T.State.rest l.there l.at)
+    ↔ All (Entails (g.S.State.known l.known.state.now ++ option_to_list l.known.more)) (g.T.State.known l.there))
+    × AreAmong (g.S.State.rest l.known.state.now l.from) (g.S.State.known l.known.state.now)
+
+abbrev pub decreases-loop-literal : goal.decreases-loop-literal
+decreases-loop-literal g l = length (g.T.State.rest l.there l.at)

@@ -1,0 +1,17 @@
+use Rattle.std.proofs.Common.{◌≡◌, ◌≤◌, ◌++◌, length, take}
+use Rattle.cert_state.specs.inner.Sorted.{of_word}
+use Rattle.cert_state.proofs.sorted.put_word.Given as goal
+
+-- what is put so far, and what is left to put
+abbrev pub invariant-loop-literal : goal.invariant-loop-literal
+invariant-loop-literal g l = record {
+  ordered : l.from ≤ l.to;
+  within : l.to ≤ 513;
+  room : length l.lits ≡ 513;
+  before : take l.from l.lits ≡ take l.from l.initial.lits;
+  put : take l.to l.lits ++ of_word l.word (g.S.State.rest l.state l.at)
+      ≡ take l.from l.initial.lits ++ of_word l.word (g.S.State.known l.state);
+}
+
+abbrev pub decreases-loop-literal : goal.decreases-loop-literal
+decreases-loop-literal g l = length (g.S.State.rest l.state l.at)
