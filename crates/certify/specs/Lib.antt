@@ -1,1 +1,5 @@
 pub mod Fault
+pub mod Own
+pub mod Tables
+pub mod inner
+pub mod Conviction

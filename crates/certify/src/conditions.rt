@@ -1,9 +1,10 @@
 //! Whether what is known settles a condition, and of which words that is known.
 ghost use Rattle.std.specs.Prelude.{◌<◌};
 
+use crate::known::Known;
 use crate::split::Split;
 use crate::words::Words;
-use cert_state::{Facts, Lit, State};
+use cert_state::Lit;
 use profile::{Cond, Op};
 
 /// How far a condition or a rule is settled.
@@ -38,13 +39,13 @@ fn whole(high: u32, low: u32) -> u64 {
 }
 
 // Whether half of an argument has its bits.
-fn judge_half<S: State>(facts: &Facts<'_, S>, half: Half) -> Judged
+fn judge_half(known: &Known, half: Half) -> Judged
     requires { half.word < 16 }
 {
     let Half { word, mask, datum } = half;
-    if facts.entails(&Lit::Bits(word, mask, datum)) {
+    if known.entails(Lit::Bits(word, mask, datum)) {
         Judged::Yes(Words::of(word))
-    } else if facts.entails(&Lit::NotBits(word, mask, datum)) {
+    } else if known.entails(Lit::NotBits(word, mask, datum)) {
         Judged::No(Words::of(word))
     } else {
         Judged::Open(Split::bits(word, mask, datum))
@@ -52,12 +53,12 @@ fn judge_half<S: State>(facts: &Facts<'_, S>, half: Half) -> Judged
 }
 
 // Whether both halves have their bits.
-fn judge_bits<S: State>(facts: &Facts<'_, S>, above: Half, below: Half) -> Judged
+fn judge_bits(known: &Known, above: Half, below: Half) -> Judged
     requires above { above.word < 16 }
     requires below { below.word < 16 }
 {
-    let below = judge_half(facts, below);
-    match judge_half(facts, above) {
+    let below = judge_half(known, below);
+    match judge_half(known, above) {
         Judged::No(words) => Judged::No(words),
         Judged::Yes(words) => match below {
             Judged::Yes(more) => Judged::Yes(words.and(more)),
@@ -71,7 +72,7 @@ fn judge_bits<S: State>(facts: &Facts<'_, S>, above: Half, below: Half) -> Judge
 }
 
 // Whether an argument has these bits under a mask.
-fn judge_masked<S: State>(facts: &Facts<'_, S>, word: u8, mask: u64, datum: u64) -> Judged
+fn judge_masked(known: &Known, word: u8, mask: u64, datum: u64) -> Judged
     requires { word < 15 }
 {
     let above = Half {
@@ -84,7 +85,7 @@ fn judge_masked<S: State>(facts: &Facts<'_, S>, word: u8, mask: u64, datum: u64)
         mask: low(mask),
         datum: low(datum),
     };
-    judge_bits(facts, above, below)
+    judge_bits(known, above, below)
 }
 
 fn not(judged: Judged) -> Judged {
@@ -104,11 +105,11 @@ fn cut_low(word: u8, op: Op, value: u32) -> Option<Split> {
 }
 
 // Whether a comparison by order has one answer at both ends.
-fn judge_order<S: State>(facts: &Facts<'_, S>, word: u8, cond: &Cond) -> Judged
+fn judge_order(known: &Known, word: u8, cond: &Cond) -> Judged
     requires { word < 15 }
 {
-    let (least, greatest) = facts.range(word).unwrap_or((0, u32::MAX));
-    let (from, to) = facts.range(word + 1).unwrap_or((0, u32::MAX));
+    let (least, greatest) = known.range(word).unwrap_or((0, u32::MAX));
+    let (from, to) = known.range(word + 1).unwrap_or((0, u32::MAX));
     let at_least = cond.holds(whole(from, least));
     let at_most = cond.holds(whole(to, greatest));
     if at_least != at_most {
@@ -144,22 +145,22 @@ fn cut(word: u8, cond: &Cond, from: u32, to: u32) -> Option<Split>
 }
 
 /// Whether a condition is met.
-pub(crate) fn judge_condition<S: State>(facts: &Facts<'_, S>, cond: &Cond) -> Judged {
+pub(crate) fn judge_condition(known: &Known, cond: &Cond) -> Judged {
     let word = 4 + 2 * cond.index;
     match cond.op {
-        Op::Eq => judge_masked(facts, word, u64::MAX, cond.value),
-        Op::Ne => not(judge_masked(facts, word, u64::MAX, cond.value)),
-        Op::MaskedEq => judge_masked(facts, word, cond.value, cond.datum),
-        Op::Lt | Op::Le | Op::Ge | Op::Gt => judge_order(facts, word, cond),
+        Op::Eq => judge_masked(known, word, u64::MAX, cond.value),
+        Op::Ne => not(judge_masked(known, word, u64::MAX, cond.value)),
+        Op::MaskedEq => judge_masked(known, word, cond.value, cond.datum),
+        Op::Lt | Op::Le | Op::Ge | Op::Gt => judge_order(known, word, cond),
     }
 }
 
 /// Whether all conditions are met.
-pub(crate) fn judge_conditions<S: State>(facts: &Facts<'_, S>, conds: &[Cond]) -> Judged {
+pub(crate) fn judge_conditions(known: &Known, conds: &[Cond]) -> Judged {
     let mut words = Words::NONE;
     let mut open = None;
     for cond in conds {
-        match judge_condition(facts, cond) {
+        match judge_condition(known, cond) {
             Judged::Yes(more) => words = words.and(more),
             Judged::No(by) => return Judged::No(by),
             Judged::Open(split) => open = open.or(Some(split)),

@@ -1,5 +1,9 @@
 //! Why there is no certificate.
 
+ghost use Rattle.std.specs.Prelude.{◌≡◌};
+ghost use Rattle.cert_form.specs.declared.fault.FormError.TheVariants.{OutOfMemory as NoMemory};
+ghost use Rattle.certify.specs.declared.fault.CertifyError.TheVariants.{OutOfMemory};
+
 use cert_form::FormError;
 use std::alloc::{AllocError, AllocFailed};
 use std::error::Error;
@@ -88,7 +92,9 @@ impl<T: Drop> From<AllocFailed<T>> for CertifyError {
 }
 
 /// The error that a refusal to write is: the certificate breaks a limit, or memory ran out.
-pub(crate) fn unwritten(error: FormError) -> CertifyError {
+pub(crate) fn unwritten(error: FormError) -> CertifyError
+    ensures { error ≡ NoMemory → result ≡ OutOfMemory }
+{
     match error {
         FormError::OutOfMemory => CertifyError::OutOfMemory,
         _ => CertifyError::TooLarge,

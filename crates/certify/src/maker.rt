@@ -1,27 +1,62 @@
 //! The maker of certificates.
-ghost use Rattle.std.specs.Prelude.{OnOk};
+ghost use Rattle.std.specs.Prelude.{◌≡◌, ◌↔◌, [], All, IfErr, IfOk, IsTrue, OnOk};
 ghost use Rattle.bpf_insn.specs.Program.{insns};
 ghost use Rattle.kernel_check.specs.Accepted.{IsAccepted};
+ghost use Rattle.rule_compile.specs.Shape.{IsCallFilter, IsPlain};
+ghost use Rattle.certify.specs.declared.fault.CertifyError.TheVariants.{OutOfMemory};
+ghost use Rattle.certify.specs.Own.{IsOwnWork};
 
 use crate::fault::CertifyError;
+use crate::plain::plain_certificate;
 use crate::walk::Walk;
 use bpf_insn::Program;
-use kernel_check::accept;
-use profile::Profile;
+use kernel_check::{Accepted, accept};
+use profile::{Profile, Rule};
 use std::alloc::Global;
+
+// Whether no rule has a condition.
+fn are_plain(rules: &[Rule]) -> bool
+    ensures { IsTrue result ↔ All (λ rule. rule.conds.items ≡ []) rules.now }
+{
+    rules.iter().all(|rule| rule.conds.is_empty())
+}
+
+// By the walk that looks at each node for what the nodes after it need.
+fn walked(
+    alloc: Global,
+    profile: &Profile,
+    accepted: Accepted<'_>,
+) -> Result<Vec<u8>, CertifyError> {
+    Walk::new(alloc, profile, accepted)?.run()
+}
 
 /// A certificate that the filter gives each call record the word that the profile says.
 ///
-/// Nothing is promised of what it says: who relies on it has it checked.
+/// Of a profile with conditions, or a filter of another shape, nothing is promised of what it says: who relies on it has
+/// it checked.
 pub fn certify(
     alloc: Global,
     profile: &Profile,
     program: &Program<'_>,
 ) -> Result<Vec<u8>, CertifyError>
     ensures accepted { OnOk result (IsAccepted (insns program.now)) }
+    // Where no rule has a condition and the filter has the shape of such a profile's, an error is want of memory, and the
+    // certificate keeps each rule of the checker.
+    ensures own { IsPlain profile.now → IsCallFilter profile.now (insns program.now)
+        → IfOk result (λ bytes. IsOwnWork profile.now (insns program.now) bytes.items) }
+    ensures never { IsPlain profile.now → IsCallFilter profile.now (insns program.now) → IfErr result (λ e. e ≡ OutOfMemory) }
 {
-    match accept(program) {
-        Ok(accepted) => Walk::new(alloc, profile, accepted)?.run(),
-        Err(refused) => Err(CertifyError::Undecided(refused.pc)),
+    let accepted = match accept(program) {
+        Ok(accepted) => accepted,
+        Err(refused) => return Err(CertifyError::Undecided(refused.pc)),
+    };
+    if !are_plain(profile.rules()) {
+        return walked(alloc, profile, accepted);
+    }
+    match plain_certificate(alloc, profile, program) {
+        Ok(bytes) => Ok(bytes),
+        Err(CertifyError::OutOfMemory) => Err(CertifyError::OutOfMemory),
+        // A filter of another shape.
+        Err(_) => walked(alloc, profile, accepted),
     }
 }

@@ -1,12 +1,14 @@
 //! The nodes of a certificate, made from its last to its first.
 
 use crate::chains::{Chains, MAX_LITERALS};
-use crate::essence::{add, add_essence};
+use crate::essence::add_essence;
 use crate::fault::{CertifyError, unwritten};
+use crate::known::Known;
+use crate::needs::Needs;
 use crate::uses::are_so;
-use crate::words::{BEGINNING, knowing, word_of};
+use crate::words::{BEGINNING, word_of};
 use cert_form::{ChainNode, Kind, write_chained};
-use cert_state::{Facts, Listed, Lit, Regs, State};
+use cert_state::{Lit, Regs};
 use std::alloc::{AllocError, Global};
 
 /// The most nodes of a certificate.
@@ -46,7 +48,7 @@ impl Nodes {
             nodes: Vec::new(alloc),
             before: Vec::new(alloc),
             latest,
-            chains: Chains::new(alloc),
+            chains: Chains::new(alloc)?,
         })
     }
 
@@ -78,14 +80,14 @@ impl Nodes {
         Ok(number)
     }
 
-    // Whether the literals of a chain follow.
-    fn follow<S: State>(&self, facts: &Facts<'_, S>, chain: u32) -> bool {
+    // Whether each literal of a chain follows from what is known, or is this fact.
+    fn follow(&self, known: &Known, fact: Option<Lit>, chain: u32) -> bool {
         let mut left = chain;
         for _ in 0..=MAX_LITERALS {
             let Some((parent, literal)) = self.chains.last(left) else {
                 return true;
             };
-            if !follows(facts, literal) {
+            if fact != Some(literal) && !known.entails(literal) {
                 return false;
             }
             left = parent;
@@ -93,18 +95,12 @@ impl Nodes {
         false
     }
 
-    /// The last node that stands at a place and states nothing that is not known there.
-    pub(crate) fn find(&self, place: &Place, known: &[Lit]) -> Option<u32> {
+    /// The last node that stands at a place and states nothing but the place's fact and what is known.
+    pub(crate) fn find(&self, place: &Place, known: &Known) -> Option<u32> {
         let mut number = *self.latest.get(place.pc as usize)?;
         let mut node = self.nodes.get(number as usize)?;
-        let state = Listed {
-            regs: place.regs,
-            lits: known,
-            more: place.fact,
-        };
-        let facts = Facts::of(&state);
         for _ in 0..TRIES {
-            if are_so(&node.regs, &place.regs) && self.follow(&facts, node.chain) {
+            if self.follow(known, place.fact, node.chain) && are_so(&node.regs, &place.regs) {
                 return Some(number);
             }
             number = *self.before.get(number as usize)?;
@@ -122,8 +118,8 @@ impl Nodes {
     /// the fact does not, or else all that is known of the word, which gives it together with the fact.
     pub(crate) fn add_needs(
         &self,
-        needs: &mut Vec<Lit>,
-        known: &[Lit],
+        needs: &mut Needs,
+        known: &Known,
         fact: Option<Lit>,
         number: u32,
     ) -> Result<(), AllocError> {
@@ -131,16 +127,14 @@ impl Nodes {
             Some(node) => node.chain,
             None => 0,
         };
-        let state = knowing(known);
-        let facts = Facts::of(&state);
-        for literal in &self.chains.literals(self.alloc, chain)? {
+        for literal in self.chains.literals(self.alloc, chain)?.iter().rev() {
             if fact == Some(*literal) {
                 continue;
             }
-            if follows(&facts, *literal) {
-                add(needs, *literal)?;
+            if known.states(*literal) || known.entails(*literal) {
+                needs.add(*literal)?;
             } else {
-                add_essence(needs, known, word_of(*literal))?;
+                add_essence(self.alloc, needs, known, word_of(*literal))?;
             }
         }
         Ok(())
@@ -163,14 +157,6 @@ impl Nodes {
         }
         write_chained(self.alloc, self.chains.entries(), &turned).map_err(unwritten)
     }
-}
-
-// Whether a literal of one of the record's words follows.
-fn follows<S: State>(facts: &Facts<'_, S>, literal: Lit) -> bool {
-    if word_of(literal) >= 16 {
-        return false;
-    }
-    facts.entails(&literal)
 }
 
 // The number of a node where so many nodes are counted from the last.

@@ -4,18 +4,23 @@
 //! after it need, and a later path ends at the first node of which it knows all that is stated.
 ghost use Rattle.bpf_insn.specs.Causes.{IsPlain};
 
-use crate::essence::{contradiction, essence, excluded, of_word, only_number};
+use crate::clash::contradiction;
+use crate::essence::{add_words, excluded, only_number};
 use crate::fault::CertifyError;
+use crate::known::Known;
+use crate::needs::Needs;
 use crate::nodes::{MAX_NODES, Nodes, Place, one_way};
+use crate::points::Search;
 use crate::position::insn_at;
-use crate::settle::{Outcome, settle};
+use crate::rules::Rules;
+use crate::settle::{Outcome, Question};
 use crate::split::Split;
 use crate::uses::Uses;
-use crate::words::{BEGINNING, NOTHING, knowing, word_of};
+use crate::words::{BEGINNING, NOTHING, Words, knowing, word_of};
 use bpf_insn::{Insn, Operation};
-use call_record::Word;
+use call_record::{Record, Word};
 use cert_form::Kind;
-use cert_state::{AVal, Facts, Listed, Lit, Regs, edge_fact, entails, transfer};
+use cert_state::{AVal, Listed, Lit, Regs, edge_fact, transfer};
 use kernel_check::Accepted;
 use profile::Profile;
 use std::alloc::Global;
@@ -24,7 +29,7 @@ use std::alloc::Global;
 const MAX_TURNS: usize = 4 * MAX_NODES;
 
 // A word of which so many numbers are excluded one by one is cut in two, since a node has few literals.
-const CROWD: usize = 320;
+const CROWD: u32 = 320;
 
 // How it goes on from a node.
 #[derive(Clone, Copy)]
@@ -51,12 +56,18 @@ struct Visit {
 #[derive(Drop)]
 pub(crate) struct Walk<'a> {
     alloc: Global,
-    profile: &'a Profile,
+    rules: Rules<'a>,
     program: Accepted<'a>,
     // What is known on the path, and the nodes on it that are still to be made.
-    trail: Vec<Lit>,
+    known: Known,
     visits: Vec<Visit>,
     nodes: Nodes,
+    // What the node states that is made next.
+    needs: Needs,
+    // Whether it looks for a record that gets unlike words, and then whether only among the calls of the tables; and the
+    // record.
+    hunt: Option<bool>,
+    found: Option<Record>,
 }
 
 fn undecided(pc: u16) -> CertifyError {
@@ -155,16 +166,31 @@ impl<'a> Walk<'a> {
         let nodes = Nodes::new(alloc, program.program().len())?;
         Ok(Walk {
             alloc,
-            profile,
+            rules: Rules::new(alloc, profile)?,
             program,
-            trail: Vec::new(alloc),
+            known: Known::new(alloc)?,
             visits: Vec::new(alloc),
             nodes,
+            needs: Needs::new(alloc)?,
+            hunt: None,
+            found: None,
         })
     }
 
-    /// The certificate, once all paths are gone.
-    pub(crate) fn run(mut self) -> Result<Vec<u8>, CertifyError> {
+    /// A walk that looks for a record that gets unlike words, among the calls of the tables alone or among all.
+    pub(crate) fn hunting(
+        alloc: Global,
+        profile: &'a Profile,
+        program: Accepted<'a>,
+        listed: bool,
+    ) -> Result<Walk<'a>, CertifyError> {
+        let mut walk = Walk::new(alloc, profile, program)?;
+        walk.hunt = Some(listed);
+        Ok(walk)
+    }
+
+    // Goes all paths, or until a record is found.
+    fn go_all(&mut self) -> Result<(), CertifyError> {
         let root = Place {
             pc: 0,
             regs: BEGINNING,
@@ -172,12 +198,29 @@ impl<'a> Walk<'a> {
         };
         let mut found = self.enter(&root)?;
         for _ in 0..MAX_TURNS {
+            if self.found.is_some() {
+                return Ok(());
+            }
             let Some(visit) = self.visits.pop() else {
-                return self.nodes.written();
+                return Ok(());
             };
             found = self.advance(visit, found)?;
         }
         Err(CertifyError::TooLarge)
+    }
+
+    /// The certificate, once all paths are gone.
+    pub(crate) fn run(mut self) -> Result<Vec<u8>, CertifyError> {
+        self.go_all()?;
+        self.nodes.written()
+    }
+
+    /// The record that was looked for. Where there is too much to go over, what is left is given up.
+    pub(crate) fn hunt(mut self) -> Result<Option<Record>, CertifyError> {
+        match self.go_all() {
+            Err(CertifyError::OutOfMemory) => Err(CertifyError::OutOfMemory),
+            _ => Ok(self.found),
+        }
     }
 
     // Goes a way from a node, or makes it where all are gone. A node that was found at the end of the last way, or
@@ -215,24 +258,33 @@ impl<'a> Walk<'a> {
         requires { IsPlain insn.now }
     {
         let (first, second) = visit.places(insn);
-        let mut needs = Vec::new(self.alloc);
+        self.needs.clear();
         let mut uses = self.uses_of(node);
-        self.nodes
-            .add_needs(&mut needs, &self.trail, first.fact, node)?;
+        self.need(first.fact, node)?;
         if let (Some(place), Some(other)) = (second, visit.second) {
             uses = uses.and(self.uses_of(other));
-            self.nodes
-                .add_needs(&mut needs, &self.trail, place.fact, other)?;
+            self.need(place.fact, other)?;
         }
         let uses = match visit.way {
             Way::Step => uses.before(insn),
             Way::Cut(_) => uses,
         };
-        self.trail.truncate(visit.known);
+        self.known.truncate(visit.known);
         let kind = visit.kind(node, visit.second);
-        let number = self
-            .nodes
-            .add(kind, visit.pc, uses.keep(&visit.regs), &needs)?;
+        self.make(kind, visit.pc, uses.keep(&visit.regs))
+    }
+
+    // Adds what has to be stated before a way with this fact to a node.
+    fn need(&mut self, fact: Option<Lit>, node: u32) -> Result<(), CertifyError> {
+        Ok(
+            self.nodes
+                .add_needs(&mut self.needs, &self.known, fact, node)?,
+        )
+    }
+
+    // Makes a node that states what is needed.
+    fn make(&mut self, kind: Kind, pc: u16, regs: Regs) -> Result<Option<u32>, CertifyError> {
+        let number = self.nodes.add(kind, pc, regs, self.needs.literals())?;
         Ok(Some(number))
     }
 
@@ -245,14 +297,12 @@ impl<'a> Walk<'a> {
 
     // Comes to a place. A node that is there already, or ends the path, is answered.
     fn enter(&mut self, place: &Place) -> Result<Option<u32>, CertifyError> {
-        if let Some(number) = self.nodes.find(place, &self.trail) {
-            return Ok(Some(number));
+        let known = self.known.len();
+        if self.learn(place.fact)? {
+            return self.end_dead(place, known);
         }
-        let known = self.trail.len();
-        let against = self.learn(place.fact)?;
-        if !against.is_empty() {
-            self.trail.truncate(known);
-            let number = self.nodes.add(Kind::Dead, place.pc, NOTHING, &against)?;
+        if let Some(number) = self.nodes.find(place, &self.known) {
+            self.known.truncate(known);
             return Ok(Some(number));
         }
         let Some(insn) = insn_at(&self.program, place.pc) else {
@@ -266,26 +316,43 @@ impl<'a> Walk<'a> {
             (Some(Operation::ReturnA), AVal::Const(word)) => {
                 self.end(place, known, Word(word), Uses::NONE.before(&insn))
             }
-            (Some(Operation::ReturnA), _) => Err(undecided(place.pc)),
+            (Some(Operation::ReturnA), _) => self.stuck(place, known),
             _ => self.wait(place, known, Way::Step),
         }
     }
 
-    // Adds a fact that is new, and answers literals that contradict each other, if some do now.
-    fn learn(&mut self, fact: Option<Lit>) -> Result<Vec<Lit>, CertifyError> {
+    // Adds a fact that is new, and says whether it contradicts what is known.
+    fn learn(&mut self, fact: Option<Lit>) -> Result<bool, CertifyError> {
         let Some(fact) = fact else {
-            return Ok(Vec::new(self.alloc));
+            return Ok(false);
         };
-        if entails(&knowing(&self.trail), &fact) {
-            return Ok(Vec::new(self.alloc));
+        if self.known.entails(fact) {
+            return Ok(false);
         }
-        self.trail.push(fact)?;
-        let mut own = of_word(self.alloc, &self.trail, word_of(fact))?;
-        if let Some(literal) = only_number(&own, word_of(fact)) {
-            self.trail.push(literal)?;
-            own.push(literal)?;
+        self.known.push(fact)?;
+        if let Some(literal) = only_number(&self.known, word_of(fact)) {
+            self.known.push(literal)?;
         }
-        Ok(contradiction(self.alloc, own)?)
+        Ok(self.known.is_dead(word_of(fact)))
+    }
+
+    // Ends a path that no record takes. What could be found together with the fact may ask for more than the nodes on the
+    // way here state, so it is looked for without.
+    fn end_dead(&mut self, place: &Place, known: usize) -> Result<Option<u32>, CertifyError> {
+        let word = match place.fact {
+            Some(fact) => word_of(fact),
+            None => 0,
+        };
+        let own = self.known.of_word(self.alloc, word)?;
+        self.known.truncate(known);
+        if let Some(number) = self.nodes.find(place, &self.known) {
+            return Ok(Some(number));
+        }
+        self.needs.clear();
+        for literal in &contradiction(self.alloc, own)? {
+            self.needs.add(*literal)?;
+        }
+        self.make(Kind::Dead, place.pc, NOTHING)
     }
 
     // Where a word is cut of which too many numbers are excluded one by one, the last of them by this fact.
@@ -293,14 +360,17 @@ impl<'a> Walk<'a> {
         let Some(Lit::NotBits(word, u32::MAX, _)) = fact else {
             return Ok(None);
         };
-        let mut numbers = excluded(self.alloc, &self.trail, word)?;
-        if numbers.len() < CROWD {
+        if self.known.excluded(word) < CROWD {
+            return Ok(None);
+        }
+        let mut numbers = excluded(self.alloc, &self.known, word)?;
+        if numbers.len() < CROWD as usize {
             return Ok(None);
         }
         numbers.sort_unstable();
         Ok(
             numbers
-                .get(CROWD / 2)
+                .get(CROWD as usize / 2)
                 .and_then(|middle| Split::at(word, *middle)),
         )
     }
@@ -323,8 +393,12 @@ impl<'a> Walk<'a> {
 
     // Whether the profile says the word of all records that come here.
     fn settled(&self, word: Word) -> Outcome {
-        let state = knowing(&self.trail);
-        settle(self.profile, &Facts::of(&state), word)
+        let question = Question {
+            rules: &self.rules,
+            known: &self.known,
+            word,
+        };
+        question.settle()
     }
 
     // Comes to a return.
@@ -337,13 +411,33 @@ impl<'a> Walk<'a> {
     ) -> Result<Option<u32>, CertifyError> {
         match self.settled(word) {
             Outcome::Settled(words) => {
-                let literals = essence(self.alloc, &self.trail, words)?;
-                self.trail.truncate(known);
-                let regs = uses.keep(&place.regs);
-                Ok(Some(self.nodes.add(Kind::Return, place.pc, regs, &literals)?))
+                self.needs.clear();
+                add_words(self.alloc, &mut self.needs, &self.known, words)?;
+                self.known.truncate(known);
+                self.make(Kind::Return, place.pc, uses.keep(&place.regs))
             }
             Outcome::Cut(split) => self.wait(place, known, Way::Cut(split)),
-            Outcome::Undecided => Err(undecided(place.pc)),
+            Outcome::Undecided => self.stuck(place, known),
         }
+    }
+
+    // Comes to a return whose word is not the profile's, as far as is known. Who looks for a record tries some that come
+    // here, and goes on elsewhere.
+    fn stuck(&mut self, place: &Place, known: usize) -> Result<Option<u32>, CertifyError> {
+        let Some(listed) = self.hunt else {
+            return Err(undecided(place.pc));
+        };
+        let search = Search {
+            rules: &self.rules,
+            program: &self.program,
+            known: &self.known,
+            listed,
+        };
+        let found = search.first();
+        self.found = found;
+        self.needs.clear();
+        add_words(self.alloc, &mut self.needs, &self.known, Words::ALL)?;
+        self.known.truncate(known);
+        self.make(Kind::Return, place.pc, place.regs)
     }
 }

@@ -20,6 +20,9 @@ impl Words {
     /// No word.
     pub(crate) const NONE: Words = Words { bits: 0 };
 
+    /// All words.
+    pub(crate) const ALL: Words = Words { bits: u16::MAX };
+
     /// One word.
     pub(crate) fn of(word: u8) -> Words {
         Words {

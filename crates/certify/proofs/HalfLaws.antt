@@ -1,0 +1,279 @@
+-- A return of one machine: its halves come apart, and what they cost.
+use Rattle.std.proofs.Common.{◌≡◌, ℕ, zero, suc, ◌+◌, ◌-◌, ◌*◌, ◌/◌, ◌^◌, ◌<◌, ◌≤◌, Bool, true, false, cond, eqb, List, [], ◌∷◌, length, refl, ap, sym, ◌∙◌, subst, arith, inl, inr, ◌⊎◌, ⊎_elim}
+use Rattle.std.specs.Prelude.{◌&&◌, Contains, All, bit_and, nat_le, not}
+use Rattle.std.proofs.lemmas.List.Elements.{All-cons, All-head, All-tail}
+use Rattle.std.proofs.lemmas.Bool.{cases_eq, cases_lt, eq-eqb, eqb-true, ne_eqb, le-leb, leb-true}
+use Rattle.std.proofs.Math.Nat.{pow-suc}
+use Rattle.call_tables.specs.declared.arch.Arch.{Arch}
+use Rattle.call_tables.specs.declared.arch.Arch.TheVariants.{X86_64}
+use Rattle.call_tables.specs.Arch.{token_of}
+use Rattle.bpf_insn.specs.declared.instruction.Insn.{Insn}
+use Rattle.profile.specs.Policy.{Policy}
+use Rattle.cert_state.specs.declared.literal.Lit.{Lit}
+use Rattle.cert_state.specs.declared.literal.Lit.TheVariants.{In, Bits, NotBits}
+use Rattle.cert_state.specs.Literals.{all_bits, index_of, Meets}
+use Rattle.cert_state.specs.Points.{IsWhole, IsPoint, IsRange}
+use Rattle.certify.specs.inner.Counts.{Exclude, allows, halves_cost, inside, meets, permits}
+use Rattle.certify.specs.inner.Leaf.{IsOfCalls}
+use Rattle.certify.specs.declared.plain.place.Place.{Place}
+use Rattle.certify.specs.declared.plain.store.Store.{Store}
+use Rattle.certify.specs.inner.Meant.{IsMeant}
+use Rattle.certify.specs.inner.Store.{known_at}
+use Rattle.certify.specs.inner.Ways.{AreNear, AreX32, IsAtReturn, IsEnough, IsOfMachine}
+use Rattle.certify.proofs.CountLaws.{both_first, both_second, inside_parts, inside_some}
+use Rattle.certify.proofs.PathLaws.{first_asks, rest_point}
+use Rattle.certify.proofs.PointFacts.{Asks}
+use Rattle.certify.proofs.WayLaws.{small_number}
+
+-- ---- a call that is possible is counted
+
+meets_is : (l : Lit) (u : ℕ) → Meets l u → meets l u ≡ true
+meets_is (In w a b) u (from, to) = let e = le-leb a u from in rw e (le-leb u b to)
+meets_is (Bits w m d) u is = eq-eqb (bit_and u m) d is
+meets_is (NotBits w m d) u is = let e = ne_eqb (bit_and u m) d is in rw e refl
+
+permitted : (l : Lit) (token nr : ℕ) → IsOfCalls l → Asks 1 token l → Asks 0 nr l → permits l token nr ≡ true
+permitted l token nr of at_token at_nr = ⊎_elim
+    (λ (e : index_of l ≡ 0). let b = eq-eqb (index_of l) 0 e in rw b (meets_is l nr (at_nr e of.0)))
+    (λ (ne : index_of l ≡ 0 → ⊥).
+    let b = ne_eqb (index_of l) 0 ne in
+    rw b (meets_is l token (at_token (omega (arith, of.1, ne)) of.0)))
+    (cases_eq (index_of l) 0)
+
+pub allowed : (ls : List Lit) (token nr : ℕ) → All IsOfCalls ls → IsPoint ls 1 token → IsPoint ls 0 nr → allows ls token nr ≡ true
+allowed [] token nr of at_token at_nr = refl
+allowed (l ∷ ls) token nr of at_token at_nr =
+    let first = permitted l token nr (All-head IsOfCalls l ls of) (first_asks l ls 1 token at_token) (first_asks l ls 0 nr at_nr) in
+    rw first (allowed ls token nr (All-tail IsOfCalls l ls of) (rest_point l ls 1 token at_token) (rest_point l ls 0 nr at_nr))
+
+-- ---- literals that exclude each other
+
+pub halves_exclude : (cut : ℕ) → Exclude (In 0 0 cut) (In 0 (cut + 1) all_bits)
+halves_exclude cut token nr low high =
+    let below = leb-true nr cut (both_second (nat_le 0 nr) (nat_le nr cut) low) in
+    let above = leb-true (cut + 1) nr (both_first (nat_le (cut + 1) nr) (nat_le nr all_bits) high) in
+    omega (arith, below, above)
+
+pub tokens_exclude : (t : ℕ) → Exclude (Bits 1 all_bits t) (NotBits 1 all_bits t)
+tokens_exclude t token nr own other = apart (eqb (bit_and token all_bits) t) own other where
+  apart : (b : Bool) → b ≡ true → not b ≡ true → ⊥
+  apart true own other = cc
+  apart false own other = cc
+
+-- ---- halves
+
+-- x32 calls come apart first, and then each half of numbers is in the middle
+pub record IsCut (arch : Arch) (lo hi cut : ℕ) : Type 0 where
+  pub from : lo ≤ cut
+  pub upto : cut < hi
+  pub native : token_of arch ≡ token_of X86_64 → 0x40000000 ≤ hi → cut + 1 ≡ 0x40000000
+  pub half : (token_of arch ≡ token_of X86_64 → hi < 0x40000000) → cut ≡ lo + (hi - lo) / 2
+
+-- a point of a half is one of the whole
+low_point : (known : List Lit) (cut u : ℕ) → IsPoint (In 0 0 cut ∷ known) 0 u → u ≤ cut
+low_point known cut u at = (first_asks (In 0 0 cut) known 0 u at refl tt).1
+
+high_point : (known : List Lit) (cut u : ℕ) → IsPoint (In 0 (cut + 1) all_bits ∷ known) 0 u → cut + 1 ≤ u
+high_point known cut u at = (first_asks (In 0 (cut + 1) all_bits) known 0 u at refl tt).0
+
+-- some halvings are left
+pub some_left : (known : List Lit) (arch : Arch) (lo hi halvings : ℕ) → IsRange known 0 lo hi → (lo ≡ hi → ⊥) → IsEnough known arch halvings
+    → ((token_of arch ≡ token_of X86_64) × (0x40000000 ≤ lo) → ⊥) → halvings ≡ 0 → ⊥
+some_left known arch lo hi halvings range differ enough native none = ⊎_elim
+    (λ (ten : halvings ≡ 10). omega (arith, ten, none))
+    (λ (more : AreX32 known arch ⊎ ((halvings < 10) × AreNear known (2 ^ halvings))). ⊎_elim
+    (λ (x32 : AreX32 known arch). native (x32.0, x32.1 lo range.least))
+    (λ (near : (halvings < 10) × AreNear known (2 ^ halvings)).
+    let at_once : AreNear known (2 ^ 0) = subst (λ h. AreNear known (2 ^ h)) none near.1 in
+    let e = (at_once lo hi range.least range.greatest).0 in
+    let order = (range.between lo range.least).1 in
+    differ (omega (arith, e, order)))
+    more)
+    enough
+
+module _ (known : List Lit) (arch : Arch) (lo hi cut halvings : ℕ) (range : IsRange known 0 lo hi) (cuts : IsCut arch lo hi cut)
+    (enough : IsEnough known arch halvings) (native : (token_of arch ≡ token_of X86_64) × (0x40000000 ≤ lo) → ⊥)
+    (small : (u : ℕ) → IsPoint known 0 u → (token_of arch ≡ token_of X86_64 → u < 0x40000000) → u < 512) where
+  -- both halves are not empty
+  order : lo < hi
+  order = let a = cuts.from in let b = cuts.upto in omega (arith, a, b)
+
+  not_x32 : AreX32 known arch → ⊥
+  not_x32 x32 = native (x32.0, x32.1 lo range.least)
+
+  least_native : token_of arch ≡ token_of X86_64 → lo < 0x40000000
+  least_native is = ⊎_elim (λ (l : lo < 0x40000000). l) (λ (g : 0x40000000 ≤ lo). absurd (native (is, g))) (cases_lt lo 0x40000000)
+
+  pub ten_at_most : halvings ≤ 10
+  ten_at_most = ⊎_elim
+      (λ (ten : halvings ≡ 10). omega (arith, ten))
+      (λ (more : AreX32 known arch ⊎ ((halvings < 10) × AreNear known (2 ^ halvings))). ⊎_elim (λ (x : AreX32 known arch). absurd (not_x32 x))
+      (λ (near : (halvings < 10) × AreNear known (2 ^ halvings)). omega (arith, near.0)) more)
+      enough
+
+  double : (h : ℕ) → halvings ≡ suc h → 2 ^ halvings ≡ 2 ^ h * 2
+  double h e = ap (λ k. 2 ^ k) e ∙ pow-suc 2 h
+
+  -- numbers of which the greatest is one of the machine's own
+  module _ (all_native : token_of arch ≡ token_of X86_64 → hi < 0x40000000) where
+    small_all : (u : ℕ) → IsPoint known 0 u → u < 512
+    small_all u at = small u at (λ is. let h = all_native is in let b = (range.between u at).1 in omega (arith, h, b))
+
+    spread : (h : ℕ) → halvings ≡ suc h → hi < lo + 2 ^ h * 2
+    spread h e = ⊎_elim
+        (λ (ten : halvings ≡ 10).
+        let nine : h ≡ 9 = omega (arith, e, ten) in
+        let top = small_all hi range.greatest in
+        let p : 2 ^ h ≡ 512 = ap (λ k. 2 ^ k) nine in
+        omega (arith, p, top))
+        (λ (more : AreX32 known arch ⊎ ((halvings < 10) × AreNear known (2 ^ halvings))). ⊎_elim (λ (x : AreX32 known arch). absurd (not_x32 x))
+        (λ (near : (halvings < 10) × AreNear known (2 ^ halvings)).
+        let apart = (near.1 lo hi range.least range.greatest).0 in
+        let d = double h e in
+        omega (arith, apart, d))
+        more)
+        enough
+
+    near_low : (h : ℕ) → halvings ≡ suc h → AreNear (In 0 0 cut ∷ known) (2 ^ h)
+    near_low h e = λ u w at_u at_w.
+        let rest_u = rest_point (In 0 0 cut) known 0 u at_u in
+        let rest_w = rest_point (In 0 0 cut) known 0 w at_w in
+        let low = (range.between u rest_u).0 in
+        let high = low_point known cut w at_w in
+        let middle = cuts.half all_native in
+        let far = spread h e in
+        (omega (arith, low, high, middle, far), small_all w rest_w)
+
+    near_high : (h : ℕ) → halvings ≡ suc h → AreNear (In 0 (cut + 1) all_bits ∷ known) (2 ^ h)
+    near_high h e = λ u w at_u at_w.
+        let rest_u = rest_point (In 0 (cut + 1) all_bits) known 0 u at_u in
+        let rest_w = rest_point (In 0 (cut + 1) all_bits) known 0 w at_w in
+        let low = high_point known cut u at_u in
+        let high = (range.between w rest_w).1 in
+        let middle = cuts.half all_native in
+        let far = spread h e in
+        (omega (arith, low, high, middle, far), small_all w rest_w)
+
+  -- x32 calls are in the greater half
+  module _ (is : token_of arch ≡ token_of X86_64) (far : 0x40000000 ≤ hi) where
+    first_time : halvings ≡ 10
+    first_time = ⊎_elim
+        (λ (ten : halvings ≡ 10). ten)
+        (λ (more : AreX32 known arch ⊎ ((halvings < 10) × AreNear known (2 ^ halvings))). ⊎_elim (λ (x : AreX32 known arch). absurd (not_x32 x))
+        (λ (near : (halvings < 10) × AreNear known (2 ^ halvings)).
+        let b = (near.1 lo hi range.least range.greatest).1 in
+        absurd (omega (arith, b, far))) more)
+        enough
+
+    small_low : (u : ℕ) → IsPoint (In 0 0 cut ∷ known) 0 u → u < 512
+    small_low u at =
+        let at_cut = cuts.native is far in
+        let b = low_point known cut u at in
+        small u (rest_point (In 0 0 cut) known 0 u at) (λ _. omega (arith, b, at_cut))
+
+    x32_low : (h : ℕ) → halvings ≡ suc h → AreNear (In 0 0 cut ∷ known) (2 ^ h)
+    x32_low h e = λ u w at_u at_w.
+        let nine : h ≡ 9 = omega (arith, e, first_time) in
+        let p : 2 ^ h ≡ 512 = ap (λ k. 2 ^ k) nine in
+        let b = small_low w at_w in
+        (omega (arith, p, b), b)
+
+    x32_high : AreX32 (In 0 (cut + 1) all_bits ∷ known) arch
+    x32_high = (is, λ u at. let at_cut = cuts.native is far in let b = high_point known cut u at in omega (arith, at_cut, b))
+
+  by_kind : (P : Type 0) → ((token_of arch ≡ token_of X86_64 → hi < 0x40000000) → P) → (token_of arch ≡ token_of X86_64 → 0x40000000 ≤ hi → P) → P
+  by_kind P own x32 = ⊎_elim
+      (λ (is : token_of arch ≡ token_of X86_64). ⊎_elim (λ (l : hi < 0x40000000). own (λ _. l)) (λ (g : 0x40000000 ≤ hi). x32 is g) (cases_lt hi 0x40000000))
+      (λ (other : token_of arch ≡ token_of X86_64 → ⊥). own (λ is. absurd (other is)))
+      (cases_eq (token_of arch) (token_of X86_64))
+
+  pub enough_low : (h : ℕ) → halvings ≡ suc h → IsEnough (In 0 0 cut ∷ known) arch h
+  enough_low h e =
+      let most = ten_at_most in
+      inr (inr (omega (arith, e, most), by_kind (AreNear (In 0 0 cut ∷ known) (2 ^ h)) (λ own. near_low own h e) (λ is far. x32_low is far h e)))
+
+  pub enough_high : (h : ℕ) → halvings ≡ suc h → IsEnough (In 0 (cut + 1) all_bits ∷ known) arch h
+  enough_high h e =
+      let most = ten_at_most in
+      by_kind (IsEnough (In 0 (cut + 1) all_bits ∷ known) arch h)
+      (λ own. inr (inr (omega (arith, e, most), near_high own h e)))
+      (λ is far. inr (inl (x32_high is far)))
+
+  -- ---- what they cost
+
+  module _ (archs : List Arch) (listed : Contains archs arch) (of : All IsOfCalls known) (token : IsPoint known 1 (token_of arch)) where
+    low_at : IsPoint (In 0 0 cut ∷ known) 0 lo
+    low_at = (range.least.0, All-cons (Asks 0 lo) (In 0 0 cut) known (λ i w. (omega arith, cuts.from)) range.least.1)
+
+    token_at : (l : Lit) → (index_of l ≡ 1 → ⊥) → IsPoint (l ∷ known) 1 (token_of arch)
+    token_at l other = (token.0, All-cons (Asks 1 (token_of arch)) l known (λ is whole. absurd (other is)) token.1)
+
+    of_calls : (a b : ℕ) → All IsOfCalls (In 0 a b ∷ known)
+    of_calls a b = All-cons IsOfCalls (In 0 a b) known (tt, omega arith) of
+
+    some_low : 1 ≤ inside 512 archs (In 0 0 cut ∷ known)
+    some_low = inside_some 512 archs (In 0 0 cut ∷ known) arch lo listed (small lo range.least least_native)
+        (allowed (In 0 0 cut ∷ known) (token_of arch) lo (of_calls 0 cut) (token_at (In 0 0 cut) (λ e. omega (arith, e))) low_at)
+
+    high_at : IsPoint (In 0 (cut + 1) all_bits ∷ known) 0 hi
+    high_at = (
+      range.greatest.0,
+      All-cons (Asks 0 hi) (In 0 (cut + 1) all_bits) known
+          (λ i w. let b = cuts.upto in let top = range.greatest.0 in (omega (arith, b), omega (arith, top))) range.greatest.1,
+    )
+
+    some_high : (token_of arch ≡ token_of X86_64 → hi < 0x40000000) → 1 ≤ inside 512 archs (In 0 (cut + 1) all_bits ∷ known)
+    some_high own = inside_some 512 archs (In 0 (cut + 1) all_bits ∷ known) arch hi listed (small hi range.greatest own)
+        (allowed (In 0 (cut + 1) all_bits ∷ known) (token_of arch) hi (of_calls (cut + 1) all_bits) (token_at (In 0 (cut + 1) all_bits) (λ e. omega (arith, e))) high_at)
+
+    pub ten_or_high : (halvings ≡ 10) ⊎ (1 ≤ inside 512 archs (In 0 (cut + 1) all_bits ∷ known))
+    ten_or_high = by_kind ((halvings ≡ 10) ⊎ (1 ≤ inside 512 archs (In 0 (cut + 1) all_bits ∷ known)))
+        (λ own. inr (some_high own)) (λ is far. inl (first_time is far))
+
+    pub low_is_some : 1 ≤ inside 512 archs (In 0 0 cut ∷ known)
+    low_is_some = some_low
+
+-- so the costs of both halves are those of the whole
+halves_split : (h a b i : ℕ) → (h ≡ 0 → ⊥) → h ≤ 10 → a + b ≤ i → 1 ≤ a → (h ≡ 10) ⊎ (1 ≤ b)
+    → halves_cost (h - 1) a + halves_cost (h - 1) b + 1 ≤ halves_cost h i
+halves_split h a b i some most parts first (inl ten) = omega (arith, ten, parts, first)
+halves_split h a b i some most parts first (inr also) = omega (arith, some, most, parts, first, also)
+
+-- ---- a place that is halved
+
+pub record IsHalved (policy : Policy) (p : List Insn) (s : Store) (place : Place) (v lo hi : ℕ) (arch : Arch) (cut halvings : ℕ) : Type 0 where
+  pub at : IsAtReturn policy p s place v
+  pub of : IsOfMachine policy s place arch
+  pub range : IsRange (known_at s place) 0 lo hi
+  pub enough : IsEnough (known_at s place) arch halvings
+  pub some : halvings ≡ 0 → ⊥
+  pub cuts : IsCut arch lo hi cut
+  pub native : (token_of arch ≡ token_of X86_64) × (0x40000000 ≤ lo) → ⊥
+  pub differ : policy.default_word ≡ v → ⊥
+
+module _ (policy : Policy) (p : List Insn) (s : Store) (place : Place) (v lo hi : ℕ) (arch : Arch) (cut halvings : ℕ) (meant : IsMeant policy p)
+    (halved : IsHalved policy p s place v lo hi arch cut halvings) where
+  small : (u : ℕ) → IsPoint (known_at s place) 0 u → (token_of arch ≡ token_of X86_64 → u < 0x40000000) → u < 512
+  small = small_number policy p s place v lo hi arch meant halved.at halved.of halved.range halved.differ
+
+  left : halvings ≡ suc (halvings - 1)
+  left = omega (arith, halved.some)
+
+  pub low_enough : IsEnough (In 0 0 cut ∷ known_at s place) arch (halvings - 1)
+  low_enough = enough_low (known_at s place) arch lo hi cut halvings halved.range halved.cuts halved.enough halved.native small (halvings - 1) left
+
+  pub high_enough : IsEnough (In 0 (cut + 1) all_bits ∷ known_at s place) arch (halvings - 1)
+  high_enough = enough_high (known_at s place) arch lo hi cut halvings halved.range halved.cuts halved.enough halved.native small (halvings - 1) left
+
+  pub halves_total : halves_cost (halvings - 1) (inside 512 policy.machines (In 0 0 cut ∷ known_at s place))
+      + halves_cost (halvings - 1) (inside 512 policy.machines (In 0 (cut + 1) all_bits ∷ known_at s place)) + 1
+      ≤ halves_cost halvings (inside 512 policy.machines (known_at s place))
+  halves_total =
+      let of_calls = halved.at.store.calls place.chain in
+      let token = halved.of.token.least in
+      halves_split halvings (inside 512 policy.machines (In 0 0 cut ∷ known_at s place)) (inside 512 policy.machines (In 0 (cut + 1) all_bits ∷ known_at s place))
+      (inside 512 policy.machines (known_at s place)) halved.some
+      (ten_at_most (known_at s place) arch lo hi cut halvings halved.range halved.cuts halved.enough halved.native small)
+      (inside_parts 512 policy.machines (known_at s place) (In 0 0 cut) (In 0 (cut + 1) all_bits) (halves_exclude cut))
+      (low_is_some (known_at s place) arch lo hi cut halvings halved.range halved.cuts halved.enough halved.native small policy.machines halved.of.listed of_calls token)
+      (ten_or_high (known_at s place) arch lo hi cut halvings halved.range halved.cuts halved.enough halved.native small policy.machines halved.of.listed of_calls token)

@@ -1,0 +1,271 @@
+-- What is known at a return settles the word.
+use Rattle.std.proofs.Common.{◌≡◌, ◌≢◌, ℕ, suc, zero, ◌^◌, ◌<◌, ◌≤◌, List, [], ◌∷◌, sym, refl, ap, subst, ◌∙◌, arith, inl, inr, ◌⊎◌, ⊎_elim, get_or, length}
+use Rattle.std.specs.Prelude.{bit_and, Contains, Any, replicate, slice_index}
+use Rattle.std.specs.List.{All, AllByRecursion}
+use Rattle.std.proofs.lemmas.List.{get_or-replicate, get_or_past}
+use Rattle.std.proofs.lemmas.List.Elements.{All-from_recursion, recursion_from_All, All-contains, All-nil}
+use Rattle.std.proofs.lemmas.Bool.{cases_eq, cases_lt}
+use Rattle.call_record.specs.Words.{IsRecord, word, argument}
+use Rattle.call_tables.specs.declared.arch.Arch.{Arch}
+use Rattle.call_tables.specs.declared.arch.Arch.TheVariants.{X86_64}
+use Rattle.call_tables.specs.Arch.{token_of}
+use Rattle.call_tables.proofs.ArchLaws.{token_of-fits}
+use Rattle.profile.specs.declared.conditions.Cond.{Cond}
+use Rattle.profile.specs.declared.rules.Rule.{Rule}
+use Rattle.profile.specs.Condition.{Meets as MeetsCond}
+use Rattle.profile.specs.Rule.{Matches}
+use Rattle.profile.specs.Policy.{Policy, IsNative, Says}
+use Rattle.cert_state.specs.declared.literal.Lit.{Lit}
+use Rattle.cert_state.specs.declared.literal.Lit.TheVariants.{In, Bits, NotBits}
+use Rattle.cert_state.specs.Literals.{all_bits, index_of, Meets, Holds}
+use Rattle.cert_state.specs.Points.{IsWhole, IsPoint, IsRange}
+use Rattle.cert_state.specs.Entailment.{Entails}
+use Rattle.cert_state.proofs.BitLaws.{and_all}
+use Rattle.cert_state.proofs.KnownLaws.{entailed_is_true}
+use Rattle.cert_check.specs.Agree.{IsYesRule, IsNoRule, IsRuleOf, IsYes, RulesAgree, MachineAgrees, ListedAgrees, Agrees}
+use Rattle.cert_check.proofs.Elements.{each_of}
+use Rattle.rule_compile.specs.Shape.{call, IsPlainRule}
+use Rattle.certify.specs.inner.Leaf.{IsOfCalls, SaysThere, IsForeign, IsOfOne, LeafAgrees}
+use Rattle.certify.proofs.PointFacts.{Asks, point_or_not, bounded, single}
+
+-- one number, or the word of the default, or x32 calls alone
+abbrev OneOrRest : ℕ → ℕ → ℕ → ℕ → ℕ → Type 0
+OneOrRest lo hi default v token = (lo ≡ hi) ⊎ ((default ≡ v) ⊎ ((token ≡ token_of X86_64) × (0x40000000 ≤ lo)))
+
+-- a call of two words is a record
+zeros_small : (i : ℕ) → slice_index (replicate 14 0) i < 2 ^ 32
+zeros_small i = ⊎_elim
+    (λ (l : i < 14). let e : slice_index (replicate 14 0) i ≡ 0 = get_or-replicate 14 i 0 0 l in omega (arith, e))
+    (λ (g : 14 ≤ i). let e : slice_index (replicate 14 0) i ≡ 0 = get_or_past (replicate 14 0) i 0 g in omega (arith, e))
+    (cases_lt i 14)
+
+call_small : (t u : ℕ) → t < 2 ^ 32 → u < 2 ^ 32 → (i : ℕ) → slice_index (call t u) i < 2 ^ 32
+call_small t u small_t small_u zero = small_u
+call_small t u small_t small_u (suc zero) = small_t
+call_small t u small_t small_u (suc (suc i)) = zeros_small i
+
+pub call_is_record : (t u : ℕ) → t < 2 ^ 32 → u < 2 ^ 32 → IsRecord (call t u)
+call_is_record t u small_t small_u = record { length_is = refl; words = call_small t u small_t small_u }
+
+-- a word of a call is a point of what is known
+holds_here : (known : List Lit) (t u : ℕ) (l : Lit) → IsOfCalls l → Asks 1 t l → Asks 0 u l → Holds l (call t u)
+holds_here known t u l of at_t at_u = ⊎_elim
+    (λ (e : index_of l ≡ 0). subst (λ w. Meets l (word (call t u) w)) (sym e) (at_u e of.0))
+    (λ (ne : index_of l ≡ 0 → ⊥).
+    let e : index_of l ≡ 1 = omega (arith, of.1, ne) in
+    subst (λ w. Meets l (word (call t u) w)) (sym e) (at_t e of.0))
+    (cases_eq (index_of l) 0)
+
+pub holds_of_points : (known : List Lit) (t u : ℕ) → All IsOfCalls known → IsPoint known 1 t → IsPoint known 0 u → All (λ l. Holds l (call t u)) known
+holds_of_points known t u of at_t at_u = λ k d lt. holds_here known t u (get_or known k d) (of k d lt) (at_t.1 k d lt) (at_u.1 k d lt)
+
+module _ (policy : Policy) (known : List Lit) (v lo hi from to : ℕ) (plain : All IsPlainRule policy.rules) (of : All IsOfCalls known)
+    (says : SaysThere policy known v) (numbers : IsRange known 0 lo hi) (tokens : IsRange known 1 from to) where
+  -- what is known of the number is so at each point
+  number_is : (n u : ℕ) → Entails known (Bits 0 all_bits n) → IsPoint known 0 u → u ≡ n
+  number_is n u h at =
+      let small = at.0 in
+      sym (and_all u small)
+      ∙ entailed_is_true (call from u) (call_is_record from u tokens.least.0 small) known (holds_of_points known from u of tokens.least at) (Bits 0 all_bits n) h
+
+  -- a call without conditions
+  matches_call : (rule : Rule) (t u : ℕ) → Contains policy.rules rule → t ≡ token_of rule.arch → u ≡ rule.nr → Matches rule (call t u)
+  matches_call rule t u has e f = record {
+    machine = e;
+    number = f;
+    conditions = subst (λ cs. All (λ (c : Cond). MeetsCond c (argument (call t u) c.index)) cs) (sym (All-contains IsPlainRule policy.rules rule plain has).0) (All-nil _);
+  }
+
+  yes_rule : (rule : Rule) → Contains policy.rules rule → Entails known (Bits 0 all_bits rule.nr) → IsYesRule known rule
+  yes_rule rule has h = (h, λ c in_it. absurd (subst (λ cs. Contains cs c → ⊥) (sym (All-contains IsPlainRule policy.rules rule plain has).0) (λ none. omega (arith, none.1)) in_it))
+
+  abbrev IsNumberOf : Arch → ℕ → Rule → Type 0
+  IsNumberOf arch n rule = (token_of rule.arch ≡ token_of arch) × (rule.nr ≡ n)
+
+  -- a number has a rule, or none
+  rule_or_none : (arch : Arch) (n : ℕ) (rules : List Rule) → ((rule : Rule) × Contains rules rule × IsNumberOf arch n rule) ⊎ ((rule : Rule) → Contains rules rule → IsNumberOf arch n rule → ⊥)
+  rule_or_none arch n [] = inr (λ rule has. λ _. omega (arith, has.1))
+  rule_or_none arch n (rule ∷ rules) = ⊎_elim
+      (λ (found : (r : Rule) × Contains rules r × IsNumberOf arch n r). inl (found.0, (suc found.1.0, omega (arith, found.1.1), found.1.2), found.2))
+      (λ (none : (r : Rule) → Contains rules r → IsNumberOf arch n r → ⊥). ⊎_elim
+      (λ (a : token_of rule.arch ≡ token_of arch). ⊎_elim
+      (λ (b : rule.nr ≡ n). inl (rule, (0, omega arith, refl), (a, b)))
+      (λ (nb : rule.nr ≡ n → ⊥). inr (first_is_not rule rules none (λ is. nb is.1)))
+      (cases_eq rule.nr n))
+      (λ (na : token_of rule.arch ≡ token_of arch → ⊥). inr (first_is_not rule rules none (λ is. na is.0)))
+      (cases_eq (token_of rule.arch) (token_of arch)))
+      (rule_or_none arch n rules)
+    where
+      first_is_not : (first : Rule) (rest : List Rule) → ((r : Rule) → Contains rest r → IsNumberOf arch n r → ⊥) → (IsNumberOf arch n first → ⊥)
+          → (r : Rule) → Contains (first ∷ rest) r → IsNumberOf arch n r → ⊥
+      first_is_not first rest none not r (zero, lt, is) m = not (subst (IsNumberOf arch n) (sym is) m)
+      first_is_not first rest none not r (suc i, lt, is) m = none r (i, omega arith, is) m
+
+  -- where no listed machine is possible the word is 0
+  foreign_word : IsForeign policy known → v ≡ 0
+  foreign_word none =
+      (says from lo tokens.least numbers.least).foreign
+      (λ native. none native.listed.1 (native.listed.0, native.listed.2, native.listed.3) (subst (IsPoint known 1) native.listed.4 tokens.least))
+
+  all_foreign : IsForeign policy known → All (ListedAgrees policy known v) policy.machines
+  all_foreign none = each_of (ListedAgrees policy known v) policy.machines (λ arch has. ⊎_elim
+      (λ (at : IsPoint known 1 (token_of arch)). absurd (none arch has at))
+      (λ (other : Entails known (NotBits 1 all_bits (token_of arch))). inl other)
+      (point_or_not known 1 from to tokens (token_of arch) (token_of-fits arch)))
+
+  -- the one machine that is possible
+  module _ (arch : Arch) (listed : Contains policy.machines arch) (token : IsPoint known 1 (token_of arch)) where
+    -- what is said of a number of the machine's own
+    native : (u : ℕ) → u < 0x40000000 → IsNative policy (call (token_of arch) u)
+    native u small = record { listed = (listed.0, arch, listed.1, listed.2, refl); no_x32 = λ _. small }
+
+    native_other : (u : ℕ) → (token_of arch ≡ token_of X86_64 → ⊥) → IsNative policy (call (token_of arch) u)
+    native_other u other = record {
+      listed = (listed.0, arch, listed.1, listed.2, refl);
+      no_x32 = λ e. absurd (other e);
+    }
+
+    matched_word : (rule : Rule) (u : ℕ) → Contains policy.rules rule → token_of rule.arch ≡ token_of arch → rule.nr ≡ u → IsPoint known 0 u
+        → IsNative policy (call (token_of arch) u)
+        → rule.word ≡ v
+    matched_word rule u has a e at own =
+        sym ((says (token_of arch) u token at).matched own rule has (matches_call rule (token_of arch) u has (sym a) (sym e)))
+
+    rule_is_small : (rule : Rule) → Contains policy.rules rule → rule.nr < 512
+    rule_is_small rule has = (All-contains IsPlainRule policy.rules rule plain has).1
+
+    -- a rule of a number that is not the word's is known to be another's
+    none_or_word : (rule : Rule) → IsRuleOf policy arch rule → (IsYesRule known rule → ⊥) → IsNoRule known rule ⊎ (rule.word ≡ v)
+    none_or_word rule is not_yes =
+        let small = rule_is_small rule is.stands in
+        ⊎_elim
+        (λ (at : IsPoint known 0 rule.nr). inr (matched_word rule rule.nr is.stands is.is_for refl at (native rule.nr (omega (arith, small)))))
+        (λ (other : Entails known (NotBits 0 all_bits rule.nr)). inl (inl other, not_yes))
+        (point_or_not known 0 lo hi numbers rule.nr (omega (arith, small)))
+
+    -- several numbers
+    several : lo < hi → policy.default_word ≡ v → RulesAgree policy known v arch
+    several less default =
+        let none : (rule : Rule) → IsRuleOf policy arch rule → IsYesRule known rule → ⊥ = λ rule is yes.
+        let p = number_is rule.nr lo yes.0 numbers.least in
+        let q = number_is rule.nr hi yes.0 numbers.greatest in
+        omega (arith, less, p, q) in
+        inr (none, default, λ rule is. none_or_word rule is (none rule is))
+
+    -- one number of the machine's own
+    one : lo ≡ hi → IsNative policy (call (token_of arch) lo) → RulesAgree policy known v arch
+    one same own =
+        let range : IsRange known 0 lo lo = subst (IsRange known 0 lo) (sym same) numbers in
+        ⊎_elim
+        (λ (found : (rule : Rule) × Contains policy.rules rule × IsNumberOf arch lo rule).
+        let knows : Entails known (Bits 0 all_bits found.0.nr) = subst (λ n. Entails known (Bits 0 all_bits n)) (sym found.2.1) (single known 0 lo range) in
+        inl (found.0, record { stands = found.1; is_for = found.2.0 }, yes_rule found.0 found.1 knows, matched_word found.0 lo found.1 found.2.0 found.2.1 numbers.least own))
+        (λ (none : (rule : Rule) → Contains policy.rules rule → IsNumberOf arch lo rule → ⊥).
+        let not_yes : (rule : Rule) → IsRuleOf policy arch rule → IsYesRule known rule → ⊥ = λ rule is yes.
+        none rule is.stands (is.is_for, sym (number_is rule.nr lo yes.0 numbers.least)) in
+        let default : policy.default_word ≡ v =
+        sym ((says (token_of arch) lo token numbers.least).unmatched own
+        (each_of (λ rule. ¬ Matches rule (call (token_of arch) lo)) policy.rules (λ rule has m. none rule has (sym m.machine, sym m.number)))) in
+        inr (not_yes, default, λ rule is. none_or_word rule is (not_yes rule is)))
+        (rule_or_none arch lo policy.rules)
+
+    -- where the word is not the default one, a number of the machine's own has a rule
+    own_small : (policy.default_word ≡ v → ⊥) → (u : ℕ) → IsPoint known 0 u → IsNative policy (call (token_of arch) u) → u < 512
+    own_small differ u at own = ⊎_elim
+        (λ (found : (rule : Rule) × Contains policy.rules rule × IsNumberOf arch u rule).
+        let small = rule_is_small found.0 found.1 in
+        omega (arith, small, found.2.1))
+        (λ (none : (rule : Rule) → Contains policy.rules rule → IsNumberOf arch u rule → ⊥).
+        absurd (differ (sym ((says (token_of arch) u token at).unmatched own
+        (each_of (λ rule. ¬ Matches rule (call (token_of arch) u)) policy.rules
+        (λ rule has m. none rule has (sym m.machine, sym m.number)))))))
+        (rule_or_none arch u policy.rules)
+
+    -- the rules agree, or no number is the machine's own
+    rules_agree : OneOrRest lo hi policy.default_word v (token_of arch)
+        → ((token_of arch ≡ token_of X86_64) × Entails known (In 0 0x40000000 all_bits)) ⊎ RulesAgree policy known v arch
+    rules_agree h =
+        let top = numbers.greatest.0 in
+        let order = (numbers.between lo numbers.least).1 in
+        ⊎_elim
+        (λ (same : lo ≡ hi). ⊎_elim
+        (λ (is : token_of arch ≡ token_of X86_64). ⊎_elim
+        (λ (low : lo < 0x40000000). inr (one same (native lo low)))
+        (λ (high : 0x40000000 ≤ lo). inl (is, bounded known 0 lo hi numbers 0x40000000 all_bits high (omega (arith, top))))
+        (cases_lt lo 0x40000000))
+        (λ (other : token_of arch ≡ token_of X86_64 → ⊥). inr (one same (native_other lo other)))
+        (cases_eq (token_of arch) (token_of X86_64)))
+        (λ (differ : lo ≡ hi → ⊥). ⊎_elim
+        (λ (same : lo ≡ hi). absurd (differ same))
+        (λ (more : (policy.default_word ≡ v) ⊎ ((token_of arch ≡ token_of X86_64) × (0x40000000 ≤ lo))). ⊎_elim
+        (λ (default : policy.default_word ≡ v). inr (several (omega (arith, order, differ)) default))
+        (λ (x32 : (token_of arch ≡ token_of X86_64) × (0x40000000 ≤ lo)). inl (x32.0, bounded known 0 lo hi numbers 0x40000000 all_bits x32.1 (omega (arith, top))))
+        more)
+        h)
+        (cases_eq lo hi)
+
+    x32_word : token_of arch ≡ token_of X86_64 → Entails known (In 0 0 0x3fffffff) ⊎ (v ≡ 0)
+    x32_word is = ⊎_elim
+        (λ (high : 0x3fffffff < hi). inr ((says (token_of arch) hi token numbers.greatest).foreign
+        (λ own. let below = own.no_x32 is in omega (arith, below, high))))
+        (λ (low : hi ≤ 0x3fffffff). inl (bounded known 0 lo hi numbers 0 0x3fffffff (omega arith) low))
+        (cases_lt 0x3fffffff hi)
+
+    machine_agrees : OneOrRest lo hi policy.default_word v (token_of arch) → MachineAgrees policy known v arch
+    machine_agrees h = record { foreign_numbers = x32_word; rules = rules_agree h }
+
+  -- each listed machine agrees where the token is one machine's
+  listed_agrees : (arch : Arch) → IsRange known 1 (token_of arch) (token_of arch) → OneOrRest lo hi policy.default_word v (token_of arch)
+      → (a : Arch) → Contains policy.machines a → ListedAgrees policy known v a
+  listed_agrees arch token h a has = ⊎_elim
+      (λ (is : token_of arch ≡ token_of a). inr (machine_agrees a has
+      (subst (IsPoint known 1) is token.least)
+      (subst (OneOrRest lo hi policy.default_word v) is h)))
+      (λ (other : token_of arch ≡ token_of a → ⊥). ⊎_elim
+      (λ (at : IsPoint known 1 (token_of a)).
+      let p = token.between (token_of a) at in
+      absurd (other (omega (arith, p))))
+      (λ (not : Entails known (NotBits 1 all_bits (token_of a))). inl not)
+      (point_or_not known 1 (token_of arch) (token_of arch) token (token_of a) (token_of-fits a)))
+      (cases_eq (token_of arch) (token_of a))
+
+  -- where the word is 0 and the default one, each machine that is possible agrees
+  each_agrees : policy.default_word ≡ v → (a : Arch) → Contains policy.machines a → ListedAgrees policy known v a
+  each_agrees default a listed = ⊎_elim
+      (λ (at : IsPoint known 1 (token_of a)). inr (machine_agrees a listed at (inr (inl default))))
+      (λ (not : Entails known (NotBits 1 all_bits (token_of a))). inl not)
+      (point_or_not known 1 from to tokens (token_of a) (token_of-fits a))
+
+pub leaf_agrees : LeafAgrees
+leaf_agrees policy known v lo hi from to plain of says numbers tokens h = ⊎_elim
+    (λ (none : IsForeign policy known). record {
+      foreign = inr (foreign_word policy known v lo hi from to plain of says numbers tokens none);
+      machines = all_foreign policy known v lo hi from to plain of says numbers tokens none;
+    })
+    (λ (o : IsOfOne policy known v lo hi). record {
+      foreign = inl (o.arch, o.listed, single known 1 (token_of o.arch) o.token);
+      machines = each_of (ListedAgrees policy known v) policy.machines
+          (listed_agrees policy known v lo hi from to plain of says numbers tokens o.arch o.token o.numbers);
+    })
+    h
+
+pub own_is_small : (policy : Policy) (known : List Lit) (v lo hi from to : ℕ) → All IsPlainRule policy.rules → All IsOfCalls known → SaysThere policy known v
+    → IsRange known 0 lo hi → IsRange known 1 from to → (arch : Arch) → Contains policy.machines arch → IsRange known 1 (token_of arch) (token_of arch)
+    → (policy.default_word ≡ v → ⊥) → (u : ℕ) → IsPoint known 0 u → (token_of arch ≡ token_of X86_64 → u < 0x40000000) → u < 512
+own_is_small policy known v lo hi from to plain of says numbers tokens arch listed token differ u at own =
+    own_small policy known v lo hi from to plain of says numbers tokens arch listed token.least differ u at
+    (record { listed = (listed.0, arch, listed.1, listed.2, refl); no_x32 = own })
+
+-- where the word is 0 and the default one, nothing has to be told apart
+pub zero_agrees : (policy : Policy) (known : List Lit) (v lo hi from to : ℕ) → All IsPlainRule policy.rules → All IsOfCalls known → SaysThere policy known v
+    → IsRange known 0 lo hi → IsRange known 1 from to → v ≡ 0 → policy.default_word ≡ v → Agrees policy known v
+zero_agrees policy known v lo hi from to plain of says numbers tokens is_zero default = record {
+  foreign = inr is_zero;
+  machines = each_of (ListedAgrees policy known v) policy.machines
+      (λ a has. each_agrees policy known v lo hi from to plain of says numbers tokens default a has);
+}
+
+-- a token that is ruled out is not possible
+pub ruled_out : (known : List Lit) (t u : ℕ) → All IsOfCalls known → IsPoint known 0 u → Entails known (NotBits 1 all_bits t) → IsPoint known 1 t → ⊥
+ruled_out known t u of at_u h at_t =
+    entailed_is_true (call t u) (call_is_record t u at_t.0 at_u.0) known (holds_of_points known t u of at_t at_u) (NotBits 1 all_bits t) h (and_all t at_t.0)

@@ -1,0 +1,16 @@
+pub mod CountLaws
+pub mod MoveLaws
+pub mod PointFacts
+pub mod LeafLaws
+pub mod PathLaws
+pub mod NodeLaws
+pub mod ChainFacts
+pub mod StoreLaws
+pub mod GrowLaws
+pub mod WayLaws
+pub mod HalfLaws
+pub mod RoomLaws
+pub mod SizeLaws
+pub mod WholeLaws
+pub mod OwnLaws
+pub mod TableLaws

@@ -1,0 +1,147 @@
+-- There is room for what is made.
+use Rattle.std.proofs.Common.{◌≡◌, ℕ, ◌+◌, ◌-◌, ◌<◌, ◌≤◌, ◌^◌, Bool, true, false, cond, eqb, List, [], ◌∷◌, length, refl, ap, sym, ◌∙◌, subst, arith, inl, inr, ◌⊎◌, ⊎_elim, max}
+use Rattle.std.specs.Prelude.{Option, Some, None, slice_get, Result, Ok, Err, IfOk, bit_and, nat_le, not}
+use Rattle.std.proofs.lemmas.Bool.{cases_eq, eq-eqb, ne_eqb, leb-true}
+use Rattle.std.proofs.lemmas.Option.{same_Some}
+use Rattle.std.proofs.lemmas.List.{length-append}
+use Rattle.std.proofs.Math.Nat.{le-max_left, le-max_right}
+use Rattle.call_tables.specs.declared.arch.Arch.{Arch}
+use Rattle.call_tables.specs.Arch.{x86_64_of, aarch64_of}
+use Rattle.bpf_insn.specs.declared.code.Test.{Test}
+use Rattle.bpf_insn.specs.declared.code.Test.TheVariants.{Equal, AtLeast}
+use Rattle.bpf_insn.specs.declared.instruction.Insn.{Insn}
+use Rattle.bpf_insn.specs.Code.{operation_of}
+use Rattle.profile.specs.Policy.{Policy, IsProfile}
+use Rattle.cert_state.specs.declared.literal.Lit.{Lit}
+use Rattle.cert_state.specs.declared.literal.Lit.TheVariants.{In, Bits, NotBits}
+use Rattle.cert_state.specs.Literals.{all_bits, index_of}
+use Rattle.cert_state.proofs.BitLaws.{and_all}
+use Rattle.cert_form.specs.declared.node.Kind.TheVariants.{Dead}
+use Rattle.rule_compile.specs.Moves.{Ends, Goes, Forks, move_at}
+use Rattle.rule_compile.specs.Shape.{weight, depth}
+use Rattle.certify.specs.declared.fault.CertifyError.{CertifyError}
+use Rattle.certify.specs.declared.plain.place.Place.{Place}
+use Rattle.certify.specs.declared.plain.place.Fork.{Fork}
+use Rattle.certify.specs.declared.plain.store.Store.{Store}
+use Rattle.certify.specs.inner.Counts.{Exclude, HasRoom, halves_cost, inside, meets, path_cost, permits, return_cost}
+use Rattle.certify.specs.inner.Meant.{IsMeant}
+use Rattle.certify.specs.inner.Path.{fact}
+use Rattle.certify.specs.inner.Store.{IsForked, IsMadeAt, chain_node_of, known_at}
+use Rattle.certify.proofs.CountLaws.{both_first, both_second, inside_parts}
+use Rattle.certify.proofs.GrowLaws.{made_within}
+use Rattle.certify.proofs.HalfLaws.{tokens_exclude}
+use Rattle.certify.proofs.MoveLaws.{forks_cost, move_of_is}
+
+-- ---- a fork has room for both ways
+
+forked_length : (s t : Store) (place : Place) (l m : Lit) (fork : Fork) → IsForked s t place l m fork → length t.nodes.items ≡ length s.nodes.items + 1
+forked_length s t place l m fork f = omega (arith, ap length f.nodes, length-append s.nodes.items (chain_node_of place Dead ∷ []))
+
+pub room_yes : (s t : Store) (place : Place) (l m : Lit) (fork : Fork) (first second cost less height : ℕ) → IsForked s t place l m fork
+    → HasRoom s place cost height → first + second + 1 ≤ cost → less + 1 ≤ height → HasRoom t fork.yes first less
+room_yes s t place l m fork first second cost less height f room enough lower =
+    let nodes = room.nodes in
+    let literals = room.literals in
+    let depth = f.yes_depth in
+    record {
+      nodes = omega (arith, forked_length s t place l m fork f, nodes, enough);
+      literals = omega (arith, depth, literals, lower);
+    }
+
+pub room_no : (policy : Policy) (p : List Insn) (s t u : Store) (place : Place) (l m : Lit) (fork : Fork) (first second cost less height at : ℕ)
+    → IsMeant policy p → IsForked s t place l m fork → IsMadeAt policy p fork.yes t u first at → HasRoom s place cost height
+    → first + second + 1 ≤ cost → less + 1 ≤ height → HasRoom u fork.no second less
+room_no policy p s t u place l m fork first second cost less height at meant f made room enough lower =
+    let nodes = room.nodes in
+    let literals = room.literals in
+    let depth = f.no_depth in
+    let few = made.few meant in
+    record {
+      nodes = omega (arith, forked_length s t place l m fork f, nodes, enough, few);
+      literals = omega (arith, depth, literals, lower);
+    }
+
+-- what costs less costs no more, where anything is made
+pub made_within_if : (policy : Policy) (p : List Insn) (s t : Store) (place : Place) (less cost : ℕ) (r : Result ℕ CertifyError)
+    → (IsMeant policy p → less ≤ cost) → IfOk r (IsMadeAt policy p place s t less) → IfOk r (IsMadeAt policy p place s t cost)
+made_within_if policy p s t place less cost (Ok at) within made = made_within policy p s t place less cost at within made
+made_within_if policy p s t place less cost (Err e) within made = tt
+
+-- ---- a return's machines
+
+pub return_split : (n at x y i : ℕ) → at < n → x + y ≤ i → halves_cost 10 x + return_cost n (at + 1) y + 1 ≤ return_cost n at i
+return_split n at x y i inside parts = omega (arith, inside, parts)
+
+pub tokens_total : (policy : Policy) (known : List Lit) (t at : ℕ) → at < length policy.machines
+    → halves_cost 10 (inside 512 policy.machines (Bits 1 all_bits t ∷ known))
+    + return_cost (length policy.machines) (at + 1) (inside 512 policy.machines (NotBits 1 all_bits t ∷ known)) + 1
+    ≤ return_cost (length policy.machines) at (inside 512 policy.machines known)
+tokens_total policy known t at less =
+    return_split (length policy.machines) at (inside 512 policy.machines (Bits 1 all_bits t ∷ known)) (inside 512 policy.machines (NotBits 1 all_bits t ∷ known))
+    (inside 512 policy.machines known) less (inside_parts 512 policy.machines known (Bits 1 all_bits t) (NotBits 1 all_bits t) (tokens_exclude t))
+
+-- a profile lists two at most
+pub two_machines : (policy : Policy) → IsProfile policy → length policy.machines ≤ 2
+two_machines policy is =
+    let family = is.machines_in_order.0 in ⊎_elim
+    (λ (e : policy.machines ≡ x86_64_of family ∷ []). omega (arith, ap length e))
+    (λ (more : (policy.machines ≡ aarch64_of family ∷ []) ⊎ (policy.machines ≡ x86_64_of family ∷ aarch64_of family ∷ [])). ⊎_elim
+    (λ (e : policy.machines ≡ aarch64_of family ∷ []). omega (arith, ap length e))
+    (λ (e : policy.machines ≡ x86_64_of family ∷ aarch64_of family ∷ []). omega (arith, ap length e))
+    more)
+    is.machines_in_order.1
+
+-- ---- a comparison's ways
+
+-- no call meets both facts of a comparison
+module _ (w k : ℕ) (small : k < 2 ^ 32) where
+  equal_exclude : (l m : Lit) → fact Equal w k true ≡ Some l → fact Equal w k false ≡ Some m → Exclude l m
+  equal_exclude l m e f =
+      let within : bit_and k all_bits ≡ k = and_all k small in
+      let yes : Bits w all_bits k ≡ l = same_Some _ _ (sym (ap (λ b. cond b (Some (Bits w all_bits k)) (Some (In 0 1 0))) (eq-eqb (bit_and k all_bits) k within)) ∙ e) in
+      let no_is : NotBits w all_bits k ≡ m = same_Some _ _ (sym (ap (λ b. cond b (Some (NotBits w all_bits k)) None) (eq-eqb (bit_and k all_bits) k within)) ∙ f) in
+      subst (λ x. Exclude x m) yes (subst (λ x. Exclude (Bits w all_bits k) x) no_is (λ token nr own other.
+      apart (eqb (bit_and (cond (eqb w 0) nr token) all_bits) k) own other))
+    where
+      apart : (b : Bool) → b ≡ true → not b ≡ true → ⊥
+      apart true own other = cc
+      apart false own other = cc
+
+  least_exclude : (l m : Lit) → fact AtLeast w k true ≡ Some l → fact AtLeast w k false ≡ Some m → Exclude l m
+  least_exclude l m e f =
+      let yes : In w k all_bits ≡ l = same_Some _ _ e in
+      subst (λ x. Exclude x m) yes (⊎_elim
+      (λ (z : k ≡ 0).
+      let no_is : In 0 1 0 ≡ m = same_Some _ _ (sym (ap (λ b. cond b (Some (In 0 1 0)) (Some (In w 0 (k - 1)))) (eq-eqb k 0 z)) ∙ f) in
+      subst (λ x. Exclude (In w k all_bits) x) no_is (λ token nr own other.
+      let from = leb-true 1 nr (both_first (nat_le 1 nr) (nat_le nr 0) other) in
+      let upto = leb-true nr 0 (both_second (nat_le 1 nr) (nat_le nr 0) other) in
+      omega (arith, from, upto)))
+      (λ (nz : k ≡ 0 → ⊥).
+      let no_is : In w 0 (k - 1) ≡ m = same_Some _ _ (sym (ap (λ b. cond b (Some (In 0 1 0)) (Some (In w 0 (k - 1)))) (ne_eqb k 0 nz)) ∙ f) in
+      subst (λ x. Exclude (In w k all_bits) x) no_is (λ token nr own other.
+      let u = cond (eqb w 0) nr token in
+      let from = leb-true k u (both_first (nat_le k u) (nat_le u all_bits) own) in
+      let upto = leb-true u (k - 1) (both_second (nat_le 0 u) (nat_le u (k - 1)) other) in
+      omega (arith, from, upto, nz)))
+      (cases_eq k 0))
+
+  pub facts_exclude : (test : Test) (l m : Lit) → (test ≡ Equal) ⊎ (test ≡ AtLeast) → fact test w k true ≡ Some l → fact test w k false ≡ Some m → Exclude l m
+  facts_exclude test l m (inl is) e f = equal_exclude l m (ap (λ x. fact x w k true) (sym is) ∙ e) (ap (λ x. fact x w k false) (sym is) ∙ f)
+  facts_exclude test l m (inr is) e f = least_exclude l m (ap (λ x. fact x w k true) (sym is) ∙ e) (ap (λ x. fact x w k false) (sym is) ∙ f)
+
+module _ (policy : Policy) (p : List Insn) (pc : ℕ) (i : Insn) (held : Option ℕ) (found : slice_get p pc ≡ Some i) (small : i.k < 2 ^ 32)
+    (test : Test) (w : ℕ) (forks : move_at (operation_of i.code) i.k held ≡ Some (Forks test w)) (known : List Lit) (l m : Lit)
+    (yes : fact test w i.k true ≡ Some l) (other : fact test w i.k false ≡ Some m) where
+  pub forks_total : path_cost p (pc + 1 + i.jt) (inside 512 policy.machines (l ∷ known)) + path_cost p (pc + 1 + i.jf) (inside 512 policy.machines (m ∷ known)) + 1
+      ≤ path_cost p pc (inside 512 policy.machines known)
+  forks_total =
+      let which = (move_of_is (operation_of i.code) i.k held (Some (Forks test w)) forks).2 in
+      let parts = inside_parts 512 policy.machines known l m (facts_exclude w i.k small test l m which yes other) in
+      omega (arith, parts, (forks_cost p pc i held found test w forks).0)
+
+  pub taken_lower : depth p (pc + 1 + i.jt) + 1 ≤ depth p pc
+  taken_lower = omega (arith, (forks_cost p pc i held found test w forks).1, le-max_left (depth p (pc + 1 + i.jt)) (depth p (pc + 1 + i.jf)))
+
+  pub other_lower : depth p (pc + 1 + i.jf) + 1 ≤ depth p pc
+  other_lower = omega (arith, (forks_cost p pc i held found test w forks).1, le-max_right (depth p (pc + 1 + i.jt)) (depth p (pc + 1 + i.jf)))

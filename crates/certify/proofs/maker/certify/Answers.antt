@@ -1,0 +1,6 @@
+use Rattle.certify.proofs.maker.certify.Goals as goal
+
+pub returns-in-Err-clause-never : goal.returns-in-Err-clause-never
+returns-in-Err-clause-never c = λ is shape.
+    let refused = c.in-Err.ensures.refused in
+    absurd (shape.accepted.no_cause c.in-Err.refused.pc c.in-Err.refused.cause refused.stands)

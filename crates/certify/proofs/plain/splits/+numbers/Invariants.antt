@@ -1,0 +1,4 @@
+use Rattle.certify.proofs.plain.splits.+numbers.Given as goal
+
+abbrev pub decreases-numbers : goal.decreases-numbers
+decreases-numbers l = l.halvings

@@ -1,0 +1,61 @@
+//! Literals of one word that can not all be true.
+
+use crate::known::none_between;
+use cert_state::Lit;
+use std::alloc::{AllocError, Global};
+
+// Whether a literal is true of no number.
+fn is_false(literal: Lit) -> bool {
+    match literal {
+        Lit::In(_, low, high) => low > high,
+        Lit::Bits(_, _, _) => false,
+        Lit::NotBits(_, mask, _) => mask == 0,
+    }
+}
+
+// Whether a literal says that the word has other bits than these.
+fn denies(literal: Lit, mask: u32, datum: u32) -> bool {
+    match literal {
+        Lit::In(_, low, high) => none_between(low, high, mask, datum),
+        Lit::Bits(_, m, d) => m & mask & (d ^ datum) != 0,
+        Lit::NotBits(_, m, d) => m & mask == m && datum & m == d,
+    }
+}
+
+// Whether a literal says that the word does not lie from one number to another.
+fn leaves_out(literal: Lit, least: u32, greatest: u32) -> bool {
+    match literal {
+        Lit::In(_, low, high) => high < least || greatest < low,
+        Lit::Bits(_, mask, datum) => none_between(least, greatest, mask, datum),
+        Lit::NotBits(_, mask, datum) => { mask == u32::MAX && least == greatest && least == datum }
+    }
+}
+
+// Whether two literals of a word can not both be true.
+fn clash(one: Lit, other: Lit) -> bool {
+    match one {
+        Lit::In(_, low, high) => leaves_out(other, low, high),
+        Lit::Bits(_, mask, datum) => denies(other, mask, datum),
+        Lit::NotBits(_, mask, datum) => match other {
+            Lit::In(_, low, high) => leaves_out(one, low, high),
+            Lit::Bits(_, m, d) => denies(Lit::NotBits(0, mask, datum), m, d),
+            Lit::NotBits(_, _, _) => false,
+        },
+    }
+}
+
+/// Few of these literals of one word that can not all be true: the last of them, or it with another, if that is enough.
+pub(crate) fn contradiction(alloc: Global, own: Vec<Lit>) -> Result<Vec<Lit>, AllocError> {
+    let Some(last) = own.last().copied() else {
+        return Ok(own);
+    };
+    if is_false(last) {
+        return Vec::from_slice(alloc, &[last]);
+    }
+    for literal in &own {
+        if clash(*literal, last) {
+            return Vec::from_slice(alloc, &[*literal, last]);
+        }
+    }
+    Ok(own)
+}

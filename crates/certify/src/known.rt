@@ -1,0 +1,419 @@
+//! What is known on a path: literals, and what follows from those of each word.
+//!
+//! The rules are those of `cert_state`. What is asked often is kept up to date as a literal comes or goes, so that a
+//! question costs little however much is known.
+
+use crate::words::word_of;
+use call_record::least_below;
+use cert_state::Lit;
+use std::alloc::{AllocError, Global};
+
+// Into how many lists the literals are sorted.
+const LISTS: usize = 1024;
+
+// How many numbers are tried for one of which all is true.
+const TRIES: usize = 1024;
+
+// Stands for no place.
+const NOBODY: u32 = u32::MAX;
+
+// What the literals of a word say of it.
+#[derive(Clone, Copy)]
+struct WordFacts {
+    // The least and the greatest point; where there is none, the first is above the second.
+    least: u32,
+    greatest: u32,
+    // The union of the masks of its `Bits`, and that of their data.
+    mask: u32,
+    datum: u32,
+    // Whether two of them differ on a bit of both masks.
+    torn: bool,
+    // How many numbers are excluded one by one.
+    excluded: u32,
+    // The place of its last literal, and of the last that excludes bits under a part of all.
+    last: u32,
+    partial: u32,
+}
+
+// Nothing is known of a word.
+const ANY: WordFacts = WordFacts {
+    least: 0,
+    greatest: u32::MAX,
+    mask: 0,
+    datum: 0,
+    torn: false,
+    excluded: 0,
+    last: NOBODY,
+    partial: NOBODY,
+};
+
+// A literal, with what was known of its word before it, and the place of the last one of its list before it.
+#[derive(Clone, Copy)]
+struct Fact {
+    literal: Lit,
+    before: WordFacts,
+    alike: u32,
+}
+
+/// Literals in the order in which they came, the last of which go first.
+#[derive(Drop)]
+pub(crate) struct Known {
+    facts: Vec<Fact>,
+    words: [WordFacts; 16],
+    lists: Vec<u32>,
+}
+
+/// The list of a literal, of so many.
+pub(crate) fn list_of(literal: Lit, lists: usize) -> usize {
+    let (tag, word, first, second) = match literal {
+        Lit::In(word, low, high) => (0, word, low, high),
+        Lit::Bits(word, mask, datum) => (1, word, mask, datum),
+        Lit::NotBits(word, mask, datum) => (2, word, mask, datum),
+    };
+    let mixed = second
+        .wrapping_mul(0x9e37_79b1)
+        .wrapping_add(first.wrapping_mul(0x85eb_ca6b))
+        .wrapping_add(u32::from(word).wrapping_mul(0xc2b2_ae35))
+        .wrapping_add(tag);
+    ((mixed ^ mixed >> 15) as usize)
+        .checked_rem(lists)
+        .unwrap_or(0)
+}
+
+// Whether a literal is true of a number.
+fn is_true(literal: Lit, number: u32) -> bool {
+    match literal {
+        Lit::In(_, low, high) => low <= number && number <= high,
+        Lit::Bits(_, mask, datum) => number & mask == datum,
+        Lit::NotBits(_, mask, datum) => number & mask != datum,
+    }
+}
+
+// The number of a place.
+fn place_of(at: usize) -> u32 {
+    at.min(0xffff_ffff) as u32
+}
+
+/// Whether no number from one to another has the datum under the mask.
+pub(crate) fn none_between(least: u32, greatest: u32, mask: u32, datum: u32) -> bool {
+    if mask == u32::MAX {
+        return datum < least || greatest < datum;
+    }
+    if least == 0 && greatest == u32::MAX {
+        return datum & mask != datum;
+    }
+    match least_below(32, u64::from(least), u64::from(mask), u64::from(datum)) {
+        Some(found) => found > u64::from(greatest),
+        None => true,
+    }
+}
+
+impl WordFacts {
+    // The same between two numbers.
+    fn between(self, low: u32, high: u32) -> WordFacts {
+        WordFacts {
+            least: self.least.max(low),
+            greatest: self.greatest.min(high),
+            ..self
+        }
+    }
+
+    // The same with these bits.
+    fn with_bits(self, mask: u32, datum: u32) -> WordFacts {
+        let word = if mask == u32::MAX {
+            self.between(datum, datum)
+        } else {
+            self
+        };
+        WordFacts {
+            mask: self.mask | mask,
+            datum: self.datum | datum,
+            torn: self.torn || self.mask & mask & (self.datum ^ datum) != 0,
+            ..word
+        }
+    }
+
+    // The same without these bits, as the literal at a place says.
+    fn without_bits(self, mask: u32, place: u32) -> WordFacts {
+        if mask == u32::MAX {
+            WordFacts {
+                excluded: self.excluded.saturating_add(1),
+                ..self
+            }
+        } else {
+            WordFacts {
+                partial: place,
+                ..self
+            }
+        }
+    }
+
+    // The same with a literal, but for the points that it excludes one by one.
+    fn with(self, literal: Lit, place: u32) -> WordFacts {
+        let word = match literal {
+            Lit::In(_, low, high) => self.between(low, high),
+            Lit::Bits(_, mask, datum) => self.with_bits(mask, datum),
+            Lit::NotBits(_, mask, _) => self.without_bits(mask, place),
+        };
+        WordFacts {
+            last: place,
+            ..word
+        }
+    }
+
+    fn has_points(&self) -> bool {
+        self.least <= self.greatest
+    }
+}
+
+impl Known {
+    /// Nothing is known.
+    pub(crate) fn new(alloc: Global) -> Result<Known, AllocError> {
+        Ok(Known {
+            facts: Vec::new(alloc),
+            words: [ANY; 16],
+            lists: vec![in alloc; NOBODY; LISTS]?,
+        })
+    }
+
+    /// How many literals are known.
+    pub(crate) fn len(&self) -> usize {
+        self.facts.len()
+    }
+
+    // What is known of a word.
+    fn word(&self, word: u8) -> WordFacts {
+        self.words[(word % 16) as usize]
+    }
+
+    // The place of the last literal of its list.
+    fn latest(&self, literal: Lit) -> u32 {
+        match self.lists.get(list_of(literal, LISTS)) {
+            Some(latest) => *latest,
+            None => NOBODY,
+        }
+    }
+
+    fn set_latest(&mut self, literal: Lit, place: u32) {
+        if let Some(latest) = self.lists.get_mut(list_of(literal, LISTS)) {
+            *latest = place;
+        }
+    }
+
+    /// Whether a literal is known as it stands.
+    pub(crate) fn states(&self, literal: Lit) -> bool {
+        let mut place = self.latest(literal);
+        for _ in 0..=self.facts.len() {
+            let Some(fact) = self.facts.get(place as usize) else {
+                return false;
+            };
+            if fact.literal == literal {
+                return true;
+            }
+            place = fact.alike;
+        }
+        false
+    }
+
+    // The least number from one on that is not excluded by itself, or one above the greatest.
+    fn least_point(&self, word: u8, least: u32, greatest: u32) -> u64 {
+        let mut least = u64::from(least);
+        for _ in 0..=self.facts.len() {
+            if least > u64::from(greatest)
+                || !self.states(Lit::NotBits(word, u32::MAX, least as u32))
+            {
+                return least;
+            }
+            least += 1;
+        }
+        least
+    }
+
+    // The greatest number down to one that is not excluded by itself.
+    fn greatest_point(&self, word: u8, least: u32, greatest: u32) -> u32 {
+        let mut greatest = greatest;
+        for _ in 0..=self.facts.len() {
+            if greatest <= least || !self.states(Lit::NotBits(word, u32::MAX, greatest)) {
+                return greatest;
+            }
+            greatest -= 1;
+        }
+        greatest
+    }
+
+    // The same, with its points as they are.
+    fn with_points(&self, word: u8, facts: WordFacts) -> WordFacts {
+        if !facts.has_points() || facts.excluded == 0 {
+            return facts;
+        }
+        let least = self.least_point(word, facts.least, facts.greatest);
+        if least > u64::from(facts.greatest) {
+            return WordFacts {
+                least: 1,
+                greatest: 0,
+                ..facts
+            };
+        }
+        let least = least.min(0xffff_ffff) as u32;
+        WordFacts {
+            least,
+            greatest: self.greatest_point(word, least, facts.greatest),
+            ..facts
+        }
+    }
+
+    /// Adds a literal.
+    pub(crate) fn push(&mut self, literal: Lit) -> Result<(), AllocError> {
+        let word = word_of(literal) % 16;
+        let before = self.word(word);
+        let place = place_of(self.facts.len());
+        let alike = self.latest(literal);
+        self.facts.push(Fact {
+            literal,
+            before,
+            alike,
+        })?;
+        self.set_latest(literal, place);
+        let facts = self.with_points(word, before.with(literal, place));
+        self.words[word as usize] = facts;
+        Ok(())
+    }
+
+    /// Forgets all literals but the first of them.
+    pub(crate) fn truncate(&mut self, count: usize) {
+        for _ in count..self.facts.len() {
+            if let Some(fact) = self.facts.pop() {
+                self.set_latest(fact.literal, fact.alike);
+                self.words[(word_of(fact.literal) % 16) as usize] = fact.before;
+            }
+        }
+    }
+
+    /// The least and the greatest point of a word, if it has one.
+    pub(crate) fn range(&self, word: u8) -> Option<(u32, u32)> {
+        let facts = self.word(word);
+        if facts.has_points() {
+            Some((facts.least, facts.greatest))
+        } else {
+            None
+        }
+    }
+
+    /// How many numbers of a word are excluded one by one.
+    pub(crate) fn excluded(&self, word: u8) -> u32 {
+        self.word(word).excluded
+    }
+
+    // Whether a literal excludes this datum under this mask, by bits under a part of all.
+    fn excludes_part(&self, word: u8, mask: u32, datum: u32) -> bool {
+        let mut place = self.word(word).partial;
+        for _ in 0..=self.facts.len() {
+            let Some(fact) = self.facts.get(place as usize) else {
+                return false;
+            };
+            if let Lit::NotBits(_, m, d) = fact.literal {
+                if m & mask == m && datum & m == d {
+                    return true;
+                }
+            }
+            place = fact.before.partial;
+        }
+        false
+    }
+
+    // Whether a literal excludes this datum under this mask.
+    fn excludes(&self, word: u8, mask: u32, datum: u32) -> bool {
+        self.states(Lit::NotBits(word, mask, datum)) || self.excludes_part(word, mask, datum)
+    }
+
+    // Whether no point of a word has the datum under the mask, by the range alone.
+    fn misses(&self, facts: WordFacts, mask: u32, datum: u32) -> bool {
+        facts.has_points() && none_between(facts.least, facts.greatest, mask, datum)
+    }
+
+    /// Whether a literal follows.
+    pub(crate) fn entails(&self, literal: Lit) -> bool {
+        match literal {
+            Lit::In(w, low, high) => {
+                let facts = self.word(w);
+                facts.has_points() && low <= facts.least && facts.greatest <= high
+            }
+            Lit::Bits(w, mask, datum) => {
+                let facts = self.word(w);
+                if mask & facts.mask == mask && facts.datum & mask == datum {
+                    return true;
+                }
+                facts.least == facts.greatest && facts.least & mask == datum
+            }
+            Lit::NotBits(w, mask, datum) => {
+                let facts = self.word(w);
+                if facts.mask & mask & (facts.datum ^ datum) != 0 {
+                    return true;
+                }
+                self.excludes(w, mask, datum) || self.misses(facts, mask, datum)
+            }
+        }
+    }
+
+    /// Whether the literals of a word can not all be true.
+    pub(crate) fn is_dead(&self, word: u8) -> bool {
+        let facts = self.word(word);
+        if facts.torn || !facts.has_points() {
+            return true;
+        }
+        if self.misses(facts, facts.mask, facts.datum) {
+            return true;
+        }
+        self.excludes(word, facts.mask, facts.datum)
+    }
+
+    /// The literals of a word, in their order.
+    pub(crate) fn of_word(&self, alloc: Global, word: u8) -> Result<Vec<Lit>, AllocError> {
+        let mut own = Vec::new(alloc);
+        let mut place = self.word(word).last;
+        for _ in 0..=self.facts.len() {
+            let Some(fact) = self.facts.get(place as usize) else {
+                break;
+            };
+            own.push(fact.literal)?;
+            place = fact.before.last;
+        }
+        own.reverse();
+        Ok(own)
+    }
+
+    /// Whether all literals of a word are true of a number.
+    pub(crate) fn admits(&self, word: u8, number: u32) -> bool {
+        let mut place = self.word(word).last;
+        for _ in 0..=self.facts.len() {
+            let Some(fact) = self.facts.get(place as usize) else {
+                return true;
+            };
+            if !is_true(fact.literal, number) {
+                return false;
+            }
+            place = fact.before.last;
+        }
+        true
+    }
+
+    /// The least number of which all literals of a word are true, if it is found soon.
+    pub(crate) fn first_number(&self, word: u8) -> Option<u32> {
+        let facts = self.word(word);
+        let mut number = facts.least;
+        for _ in 0..TRIES {
+            let found = least_below(
+                32,
+                u64::from(number),
+                u64::from(facts.mask),
+                u64::from(facts.datum),
+            )?;
+            number = u32::try_from(found).ok()?;
+            if self.admits(word, number) {
+                return Some(number);
+            }
+            number = number.checked_add(1)?;
+        }
+        None
+    }
+}

@@ -1,0 +1,48 @@
+//! The maker for profiles without conditions, whose filters tell calls apart by their machines and their numbers alone.
+//!
+//! It goes down each path of the filter, and makes a node at each place where it stands. What is known there is the chain
+//! of the comparisons that led there. At a return it splits, by machines and then by halves of the numbers that are left,
+//! until the profile says one word.
+ghost use Rattle.std.specs.Prelude.{◌≡◌, IfErr, IfOk};
+ghost use Rattle.bpf_insn.specs.Program.{insns};
+ghost use Rattle.profile.specs.Policy.{IsProfile};
+ghost use Rattle.kernel_check.specs.Accepted.{IsAccepted};
+ghost use Rattle.rule_compile.specs.Shape.{IsCallFilter, IsPlain};
+ghost use Rattle.certify.specs.declared.fault.CertifyError.TheVariants.{OutOfMemory};
+ghost use Rattle.certify.specs.Own.{IsOwnWork};
+
+mod chain;
+mod moves;
+mod place;
+mod splits;
+mod store;
+mod ways;
+
+use crate::fault::{CertifyError, unwritten};
+use bpf_insn::Program;
+use cert_form::write_chained;
+use place::Place;
+use profile::Profile;
+use std::alloc::Global;
+use store::Store;
+use ways::enter;
+
+/// A certificate for a profile without conditions and its filter.
+pub(crate) fn plain_certificate(
+    alloc: Global,
+    profile: &Profile,
+    program: &Program<'_>,
+) -> Result<Vec<u8>, CertifyError>
+    requires profile { IsProfile profile.now }
+    requires accepted { IsAccepted (insns program.now) }
+    ensures own { IsPlain profile.now → IsCallFilter profile.now (insns program.now)
+        → IfOk result (λ bytes. IsOwnWork profile.now (insns program.now) bytes.items) }
+    ensures never { IsPlain profile.now → IsCallFilter profile.now (insns program.now) → IfErr result (λ e. e ≡ OutOfMemory) }
+{
+    let mut store = Store::new(alloc);
+    let _root = enter(&mut store, profile, program, Place::FIRST)?;
+    match write_chained(alloc, &store.entries, &store.nodes) {
+        Ok(bytes) => Ok(bytes),
+        Err(error) => Err(unwritten(error)),
+    }
+}

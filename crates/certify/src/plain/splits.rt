@@ -1,0 +1,224 @@
+//! A return, at which the calls that lead there are told apart until the profile says one word of them.
+ghost use Rattle.std.specs.Prelude.{◌≡◌, ◌≤◌, ◌<◌, ◌+◌, ◌-◌, ◌/◌, length, slice_get, IfErr, IfOk, IfSome, IsTrue, ◌↔◌, Contains};
+ghost use Rattle.call_tables.specs.declared.arch.Arch.TheVariants.{X86_64};
+ghost use Rattle.call_tables.specs.Arch.{token_of};
+ghost use Rattle.bpf_insn.specs.Program.{insns};
+ghost use Rattle.profile.specs.Policy.{least_x32_number};
+ghost use Rattle.cert_check.specs.Agree.{Agrees};
+ghost use Rattle.cert_state.specs.Entailment.{IsDead};
+ghost use Rattle.certify.specs.declared.fault.CertifyError.TheVariants.{OutOfMemory};
+ghost use Rattle.certify.specs.inner.Counts.{HasRoom, halves_cost, inside, return_cost};
+ghost use Rattle.certify.specs.inner.Meant.{IsMeant};
+ghost use Rattle.certify.specs.inner.Ways.{AreOutBefore, IsAtReturn, IsEnough, IsOfMachine, IsOnlyToken, IsReturnOf};
+ghost use Rattle.certify.specs.inner.Store.{IsMadeAt, IsPlace, IsStore, known_at};
+
+use crate::fault::CertifyError;
+use crate::plain::place::Place;
+use crate::plain::store::Store;
+use bpf_insn::Program;
+use call_tables::Arch;
+use cert_form::Kind;
+use cert_state::Lit;
+use profile::Profile;
+
+// The least number of an x32 call.
+const LEAST_X32_NUMBER: u32 = 0x40000000;
+
+// So many halvings tell any two numbers of a table apart, once x32 calls are apart.
+const HALVINGS: u32 = 10;
+
+/// The node of a place where no call is possible.
+pub(crate) fn dead(
+    store: &mut Store,
+    _profile: &Profile,
+    _program: &Program<'_>,
+    place: Place,
+) -> Result<u32, CertifyError>
+    requires store { IsStore store.old }
+    requires place { IsPlace store.old (insns _program.now) place }
+    requires dead { IsDead (known_at store.old place) }
+    requires room { IsMeant _profile.now (insns _program.now) → length store.old.nodes.items < 16384 }
+    ensures made { IfOk result (IsMadeAt _profile.now (insns _program.now) place store.old store.new 1) }
+    ensures never { IsMeant _profile.now (insns _program.now) → IfErr result (λ e. e ≡ OutOfMemory) }
+{
+    store.add(place, Kind::Dead)
+}
+
+// The node of a return whose word the profile says.
+fn ends(
+    store: &mut Store,
+    _profile: &Profile,
+    _program: &Program<'_>,
+    place: Place,
+    _word: u32,
+) -> Result<u32, CertifyError>
+    requires store { IsStore store.old }
+    requires place { IsPlace store.old (insns _program.now) place }
+    requires stands { IsReturnOf (insns _program.now) place _word }
+    requires agrees { IsMeant _profile.now (insns _program.now) → Agrees _profile.now (known_at store.old place) _word }
+    requires room { IsMeant _profile.now (insns _program.now) → length store.old.nodes.items < 16384 }
+    ensures made { IfOk result (IsMadeAt _profile.now (insns _program.now) place store.old store.new 1) }
+    ensures never { IsMeant _profile.now (insns _program.now) → IfErr result (λ e. e ≡ OutOfMemory) }
+{
+    store.add(place, Kind::Return)
+}
+
+// A return of calls of one machine, which are told apart by their numbers until the profile settles each.
+fn numbers(
+    store: &mut Store,
+    profile: &Profile,
+    program: &Program<'_>,
+    place: Place,
+    word: u32,
+    arch: Arch,
+    halvings: u32,
+) -> Result<u32, CertifyError>
+    requires at { IsAtReturn profile.now (insns program.now) store.old place word }
+    requires of { IsOfMachine profile.now store.old place arch }
+    requires enough { IsMeant profile.now (insns program.now) → IsEnough (known_at store.old place) arch halvings }
+    requires room { IsMeant profile.now (insns program.now) → HasRoom store.old place
+        (halves_cost halvings (inside 512 profile.now.machines (known_at store.old place))) halvings }
+    ensures made { IfOk result (IsMadeAt profile.now (insns program.now) place store.old store.new
+        (halves_cost halvings (inside 512 profile.now.machines (known_at store.old place)))) }
+    ensures never { IsMeant profile.now (insns program.now) → IfErr result (λ e. e ≡ OutOfMemory) }
+{
+    let Some((low, high)) = store.range(place.chain, 0) else {
+        return dead(store, profile, program, place);
+    };
+    let default = profile.default_word().0;
+    if low == high || default == word || is_x32(arch, low) {
+        return ends(store, profile, program, place, word);
+    }
+    if halvings == 0 {
+        return Err(CertifyError::Undecided(u32::from(place.pc)));
+    }
+    let cut = middle(arch, low, high);
+    let below = Lit::In(0, 0, cut);
+    let above = Lit::In(0, cut + 1, u32::MAX);
+    let fork = store.fork(place, (place.pc, below), (place.pc, above))?;
+    let first = numbers(store, profile, program, fork.yes, word, arch, halvings - 1)?;
+    let second = numbers(store, profile, program, fork.no, word, arch, halvings - 1)?;
+    store.set(fork.number, place, Kind::Split(below, above, first, second));
+    Ok(fork.number)
+}
+
+// Whether these numbers are of x32 calls, which carry the token of x86-64.
+fn is_x32(arch: Arch, low: u32) -> bool
+    ensures { IsTrue result ↔ ((token_of arch ≡ token_of X86_64) × (least_x32_number ≤ low)) }
+{
+    if arch.token() != Arch::X86_64.token() {
+        return false;
+    }
+    low >= LEAST_X32_NUMBER
+}
+
+// Where the numbers from one to another are cut: in the middle, but that x32 calls come apart first.
+fn middle(arch: Arch, low: u32, high: u32) -> u32
+    requires some { low < high }
+    requires native { token_of arch ≡ token_of X86_64 → low < least_x32_number }
+    ensures from { low ≤ result }
+    ensures to { result < high }
+    ensures native { token_of arch ≡ token_of X86_64 → least_x32_number ≤ high → result + 1 ≡ least_x32_number }
+    ensures half { (token_of arch ≡ token_of X86_64 → high < least_x32_number) → result ≡ low + (high - low) / 2 }
+{
+    if is_x32(arch, high) {
+        return LEAST_X32_NUMBER - 1;
+    }
+    low + (high - low) / 2
+}
+
+// A return of calls of one machine, if any is possible.
+fn machine(
+    store: &mut Store,
+    profile: &Profile,
+    program: &Program<'_>,
+    place: Place,
+    word: u32,
+    arch: Arch,
+) -> Result<u32, CertifyError>
+    requires at { IsAtReturn profile.now (insns program.now) store.old place word }
+    requires listed { Contains profile.now.machines arch }
+    requires only { IsOnlyToken store.old place arch }
+    requires room { IsMeant profile.now (insns program.now) → HasRoom store.old place
+        (halves_cost 10 (inside 512 profile.now.machines (known_at store.old place))) 10 }
+    ensures made { IfOk result (IsMadeAt profile.now (insns program.now) place store.old store.new
+        (halves_cost 10 (inside 512 profile.now.machines (known_at store.old place)))) }
+    ensures never { IsMeant profile.now (insns program.now) → IfErr result (λ e. e ≡ OutOfMemory) }
+{
+    let Some((_from, _to)) = store.range(place.chain, 1) else {
+        return dead(store, profile, program, place);
+    };
+    numbers(store, profile, program, place, word, arch, HALVINGS)
+}
+
+// Whether the word is that of foreign records and the default one too, so that no call has to be told from another.
+fn is_refusal(profile: &Profile, word: u32) -> bool
+    ensures { IsTrue result ↔ ((word ≡ 0) × (profile.now.default_word ≡ word)) }
+{
+    if word != 0 {
+        return false;
+    }
+    profile.default_word().0 == word
+}
+
+// The machine at a place of the profile's list.
+fn machine_at(profile: &Profile, at: usize) -> Option<Arch>
+    ensures found { result ≡ slice_get profile.now.machines at }
+    ensures bound { IfSome result (λ _. at + 1 < 0x10000000000000000) }
+{
+    let machines = profile.machines();
+    if at < machines.len() {
+        Some(machines[at])
+    } else {
+        None
+    }
+}
+
+/// A return, whose calls are told apart by their machines, from one of the list on.
+pub(crate) fn tokens(
+    store: &mut Store,
+    profile: &Profile,
+    program: &Program<'_>,
+    place: Place,
+    word: u32,
+    at: usize,
+) -> Result<u32, CertifyError>
+    requires at { IsAtReturn profile.now (insns program.now) store.old place word }
+    requires out { AreOutBefore profile.now store.old place at }
+    requires room { IsMeant profile.now (insns program.now) → HasRoom store.old place
+        (return_cost (length profile.now.machines) at (inside 512 profile.now.machines (known_at store.old place)))
+        (length profile.now.machines - at + 10) }
+    ensures made { IfOk result (IsMadeAt profile.now (insns program.now) place store.old store.new
+        (return_cost (length profile.now.machines) at (inside 512 profile.now.machines (known_at store.old place)))) }
+    ensures never { IsMeant profile.now (insns program.now) → IfErr result (λ e. e ≡ OutOfMemory) }
+{
+    let Some((_low, _high)) = store.range(place.chain, 0) else {
+        return dead(store, profile, program, place);
+    };
+    let Some((from, to)) = store.range(place.chain, 1) else {
+        return dead(store, profile, program, place);
+    };
+    if is_refusal(profile, word) {
+        return ends(store, profile, program, place, word);
+    }
+    let Some(arch) = machine_at(profile, at) else {
+        return ends(store, profile, program, place, word);
+    };
+    let token = arch.token();
+    if from == to {
+        if from == token {
+            return machine(store, profile, program, place, word, arch);
+        }
+        return tokens(store, profile, program, place, word, at + 1);
+    }
+    if store.rules_out(place.chain, token) {
+        return tokens(store, profile, program, place, word, at + 1);
+    }
+    let own = Lit::Bits(1, u32::MAX, token);
+    let other = Lit::NotBits(1, u32::MAX, token);
+    let fork = store.fork(place, (place.pc, own), (place.pc, other))?;
+    let first = machine(store, profile, program, fork.yes, word, arch)?;
+    let second = tokens(store, profile, program, fork.no, word, at + 1)?;
+    store.set(fork.number, place, Kind::Split(own, other, first, second));
+    Ok(fork.number)
+}

@@ -1,0 +1,168 @@
+//! Records of which all is true that is known at a return, tried for unlike words.
+
+use crate::known::Known;
+use crate::rules::Rules;
+use crate::words::{NUMBER, TOKEN};
+use bpf_interp::verdict;
+use call_record::Record;
+use call_tables::Arch;
+use kernel_check::Accepted;
+use profile::{Cond, Rule};
+
+// Below this number are all numbers of the tables of calls.
+const NUMBERS: u32 = 512;
+
+/// Looks for a record at a return.
+#[derive(Clone, Copy)]
+pub(crate) struct Search<'a> {
+    pub(crate) rules: &'a Rules<'a>,
+    pub(crate) program: &'a Accepted<'a>,
+    pub(crate) known: &'a Known,
+    /// Whether only calls of the tables of the profile's machines are tried.
+    pub(crate) listed: bool,
+}
+
+// The record of these words.
+fn record_of(words: &[u32; 16]) -> Record {
+    let mut bytes = [0; 64];
+    for i in 0..16 {
+        bytes[4 * i..4 * i + 4].copy_from_slice(&words[i].to_le_bytes());
+    }
+    Record::from_bytes(&bytes)
+}
+
+// The same words with another one.
+fn with(words: &[u32; 16], word: u8, number: u32) -> [u32; 16] {
+    let mut other = *words;
+    other[(word % 16) as usize] = number;
+    other
+}
+
+impl Search<'_> {
+    // The record, if it gets unlike words.
+    fn tried(&self, words: &[u32; 16]) -> Option<Record> {
+        let call = record_of(words);
+        let given = verdict(self.program, &call);
+        let said = self.rules.profile().decide(&call);
+        if given.0 == said.0 { None } else { Some(call) }
+    }
+
+    // The words of which each is the least that may be.
+    fn least_words(&self) -> Option<[u32; 16]> {
+        let mut words = [0; 16];
+        for word in 0..16u8 {
+            words[word as usize] = self.known.first_number(word)?;
+        }
+        Some(words)
+    }
+
+    /// The first record that is found to get unlike words.
+    pub(crate) fn first(&self) -> Option<Record> {
+        let words = self.least_words()?;
+        for arch in self.rules.profile().machines() {
+            if self.known.admits(TOKEN, arch.token()) {
+                let found = self.of_machine(&with(&words, TOKEN, arch.token()), *arch);
+                if found.is_some() {
+                    return found;
+                }
+            }
+        }
+        if self.listed {
+            None
+        } else {
+            self.around(&words)
+        }
+    }
+
+    // The first one of a machine.
+    fn of_machine(&self, words: &[u32; 16], arch: Arch) -> Option<Record> {
+        if !self.listed {
+            return self.around(words);
+        }
+        let (least, greatest) = self.known.range(NUMBER)?;
+        if least == greatest {
+            arch.name(least)?;
+            return self.around(&with(words, NUMBER, least));
+        }
+        for number in least..NUMBERS.min(greatest.saturating_add(1)) {
+            if self.known.admits(NUMBER, number) && arch.name(number).is_some() {
+                let found = self.tried(&with(words, NUMBER, number));
+                if found.is_some() {
+                    return found;
+                }
+            }
+        }
+        None
+    }
+
+    // The first one of these words, and of those that differ from them in one word, or in one argument that a rule
+    // speaks of.
+    fn around(&self, words: &[u32; 16]) -> Option<Record> {
+        let found = self.tried(words);
+        if found.is_some() {
+            return found;
+        }
+        for word in 0..16u8 {
+            let number = self.known.range(word)?.1;
+            if word != TOKEN
+                && self.known.admits(word, number)
+                && !(self.listed && word == NUMBER)
+            {
+                let found = self.tried(&with(words, word, number));
+                if found.is_some() {
+                    return found;
+                }
+            }
+        }
+        self.by_rules(words)
+    }
+
+    // The first one at the values of the rules of a number, or beside them.
+    fn by_rules(&self, words: &[u32; 16]) -> Option<Record> {
+        let token = words[TOKEN as usize];
+        let number = words[NUMBER as usize];
+        for at in self.rules.first(token, number)..self.rules.len() {
+            let rule = self.rules.at(at, token, number)?;
+            let found = self.by_rule(words, rule);
+            if found.is_some() {
+                return found;
+            }
+        }
+        None
+    }
+
+    // All conditions of a rule met as they stand, and each of them alone.
+    fn by_rule(&self, words: &[u32; 16], rule: &Rule) -> Option<Record> {
+        let mut all = *words;
+        for cond in rule.conds.as_slice() {
+            all = self.with_argument(&all, cond, cond.value);
+            for value in [
+                cond.datum,
+                cond.value,
+                cond.value.wrapping_sub(1),
+                cond.value.wrapping_add(1),
+            ] {
+                let found = self.tried(&self.with_argument(words, cond, value));
+                if found.is_some() {
+                    return found;
+                }
+            }
+        }
+        self.tried(&all)
+    }
+
+    // The same words with an argument, as far as its halves may have this value.
+    fn with_argument(&self, words: &[u32; 16], cond: &Cond, value: u64) -> [u32; 16] {
+        let mut other = *words;
+        let word = 4 + 2 * (cond.index % 6);
+        let low = (value % (1 << 32)) as u32;
+        let high = (value >> 32) as u32;
+        if self.known.admits(word, low) {
+            other[word as usize] = low;
+        }
+        if self.known.admits(word + 1, high) {
+            other[word as usize + 1] = high;
+        }
+        other
+    }
+}
