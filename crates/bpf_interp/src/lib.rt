@@ -5,7 +5,9 @@
 //! written by then, and that every step leads on to a later instruction, so each run ends.
 #![tactic(auto)]
 
+mod fixed;
 mod run;
 mod step;
 
+pub use fixed::{fixed_allow, fixed_is_the_word};
 pub use run::{verdict, verdict_counted};

@@ -10,9 +10,9 @@ use Rattle.cert_check.specs.Checked.{profile_of}
 use Rattle.processes.specs.Attached.{Attached}
 use Rattle.processes.specs.First.{by_program}
 use Rattle.processes.specs.Ids.{is_id}
-use Rattle.processes.specs.Kernel.{is_fatal, presented, signalled}
+use Rattle.processes.specs.Kernel.{can_grow, is_fatal, presented, signalled}
 use Rattle.processes.specs.Tasks.{Processes, lives}
-use Rattle.processes.specs.Views.{Containers, SetAt, lives_in, present_in, same_text}
+use Rattle.processes.specs.Views.{Containers, SetAt, can_grow_in, lives_in, present_in, same_text}
 use Rattle.lifecycle.specs.declared.command.Reply.TheVariants.{Accepted, Refused}
 use Rattle.lifecycle.specs.declared.command.Status.{Status}
 use Rattle.lifecycle.specs.declared.command.Status.TheVariants.{Created, Running, Stopped}
@@ -22,7 +22,7 @@ use Rattle.lifecycle.specs.declared.entry.Phase.TheVariants.{Made, Started, Ende
 use Rattle.lifecycle.specs.declared.fault.Refusal.TheVariants.{BadSignal, NotCreated}
 use Rattle.lifecycle.specs.Worlds.{Container, container_at, ids_of}
 use Rattle.lifecycle.specs.Steps.{first_call, kill, left_after, running, start, start_reply}
-use Rattle.lifecycle.specs.inner.Entries.{Entries, container_by, container_of, is_started, started_at, started_in, world_from}
+use Rattle.lifecycle.specs.Entries.{Entries, container_by, container_of, is_started, started_at, started_in, world_from}
 use Rattle.lifecycle.proofs.Isolation.{same_is}
 use Rattle.lifecycle.proofs.Entries.{there}
 
@@ -58,6 +58,14 @@ answered n r a Made e ps h = let no_way : Created ≡ Running = h in absurd (cc)
 answered n r a Started e None h = let no_way : Stopped ≡ Running = h in absurd (cc)
 answered n r a Started e (Some p) h = refl
 answered n r a Ended e ps h = let no_way : Stopped ≡ Running = h in absurd (cc)
+
+-- a running container may want memory for a call where the kernel may
+pub grows_on : (n : ℕ) (r : Record) (phase : Phase) (e : Entry) (ps : Option Processes) → (container_by phase e ps).status ≡ Running
+    → can_grow_in n r ps ≡ true → can_grow n r (container_by phase e ps).processes ≡ true
+grows_on n r Made e ps h g = let no_way : Created ≡ Running = h in absurd (cc)
+grows_on n r Started e None h g = let no_way : false ≡ true = g in absurd (cc)
+grows_on n r Started e (Some p) h g = g
+grows_on n r Ended e ps h g = let no_way : Stopped ≡ Running = h in absurd (cc)
 
 pub presented_as : (n : ℕ) (r : Record) (a : Attached) (ps : Option Processes) → (present_in n r a ps).1 ≡ option_map (λ p. (presented n r a p).1) ps
 presented_as n r a None = refl

@@ -12,7 +12,7 @@ use Rattle.lifecycle.specs.declared.entry.Entry.{Entry}
 use Rattle.lifecycle.specs.Orders.{Order, id_of}
 use Rattle.lifecycle.specs.Worlds.{Container, World, First, container_at, put}
 use Rattle.lifecycle.specs.Steps.{acted, step}
-use Rattle.lifecycle.specs.inner.Entries.{Entries, container_of, world_from}
+use Rattle.lifecycle.specs.Entries.{Entries, container_of, world_from}
 use Rattle.lifecycle.proofs.Isolation.{same_is}
 
 -- ---- steps

@@ -1,5 +1,6 @@
 -- The first filter stays the oldest of each task, so what it refuses is never carried out.
-use Rattle.std.proofs.Common.{◌≡◌, ◌⊎◌, ◌&&◌, inl, inr, ℕ, Bool, true, false, List, [], ◌∷◌, ◌++◌, Option, Some, None, is_some, refl, map, sym, ap, subst, ◌∙◌, arith, All, Contains}
+use Rattle.std.proofs.Common.{◌≡◌, ◌⊎◌, ◌&&◌, inl, inr, ℕ, Bool, true, false, List, [], ◌∷◌, ◌++◌, Option, Some, None, is_some, refl, map}
+use Rattle.std.proofs.Common.{sym, ap, subst, take, ◌∙◌, arith, All, Contains}
 use Rattle.std.proofs.lemmas.List.Elements.{All-cons, Contains-push}
 use Rattle.call_tables.specs.declared.arch.Arch.{Arch}
 use Rattle.call_record.specs.declared.layout.Record.{Record}
@@ -19,17 +20,18 @@ use Rattle.processes.specs.declared.outcome.Outcome.{Outcome}
 use Rattle.processes.specs.declared.outcome.Outcome.TheVariants.{Done, Failed, Absent, Denied, NoTask}
 use Rattle.processes.specs.Laws.{Each, KeepsBehind}
 use Rattle.processes.proofs.Laws.{first_is_behind, found, keeps_behind, signal_keeps_behind}
-use Rattle.lifecycle.specs.declared.command.Reply.TheVariants.{IsIn, Presented}
+use Rattle.lifecycle.specs.declared.command.Reply.TheVariants.{Presented}
 use Rattle.lifecycle.specs.declared.command.Status.{Status}
 use Rattle.lifecycle.specs.declared.command.Status.TheVariants.{Created, Running, Stopped}
 use Rattle.lifecycle.specs.Orders.{Order}
-use Rattle.lifecycle.specs.Orders.Order.{Start, State, Call}
+use Rattle.lifecycle.specs.Orders.Order.{Start, Call}
 use Rattle.lifecycle.specs.Promises.{FirstFilterIsOldest, IsDeniedStart, IsOldest, MadeBy, NotCarriedOut, RefusedIsNotCarriedOut, world_after}
-use Rattle.lifecycle.specs.Steps.{acted, call, first_call, left_after, start, start_reply}
+use Rattle.lifecycle.specs.Steps.{acted, call, first_call, left_after, start, start_reply, step}
 use Rattle.lifecycle.specs.Worlds.{Container, First, container_at}
 use Rattle.lifecycle.proofs.CommandLaws.{never}
 use Rattle.lifecycle.proofs.Containers.{At, IsKept, holds_after}
 use Rattle.lifecycle.proofs.GivenLaws.{AsGiven, as_given, is_there}
+use Rattle.lifecycle.proofs.Runs.{replies_are_steps}
 
 -- ---- the oldest filter
 
@@ -126,23 +128,40 @@ there_by F orders id given m = by (container_at id (world_after F orders)) refl
     by None e = let bad : false ≡ true = sym (ap is_some e) ∙ is_there F orders id given m in absurd (cc)
     by (Some c) e = (c, e, as_given F orders id given m c e)
 
-status_told : (s t : Status) → IsIn s ≡ IsIn t → s ≡ t
-status_told s t h = cc
+-- a call in the world after some orders
+call_step : (os : List Order) (id : List ℕ) (given : Checked) → MadeBy by_profile os id given → (task : ℕ) (r : Record) (a : Attached)
+    → IsRefusal (said (profile_of given) (words r)) → NotCarriedOut (step by_profile (Call id task r a) (world_after by_profile os)).0
+call_step os id given m task r a refusal =
+    let c = there_by by_profile os id given m in
+    let word : IsRefusal (c.0.first.word r) = subst (λ (j : Judge). IsRefusal (j.word r)) (sym c.2.0) refusal in
+    subst NotCarriedOut (sym (ap (λ o. (acted by_profile (Call id task r a) o).0) c.1))
+    (call_refused c.0.status c.0 task r a (sound_after by_profile os id c.0 c.1) word)
+
+-- and a start of a created container
+start_step : (os : List Order) (id : List ℕ) (given : Checked) → MadeBy by_profile os id given
+    → (c : Container) → container_at id (world_after by_profile os) ≡ Some c → c.status ≡ Created
+    → IsRefusal (said (profile_of given) (words (execve_of (profile_of given).native)))
+    → IsDeniedStart (step by_profile (Start id) (world_after by_profile os)).0
+start_step os id given m c there created refusal =
+    let made = as_given by_profile os id given m c there in
+    let call = execve_of c.processes.native in
+    let same : execve_of (profile_of given).native ≡ call = ap execve_of (sym made.1) in
+    let here : IsRefusal (said (profile_of given) (words call)) = subst (λ (r : Record). IsRefusal (said (profile_of given) (words r)))
+    same refusal in
+    let word : IsRefusal (c.first.word call) = subst (λ (j : Judge). IsRefusal (j.word call)) (sym made.0) here in
+    subst IsDeniedStart (sym (ap (λ o. (acted by_profile (Start id) o).0) there ∙ ap (λ s. (start s c).0) created))
+    (start_refused c.processes.native c.first word)
 
 pub refused_is_not_carried_out : RefusedIsNotCarriedOut
 refused_is_not_carried_out = record {
-  call = λ os id given m task r a refusal.
-      let c = there_by by_profile os id given m in
-      let word : IsRefusal (c.0.first.word r) = subst (λ (j : Judge). IsRefusal (j.word r)) (sym c.2.0) refusal in
-      subst NotCarriedOut (sym (ap (λ o. (acted by_profile (Call id task r a) o).0) c.1))
-      (call_refused c.0.status c.0 task r a (sound_after by_profile os id c.0 c.1) word);
-  start = λ os id given m told refusal.
-      let c = there_by by_profile os id given m in
-      let created : c.0.status ≡ Created = status_told c.0.status Created (sym (ap (λ o. (acted by_profile (State id) o).0) c.1) ∙ told) in
-      let call = execve_of c.0.processes.native in
-      let same : execve_of (profile_of given).native ≡ call = ap execve_of (sym c.2.1) in
-      let here : IsRefusal (said (profile_of given) (words call)) = subst (λ (r : Record). IsRefusal (said (profile_of given) (words r))) same refusal in
-      let word : IsRefusal (c.0.first.word call) = subst (λ (j : Judge). IsRefusal (j.word call)) (sym c.2.0) here in
-      subst IsDeniedStart (sym (ap (λ o. (acted by_profile (Start id) o).0) c.1 ∙ ap (λ s. (start s c.0).0) created))
-      (start_refused c.0.processes.native c.0.first word);
+  call = λ os i id given task r a at m refusal. record {
+    reply = (step by_profile (Call id task r a) (world_after by_profile (take i os))).0;
+    at = replies_are_steps by_profile os i (Call id task r a) at;
+    is = call_step (take i os) id given m task r a refusal;
+  };
+  start = λ os i id given c at m there created refusal. record {
+    reply = (step by_profile (Start id) (world_after by_profile (take i os))).0;
+    at = replies_are_steps by_profile os i (Start id) at;
+    is = start_step (take i os) id given m c there created refusal;
+  };
 }

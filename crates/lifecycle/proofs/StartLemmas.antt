@@ -3,8 +3,8 @@ use Rattle.std.proofs.Common.{◌≡◌, ℕ, Bool, true, false, List, Option, S
 use Rattle.std.specs.Option.{option_map}
 use Rattle.std.specs.Cmp.Lexicographic.{nat_list_eq_equiv}
 use Rattle.call_tables.specs.declared.arch.Arch.{Arch}
-use Rattle.call_tables.specs.declared.arch.Arch.TheVariants.{X86_64, Aarch64}
-use Rattle.call_tables.specs.Machines.{x86_64_table, aarch64_table}
+use Rattle.call_tables.specs.declared.arch.Arch.TheVariants.{X86_64, Aarch64, LinuxX86_64, LinuxAarch64}
+use Rattle.call_tables.specs.Machines.{x86_64_table, aarch64_table, linux_x86_64_table, linux_aarch64_table}
 use Rattle.call_record.specs.declared.layout.Record.{Record}
 use Rattle.call_record.specs.declared.effect.Ends.{Ends}
 use Rattle.call_record.specs.declared.effect.Ends.TheVariants.{Nothing, Task, Group}
@@ -39,9 +39,11 @@ set_twice k l m id v w first second = λ q. second q ∙ twice_by (same_text id 
 
 -- the call is an execve
 pub first_row : (native : Arch) → row_of native (execve_of native) ≡ Execve
-unfolding x86_64_table aarch64_table
+unfolding x86_64_table aarch64_table linux_x86_64_table linux_aarch64_table
 first_row X86_64 = refl
 first_row Aarch64 = refl
+first_row LinuxX86_64 = refl
+first_row LinuxAarch64 = refl
 
 ends_by : (native : Arch) (first : Judge) (e : Ends) → let ps = ended_by_verdict e (first_task first) (admitted native first) in lives ps ≡ false → signalled 9 ps ≡ ps
 ends_by native first Nothing h = let bad : true ≡ false = h in absurd (cc)

@@ -5,5 +5,7 @@ pub mod Steps
 pub mod Own
 pub mod Runs
 pub mod Promises
+pub mod Entries
 pub mod Views
+pub mod Growth
 pub mod inner

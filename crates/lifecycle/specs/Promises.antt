@@ -1,5 +1,5 @@
 -- What holds of every container, whatever was ordered before.
-use Rattle.std.specs.Prelude.{◌≡◌, ◌⊎◌, ℕ, List, [], ◌∷◌, ◌++◌, Option, None, Some, if◌then◌else◌, is_some, take, true}
+use Rattle.std.specs.Prelude.{◌≡◌, ◌⊎◌, ℕ, List, [], ◌∷◌, ◌++◌, Option, None, Some, if◌then◌else◌, is_some, slice_get, take, true}
 use Rattle.std.specs.List.{All, Contains}
 use Rattle.call_record.specs.declared.layout.Record.{Record}
 use Rattle.call_record.specs.Record.{words}
@@ -9,24 +9,43 @@ use Rattle.cert_check.specs.declared.checked.Checked.{Checked}
 use Rattle.cert_check.specs.Checked.{profile_of}
 use Rattle.processes.specs.Attached.{Attached}
 use Rattle.processes.specs.Begin.{execve_of}
-use Rattle.processes.specs.First.{by_profile}
+use Rattle.processes.specs.First.{by_profile, by_program}
 use Rattle.processes.specs.Laws.{StandsBehind, goes_on}
 use Rattle.processes.specs.Tasks.{Filter, Judge, Process, Processes, live_task}
 use Rattle.processes.specs.Views.{same_text}
 use Rattle.processes.specs.declared.outcome.Outcome.TheVariants.{Denied, NoTask}
 use Rattle.lifecycle.specs.declared.command.Reply.{Reply}
-use Rattle.lifecycle.specs.declared.command.Reply.TheVariants.{IsIn, Presented, Refused}
+use Rattle.lifecycle.specs.declared.command.Reply.TheVariants.{Presented, Refused}
 use Rattle.lifecycle.specs.declared.command.Status.{Status}
 use Rattle.lifecycle.specs.declared.command.Status.TheVariants.{Created, Running}
 use Rattle.lifecycle.specs.declared.fault.Refusal.TheVariants.{StartDenied}
 use Rattle.lifecycle.specs.Orders.{Order, id_of}
-use Rattle.lifecycle.specs.Orders.Order.{Call, Create, Start, State}
+use Rattle.lifecycle.specs.Orders.Order.{Call, Create, Start}
 use Rattle.lifecycle.specs.Steps.{run, step}
 use Rattle.lifecycle.specs.Worlds.{Container, First, World, container_at}
 
 -- the world after these orders, where there were no containers before
 abbrev pub world_after : First → List Order → World
 world_after F orders = (run F orders []).1
+
+-- the replies to these orders, where there were no containers before
+abbrev pub replies_to : First → List Order → List Reply
+replies_to F orders = (run F orders []).0
+
+-- the reply at a place is of a kind
+pub record RepliesAt (P : Reply → Type 0) (F : First) (orders : List Order) (i : ℕ) : Type 0 where
+  pub reply : Reply
+  pub at : slice_get (replies_to F orders) i ≡ Some reply
+  pub is : P reply
+
+-- each reply is that of the order at its place, in the world after the orders before it
+abbrev pub RepliesAreSteps : Type 0
+RepliesAreSteps = (F : First) (orders : List Order) (i : ℕ) (o : Order) → slice_get orders i ≡ Some o
+    → slice_get (replies_to F orders) i ≡ Some (step F o (world_after F (take i orders))).0
+
+-- What the program of a checked filter gives and what its profile says are one first judge.
+abbrev pub OneFirstJudge : Type 0
+OneFirstJudge = (given : Checked) → by_program given ≡ by_profile given
 
 -- ---- what a container was created with
 
@@ -98,13 +117,14 @@ NotCarriedOut reply = ((v : ℕ) × (reply ≡ Presented (Denied v))) ⊎ (reply
 abbrev pub IsDeniedStart : Reply → Type 0
 IsDeniedStart reply = (v : ℕ) × (reply ≡ Refused (StartDenied v))
 
--- A call that the profile refuses with which the container was made is not carried out, whoever of its tasks presents it,
--- with whatever further filters; nor does a container start whose profile refuses the execve with which it begins.
+-- A call that the profile refuses with which its container was made is not carried out, whoever of its tasks presents it,
+-- with whatever further filters; nor does a container start whose profile refuses the execve with which it begins. Both
+-- are told by the reply at the order's place, in a run of any orders, where there were no containers before.
 pub record RefusedIsNotCarriedOut : Type 0 where
-  pub call : (orders : List Order) (id : List ℕ) (given : Checked) → MadeBy by_profile orders id given
-      → (task : ℕ) (r : Record) (a : Attached) → IsRefusal (said (profile_of given) (words r))
-      → NotCarriedOut (step by_profile (Call id task r a) (world_after by_profile orders)).0
-  pub start : (orders : List Order) (id : List ℕ) (given : Checked) → MadeBy by_profile orders id given
-      → (step by_profile (State id) (world_after by_profile orders)).0 ≡ IsIn Created
-      → IsRefusal (said (profile_of given) (words (execve_of (profile_of given).native)))
-      → IsDeniedStart (step by_profile (Start id) (world_after by_profile orders)).0
+  pub call : (orders : List Order) (i : ℕ) (id : List ℕ) (given : Checked) (task : ℕ) (r : Record) (a : Attached)
+      → slice_get orders i ≡ Some (Call id task r a) → MadeBy by_profile (take i orders) id given
+      → IsRefusal (said (profile_of given) (words r)) → RepliesAt NotCarriedOut by_profile orders i
+  pub start : (orders : List Order) (i : ℕ) (id : List ℕ) (given : Checked) (c : Container)
+      → slice_get orders i ≡ Some (Start id) → MadeBy by_profile (take i orders) id given
+      → container_at id (world_after by_profile (take i orders)) ≡ Some c → c.status ≡ Created
+      → IsRefusal (said (profile_of given) (words (execve_of (profile_of given).native))) → RepliesAt IsDeniedStart by_profile orders i

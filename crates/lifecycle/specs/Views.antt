@@ -2,7 +2,7 @@
 use Rattle.processes.specs.declared.kernel.Kernel.{Ghosts}
 use Rattle.lifecycle.specs.declared.runtime.Runtime.{Runtime}
 use Rattle.lifecycle.specs.Worlds.{World}
-use Rattle.lifecycle.specs.inner.Entries.{world_from}
+use Rattle.lifecycle.specs.Entries.{world_from}
 
 -- its containers in order of creation, each with what the kernel has of it; first judges are what the programs give
 unfoldable pub world_of : {K : Type 0} {kernel : Ghosts K} → Runtime K kernel → World

@@ -1,10 +1,20 @@
 //! Laws of runs.
 ghost use Rattle.lifecycle.specs.Own.{IsIsolated};
-ghost use Rattle.lifecycle.specs.Promises.{FirstFilterIsOldest, FirstIsGiven, LoadsTellFilters, OldFiltersStay, RefusedIsNotCarriedOut};
+ghost use Rattle.lifecycle.specs.Promises.{FirstFilterIsOldest, FirstIsGiven, LoadsTellFilters, OldFiltersStay, OneFirstJudge, RefusedIsNotCarriedOut, RepliesAreSteps};
 
 /// An order sees the container that it names and no other, and changes no other.
 pub fn containers_are_isolated()
     ensures { IsIsolated }
+{}
+
+/// Each reply of a run is that of the order at its place, in the world that the orders before it left.
+pub fn replies_are_steps()
+    ensures { RepliesAreSteps }
+{}
+
+/// The program of a checked filter and its profile are one first judge: a step by the one is a step by the other.
+pub fn one_first_judge()
+    ensures { OneFirstJudge }
 {}
 
 /// Each container was made by an order, whose checked filter gives its first judge and its machine.
@@ -27,8 +37,8 @@ pub fn old_filters_stay()
     ensures { OldFiltersStay }
 {}
 
-/// A call that the profile refuses with which its container was made is not carried out, and a container whose profile
-/// refuses its first call does not start.
+/// The reply to a call that the profile refuses with which its container was made says that it is not carried out, and the
+/// reply to the start of a container whose profile refuses its first call says so.
 pub fn refused_is_not_carried_out()
     ensures { RefusedIsNotCarriedOut }
 {}

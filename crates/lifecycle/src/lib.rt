@@ -17,6 +17,6 @@ pub use command::{Command, Reply, Status};
 pub use fault::Refusal;
 pub use law::{
     containers_are_isolated, first_filter_is_oldest, first_is_given, loads_tell_filters,
-    old_filters_stay, refused_is_not_carried_out,
+    old_filters_stay, one_first_judge, refused_is_not_carried_out, replies_are_steps,
 };
 pub use runtime::Runtime;

@@ -1,6 +1,7 @@
 //! Whole runs.
-ghost use Rattle.std.specs.Prelude.{◌≡◌, IfOk, OnOk, OnErr, length, take};
+ghost use Rattle.std.specs.Prelude.{◌≡◌, ◌<◌, IfOk, OnOk, OnErr, length, take};
 ghost use Rattle.processes.specs.First.{by_profile, by_program};
+ghost use Rattle.lifecycle.specs.Growth.{MayGrow, NextMayGrow};
 ghost use Rattle.lifecycle.specs.Orders.{order_of};
 ghost use Rattle.lifecycle.specs.Runs.{EachRunsAlone, IsRun, orders_of};
 ghost use Rattle.lifecycle.specs.Steps.{step};
@@ -13,7 +14,8 @@ use std::alloc::AllocError;
 impl<'a, K: Kernel> Runtime<'a, K> {
     ghost use Rattle.lifecycle.specs.Views.{world_of};
 
-    /// Carries out commands in order. Where memory is refused it stops, with the replies so far.
+    /// Carries out commands in order. Where memory is refused it stops, with the replies so far: the command after them is
+    /// left undone.
     ///
     /// The replies, and the world after them, are those of a run in which a container's profile decides what its first
     /// filter answers; with the program of the filter in the profile's place it is the same run. So a call that a profile
@@ -22,9 +24,14 @@ impl<'a, K: Kernel> Runtime<'a, K> {
         ensures headline { IsRun by_profile (orders_of (take (length result.0.items) commands.now)) (world_of self.old) result.0.items (world_of self.new) }
         ensures so_far { IsRun by_program (orders_of (take (length result.0.items) commands.now)) (world_of self.old) result.0.items (world_of self.new) }
         ensures all { OnOk result.1 (length result.0.items ≡ length commands.now) }
+        ensures left { OnErr result.1 (length result.0.items < length commands.now) }
+        ensures growth { OnErr result.1 (NextMayGrow (orders_of commands.now) result.0.items (world_of self.new)) }
         ensures alone { EachRunsAlone by_profile (orders_of (take (length result.0.items) commands.now)) (world_of self.old) result.0.items }
     {
         let mut replies = Vec::new(self.alloc);
+        if commands.is_empty() {
+            return (replies, Ok(()));
+        }
         if replies.reserve(commands.len()).is_err() {
             return (replies, Err(AllocError));
         }
@@ -41,6 +48,7 @@ impl<'a, K: Kernel> Runtime<'a, K> {
     fn act(&mut self, command: &Command<'a>) -> Result<Reply, AllocError>
         ensures step { IfOk result (λ r. (r, world_of self.new) ≡ step by_program (order_of command.now) (world_of self.old)) }
         ensures err { OnErr result (world_of self.new ≡ world_of self.old) }
+        ensures growth { OnErr result (MayGrow (order_of command.now) (world_of self.old)) }
     {
         match *command {
             Command::Create(id, checked) => self.create(id, checked),

@@ -4,7 +4,7 @@ ghost use Rattle.std.specs.Map.{lookup};
 ghost use Rattle.processes.specs.Ids.{is_id};
 ghost use Rattle.processes.specs.Kernel.{is_fatal};
 ghost use Rattle.processes.specs.Views.{lives_in, same_text};
-ghost use Rattle.lifecycle.specs.inner.Entries.{started_at};
+ghost use Rattle.lifecycle.specs.Entries.{started_at};
 
 use crate::command::{Reply, Status};
 use crate::entry::{Entry, Phase, come_to, forget};
@@ -41,6 +41,7 @@ impl<'a, K: Kernel> Runtime<'a, K> {
     ghost use Rattle.processes.specs.Attached.{attached_of};
     ghost use Rattle.processes.specs.First.{by_program};
     ghost use Rattle.lifecycle.specs.Orders.Order.{Create, Start, Kill, Delete, State, Call};
+    ghost use Rattle.lifecycle.specs.Growth.{MayGrow};
     ghost use Rattle.lifecycle.specs.Steps.{step};
     ghost use Rattle.lifecycle.specs.Views.{world_of};
     ghost use Rattle.lifecycle.specs.Worlds.{ids_of};
@@ -62,6 +63,7 @@ impl<'a, K: Kernel> Runtime<'a, K> {
     pub fn create(&mut self, id: &str, checked: Checked<'a>) -> Result<Reply, AllocError>
         ensures step { IfOk result (λ r. (r, world_of self.new) ≡ step by_program (Create id.now checked.entry) (world_of self.old)) }
         ensures err { OnErr result (world_of self.new ≡ world_of self.old) }
+        ensures growth { OnErr result (MayGrow (Create id.now checked.entry) (world_of self.old)) }
     {
         let Some(name) = Id::read(id) else {
             return Ok(Reply::Refused(Refusal::BadId));
@@ -78,6 +80,7 @@ impl<'a, K: Kernel> Runtime<'a, K> {
     pub fn start(&mut self, id: &str) -> Result<Reply, AllocError>
         ensures step { IfOk result (λ r. (r, world_of self.new) ≡ step by_program (Start id.now) (world_of self.old)) }
         ensures err { OnErr result (world_of self.new ≡ world_of self.old) }
+        ensures growth { OnErr result (MayGrow (Start id.now) (world_of self.old)) }
     {
         let Some(Found { name, entry, .. }) = self.find(id) else {
             return Ok(Reply::Refused(Refusal::NoContainer));
@@ -160,6 +163,8 @@ impl<'a, K: Kernel> Runtime<'a, K> {
         ensures step { let given = attached_of (option_map (λ a. a.now) attached.entry) in
             IfOk result (λ r. (r, world_of self.new) ≡ step by_program (Call id.now task rec.now given) (world_of self.old)) }
         ensures err { OnErr result (world_of self.new ≡ world_of self.old) }
+        ensures growth { let given = attached_of (option_map (λ a. a.now) attached.entry) in
+            OnErr result (MayGrow (Call id.now task rec.now given) (world_of self.old)) }
     {
         let Some(Found { name, status, .. }) = self.find(id) else {
             return Ok(Reply::Refused(Refusal::NoContainer));

@@ -9,6 +9,8 @@ use Rattle.call_record.specs.Verdict.{allow, strictest_of}
 use Rattle.call_record.proofs.StrictestLemmas.{strictest_of-cons}
 use Rattle.processes.specs.declared.filters.Loaded.{Loaded}
 use Rattle.processes.specs.Kernel.{is_oldest_part}
+use Rattle.processes.specs.Stores.{size_beside}
+use Rattle.processes.specs.Tasks.{Filter}
 use Rattle.processes.specs.inner.Loads.{filter_of, filters_of, loads_of, total_size}
 use Rattle.call_record.specs.declared.layout.Record.{Record}
 
@@ -51,3 +53,14 @@ oldest_part older newer k h =
     let e : k ≡ length (loads_of newer) - length (loads_of older) = omega arith in
     let whole : take (length newer - k) (drop k newer) ≡ drop k newer = take_all (length newer - k) (drop k newer) (omega (arith, length-drop k newer)) in
     ap (λ loads. pointwise nat_eq (loads_of older) loads) (ap loads_of whole ∙ (drop_loads k newer ∙ ap (λ m. drop m (loads_of newer)) e))
+
+-- what the store says of the filters is what the lists have
+pub loads_seen : (fs : List Loaded) → map (λ f. f.load) (filters_of fs) ≡ loads_of fs
+loads_seen [] = refl
+loads_seen (f ∷ fs) = ap (λ ns. f.load ∷ ns) (loads_seen fs)
+
+pub size_seen : (fs : List Loaded) → size_beside (filters_of fs) ≡ total_size fs
+size_seen [] = refl
+size_seen (f ∷ fs) =
+    sum_by-cons (λ (g : Filter). g.judge.count + 4) (filter_of f) (filters_of fs)
+    ∙ (ap (λ n. length f.program + 4 + n) (size_seen fs) ∙ sym (sum_by-cons (λ (g : Loaded). length g.program + 4) f fs))

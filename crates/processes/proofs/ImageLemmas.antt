@@ -1,6 +1,6 @@
 -- execve's changes to a list of tasks in the order of their numbers.
-use Rattle.std.proofs.Common.{◌≡◌, inl, inr, ℕ, zero, suc, ◌==◌, ◌||◌, ◌<◌, Bool, true, false, not, List, [], ◌∷◌, Option, Some, None, if◌then◌else◌, refl, sym, ◌∙◌, ap, map, length, set, arith, subst, IsTrue}
-use Rattle.std.specs.Prelude.{filter, find, option_map, remove, slice_get}
+use Rattle.std.proofs.Common.{◌≡◌, inl, inr, ℕ, zero, suc, ◌==◌, ◌&&◌, ◌||◌, ◌<◌, Bool, true, false, not, List, [], ◌∷◌, Option, Some, None, if◌then◌else◌, refl, sym, ◌∙◌, ap, map, length, set, arith, subst, IsTrue}
+use Rattle.std.specs.Prelude.{filter, find, nat_lt, option_map, remove, slice_get}
 use Rattle.std.proofs.lemmas.Bool.{eq-eqb, eqb-true}
 use Rattle.std.proofs.lemmas.List.{map-set}
 use Rattle.std.proofs.lemmas.Option.{slice_get-map, slice_get_cases}
@@ -8,8 +8,8 @@ use Rattle.processes.specs.declared.outcome.End.{End}
 use Rattle.processes.specs.declared.outcome.End.TheVariants as end
 use Rattle.processes.specs.declared.task.Task.{Task}
 use Rattle.processes.specs.Kernel.{executed, is_sibling, renewed, take_over}
-use Rattle.processes.specs.Tasks.{Process, ascends, end_where, is_task}
-use Rattle.processes.specs.inner.Table.{all_of, process_of}
+use Rattle.processes.specs.Tasks.{Filter, Process, ascends, end_where, is_task}
+use Rattle.processes.specs.inner.Table.{all_of, bare_of, process_of}
 use Rattle.processes.specs.Laws.{Each}
 use Rattle.processes.proofs.Numbers.{Ascends, above, fewer, from_order, image_ordered, to_order}
 
@@ -125,47 +125,53 @@ found_passes test (t ∷ ts) u e = by (test t) refl (found_passes test ts u) e
 
 -- The same of the tasks that the code keeps.
 
-seen_at : (tasks : List Task) (at : ℕ) (t : Task) → slice_get tasks at ≡ Some t → slice_get (all_of tasks) at ≡ Some (process_of t)
-seen_at tasks at t e = slice_get-map process_of tasks at ∙ ap (option_map process_of) e
+-- their order is that of their numbers, whatever is seen of their filters
+pub bare_order : {H : Type 0} (seen : H → List Filter) (low : ℕ) (tasks : List (Task H)) (top : ℕ)
+    → ascends low (map bare_of tasks) top ≡ ascends low (all_of seen tasks) top
+bare_order {H} seen low [] top = refl
+bare_order {H} seen low (t ∷ tasks) top = ap (λ b. nat_lt low t.number && b) (bare_order seen t.number tasks top)
 
-all_of-remove : (tasks : List Task) (at : ℕ) → all_of (remove tasks at) ≡ remove (all_of tasks) at
-all_of-remove [] zero = refl
-all_of-remove [] (suc at) = refl
-all_of-remove (t ∷ tasks) zero = refl
-all_of-remove (t ∷ tasks) (suc at) = ap (λ us. process_of t ∷ us) (all_of-remove tasks at)
+seen_at : {H : Type 0} (seen : H → List Filter) (tasks : List (Task H)) (at : ℕ) (t : Task H) → slice_get tasks at ≡ Some t → slice_get (all_of seen tasks) at ≡ Some (process_of seen t)
+seen_at {H} seen tasks at t e = slice_get-map (process_of seen) tasks at ∙ ap (option_map (process_of seen)) e
 
-pub leader_over : (tasks : List Task) (at top : ℕ) (t x : Task) → IsTrue (ascends 0 (all_of tasks) top) → slice_get tasks at ≡ Some t → t.number ≡ t.group
-    → process_of x ≡ renewed (process_of t) → all_of (set tasks at x) ≡ take_over (process_of t) (all_of tasks)
-leader_over tasks at top t x order e h new =
-    map-set process_of tasks at x ∙ (ap (λ u. set (all_of tasks) at u) new
-    ∙ sym (leader (process_of t) 0 top (all_of tasks) at (to_order 0 (all_of tasks) top order) (seen_at tasks at t e) h))
+all_of-remove : {H : Type 0} (seen : H → List Filter) (tasks : List (Task H)) (at : ℕ) → all_of seen (remove tasks at) ≡ remove (all_of seen tasks) at
+all_of-remove {H} seen [] zero = refl
+all_of-remove {H} seen [] (suc at) = refl
+all_of-remove {H} seen (t ∷ tasks) zero = refl
+all_of-remove {H} seen (t ∷ tasks) (suc at) = ap (λ us. process_of seen t ∷ us) (all_of-remove seen tasks at)
 
-moved : (tasks rest : List Task) (at top : ℕ) (t : Task) → IsTrue (ascends 0 (all_of tasks) top) → slice_get tasks at ≡ Some t → (t.number ≡ t.group → ⊥) → rest ≡ remove tasks at
-    → take_over (process_of t) (all_of tasks) ≡ map (λ u. if is_task t.group u then renewed (process_of t) else u) (all_of rest)
-moved tasks rest at top t order e ne same =
-    mover (process_of t) 0 top (all_of tasks) at (to_order 0 (all_of tasks) top order) (seen_at tasks at t e) ne
-    ∙ ap (map (λ u. if is_task t.group u then renewed (process_of t) else u)) (sym (ap all_of same ∙ all_of-remove tasks at))
+pub leader_over : {H : Type 0} (seen : H → List Filter) (tasks : List (Task H)) (at top : ℕ) (t x : Task H) → IsTrue (ascends 0 (all_of seen tasks) top) → slice_get tasks at ≡ Some t → t.number ≡ t.group
+    → process_of seen x ≡ renewed (process_of seen t) → all_of seen (set tasks at x) ≡ take_over (process_of seen t) (all_of seen tasks)
+leader_over {H} seen tasks at top t x order e h new =
+    map-set (process_of seen) tasks at x ∙ (ap (λ u. set (all_of seen tasks) at u) new
+    ∙ sym (leader (process_of seen t) 0 top (all_of seen tasks) at (to_order 0 (all_of seen tasks) top order) (seen_at seen tasks at t e) h))
 
-pub mover_nowhere : (tasks rest : List Task) (at top : ℕ) (t : Task) → IsTrue (ascends 0 (all_of tasks) top) → slice_get tasks at ≡ Some t → (t.number ≡ t.group → ⊥) → rest ≡ remove tasks at
-    → find (is_task t.group) (all_of rest) ≡ None → all_of rest ≡ take_over (process_of t) (all_of tasks)
-mover_nowhere tasks rest at top t order e ne same none =
-    sym (moved tasks rest at top t order e ne same ∙ map_absent t.group (renewed (process_of t)) (all_of rest) none)
+moved : {H : Type 0} (seen : H → List Filter) (tasks rest : List (Task H)) (at top : ℕ) (t : Task H) → IsTrue (ascends 0 (all_of seen tasks) top) → slice_get tasks at ≡ Some t → (t.number ≡ t.group → ⊥) → rest ≡ remove tasks at
+    → take_over (process_of seen t) (all_of seen tasks) ≡ map (λ u. if is_task t.group u then renewed (process_of seen t) else u) (all_of seen rest)
+moved {H} seen tasks rest at top t order e ne same =
+    mover (process_of seen t) 0 top (all_of seen tasks) at (to_order 0 (all_of seen tasks) top order) (seen_at seen tasks at t e) ne
+    ∙ ap (map (λ u. if is_task t.group u then renewed (process_of seen t) else u)) (sym (ap (all_of seen) same ∙ all_of-remove seen tasks at))
 
-pub mover_over : (tasks rest : List Task) (at place top : ℕ) (t x : Task) → IsTrue (ascends 0 (all_of tasks) top) → slice_get tasks at ≡ Some t → (t.number ≡ t.group → ⊥) → rest ≡ remove tasks at
-    → find (is_task t.group) (all_of rest) ≡ option_map process_of (slice_get rest place) → place < length rest
-    → process_of x ≡ renewed (process_of t) → all_of (set rest place x) ≡ take_over (process_of t) (all_of tasks)
-mover_over tasks rest at place top t x order e ne same found within new = by (slice_get rest place) refl
+pub mover_nowhere : {H : Type 0} (seen : H → List Filter) (tasks rest : List (Task H)) (at top : ℕ) (t : Task H) → IsTrue (ascends 0 (all_of seen tasks) top) → slice_get tasks at ≡ Some t → (t.number ≡ t.group → ⊥) → rest ≡ remove tasks at
+    → find (is_task t.group) (all_of seen rest) ≡ None → all_of seen rest ≡ take_over (process_of seen t) (all_of seen tasks)
+mover_nowhere {H} seen tasks rest at top t order e ne same none =
+    sym (moved seen tasks rest at top t order e ne same ∙ map_absent t.group (renewed (process_of seen t)) (all_of seen rest) none)
+
+pub mover_over : {H : Type 0} (seen : H → List Filter) (tasks rest : List (Task H)) (at place top : ℕ) (t x : Task H) → IsTrue (ascends 0 (all_of seen tasks) top) → slice_get tasks at ≡ Some t → (t.number ≡ t.group → ⊥) → rest ≡ remove tasks at
+    → find (is_task t.group) (all_of seen rest) ≡ option_map (process_of seen) (slice_get rest place) → place < length rest
+    → process_of seen x ≡ renewed (process_of seen t) → all_of seen (set rest place x) ≡ take_over (process_of seen t) (all_of seen tasks)
+mover_over {H} seen tasks rest at place top t x order e ne same found within new = by (slice_get rest place) refl
   where
-    placed : (v : Task) → slice_get rest place ≡ Some v → all_of (set rest place x) ≡ take_over (process_of t) (all_of tasks)
+    placed : (v : Task H) → slice_get rest place ≡ Some v → all_of seen (set rest place x) ≡ take_over (process_of seen t) (all_of seen tasks)
     placed v h =
-        let is : find (is_task t.group) (all_of rest) ≡ Some (process_of v) = found ∙ ap (option_map process_of) h in
-        let own : v.number ≡ t.group = eqb-true v.number t.group (found_passes (is_task t.group) (all_of rest) (process_of v) is) in
-        let order_left : Ascends 0 (all_of rest) top =
-        subst (λ us. Ascends 0 us top) (sym (ap all_of same ∙ all_of-remove tasks at)) (without (process_of t) 0 top (all_of tasks) at (to_order 0 (all_of tasks) top order) (seen_at tasks at t e) ne) in
-        map-set process_of rest place x ∙ (ap (λ u. set (all_of rest) place u) new
-        ∙ sym (moved tasks rest at top t order e ne same ∙ map_one t.group (renewed (process_of t)) 0 top (all_of rest) place (process_of v) order_left (seen_at rest place v h) own))
+        let is : find (is_task t.group) (all_of seen rest) ≡ Some (process_of seen v) = found ∙ ap (option_map (process_of seen)) h in
+        let own : v.number ≡ t.group = eqb-true v.number t.group (found_passes (is_task t.group) (all_of seen rest) (process_of seen v) is) in
+        let order_left : Ascends 0 (all_of seen rest) top =
+        subst (λ us. Ascends 0 us top) (sym (ap (all_of seen) same ∙ all_of-remove seen tasks at)) (without (process_of seen t) 0 top (all_of seen tasks) at (to_order 0 (all_of seen tasks) top order) (seen_at seen tasks at t e) ne) in
+        map-set (process_of seen) rest place x ∙ (ap (λ u. set (all_of seen rest) place u) new
+        ∙ sym (moved seen tasks rest at top t order e ne same ∙ map_one t.group (renewed (process_of seen t)) 0 top (all_of seen rest) place (process_of seen v) order_left (seen_at seen rest place v h) own))
 
-    by : (o : Option Task) → slice_get rest place ≡ o → all_of (set rest place x) ≡ take_over (process_of t) (all_of tasks)
+    by : (o : Option (Task H)) → slice_get rest place ≡ o → all_of seen (set rest place x) ≡ take_over (process_of seen t) (all_of seen tasks)
     by (Some v) h = placed v h
     by None h = elim (slice_get_cases rest place).1 [
       | inl y ↦ placed y.0 y.2
@@ -181,23 +187,23 @@ spared test e (t ∷ ts) (suc i) u h f = spared test e ts i u h f
 no_sibling : (t : Process) → is_sibling t t ≡ false
 no_sibling t = rw (eq-eqb t.number t.number refl, eq-eqb t.group t.group refl) refl
 
-pub execute_over : (old middle new : List Task) (at : ℕ) (t : Task) → slice_get old at ≡ Some t
-    → all_of middle ≡ end_where (is_sibling (process_of t)) (end.Signal 9) (all_of old)
-    → ((u : Task) → slice_get middle at ≡ Some u → all_of new ≡ take_over (process_of u) (all_of middle))
-    → all_of new ≡ executed (process_of t) (all_of old)
-execute_over old middle new at t e ended taken = by (slice_get middle at) refl
+pub execute_over : {H : Type 0} (seen : H → List Filter) (old middle new : List (Task H)) (at : ℕ) (t : Task H) → slice_get old at ≡ Some t
+    → all_of seen middle ≡ end_where (is_sibling (process_of seen t)) (end.Signal 9) (all_of seen old)
+    → ((u : Task H) → slice_get middle at ≡ Some u → all_of seen new ≡ take_over (process_of seen u) (all_of seen middle))
+    → all_of seen new ≡ executed (process_of seen t) (all_of seen old)
+execute_over {H} seen old middle new at t e ended taken = by (slice_get middle at) refl
   where
-    there : slice_get (all_of middle) at ≡ Some (process_of t)
-    there = ap (λ us. slice_get us at) ended ∙ spared (is_sibling (process_of t)) (end.Signal 9) (all_of old) at (process_of t) (seen_at old at t e) (no_sibling (process_of t))
+    there : slice_get (all_of seen middle) at ≡ Some (process_of seen t)
+    there = ap (λ us. slice_get us at) ended ∙ spared (is_sibling (process_of seen t)) (end.Signal 9) (all_of seen old) at (process_of seen t) (seen_at seen old at t e) (no_sibling (process_of seen t))
 
-    by : (o : Option Task) → slice_get middle at ≡ o → all_of new ≡ executed (process_of t) (all_of old)
+    by : (o : Option (Task H)) → slice_get middle at ≡ o → all_of seen new ≡ executed (process_of seen t) (all_of seen old)
     by None h =
-        let none : slice_get (all_of middle) at ≡ None = slice_get-map process_of middle at ∙ ap (option_map process_of) h in
-        let bad : Some (process_of t) ≡ None = sym there ∙ none in absurd (cc)
+        let none : slice_get (all_of seen middle) at ≡ None = slice_get-map (process_of seen) middle at ∙ ap (option_map (process_of seen)) h in
+        let bad : Some (process_of seen t) ≡ None = sym there ∙ none in absurd (cc)
     by (Some u) h =
-        let found : Some (process_of u) ≡ Some (process_of t) = sym (seen_at middle at u h) ∙ there in
-        let same : process_of u ≡ process_of t = cc in
-        taken u h ∙ (ap (λ v. take_over v (all_of middle)) same ∙ ap (take_over (process_of t)) ended)
+        let found : Some (process_of seen u) ≡ Some (process_of seen t) = sym (seen_at seen middle at u h) ∙ there in
+        let same : process_of seen u ≡ process_of seen t = cc in
+        taken u h ∙ (ap (λ v. take_over v (all_of seen middle)) same ∙ ap (take_over (process_of seen t)) ended)
 
 pub image_kept : (t : Process) (old new : List Process) (top : ℕ) → new ≡ executed t old → IsTrue (ascends 0 old top) → IsTrue (ascends 0 new top)
 image_kept t old new top same h = rw same (from_order 0 (executed t old) top (image_ordered t top old (to_order 0 old top h)))

@@ -10,3 +10,4 @@ pub mod LoadLemmas
 pub mod Rows
 pub mod Limits
 pub mod FlagLemmas
+pub mod Rooted

@@ -1,12 +1,12 @@
 //! One container: its tasks, and how they come to be and end.
 ghost use Rattle.std.specs.Prelude.{◌≡◌, IsTrue};
 ghost use Rattle.processes.specs.Tasks.{ascends};
-ghost use Rattle.processes.specs.inner.Table.{all_of};
+ghost use Rattle.processes.specs.inner.Table.{all_of, is_rooted};
 
 use crate::errno::{EAGAIN, EINVAL, ESRCH};
-use crate::filters::Filters;
 use crate::outcome::{End, Outcome, TaskView};
-use crate::task::{Task, shown};
+use crate::store::Store;
+use crate::task::Task;
 use crate::tasks::{Which, end_where, group_lives, index_of};
 use call_tables::Arch;
 use kernel_check::Accepted;
@@ -17,26 +17,27 @@ const MOST_TASKS: u32 = 1024;
 
 /// A container that was started.
 #[derive(Drop)]
-pub(crate) struct Container {
+pub(crate) struct Container<S: Store> {
     pub(crate) native: Arch,
     /// By their numbers, which ascend.
-    pub(crate) tasks: Vec<Task>,
+    pub(crate) tasks: Vec<Task<S::Handle>>,
     /// How many tasks were ever made.
     pub(crate) made: u32,
-    /// How many filters were loaded after the first.
-    pub(crate) loads: u32,
-    ghost ordered: { IsTrue (ascends 0 (all_of tasks.items) made) },
+    /// The filters of the tasks.
+    pub(crate) store: S,
+    ghost ordered: { IsTrue (ascends 0 (all_of (S.filters_of store) tasks.items) made) },
+    ghost rooted: { IsTrue (is_rooted (all_of (S.filters_of store) tasks.items)) },
 }
 
-impl Container {
-    ghost use Rattle.std.specs.Prelude.{◌<◌, Some, None, IfOk, OnErr, slice_get, vec_len};
+impl<S: Store> Container<S> {
+    ghost use Rattle.std.specs.Prelude.{◌<◌, Some, None, IfOk, OnErr, slice_get, true, vec_len};
     ghost use Rattle.kernel_check.specs.Lent.{accepted_insns};
     ghost use Rattle.processes.specs.declared.task.Task.{Task as Kept};
     ghost use Rattle.processes.specs.Kernel.{cloned, forked, killed, signalled, with_new, with_next};
+    ghost use Rattle.processes.specs.Stores.{has_filter};
     ghost use Rattle.processes.specs.Tasks.{admitted, ended, lives, program_judge};
     ghost use Rattle.processes.specs.Views.{view_of_task};
     ghost use Rattle.processes.specs.inner.Containers.{processes_of};
-    ghost use Rattle.processes.specs.inner.Loads.{filters_of};
     ghost use Rattle.processes.specs.inner.Table.{is_meant, process_of};
 
     /// A container with task 1 alone, and this program as its only filter.
@@ -44,11 +45,11 @@ impl Container {
         alloc: Global,
         native: Arch,
         program: &Accepted<'_>,
-    ) -> Result<Container, AllocError>
+    ) -> Result<Container<S>, AllocError>
         ensures { IfOk result (λ container. processes_of container
             ≡ admitted native (program_judge (accepted_insns program.now))) }
     {
-        let filters = Filters::first(alloc, program)?;
+        let (store, filters) = S::first(alloc, native, program)?;
         let mut tasks = Vec::with_capacity(alloc, 1)?;
         tasks.push(Task {
             number: 1,
@@ -62,7 +63,7 @@ impl Container {
             native,
             tasks,
             made: 1,
-            loads: 0,
+            store,
         })
     }
 
@@ -84,8 +85,9 @@ impl Container {
     }
 
     // The next task.
-    fn add(&mut self, group: u32, parent: u32, filters: Filters) -> Result<Outcome, AllocError>
-        requires { self.old.made < 1024 }
+    fn add(&mut self, group: u32, parent: u32, filters: S::Handle) -> Result<Outcome, AllocError>
+        requires room { self.old.made < 1024 }
+        requires rooted { has_filter (S.filters_of self.old.store filters) ≡ true }
         ensures ok { IfOk result (λ o. (o, processes_of self.new) ≡ with_next
             (λ n. record {
               number = n;
@@ -93,7 +95,7 @@ impl Container {
               parent = parent;
               images = 0;
               end = None;
-              filters = filters_of filters;
+              filters = S.filters_of self.old.store filters;
             }) (processes_of self.old)) }
         ensures err { OnErr result (processes_of self.new ≡ processes_of self.old) }
     {
@@ -113,8 +115,8 @@ impl Container {
     /// A new task with a group of its own, and the filters of the task at a place.
     pub(crate) fn fork(&mut self, alloc: Global, at: usize) -> Result<Outcome, AllocError>
         requires { at < vec_len self.old.tasks }
-        ensures ok { IfOk result (λ o. (t : Kept) → slice_get self.old.tasks.items at ≡ Some t
-            → (o, processes_of self.new) ≡ with_new (forked (process_of t)) (processes_of self.old)) }
+        ensures ok { IfOk result (λ o. (t : Kept S.Handle) → slice_get self.old.tasks.items at ≡ Some t
+            → (o, processes_of self.new) ≡ with_new (forked (process_of (S.filters_of self.old.store) t)) (processes_of self.old)) }
         ensures err { OnErr result (processes_of self.new ≡ processes_of self.old) }
     {
         if self.made >= MOST_TASKS {
@@ -122,15 +124,15 @@ impl Container {
         }
         let caller = &self.tasks[at];
         let parent = caller.group;
-        let filters = caller.filters.copied(alloc)?;
+        let filters = self.store.copied(alloc, &caller.filters)?;
         self.add(self.made + 1, parent, filters)
     }
 
     /// A new task of the group of the task at a place, with its filters.
     pub(crate) fn clone_thread(&mut self, alloc: Global, at: usize) -> Result<Outcome, AllocError>
         requires { at < vec_len self.old.tasks }
-        ensures ok { IfOk result (λ o. (t : Kept) → slice_get self.old.tasks.items at ≡ Some t
-            → (o, processes_of self.new) ≡ with_new (cloned (process_of t)) (processes_of self.old)) }
+        ensures ok { IfOk result (λ o. (t : Kept S.Handle) → slice_get self.old.tasks.items at ≡ Some t
+            → (o, processes_of self.new) ≡ with_new (cloned (process_of (S.filters_of self.old.store) t)) (processes_of self.old)) }
         ensures err { OnErr result (processes_of self.new ≡ processes_of self.old) }
     {
         if self.made >= MOST_TASKS {
@@ -138,7 +140,7 @@ impl Container {
         }
         let caller = &self.tasks[at];
         let (group, parent) = (caller.group, caller.parent);
-        let filters = caller.filters.copied(alloc)?;
+        let filters = self.store.copied(alloc, &caller.filters)?;
         self.add(group, parent, filters)
     }
 
@@ -175,7 +177,14 @@ impl Container {
         ensures { result ≡ view_of_task number (processes_of self.now) }
     {
         let at = index_of(&self.tasks, number)?;
-        Some(shown(&self.tasks[at]))
+        let task = &self.tasks[at];
+        Some(TaskView {
+            group: task.group,
+            parent: task.parent,
+            images: task.images,
+            filters: self.store.len(&task.filters),
+            end: task.end,
+        })
     }
 }
 

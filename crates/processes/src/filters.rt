@@ -1,10 +1,12 @@
-//! The filters of a task.
+//! Lists of filters, of which each task has one of its own.
 ghost use Rattle.std.specs.Prelude.{◌≡◌, ◌+◌, ◌≤◌, ◌∷◌, [], ◌++◌, IfOk, length, map, nat_eq};
 ghost use Rattle.std.specs.Cmp.Lexicographic.{pointwise};
 ghost use Rattle.kernel_check.specs.Lent.{accepted_insns};
 
+use crate::store::Store;
 use bpf_interp::verdict;
 use call_record::{Record, Word, stricter};
+use call_tables::Arch;
 use kernel_check::{Accepted, AcceptedBuf};
 use std::alloc::{AllocError, Global};
 use std::marker::Model;
@@ -52,7 +54,7 @@ impl Loaded {
 
 /// The filters of a task, the newest first.
 #[derive(Drop)]
-pub(crate) struct Filters {
+pub struct Filters {
     list: Vec<Loaded>,
 }
 
@@ -157,7 +159,83 @@ impl Filters {
     }
 }
 
+/// A store in which what a task holds is its list of filters.
+#[derive(Drop)]
+pub struct OwnLists {
+    loads: u32,
+}
+
+impl Store for OwnLists {
+    ghost use Rattle.processes.specs.inner.Loads.{filters_of};
+
+    type Handle = Filters;
+
+    ghost filters_of = { λ store handle. filters_of handle };
+
+    ghost loads_of = { λ store. store.loads };
+
+    fn first(
+        alloc: Global,
+        _native: Arch,
+        program: &Accepted<'_>,
+    ) -> Result<(OwnLists, Filters), AllocError> {
+        let filters = Filters::first(alloc, program)?;
+        Ok((OwnLists { loads: 0 }, filters))
+    }
+
+    fn copied(&self, alloc: Global, handle: &Filters) -> Result<Filters, AllocError> {
+        handle.copied(alloc)
+    }
+
+    fn with_newer(
+        &mut self,
+        alloc: Global,
+        handle: &Filters,
+        program: &Accepted<'_>,
+        count: usize,
+    ) -> Result<Vec<Filters>, AllocError> {
+        let load = self.loads + 1;
+        let filters = handle.with_newer(alloc, load, program)?;
+        let copies = copies_of(alloc, &filters, count)?;
+        self.loads = load;
+        Ok(copies)
+    }
+
+    fn loads(&self) -> u32 {
+        self.loads
+    }
+
+    fn len(&self, handle: &Filters) -> u32 {
+        handle.len()
+    }
+
+    fn size(&self, handle: &Filters) -> u32 {
+        handle.size()
+    }
+
+    fn verdict(&self, handle: &Filters, rec: &Record) -> Word {
+        handle.verdict(rec)
+    }
+
+    fn is_oldest_part(&self, older: &Filters, newer: &Filters) -> bool {
+        older.is_oldest_part_of(newer)
+    }
+}
+
+ghost use Rattle.std.specs.Prelude.{All, vec_len};
 ghost use Rattle.processes.specs.inner.Loads.{loads_of as loads, total_size as total};
+
+// So many copies.
+fn copies_of(alloc: Global, filters: &Filters, count: usize) -> Result<Vec<Filters>, AllocError>
+    ensures same { IfOk result (λ copies. All (λ copy. copy ≡ filters.now) copies.items) }
+    ensures count { IfOk result (λ copies. vec_len copies ≡ count) }
+{
+    let mut copies = Vec::new(alloc);
+    for _ in 0..count {
+        copies.push(filters.copied(alloc)?)?;
+    }
+    Ok(copies)
+}
 
 // A list with copies of these behind it.
 fn copied_onto(

@@ -13,14 +13,17 @@ mod load;
 mod outcome;
 mod present;
 mod row;
+mod store;
 mod table;
 mod task;
 mod tasks;
 
+pub use filters::OwnLists;
 pub use id::Id;
 pub use kernel::Kernel;
 pub use law::{
     attached_programs_are_checked, first_filter_stays, none_outlives_group_1, numbers_ascend,
 };
 pub use outcome::{End, Outcome, TaskView};
-pub use table::TaskTable;
+pub use store::Store;
+pub use table::{Table, TaskTable};

@@ -3,11 +3,12 @@ use crate::container::Container;
 use crate::errno::EINVAL;
 use crate::outcome::{End, Outcome};
 use crate::row::{Row, row_of};
+use crate::store::Store;
 use crate::tasks::{Which, live_index};
 use call_record::{Ends, Record, Word, lets_through};
 use std::alloc::{AllocError, Global};
 
-impl Container {
+impl<S: Store> Container<S> {
     ghost use Rattle.std.specs.Prelude.{◌≡◌, ◌<◌, IfOk, OnErr, Some, option_map, slice_get, true, vec_len};
     ghost use Rattle.call_record.specs.Ends.{ends_of};
     ghost use Rattle.processes.specs.Attached.{attached_of};
@@ -27,9 +28,9 @@ impl Container {
     ) -> Result<Outcome, AllocError>
         requires { at < vec_len self.old.tasks }
         ensures ok { let given = attached_of (option_map (λ a. a.now) attached.entry) in
-            IfOk result (λ o. (t : One) → slice_get self.old.tasks.items at ≡ Some t
+            IfOk result (λ o. (t : One S.Handle) → slice_get self.old.tasks.items at ≡ Some t
             → (o, processes_of self.new) ≡ carried_out (row_of self.old.native rec.now)
-            (process_of t) rec.now given (processes_of self.old)) }
+            (process_of (S.filters_of self.old.store) t) rec.now given (processes_of self.old)) }
         ensures err { OnErr result (processes_of self.new ≡ processes_of self.old) }
         ensures growth { OnErr result (may_grow (row_of self.old.native rec.now) ≡ true) }
     {
@@ -65,9 +66,9 @@ impl Container {
     // What a verdict on a call of the task at a place ends.
     fn end_by_verdict(&mut self, at: usize, word: Word)
         requires { at < vec_len self.old.tasks }
-        ensures { (t : One) → slice_get self.old.tasks.items at ≡ Some t
+        ensures { (t : One S.Handle) → slice_get self.old.tasks.items at ≡ Some t
             → processes_of self.new
-            ≡ ended_by_verdict (ends_of word) (process_of t) (processes_of self.old) }
+            ≡ ended_by_verdict (ends_of word) (process_of (S.filters_of self.old.store) t) (processes_of self.old) }
     {
         let caller = &self.tasks[at];
         let (number, group) = (u64::from(caller.number), u64::from(caller.group));
@@ -95,7 +96,7 @@ impl Container {
         let Some(at) = live_index(&self.tasks, task) else {
             return Ok(Outcome::NoTask);
         };
-        let word = self.tasks[at].filters.verdict(rec);
+        let word = self.store.verdict(&self.tasks[at].filters, rec);
         if !lets_through(word) {
             self.end_by_verdict(at, word);
             return Ok(Outcome::Denied(word));

@@ -1,36 +1,41 @@
-//! A kernel whose tasks each keep a list of filters of their own.
+//! A kernel: its containers by their ids.
 use crate::container::Container;
+use crate::filters::OwnLists;
 use crate::id::Id;
 use crate::kernel::Kernel;
 use crate::outcome::{Outcome, TaskView};
+use crate::store::Store;
 use call_record::Record;
 use cert_check::Checked;
 use indexmap::IndexMap;
 use std::alloc::{AllocError, Global};
 
-/// A kernel whose tasks each keep a list of filters of their own.
+/// A kernel that keeps the filters of each container in a store of this kind.
 #[derive(Drop)]
-pub struct TaskTable {
-    containers: IndexMap<Id, Container>,
+pub struct Table<S: Store> {
+    containers: IndexMap<Id, Container<S>>,
     alloc: Global,
 }
 
-impl TaskTable {
+/// A kernel whose tasks each keep a list of filters of their own.
+pub type TaskTable = Table<OwnLists>;
+
+impl<S: Store> Table<S> {
     ghost use Rattle.std.specs.Prelude.{ℕ, ◌≡◌, List, None};
     ghost use Rattle.processes.specs.Table.{table_of};
 
     /// A kernel to which no container is admitted.
-    pub fn new(alloc: Global) -> TaskTable
+    pub fn new(alloc: Global) -> Table<S>
         ensures { (id : List ℕ) → table_of result id ≡ None }
     {
-        TaskTable {
+        Table {
             containers: IndexMap::new(alloc),
             alloc,
         }
     }
 }
 
-impl Kernel for TaskTable {
+impl<S: Store> Kernel for Table<S> {
     ghost use Rattle.processes.specs.Table.{table_of};
 
     ghost processes = { table_of };

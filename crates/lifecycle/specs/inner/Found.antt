@@ -5,7 +5,7 @@ use Rattle.std.specs.Map.{lookup, keys_of}
 use Rattle.processes.specs.Tasks.{Processes}
 use Rattle.processes.specs.Views.{same_text}
 use Rattle.lifecycle.specs.declared.runtime.Found.{Found}
-use Rattle.lifecycle.specs.inner.Entries.{Entries, container_of}
+use Rattle.lifecycle.specs.Entries.{Entries, container_of}
 
 -- it has this id, its entry is kept under it, and its status is as the kernel says
 pub record IsFound (f : Found) (id : List ℕ) (es : Entries) (ps : Option Processes) : Type 0 where

@@ -6,4 +6,6 @@ use Rattle.processes.specs.inner.Table.{all_of, process_of}
 use Rattle.processes.proofs.load.first_conflict.Given as goal
 
 abbrev pub invariant-loop-task : goal.invariant-loop-task
-invariant-loop-task l = find (conflicts (process_of l.caller)) (all_of (drop l.task-index l.tasks)) ≡ find (conflicts (process_of l.caller)) (all_of l.tasks)
+invariant-loop-task g l =
+    let seen = g.S.Store.filters_of l.store in
+    find (conflicts (process_of seen l.caller)) (all_of seen (drop l.task-index l.tasks)) ≡ find (conflicts (process_of seen l.caller)) (all_of seen l.tasks)

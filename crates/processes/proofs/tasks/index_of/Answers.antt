@@ -6,6 +6,6 @@ use Rattle.processes.proofs.Lists.{find_at_position}
 use Rattle.processes.proofs.tasks.index_of.Goals as goal
 
 pub returns-clause-found : goal.returns-clause-found
-returns-clause-found c =
-    find_at_position process_of (is_task c.args.number) c.args.tasks.now
-    ∙ ap (option_and_then (λ i. option_map process_of (slice_get c.args.tasks.now i))) (sym c.position_of.ensures)
+returns-clause-found g c = λ seen.
+    find_at_position (process_of seen) (is_task c.args.number) c.args.tasks.now
+    ∙ ap (option_and_then (λ i. option_map (process_of seen) (slice_get c.args.tasks.now i))) (sym c.position_of.ensures)

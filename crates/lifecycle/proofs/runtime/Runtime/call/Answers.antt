@@ -4,7 +4,7 @@ use Rattle.processes.specs.Attached.{attached_of}
 use Rattle.processes.specs.First.{by_program}
 use Rattle.processes.specs.Kernel.{presented}
 use Rattle.processes.specs.Tasks.{Processes}
-use Rattle.processes.specs.Views.{SetAt, present_in, same_text}
+use Rattle.processes.specs.Views.{SetAt, can_grow_in, present_in, same_text}
 use Rattle.processes.specs.declared.outcome.Outcome.{Outcome}
 use Rattle.processes.specs.declared.outcome.Outcome.TheVariants.{NoTask}
 use Rattle.lifecycle.specs.declared.command.Reply.TheVariants.{Presented, Refused}
@@ -14,8 +14,8 @@ use Rattle.lifecycle.specs.Orders.Order.{Call}
 use Rattle.lifecycle.specs.Steps.{call, running}
 use Rattle.lifecycle.specs.Worlds.{Container, put}
 use Rattle.lifecycle.specs.Views.{world_of}
-use Rattle.lifecycle.specs.inner.Entries.{container_of, world_from}
-use Rattle.lifecycle.proofs.CommandLaws.{answered, on_err, presented_as, runs_on}
+use Rattle.lifecycle.specs.Entries.{container_of, world_from}
+use Rattle.lifecycle.proofs.CommandLaws.{answered, grows_on, on_err, presented_as, runs_on}
 use Rattle.lifecycle.proofs.Entries.{changed, not_there, same_world, there, told, unchanged}
 use Rattle.lifecycle.proofs.runtime.Runtime.call.Goals as goal
 
@@ -84,3 +84,20 @@ returns-in-Stopped-clause-step g c =
     let container = container_of c.in-Some.field-0.entry (k id) in
     unchanged by_program (Call id c.args.task c.args.rec.now given) (world_from k es) (Some container) (Presented NoTask) (there k id es c.in-Some.field-0.entry found.kept)
     (ap (λ s. call c.args.task c.args.rec.now given s container) (sym found.status ∙ c.in-Stopped.is))
+
+pub returns-in_err-outcome-in-Running-clause-growth : goal.returns-in_err-outcome-in-Running-clause-growth
+unfolding world_of
+returns-in_err-outcome-in-Running-clause-growth g c =
+    let k = g.K.Kernel.processes c.args.self.now.kernel in
+    let id = c.args.id.now in
+    let es = c.args.self.now.entries.entries in
+    let found = c.in-Some.ensures.some in
+    let e = c.in-Some.field-0.entry in
+    let runs : (container_of e (k id)).status ≡ Running = sym found.status ∙ c.in-Running.is in
+    let grows = ap (λ q. can_grow_in c.args.task c.args.rec.now (k q)) (sym found.name) ∙ c.in_err-outcome-in-Running.ensures.growth in
+    on_err c.from_residual.result (record {
+      container = container_of e (k id);
+      there = there k id es e found.kept;
+      status_is = runs;
+      holds = grows_on c.args.task c.args.rec.now e.phase e (k id) runs grows;
+    })

@@ -11,8 +11,8 @@ use Rattle.lifecycle.specs.Orders.Order.{Create}
 use Rattle.lifecycle.specs.Steps.{create}
 use Rattle.lifecycle.specs.Worlds.{container_at}
 use Rattle.lifecycle.specs.Views.{world_of}
-use Rattle.lifecycle.specs.inner.Entries.{container_of, world_from}
-use Rattle.lifecycle.proofs.CommandLaws.{kept_by, lacks, never, taken}
+use Rattle.lifecycle.specs.Entries.{container_of, world_from}
+use Rattle.lifecycle.proofs.CommandLaws.{kept_by, lacks, never, on_err, taken}
 use Rattle.lifecycle.proofs.Entries.{changed, inserted, not_there, unchanged}
 use Rattle.lifecycle.proofs.runtime.Runtime.create.Goals as goal
 
@@ -59,3 +59,13 @@ returns-clause-step g c =
     (ap (λ (b : Bool). if b then create by_program c.args.checked None else (Refused BadId, None)) is)
     (ap (world_from k) c.in_ok-insert.ensures.entries ∙ inserted k name made es none) in
     rw (sym c.in-Some.ensures.text) steps
+
+pub returns-in_err-insert-clause-growth : goal.returns-in_err-insert-clause-growth
+unfolding world_of
+returns-in_err-insert-clause-growth g c =
+    let k = g.K.Kernel.processes c.args.self.now.kernel in
+    let es = c.args.self.now.entries.entries in
+    let none = lacks es c.in-Some.name (sym c.contains_key.ensures ∙ c.if-contains_key.false) in
+    let there : container_at c.args.id.now (world_from k es) ≡ None =
+    ap (λ q. container_at q (world_from k es)) (sym c.in-Some.ensures.text) ∙ not_there k c.in-Some.name es none in
+    on_err c.from_residual.result (c.in-Some.ensures.exact.0 refl, there)

@@ -7,7 +7,7 @@ use Rattle.lifecycle.specs.declared.fault.Refusal.TheVariants.{NoContainer, NotS
 use Rattle.lifecycle.specs.Orders.Order.{Delete}
 use Rattle.lifecycle.specs.Steps.{delete}
 use Rattle.lifecycle.specs.Views.{world_of}
-use Rattle.lifecycle.specs.inner.Entries.{container_of, world_from}
+use Rattle.lifecycle.specs.Entries.{container_of, world_from}
 use Rattle.lifecycle.proofs.CommandLaws.{FindsAt, ids_kept, is_known, step_kept}
 use Rattle.lifecycle.proofs.Entries.{changed, not_there, removed, there, unchanged}
 use Rattle.lifecycle.proofs.runtime.Runtime.delete.Goals as goal

@@ -2,7 +2,7 @@ use Rattle.std.proofs.Common.{sym, refl, arith, length-append, take, length}
 use Rattle.processes.specs.First.{by_program, by_profile}
 use Rattle.lifecycle.specs.Runs.{orders_of}
 use Rattle.lifecycle.specs.Views.{world_of}
-use Rattle.lifecycle.proofs.Runs.{alone, finished, run_more}
+use Rattle.lifecycle.proofs.Runs.{alone, finished, next_grows, run_more}
 use Rattle.lifecycle.proofs.runtime.Runtime.run.Goals as goal
 
 pub loop-command-preserved : goal.loop-command-preserved
@@ -37,3 +37,10 @@ returns-clause-alone g c =
     alone by_profile done (world_of c.args.self.now) c.loop-command.replies.items (world_of c.loop-command.self)
     (finished c.args.commands.now (length c.loop-command.replies.items) c.loop-command.command-index (world_of c.args.self.now) c.loop-command.replies.items
     (world_of c.loop-command.self) (world_of c.loop-command.self) c.loop-command.invariant.count refl c.loop-command.invariant.so_far)
+
+pub returns-in-Err-clause-growth : goal.returns-in-Err-clause-growth
+returns-in-Err-clause-growth g c =
+    next_grows c.args.commands.now c.loop-command.command-index c.command-item.result c.loop-command.replies.items
+    (world_of c.loop-command.self)
+    (world_of c.act.new.self) c.loop-command.invariant.count c.loop-command-test.true (sym c.command-item.is) c.in-Err.ensures.err
+    c.in-Err.ensures.growth

@@ -12,8 +12,9 @@ use Rattle.lifecycle.specs.Orders.Order.{Start}
 use Rattle.lifecycle.specs.Steps.{first_call, left_after, running, start_reply}
 use Rattle.lifecycle.specs.Worlds.{Container, put}
 use Rattle.lifecycle.specs.Views.{world_of}
-use Rattle.lifecycle.specs.inner.Entries.{container_of, world_from}
-use Rattle.lifecycle.proofs.CommandLaws.{FindsAt, begins, ended_no, ids_kept, is_known, not_created, runs_as, started_no, starts, status_made, step_kept}
+use Rattle.lifecycle.specs.Entries.{container_of, world_from}
+use Rattle.lifecycle.proofs.CommandLaws.{FindsAt, begins, ended_no, ids_kept, is_known, not_created, on_err, runs_as, started_no, starts}
+use Rattle.lifecycle.proofs.CommandLaws.{status_made, step_kept}
 use Rattle.lifecycle.proofs.Entries.{changed, not_there, there, unchanged, written}
 use Rattle.lifecycle.proofs.runtime.Runtime.start.Goals as goal
 
@@ -91,3 +92,17 @@ returns-in-Ended-clause-step g c =
     let container = container_of e (k id) in
     unchanged by_program (Start id) (world_from k es) (Some container) (Refused NotCreated) (there k id es e found.kept)
     (not_created container (ended_no e (k id) c.in-Ended.is))
+
+pub returns-in_err-reply-in-Made-clause-growth : goal.returns-in_err-reply-in-Made-clause-growth
+unfolding world_of
+returns-in_err-reply-in-Made-clause-growth g c =
+    let k = g.K.Kernel.processes c.args.self.now.kernel in
+    let id = c.args.id.now in
+    let es = c.args.self.now.entries.entries in
+    let e = c.in-Some.field-0.entry in
+    on_err c.from_residual.result (record {
+      container = container_of e (k id);
+      there = there k id es e c.in-Some.ensures.some.kept;
+      status_is = status_made e (k id) c.in-Made.is;
+      holds = tt;
+    })

@@ -4,7 +4,7 @@ use Rattle.lifecycle.specs.declared.command.Reply.TheVariants.{Refused, IsIn}
 use Rattle.lifecycle.specs.declared.fault.Refusal.TheVariants.{NoContainer}
 use Rattle.lifecycle.specs.Orders.Order.{State}
 use Rattle.lifecycle.specs.Views.{world_of}
-use Rattle.lifecycle.specs.inner.Entries.{container_of, world_from}
+use Rattle.lifecycle.specs.Entries.{container_of, world_from}
 use Rattle.lifecycle.proofs.Entries.{not_there, there, unchanged}
 use Rattle.lifecycle.proofs.runtime.Runtime.state.Goals as goal
 

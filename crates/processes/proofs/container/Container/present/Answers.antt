@@ -34,59 +34,66 @@ grows : (n v : ℕ) (t : Process) (r : Record) (ps : Processes) → live_task n 
 grows n v t r ps found is through grow = rw found (subst (λ w. (is_through w && may_grow (row_of ps.native r)) ≡ true) is (rw (through, grow) refl))
 
 pub returns-in_default-clause-ok : goal.returns-in_default-clause-ok
-returns-in_default-clause-ok c =
-    let none : live_task c.args.task (all_of c.args.self.now.tasks.items) ≡ None = rw (c.deref.ensures.value, c.in_default.is) at c.live_index.ensures.found in
+returns-in_default-clause-ok g c =
+    let seen = g.S.Store.filters_of c.args.self.now.store in
+    let none : live_task c.args.task (all_of seen c.args.self.now.tasks.items) ≡ None = rw (c.deref.ensures.value, c.in_default.is) at (c.live_index.ensures.found seen) in
     rw none refl
 
 pub index-requires : goal.index-requires
-index-requires c =
+index-requires g c =
+    let seen = g.S.Store.filters_of c.args.self.now.store in
     let within : c.in-Some.at < length c.args.self.now.tasks.items = rw (c.in-Some.is, c.deref.ensures.value) at c.live_index.ensures.within in
     omega arith
 
 pub end_by_verdict-requires : goal.end_by_verdict-requires
-end_by_verdict-requires c =
+end_by_verdict-requires g c =
+    let seen = g.S.Store.filters_of c.args.self.now.store in
     let within : c.in-Some.at < length c.args.self.now.tasks.items = rw (c.in-Some.is, c.deref.ensures.value) at c.live_index.ensures.within in
     omega arith
 
 pub returns-then-not-lets_through-clause-ok : goal.returns-then-not-lets_through-clause-ok
-returns-then-not-lets_through-clause-ok c =
+returns-then-not-lets_through-clause-ok g c =
+    let seen = g.S.Store.filters_of c.args.self.now.store in
     let tasks = c.args.self.now.tasks.items in
     let t = c.index.result.now in
     let within : c.in-Some.at < length tasks = rw (c.in-Some.is, c.deref.ensures.value) at c.live_index.ensures.within in
     let here : slice_get tasks c.in-Some.at ≡ Some t = slice_get_read tasks _ c.in-Some.at t refl within c.index.ensures in
-    let place : live_task c.args.task (all_of tasks) ≡ option_map process_of (slice_get tasks c.in-Some.at) = rw (c.deref.ensures.value, c.in-Some.is) at c.live_index.ensures.found in
-    denied c.args.task c.verdict-word.result (process_of t) c.args.rec.now _ (processes_of c.args.self.now) _ (place ∙ ap (option_map process_of) here)
+    let place : live_task c.args.task (all_of seen tasks) ≡ option_map (process_of seen) (slice_get tasks c.in-Some.at) = rw (c.deref.ensures.value, c.in-Some.is) at (c.live_index.ensures.found seen) in
+    denied c.args.task c.verdict-word.result (process_of seen t) c.args.rec.now _ (processes_of c.args.self.now) _ (place ∙ ap (option_map (process_of seen)) here)
     c.verdict-word.ensures (sym c.lets_through.ensures ∙ c.if-not-lets_through.true) (c.end_by_verdict.ensures t here)
 
 pub carry_out-requires : goal.carry_out-requires
-carry_out-requires c =
+carry_out-requires g c =
+    let seen = g.S.Store.filters_of c.args.self.now.store in
     let within : c.in-Some.at < length c.args.self.now.tasks.items = rw (c.in-Some.is, c.deref.ensures.value) at c.live_index.ensures.within in
     omega arith
 
 pub returns-clause-ok : goal.returns-clause-ok
-returns-clause-ok c =
+returns-clause-ok g c =
+    let seen = g.S.Store.filters_of c.args.self.now.store in
     let tasks = c.args.self.now.tasks.items in
     let t = c.index.result.now in
     let within : c.in-Some.at < length tasks = rw (c.in-Some.is, c.deref.ensures.value) at c.live_index.ensures.within in
     let here : slice_get tasks c.in-Some.at ≡ Some t = slice_get_read tasks _ c.in-Some.at t refl within c.index.ensures in
-    let place : live_task c.args.task (all_of tasks) ≡ option_map process_of (slice_get tasks c.in-Some.at) = rw (c.deref.ensures.value, c.in-Some.is) at c.live_index.ensures.found in
+    let place : live_task c.args.task (all_of seen tasks) ≡ option_map (process_of seen) (slice_get tasks c.in-Some.at) = rw (c.deref.ensures.value, c.in-Some.is) at (c.live_index.ensures.found seen) in
     IfOk-weaker c.carry_out.result _ _
     (λ o kept. kept t here
-    ∙ let_through c.args.task c.verdict-word.result (process_of t) c.args.rec.now _ (processes_of c.args.self.now) (place ∙ ap (option_map process_of) here)
+    ∙ let_through c.args.task c.verdict-word.result (process_of seen t) c.args.rec.now _ (processes_of c.args.self.now) (place ∙ ap (option_map (process_of seen)) here)
     c.verdict-word.ensures (sym c.lets_through.ensures ∙ c.if-not-lets_through.false))
     c.carry_out.ensures.ok
 
 pub returns-clause-err : goal.returns-clause-err
-returns-clause-err c = c.carry_out.ensures.err
+returns-clause-err g c = c.carry_out.ensures.err
 
 pub returns-clause-growth : goal.returns-clause-growth
-returns-clause-growth c =
+returns-clause-growth g c =
+    let seen = g.S.Store.filters_of c.args.self.now.store in
     let tasks = c.args.self.now.tasks.items in
     let t = c.index.result.now in
     let within : c.in-Some.at < length tasks = rw (c.in-Some.is, c.deref.ensures.value) at c.live_index.ensures.within in
     let here : slice_get tasks c.in-Some.at ≡ Some t = slice_get_read tasks _ c.in-Some.at t refl within c.index.ensures in
-    let place : live_task c.args.task (all_of tasks) ≡ option_map process_of (slice_get tasks c.in-Some.at) = rw (c.deref.ensures.value, c.in-Some.is) at c.live_index.ensures.found in
+    let place : live_task c.args.task (all_of seen tasks) ≡ option_map (process_of seen) (slice_get tasks c.in-Some.at) = rw (c.deref.ensures.value, c.in-Some.is) at (c.live_index.ensures.found seen) in
     on_err_weaker c.carry_out.result
-    (grows c.args.task c.verdict-word.result (process_of t) c.args.rec.now (processes_of c.args.self.now) (place ∙ ap (option_map process_of) here)
+    (grows c.args.task c.verdict-word.result (process_of seen t) c.args.rec.now (processes_of c.args.self.now) (place ∙ ap (option_map (process_of seen)) here)
     c.verdict-word.ensures (sym c.lets_through.ensures ∙ c.if-not-lets_through.false))
     c.carry_out.ensures.growth

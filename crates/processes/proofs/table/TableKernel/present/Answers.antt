@@ -7,10 +7,10 @@ use Rattle.indexmap.specs.IndexMap.{get_by}
 use Rattle.processes.specs.Views.{same_text}
 use Rattle.processes.specs.inner.Containers.{processes_of}
 use Rattle.processes.proofs.Lists.{written_alike}
-use Rattle.processes.proofs.table.TaskTableKernel.present.Goals as goal
+use Rattle.processes.proofs.table.TableKernel.present.Goals as goal
 
 pub returns-in-Some-clause-err : goal.returns-in-Some-clause-err
-returns-in-Some-clause-err c =
+returns-in-Some-clause-err g c =
     let w = c.present.new.self in
     let id = c.args.id.now in
     let map = c.args.self.now.containers in

@@ -1,0 +1,26 @@
+-- What a program answers by the first two words of a record alone: the number of the call, and the token of the machine
+-- (seccomp(2), struct seccomp_data). The kernel asks its filters so when they are loaded (seccomp_cache_prepare), and
+-- runs none of them on a call that each of them is known to allow.
+use Rattle.std.specs.Prelude.{ℕ, ◌≡◌, ◌==◌, Bool, false, List, [], ◌∷◌, Option, Some, None}
+use Rattle.bpf_insn.specs.declared.instruction.Insn.{Insn}
+use Rattle.bpf_insn.specs.Machine.{verdict_of}
+use Rattle.call_record.specs.declared.layout.Record.{Record}
+use Rattle.call_record.specs.Record.{words}
+use Rattle.call_record.specs.Verdict.{action, allow}
+
+-- the word in which the run ends where no other word of the record is known: a load of another one is stuck
+abbrev pub fixed_word : List Insn → ℕ → ℕ → Option ℕ
+fixed_word p arch nr = verdict_of p (nr ∷ arch ∷ [])
+
+-- there is a word, and it allows the call
+abbrev pub is_allow : Option ℕ → Bool
+is_allow None = false
+is_allow (Some word) = action word == allow
+
+-- the program allows each call with this number and this token by these two words
+abbrev pub is_fixed_allow : List Insn → ℕ → ℕ → Bool
+is_fixed_allow p arch nr = is_allow (fixed_word p arch nr)
+
+-- a word that is fixed so is the word on each record with these two words
+abbrev pub FixedIsTheWord : Type 0
+FixedIsTheWord = (p : List Insn) (r : Record) (word : ℕ) → fixed_word p r.arch r.nr ≡ Some word → verdict_of p (words r) ≡ Some word

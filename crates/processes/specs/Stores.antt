@@ -1,0 +1,21 @@
+-- What a store of filters says of the filters that a handle stands for.
+use Rattle.std.specs.Prelude.{ℕ, ◌+◌, Bool, true, false, List, [], ◌∷◌, map, sum_by}
+use Rattle.bpf_insn.specs.declared.instruction.Insn.{Insn}
+use Rattle.processes.specs.Tasks.{Filter, program_judge}
+
+-- there is a filter
+abbrev pub has_filter : List Filter → Bool
+has_filter [] = false
+has_filter (f ∷ fs) = true
+
+-- the count of each with 4 more, in instructions: for how many they count beside a further filter
+abbrev pub size_beside : List Filter → ℕ
+size_beside fs = sum_by (λ f. f.judge.count + 4) fs
+
+-- their load numbers
+abbrev pub loads_in : List Filter → List ℕ
+loads_in fs = map (λ f. f.load) fs
+
+-- a program that was loaded under a number
+abbrev pub program_filter : ℕ → List Insn → Filter
+program_filter load program = record { load = load; judge = program_judge program }

@@ -1,0 +1,4 @@
+pub mod Numbers
+pub mod Tree
+pub mod Store
+pub mod inner
