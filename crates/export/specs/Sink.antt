@@ -15,14 +15,18 @@ abbrev pub StopsAt : {S : Type 0} → (S → Option (List ℕ)) → (S → ℕ) 
 StopsAt held failures old new bytes out =
     Appends (held old) (held new) (take out bytes) × (out < length bytes) × HasFailed (failures old) (failures new)
 
--- Ok: these bytes were written. A fault of writing tells where the sink stopped.
+-- these bytes were written, and no call failed
+abbrev pub Wrote : {S : Type 0} → (S → Option (List ℕ)) → (S → ℕ) → S → S → List ℕ → Type 0
+Wrote held failures old new bytes = Appends (held old) (held new) bytes × (failures new ≡ failures old)
+
+-- Ok: these bytes were written, and no call failed. A fault of writing tells where the sink stopped.
 abbrev pub Writes : {S T : Type 0} → (S → Option (List ℕ)) → (S → ℕ) → S → S → List ℕ → Result T ExportFault → Type 0
-Writes held failures old new bytes (Ok x) = Appends (held old) (held new) bytes
+Writes held failures old new bytes (Ok x) = Wrote held failures old new bytes
 Writes held failures old new bytes (Err (Write out)) = StopsAt held failures old new bytes out
 Writes held failures old new bytes (Err OutOfMemory) = ⊥
 
 -- The same of bytes that have to be made first: without memory for them the sink was not asked.
 abbrev pub WritesMade : {S T : Type 0} → (S → Option (List ℕ)) → (S → ℕ) → S → S → List ℕ → Result T ExportFault → Type 0
-WritesMade held failures old new bytes (Ok x) = Appends (held old) (held new) bytes
+WritesMade held failures old new bytes (Ok x) = Wrote held failures old new bytes
 WritesMade held failures old new bytes (Err (Write out)) = StopsAt held failures old new bytes out
 WritesMade held failures old new bytes (Err OutOfMemory) = new ≡ old

@@ -1,5 +1,5 @@
 //! Where bytes go.
-ghost use Rattle.std.specs.Prelude.{◌≡◌, ◌≤◌, ◌<◌, ℕ, List, Option, IfOk, OnOk, length, if◌then◌else◌};
+ghost use Rattle.std.specs.Prelude.{◌≡◌, ◌≤◌, ◌<◌, ℕ, List, Option, IfOk, length, if◌then◌else◌};
 ghost use Rattle.std.specs.Io.KnownBytes.{WriteAppends};
 ghost use Rattle.export.specs.Sink.{Writes};
 
@@ -67,8 +67,7 @@ impl<W: io::Write + Drop> Sink for ToWrite<W> {
 
 /// Writes all of the bytes, or says how many were written. A call that failed is not tried again.
 pub fn write_all<S: Sink>(bytes: &[u8], sink: &mut S) -> Result<(), ExportFault>
-    ensures written { Writes S.held S.failures sink.old sink.new bytes.now result }
-    ensures none_failed { OnOk result (S.failures sink.new ≡ S.failures sink.old) }
+    ensures { Writes S.held S.failures sink.old sink.new bytes.now result }
 {
     let mut out = 0;
     'write: while out < bytes.len() {

@@ -7,7 +7,7 @@ use Rattle.std.proofs.lemmas.Bool.{and_from, and_parts, eq-eqb, eqb-true}
 use Rattle.std.proofs.lemmas.List.{take_all}
 use Rattle.bpf_asm.specs.Digits.{are_digits, is_hexadecimal_digit}
 use Rattle.script.specs.Numbers.{AreBytes}
-use Rattle.script.specs.inner.Pairs.{is_paired, spelled_bytes}
+use Rattle.script.specs.Pairs.{is_paired, spelled_bytes}
 
 pub length-spelled : (ds : List ℕ) → length ds / 2 ≡ length (spelled_bytes ds)
 length-spelled [] = refl

@@ -2,8 +2,8 @@
 use Rattle.std.specs.Prelude.{ℕ, ◌≡◌, ◌==◌, ◌≤◌, ◌<◌, ◌^◌, ◌⊎◌, Bool, true, not, ◌&&◌, List, [], ◌∷◌, ◌++◌, length, Option, Some, None, codes, IsUtf8}
 use Rattle.std.specs.List.{join_with_byte, list_all}
 use Rattle.call_tables.specs.declared.arch.Arch.{Arch}
-use Rattle.call_tables.specs.declared.arch.Arch.TheVariants.{X86_64, Aarch64}
-use Rattle.call_tables.specs.Arch.{table_of}
+use Rattle.call_tables.specs.declared.arch.Family.{Family}
+use Rattle.call_tables.specs.Arch.{table_of, word_of, family_of}
 use Rattle.call_tables.specs.Table.{number_in}
 use Rattle.script.specs.Numbers.{IsNumber, AreBytes}
 use Rattle.script.specs.Orders.{Order, Create, Start, Delete, State, Kill, Call}
@@ -26,21 +26,17 @@ lacks byte text = list_all (λ b. not (b == byte)) text
 abbrev pub is_field : List ℕ → Bool
 is_field text = not (length text == 0) && lacks space text
 
--- how a machine is named
-abbrev pub machine_name : Arch → List ℕ
-machine_name X86_64 = codes "x86-64"
-machine_name Aarch64 = codes "aarch64"
-
--- a machine and a number of 32 bits
-pub record IsForeign (text : List ℕ) (arch : Arch) (nr : ℕ) : Type 0 where
+-- a machine of the family and a number of 32 bits
+pub record IsForeign (family : Family) (text : List ℕ) (arch : Arch) (nr : ℕ) : Type 0 where
   pub digits : List ℕ
-  pub spelled : text ≡ machine_name arch ++ colon ∷ digits
+  pub of_family : family_of arch ≡ family
+  pub spelled : text ≡ word_of arch ++ colon ∷ digits
   pub number : IsNumber digits nr
   pub small : nr < 2 ^ 32
 
--- the name of a native call, or a machine and a number
+-- the name of a native call, or a machine of the native one's family and a number
 abbrev pub IsWhat : Arch → List ℕ → Arch → ℕ → Type 0
-IsWhat native text arch nr = ((arch ≡ native) × (number_in (table_of native) text ≡ Some nr)) ⊎ IsForeign text arch nr
+IsWhat native text arch nr = ((arch ≡ native) × (number_in (table_of native) text ≡ Some nr)) ⊎ IsForeign (family_of native) text arch nr
 
 -- the arguments are the numbers of these fields; those that have none are 0
 abbrev pub AreArguments : List (List ℕ) → List ℕ → Type 0

@@ -2,6 +2,7 @@ pub mod Numbers
 pub mod Orders
 pub mod Grammar
 pub mod Lines
+pub mod Pairs
 pub mod Requests
 pub mod Laws
 pub mod inner

@@ -4,7 +4,7 @@ use Rattle.std.specs.Option.{option_map}
 use Rattle.script.specs.declared.hex.Hex.{Hex}
 use Rattle.script.specs.declared.request.Request.{Request}
 use Rattle.script.specs.declared.request.Request.TheVariants as requests
-use Rattle.script.specs.inner.Pairs.{spelled_bytes}
+use Rattle.script.specs.Pairs.{spelled_bytes}
 use Rattle.script.specs.Orders.{Order, Create, Start, Delete, State, Kill, Call}
 
 unfoldable pub bytes_of : Hex → List ℕ

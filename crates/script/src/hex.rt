@@ -2,7 +2,7 @@
 ghost use Rattle.std.specs.Prelude.{◌≡◌, true};
 ghost use Rattle.std.specs.Char.{digit_value};
 ghost use Rattle.bpf_asm.specs.Digits.{is_hexadecimal_digit};
-ghost use Rattle.script.specs.inner.Pairs.{is_paired};
+ghost use Rattle.script.specs.Pairs.{is_paired};
 
 use crate::numbers::is_hexadecimal;
 
@@ -25,13 +25,13 @@ pub struct Hex<'a> {
     ghost paired: { is_paired text.now ≡ true },
 }
 
-#[tactic(auto, unfolding(crate::specs::Requests::bytes_of, crate::specs::inner::Pairs::is_paired))]
+#[tactic(auto, unfolding(crate::specs::Requests::bytes_of, crate::specs::Pairs::is_paired))]
 impl<'a> Hex<'a> {
     ghost use Rattle.std.specs.Prelude.{◌≡◌, ◌≤◌, ◌*◌, length, true, Some, None, if◌then◌else◌};
     ghost use Rattle.std.specs.Option.{option_map};
     ghost use Rattle.std.specs.Vec.{vec_capacity};
     ghost use Rattle.script.specs.Requests.{bytes_of};
-    ghost use Rattle.script.specs.inner.Pairs.{is_paired, spelled_bytes};
+    ghost use Rattle.script.specs.Pairs.{is_paired, spelled_bytes};
 
     // The bytes that a text spells, if it does.
     pub(crate) fn read(text: &'a str) -> Option<Hex<'a>>

@@ -1,9 +1,8 @@
 -- What has come of a source, and what was answered to it.
-use Rattle.std.proofs.Common.{◌≡◌, ℕ, ◌+◌, ◌<◌, inl, inr, false, List, [], ◌∷◌, ◌++◌, length, take, ap, sym, subst, ◌∙◌, arith, length-append}
+use Rattle.std.proofs.Common.{◌≡◌, ℕ, ◌+◌, ◌<◌, ◌≤◌, inl, inr, false, List, [], ◌∷◌, ◌++◌, length, take, ap, sym, subst, ◌∙◌}
 use Rattle.std.specs.Prelude.{Option, ◌==◌}
 use Rattle.std.specs.Io.KnownBytes.{Appends, Consumes, IsAtEnd, Keeps}
 use Rattle.std.proofs.KnownBytes.{Appends-nil, Consumes-kept, Consumes-nil, Consumes-trans}
-use Rattle.std.proofs.Math.Seq.{take-append_seam}
 use Rattle.std.proofs.lemmas.List.{append-nil}
 use Rattle.processes.specs.First.{by_profile, by_program}
 use Rattle.lifecycle.specs.Orders.{Order}
@@ -62,28 +61,22 @@ writing : (bundles : Bundles) (left left' held held' : Option (List ℕ)) (part 
     → (b : BreaksOff bundles held held' part cs out) → HasReadWhole bundles left left' (cs ++ b.command ∷ [])
     → StopsWriting bundles left left' held held' out
 writing bundles left left' held held' part cs out b whole =
-    let all = cs ++ b.command ∷ [] in (
-      all,
-      b.n,
-      whole,
-      subst (λ (t : List ℕ). Appends held held' (take b.n t)) (by_profiles all) b.written,
-      subst (λ (t : List ℕ). b.n < length t) (by_profiles all) b.short,
-      b.told,
-    )
+    let all = cs ++ b.command ∷ [] in record {
+      commands = cs;
+      last = b.command;
+      read = whole;
+      n = b.n;
+      written = subst (λ (t : List ℕ). Appends held held' (take b.n t)) (by_profiles all) b.written;
+      behind = subst (λ (t : List ℕ). length t ≤ b.n) (by_profiles cs) b.behind;
+      short = subst (λ (t : List ℕ). b.n < length t) (by_profiles all) b.short;
+      told = b.told;
+    }
 
 lacking : (bundles : Bundles) (left left' held held' : Option (List ℕ)) (part : List ℕ) (cs : List (Option Order)) (line : ℕ)
     → (b : RunsOut bundles held held' part cs line) → HasReadWhole bundles left left' (cs ++ b.command ∷ [])
     → StopsForMemory bundles left left' held held' line
 lacking bundles left left' held held' part cs line b whole =
-    let all = cs ++ b.command ∷ [] in (
-      all,
-      length cs,
-      whole,
-      omega (arith, length-append cs (b.command ∷ [])),
-      subst (λ (t : List (Option Order)). Appends held held' (answer_of by_profile t)) (sym (take-append_seam cs (b.command ∷ [])))
-          (profiled held held' cs b.written),
-      b.told,
-    )
+    record { commands = cs; last = b.command; read = whole; written = profiled held held' cs b.written; told = b.told }
 
 -- Before the first byte.
 pub nothing_came : (bundles : Bundles) (s : Standing) (left held : Option (List ℕ)) → s.world ≡ [] → s.kept ≡ [] → s.count ≡ 0 → s.out ≡ 0

@@ -58,19 +58,17 @@ module _ {S : Type 0} (sheld : S → Option (List ℕ)) (failures : S → ℕ) (
         → t.world ≡ w' → t.kept ≡ [] → t.count ≡ number → t.out ≡ counted (s.out + n) → GoesOn bundles t held (sheld new) lines part cs
     goes_on t n h world kept count out =
         went_on bundles s held (sheld old) lines part cs st t (sheld new) h.command n (is_kept h.command h.is)
-        (subst (λ (l : List ℕ). Appends (sheld old) (sheld new) l) (line_is h.command) h.written)
+        (subst (λ (l : List ℕ). Appends (sheld old) (sheld new) l) (line_is h.command) h.written.0)
         (h.len ∙ ap length (line_is h.command)) (world ∙ h.world) kept (count ∙ numbered) out
 
     pub breaks_off : (fault : ExportFault) (m out : ℕ) → AnswersLine sheld failures bundles line number s.world w' old new (Err fault)
-        → fault ≡ Write m → out ≡ counted (s.out + m) → BreaksOff bundles held (sheld new) part cs out × HasFailed (failures old) (failures new)
+        → fault ≡ Write m → out ≡ counted (s.out + m) → BreaksOff bundles held (sheld new) part cs out
     breaks_off fault m out g e told =
         let h : AnswersLine sheld failures bundles line number s.world w' old new (Err (Write m)) =
-        subst (λ (f : ExportFault). AnswersLine sheld failures bundles line number s.world w' old new (Err f)) e g in (
-          broke_off bundles s held (sheld old) lines part cs st (sheld new) h.command m out (is_kept h.command h.is)
-              (subst (λ (l : List ℕ). Appends (sheld old) (sheld new) (take m l)) (line_is h.command) h.written.0)
-              (subst (λ (l : List ℕ). m < length l) (line_is h.command) h.written.1) told,
-          h.written.2,
-        )
+        subst (λ (f : ExportFault). AnswersLine sheld failures bundles line number s.world w' old new (Err f)) e g in
+        broke_off bundles s held (sheld old) lines part cs st (sheld new) h.command m out (is_kept h.command h.is)
+        (subst (λ (l : List ℕ). Appends (sheld old) (sheld new) (take m l)) (line_is h.command) h.written.0)
+        (subst (λ (l : List ℕ). m < length l) (line_is h.command) h.written.1) told
 
     pub runs_out : (fault : ExportFault) (told : ℕ) → AnswersLine sheld failures bundles line number s.world w' old new (Err fault)
         → fault ≡ OutOfMemory → told ≡ number → RunsOut bundles held (sheld new) part cs told
@@ -80,3 +78,16 @@ module _ {S : Type 0} (sheld : S → Option (List ℕ)) (failures : S → ℕ) (
         let stays : RunsOut bundles held (sheld old) part cs told =
         ran_out bundles s held (sheld old) lines part cs st h.command told (is_kept h.command h.is) (e ∙ numbered) in
         subst (λ (x : S). RunsOut bundles held (sheld x) part cs told) (sym h.written) stays
+
+-- a fault of writing, and want of memory
+
+module _ {S : Type 0} (held : S → Option (List ℕ)) (failures : S → ℕ) (old new : S) (bytes : List ℕ) (fault : ExportFault)
+    (written : WritesMade {S = S} {T = ℕ} held failures old new bytes (Err fault)) where
+  by_fault : (f : ExportFault) → fault ≡ f → WritesMade {S = S} {T = ℕ} held failures old new bytes (Err f)
+  by_fault f e = subst (λ (f : ExportFault). WritesMade {S = S} {T = ℕ} held failures old new bytes (Err f)) e written
+
+  pub failed_write : (m : ℕ) → fault ≡ Write m → HasFailed (failures old) (failures new)
+  failed_write m e = (by_fault (Write m) e).2
+
+  pub not_asked : fault ≡ OutOfMemory → failures new ≡ failures old
+  not_asked e = ap failures (by_fault OutOfMemory e)

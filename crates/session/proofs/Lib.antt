@@ -8,4 +8,5 @@ mod EndLaws
 mod ComeLaws
 mod RunLaws
 mod Tests
+mod FailedLaws
 mod OneLaws

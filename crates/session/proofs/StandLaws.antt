@@ -63,6 +63,7 @@ module _ (bundles : Bundles) (s : Standing) (held h : Option (List ℕ)) (lines 
     written = subst (λ (t : List ℕ). Appends held h' t)
         (sym (ap (λ (t : List ℕ). take (length (answer_of by_program cs) + m) t) (grown c) ∙ take-append-add (answer_of by_program cs) (line_of c) m))
         (Appends-trans held h h' (answer_of by_program cs) (take m (line_of c)) st.written written);
+    behind = omega arith;
     short = let all = ap length (grown c) ∙ length-append (answer_of by_program cs) (line_of c) in omega arith;
     told = told ∙ total c m;
   }

@@ -1,10 +1,13 @@
 -- What a run of a script has read and written.
-use Rattle.std.specs.Prelude.{ℕ, ◌≡◌, ◌+◌, ◌<◌, ◌⊎◌, List, [], ◌∷◌, length, take, Option}
+use Rattle.std.specs.Prelude.{ℕ, ◌≡◌, ◌+◌, ◌<◌, ◌≤◌, ◌⊎◌, List, [], ◌∷◌, ◌++◌, length, take, Option, Result, Err}
 use Rattle.std.specs.Io.KnownBytes.{Appends, Consumes, IsAtEnd}
+use Rattle.export.specs.Failures.{HasFailed}
 use Rattle.processes.specs.First.{by_profile}
 use Rattle.lifecycle.specs.Orders.{Order}
 use Rattle.script.specs.Lines.{Parts, lines_of}
 use Rattle.session.specs.declared.bundles.Bundles.{Bundles}
+use Rattle.session.specs.declared.fault.ScriptFault.{ScriptFault}
+use Rattle.session.specs.declared.fault.ScriptFault.TheVariants.{Read, Write}
 use Rattle.session.specs.Answer.{answer_of, counted}
 use Rattle.session.specs.Commands.{CommandsAre}
 
@@ -48,14 +51,32 @@ StopsReading bundles left left' held held' line =
     (commands : List (Option Order)) × HasRead bundles ended_lines left left' commands
     × Appends held held' (answer_of by_profile commands) × (line ≡ counted (length commands + 1))
 
--- Of the answer of the lines that were read, so many bytes were written, and more of them are left.
-abbrev pub StopsWriting : Bundles → Option (List ℕ) → Option (List ℕ) → Option (List ℕ) → Option (List ℕ) → ℕ → Type 0
-StopsWriting bundles left left' held held' out =
-    (commands : List (Option Order)) × (n : ℕ) × HasReadWhole bundles left left' commands
-    × Appends held held' (take n (answer_of by_profile commands)) × (n < length (answer_of by_profile commands)) × (out ≡ counted n)
+-- Of the answer of the lines that were read, so many bytes were written, and more of them are left. All lines but the
+-- last were answered whole, and none was read after it.
+pub record StopsWriting (bundles : Bundles) (left left' held held' : Option (List ℕ)) (out : ℕ) : Type 0 where
+  pub commands : List (Option Order)
+  pub last : Option Order
+  pub read : HasReadWhole bundles left left' (commands ++ last ∷ [])
+  pub n : ℕ
+  pub written : Appends held held' (take n (answer_of by_profile (commands ++ last ∷ [])))
+  pub behind : length (answer_of by_profile commands) ≤ n
+  pub short : n < length (answer_of by_profile (commands ++ last ∷ []))
+  pub told : out ≡ counted n
 
--- The answer of the lines before this one was written.
-abbrev pub StopsForMemory : Bundles → Option (List ℕ) → Option (List ℕ) → Option (List ℕ) → Option (List ℕ) → ℕ → Type 0
-StopsForMemory bundles left left' held held' line =
-    (commands : List (Option Order)) × (k : ℕ) × HasReadWhole bundles left left' commands × (k < length commands)
-    × Appends held held' (answer_of by_profile (take k commands)) × (line ≡ counted (k + 1))
+-- The answer of the lines before this one was written, and none was read after it.
+pub record StopsForMemory (bundles : Bundles) (left left' held held' : Option (List ℕ)) (line : ℕ) : Type 0 where
+  pub commands : List (Option Order)
+  pub last : Option Order
+  pub read : HasReadWhole bundles left left' (commands ++ last ∷ [])
+  pub written : Appends held held' (answer_of by_profile commands)
+  pub told : line ≡ counted (length commands + 1)
+
+-- By how many calls of the source failed before and after: one failed where a failed read is told, and else none.
+abbrev pub TellsFailedRead : {T : Type 0} → ℕ → ℕ → Result T ScriptFault → Type 0
+TellsFailedRead old new (Err (Read line)) = HasFailed old new
+TellsFailedRead old new other = new ≡ old
+
+-- The same of the sink, and of a failed write.
+abbrev pub TellsFailedWrite : {T : Type 0} → ℕ → ℕ → Result T ScriptFault → Type 0
+TellsFailedWrite old new (Err (Write out)) = HasFailed old new
+TellsFailedWrite old new other = new ≡ old

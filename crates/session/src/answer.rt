@@ -1,5 +1,5 @@
 //! One line, carried out and answered.
-ghost use Rattle.std.specs.Prelude.{◌≡◌, OnOk};
+ghost use Rattle.std.specs.Prelude.{◌≡◌};
 ghost use Rattle.lifecycle.specs.Views.{world_of};
 ghost use Rattle.session.specs.inner.Carried.{AnswersLine};
 
@@ -18,7 +18,6 @@ pub(crate) fn answer_line<S: Sink>(
     sink: &mut S,
 ) -> Result<usize, ExportFault>
     ensures bundles { session.new.bundles ≡ session.old.bundles }
-    ensures none_failed { OnOk result (S.failures sink.new ≡ S.failures sink.old) }
     ensures done { AnswersLine S.held S.failures session.old.bundles line.now number (world_of session.old.runtime) (world_of session.new.runtime) sink.old sink.new result }
 {
     let Some(request) = read_line(session.bundles.native, line) else {

@@ -14,15 +14,15 @@ use crate::bundles::Bundles;
 use call_record::Record;
 use call_tables::Arch;
 use lifecycle::{Reply, Runtime};
-use processes::TaskTable;
 use script::{Hex, MAX_LINE, Request};
+use shared_table::SharedTable;
 use std::alloc::{AllocError, Global};
 
 /// Containers, and the bundles of which a script makes them.
 #[derive(Drop)]
 pub(crate) struct Session<'a> {
     pub(crate) bundles: Bundles<'a>,
-    pub(crate) runtime: Runtime<'a, TaskTable>,
+    pub(crate) runtime: Runtime<'a, SharedTable>,
     // What holds the program of a call while it is presented.
     program: Vec<u8>,
 }
@@ -62,7 +62,7 @@ impl<'a> Session<'a> {
         let program = Vec::with_capacity(alloc, MAX_LINE / 2)?;
         Ok(Session {
             bundles,
-            runtime: Runtime::new(alloc, TaskTable::new(alloc)),
+            runtime: Runtime::new(alloc, SharedTable::new(alloc)),
             program,
         })
     }

@@ -29,9 +29,8 @@ pub(crate) struct Progress<'a> {
 
 impl<'a> Progress<'a> {
     ghost use Rattle.std.specs.Io.KnownBytes.{Consumes, IsAtEnd};
-    ghost use Rattle.export.specs.Failures.{HasFailed};
     ghost use Rattle.session.specs.Answer.{counted};
-    ghost use Rattle.session.specs.Scripts.{IsAnswered, StopsForMemory, StopsWriting};
+    ghost use Rattle.session.specs.Scripts.{IsAnswered, StopsForMemory, StopsWriting, TellsFailedWrite};
     ghost use Rattle.session.specs.declared.fault.ScriptFault.TheVariants as fault;
     ghost use Rattle.session.specs.inner.Cuts.{IsCut, kept_of};
     ghost use Rattle.session.specs.inner.Lines.{BreaksOff, GoesOn, HasCome, RunsOut, Standing, Stands};
@@ -72,19 +71,19 @@ impl<'a> Progress<'a> {
     // The line is at its end: it is carried out and answered.
     fn end_line<S: Sink>(&mut self, sink: &mut S) -> Result<(), ScriptFault>
         ensures bundles { self.new.session.bundles ≡ self.old.session.bundles }
-        ensures none_failed { OnOk result (S.failures sink.new ≡ S.failures sink.old) }
         ensures ok { (held : Option (List ℕ)) (lines : List (List ℕ)) (part : List ℕ) (commands : List (Option Order))
             → Stands self.old.session.bundles (standing_of self.old) held (S.held sink.old) lines part commands
             → OnOk result (GoesOn self.old.session.bundles (standing_of self.new) held (S.held sink.new) lines part commands) }
         ensures write { (held : Option (List ℕ)) (lines : List (List ℕ)) (part : List ℕ) (commands : List (Option Order)) (out : ℕ)
             → Stands self.old.session.bundles (standing_of self.old) held (S.held sink.old) lines part commands
             → result ≡ Err (fault.Write out)
-            → BreaksOff self.old.session.bundles held (S.held sink.new) part commands out × HasFailed (S.failures sink.old) (S.failures sink.new) }
+            → BreaksOff self.old.session.bundles held (S.held sink.new) part commands out }
         ensures memory { (held : Option (List ℕ)) (lines : List (List ℕ)) (part : List ℕ) (commands : List (Option Order)) (line : ℕ)
             → Stands self.old.session.bundles (standing_of self.old) held (S.held sink.old) lines part commands
             → result ≡ Err (fault.Memory line)
             → RunsOut self.old.session.bundles held (S.held sink.new) part commands line }
         ensures no_read { (line : ℕ) → result ≡ Err (fault.Read line) → ⊥ }
+        ensures failures { TellsFailedWrite (S.failures sink.old) (S.failures sink.new) result }
     {
         let number = self.count.saturating_add(1);
         match answer_line(self.alloc, &mut self.session, &self.line, number, sink) {
@@ -111,7 +110,6 @@ impl<'a> Progress<'a> {
     /// One more byte of the script.
     pub(crate) fn take<S: Sink>(&mut self, byte: u8, sink: &mut S) -> Result<(), ScriptFault>
         ensures bundles { self.new.session.bundles ≡ self.old.session.bundles }
-        ensures none_failed { OnOk result (S.failures sink.new ≡ S.failures sink.old) }
         ensures ok { (left before after held : Option (List ℕ))
             → HasCome self.old.session.bundles (standing_of self.old) left before held (S.held sink.old)
             → Consumes before after (byte ∷ [])
@@ -119,12 +117,13 @@ impl<'a> Progress<'a> {
         ensures write { (left before after held : Option (List ℕ)) (out : ℕ)
             → HasCome self.old.session.bundles (standing_of self.old) left before held (S.held sink.old)
             → Consumes before after (byte ∷ []) → result ≡ Err (fault.Write out)
-            → StopsWriting self.old.session.bundles left after held (S.held sink.new) out × HasFailed (S.failures sink.old) (S.failures sink.new) }
+            → StopsWriting self.old.session.bundles left after held (S.held sink.new) out }
         ensures memory { (left before after held : Option (List ℕ)) (line : ℕ)
             → HasCome self.old.session.bundles (standing_of self.old) left before held (S.held sink.old)
             → Consumes before after (byte ∷ []) → result ≡ Err (fault.Memory line)
             → StopsForMemory self.old.session.bundles left after held (S.held sink.new) line }
         ensures no_read { (line : ℕ) → result ≡ Err (fault.Read line) → ⊥ }
+        ensures failures { TellsFailedWrite (S.failures sink.old) (S.failures sink.new) result }
     {
         if byte == LINE_FEED {
             self.end_line(sink)
@@ -142,12 +141,13 @@ impl<'a> Progress<'a> {
         ensures write { (left end held : Option (List ℕ)) (out : ℕ)
             → HasCome self.old.session.bundles (standing_of self.old) left end held (S.held sink.old) → IsAtEnd end
             → result ≡ Err (fault.Write out)
-            → StopsWriting self.old.session.bundles left end held (S.held sink.new) out × HasFailed (S.failures sink.old) (S.failures sink.new) }
+            → StopsWriting self.old.session.bundles left end held (S.held sink.new) out }
         ensures memory { (left end held : Option (List ℕ)) (line : ℕ)
             → HasCome self.old.session.bundles (standing_of self.old) left end held (S.held sink.old) → IsAtEnd end
             → result ≡ Err (fault.Memory line)
             → StopsForMemory self.old.session.bundles left end held (S.held sink.new) line }
         ensures no_read { (line : ℕ) → result ≡ Err (fault.Read line) → ⊥ }
+        ensures failures { TellsFailedWrite (S.failures sink.old) (S.failures sink.new) result }
     {
         if self.line.is_empty() {
             return Ok(());

@@ -1,5 +1,5 @@
 //! The lines that are answered.
-ghost use Rattle.std.specs.Prelude.{◌≡◌, ◌≤◌, ◌+◌, ◌++◌, ◌∷◌, [], IfOk, OnOk, length, string_bytes};
+ghost use Rattle.std.specs.Prelude.{◌≡◌, ◌≤◌, ◌+◌, ◌++◌, ◌∷◌, [], IfOk, length, string_bytes};
 ghost use Rattle.arrayvec.specs.ArrayVec.{array_vec_len};
 ghost use Rattle.serde_json.specs.View.{view};
 ghost use Rattle.serde_json.specs.Written.{compact_text};
@@ -127,7 +127,6 @@ fn state_line(alloc: Global, id: &str, status: Status) -> Result<String, AllocEr
 // Writes a line, and says how many bytes it has.
 fn send<S: Sink>(line: &[u8], sink: &mut S) -> Result<usize, ExportFault>
     ensures written { Writes S.held S.failures sink.old sink.new line.now result }
-    ensures none_failed { OnOk result (S.failures sink.new ≡ S.failures sink.old) }
     ensures len { IfOk result (λ n. n ≡ length line.now) }
 {
     write_all(line, sink)?;
@@ -143,7 +142,6 @@ pub(crate) fn write_reply<S: Sink>(
     sink: &mut S,
 ) -> Result<usize, ExportFault>
     ensures written { WritesMade S.held S.failures sink.old sink.new (reply_line id.now reply.now) result }
-    ensures none_failed { OnOk result (S.failures sink.new ≡ S.failures sink.old) }
     ensures len { IfOk result (λ n. n ≡ length (reply_line id.now reply.now)) }
 {
     let mut line = Line::new();
@@ -165,7 +163,6 @@ pub(crate) fn write_reply<S: Sink>(
 /// Writes the line that says that the line of this number is no command, and says how many bytes it has.
 pub(crate) fn write_no_command<S: Sink>(number: u64, sink: &mut S) -> Result<usize, ExportFault>
     ensures written { Writes S.held S.failures sink.old sink.new (no_command_line number) result }
-    ensures none_failed { OnOk result (S.failures sink.new ≡ S.failures sink.old) }
     ensures len { IfOk result (λ n. n ≡ length (no_command_line number)) }
 {
     let mut line = Line::new();

@@ -2,8 +2,8 @@
 ghost use Rattle.std.specs.Prelude.{◌≡◌, ◌<◌, ◌⊎◌, ℕ, Err, IfOk, OnOk, OnErr, None};
 ghost use Rattle.std.specs.Option.{option_to_list};
 ghost use Rattle.std.specs.Io.KnownBytes.{Consumes, IsAtEnd, Keeps};
-ghost use Rattle.export.specs.Failures.{HasFailed, one_more};
-ghost use Rattle.session.specs.Scripts.{IsAnswered, StopsForMemory, StopsReading, StopsWriting};
+ghost use Rattle.export.specs.Failures.{one_more};
+ghost use Rattle.session.specs.Scripts.{IsAnswered, StopsForMemory, StopsReading, StopsWriting, TellsFailedRead, TellsFailedWrite};
 ghost use Rattle.session.specs.declared.fault.ScriptFault.TheVariants as fault;
 ghost use Rattle.session.specs.inner.Lines.{HasCome};
 ghost use Rattle.session.specs.inner.Progress.{standing_of};
@@ -42,13 +42,13 @@ fn take_all<I: Source, O: Sink>(
     ensures ok { IfOk result (λ _.
         IsAnswered progress.old.session.bundles (I.left source.old) (I.left source.new) (O.held sink.old) (O.held sink.new)) }
     ensures read { (line : ℕ) → result ≡ Err (fault.Read line)
-        → StopsReading progress.old.session.bundles (I.left source.old) (I.left source.new) (O.held sink.old) (O.held sink.new) line
-        × HasFailed (I.failures source.old) (I.failures source.new) }
+        → StopsReading progress.old.session.bundles (I.left source.old) (I.left source.new) (O.held sink.old) (O.held sink.new) line }
     ensures write { (out : ℕ) → result ≡ Err (fault.Write out)
-        → StopsWriting progress.old.session.bundles (I.left source.old) (I.left source.new) (O.held sink.old) (O.held sink.new) out
-        × HasFailed (O.failures sink.old) (O.failures sink.new) }
+        → StopsWriting progress.old.session.bundles (I.left source.old) (I.left source.new) (O.held sink.old) (O.held sink.new) out }
     ensures memory { (line : ℕ) → result ≡ Err (fault.Memory line)
         → StopsForMemory progress.old.session.bundles (I.left source.old) (I.left source.new) (O.held sink.old) (O.held sink.new) line }
+    ensures failed_read { TellsFailedRead (I.failures source.old) (I.failures source.new) result }
+    ensures failed_write { TellsFailedWrite (O.failures sink.old) (O.failures sink.new) result }
 {
     'byte: loop {
         match next_byte(source) {
@@ -79,14 +79,15 @@ pub fn run_script<I: Source, O: Sink>(
 ) -> Result<(), ScriptFault>
     ensures ok { IfOk result (λ _. IsAnswered bundles.now (I.left source.old) (I.left source.new) (O.held sink.old) (O.held sink.new)) }
     ensures read { (line : ℕ) → result ≡ Err (fault.Read line)
-        → StopsReading bundles.now (I.left source.old) (I.left source.new) (O.held sink.old) (O.held sink.new) line
-        × HasFailed (I.failures source.old) (I.failures source.new) }
+        → StopsReading bundles.now (I.left source.old) (I.left source.new) (O.held sink.old) (O.held sink.new) line }
     ensures write { (out : ℕ) → result ≡ Err (fault.Write out)
-        → StopsWriting bundles.now (I.left source.old) (I.left source.new) (O.held sink.old) (O.held sink.new) out
-        × HasFailed (O.failures sink.old) (O.failures sink.new) }
+        → StopsWriting bundles.now (I.left source.old) (I.left source.new) (O.held sink.old) (O.held sink.new) out }
     ensures memory { (line : ℕ) → result ≡ Err (fault.Memory line)
         → StopsForMemory bundles.now (I.left source.old) (I.left source.new) (O.held sink.old) (O.held sink.new) line
         ⊎ ((line ≡ 0) × (source.new ≡ source.old) × (sink.new ≡ sink.old)) }
+    // No call fails but the one that is told.
+    ensures failed_read { TellsFailedRead (I.failures source.old) (I.failures source.new) result }
+    ensures failed_write { TellsFailedWrite (O.failures sink.old) (O.failures sink.new) result }
 {
     let Ok(mut progress) = Progress::new(alloc, *bundles) else {
         return Err(ScriptFault::Memory { line: 0 });

@@ -6,12 +6,13 @@ use Rattle.std.specs.Char.{is_ascii_digit}
 use Rattle.std.specs.Str.{bytes_eq}
 use Rattle.std.specs.Str.Parse.{digits_value}
 use Rattle.call_tables.specs.declared.arch.Arch.{Arch}
-use Rattle.call_tables.specs.declared.arch.Arch.TheVariants.{X86_64, Aarch64}
-use Rattle.call_tables.specs.Arch.{table_of}
+use Rattle.call_tables.specs.declared.arch.Family.{Family}
+use Rattle.call_tables.specs.declared.arch.Family.TheVariants.{Chosen, Whole}
+use Rattle.call_tables.specs.Arch.{table_of, family_of, x86_64_of, aarch64_of}
 use Rattle.call_tables.specs.Table.{number_in}
 use Rattle.bpf_asm.specs.Digits.{are_digits, has_leading_zero, is_hexadecimal_digit}
 use Rattle.bpf_asm.specs.inner.Reading.{behind}
-use Rattle.script.specs.inner.Pairs.{is_paired, spelled_bytes}
+use Rattle.script.specs.Pairs.{is_paired, spelled_bytes}
 use Rattle.script.specs.Orders.{Order, Create, Start, Delete, State, Kill, Call}
 
 infixl 10 ◌>>=◌
@@ -44,18 +45,26 @@ word_at text = do
   n ← number_at text
   if nat_lt n (2 ^ 32) then Some n else None
 
--- a call of a machine by its number; the options are what follows the machines' names
-abbrev pub foreign : Option (List ℕ) → Option (List ℕ) → Option (Arch × ℕ)
-foreign (Some ds) other = option_map (λ nr. (X86_64, nr)) (word_at ds)
-foreign None (Some ds) = option_map (λ nr. (Aarch64, nr)) (word_at ds)
-foreign None None = None
+-- what follows the beginning of the words of a family's machines
+abbrev pub after_mark : Family → List ℕ → Option (List ℕ)
+after_mark Chosen text = Some text
+after_mark Whole text = behind (codes "linux-") text
 
-unfoldable pub foreign_at : List ℕ → Option (Arch × ℕ)
-foreign_at text = foreign (behind (codes "x86-64:") text) (behind (codes "aarch64:") text)
+-- a call of a machine by its number; the options are what follows the words of the family's machines
+abbrev pub foreign : Family → Option (List ℕ) → Option (List ℕ) → Option (Arch × ℕ)
+foreign family (Some ds) other = option_map (λ nr. (x86_64_of family, nr)) (word_at ds)
+foreign family None (Some ds) = option_map (λ nr. (aarch64_of family, nr)) (word_at ds)
+foreign family None None = None
+
+unfoldable pub numbered_at : Family → List ℕ → Option (Arch × ℕ)
+numbered_at family rest = foreign family (behind (codes "x86-64:") rest) (behind (codes "aarch64:") rest)
+
+unfoldable pub foreign_at : Family → List ℕ → Option (Arch × ℕ)
+foreign_at family text = after_mark family text >>= numbered_at family
 
 abbrev pub native_or : Arch → Option ℕ → List ℕ → Option (Arch × ℕ)
 native_or native (Some nr) text = Some (native, nr)
-native_or native None text = foreign_at text
+native_or native None text = foreign_at (family_of native) text
 
 unfoldable pub what_at : Arch → List ℕ → Option (Arch × ℕ)
 what_at native text = native_or native (number_in (table_of native) text) text

@@ -1,5 +1,5 @@
 -- Where a script stands, after some of its lines.
-use Rattle.std.specs.Prelude.{ℕ, ◌≡◌, ◌+◌, ◌<◌, ◌++◌, List, [], ◌∷◌, Option, length, take}
+use Rattle.std.specs.Prelude.{ℕ, ◌≡◌, ◌+◌, ◌<◌, ◌≤◌, ◌++◌, List, [], ◌∷◌, Option, length, take}
 use Rattle.std.specs.Io.KnownBytes.{Appends, Consumes}
 use Rattle.processes.specs.First.{by_program}
 use Rattle.lifecycle.specs.Orders.{Order}
@@ -37,6 +37,7 @@ pub record BreaksOff (bundles : Bundles) (held held' : Option (List ℕ)) (part 
   pub is : CommandIs bundles part command
   pub n : ℕ
   pub written : Appends held held' (take n (answer_of by_program (commands ++ command ∷ [])))
+  pub behind : length (answer_of by_program commands) ≤ n
   pub short : n < length (answer_of by_program (commands ++ command ∷ []))
   pub told : out ≡ counted n
 

@@ -29,16 +29,16 @@ returns-clause-read g c = λ line e.
     let left = g.I.Source.left c.args.source.now in
     let after = g.I.Source.left c.take_all.new.source in
     let held = g.O.Sink.held c.args.sink.now in
-    let stops = c.take_all.ensures.read line e in
-    (subst (λ (b : Bundles). StopsReading b left after held (g.O.Sink.held c.take_all.new.sink) line) c.in-Ok.ensures.bundles stops.0, stops.1)
+    subst (λ (b : Bundles). StopsReading b left after held (g.O.Sink.held c.take_all.new.sink) line) c.in-Ok.ensures.bundles
+    (c.take_all.ensures.read line e)
 
 pub returns-clause-write : goal.returns-clause-write
 returns-clause-write g c = λ out e.
     let left = g.I.Source.left c.args.source.now in
     let after = g.I.Source.left c.take_all.new.source in
     let held = g.O.Sink.held c.args.sink.now in
-    let stops = c.take_all.ensures.write out e in
-    (subst (λ (b : Bundles). StopsWriting b left after held (g.O.Sink.held c.take_all.new.sink) out) c.in-Ok.ensures.bundles stops.0, stops.1)
+    subst (λ (b : Bundles). StopsWriting b left after held (g.O.Sink.held c.take_all.new.sink) out) c.in-Ok.ensures.bundles
+    (c.take_all.ensures.write out e)
 
 pub returns-clause-memory : goal.returns-clause-memory
 returns-clause-memory g c = λ line e.

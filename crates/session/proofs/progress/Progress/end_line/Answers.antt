@@ -2,7 +2,7 @@ use Rattle.std.proofs.Common.{◌≡◌, ◌+◌, ap, arith, refl, sym, ◌∙�
 use Rattle.lifecycle.specs.Views.{world_of}
 use Rattle.session.specs.Answer.{counted}
 use Rattle.session.specs.inner.Progress.{standing_of}
-use Rattle.session.proofs.EndLaws.{breaks_off, goes_on, runs_out}
+use Rattle.session.proofs.EndLaws.{breaks_off, failed_write, goes_on, not_asked, runs_out}
 use Rattle.session.proofs.progress.Progress.end_line.Goals as goal
 
 pub returns-in-Ok-clause-ok : goal.returns-in-Ok-clause-ok
@@ -26,3 +26,17 @@ returns-in-Err-OutOfMemory-clause-memory g c = λ held lines part commands line 
     c.deref.result.now c.saturating_add-number.result c.deref.ensures.value (omega arith) (world_of c.answer_line.new.session.runtime)
     c.args.sink.now c.answer_line.new.sink st c.in-Err-OutOfMemory.field-0 line c.in-Err-OutOfMemory.ensures.done
     c.in-Err-OutOfMemory.field-0-is (sym same)
+
+pub returns-in-Ok-clause-failures : goal.returns-in-Ok-clause-failures
+returns-in-Ok-clause-failures g c = c.in-Ok.ensures.done.written.1
+
+pub returns-in-Err-Write-clause-failures : goal.returns-in-Err-Write-clause-failures
+returns-in-Err-Write-clause-failures g c =
+    failed_write g.S.Sink.held g.S.Sink.failures c.args.sink.now c.answer_line.new.sink _ c.in-Err-Write.field-0
+    c.in-Err-Write.ensures.done.written
+    c.in-Err-Write.out c.in-Err-Write.field-0-is
+
+pub returns-in-Err-OutOfMemory-clause-failures : goal.returns-in-Err-OutOfMemory-clause-failures
+returns-in-Err-OutOfMemory-clause-failures g c =
+    not_asked g.S.Sink.held g.S.Sink.failures c.args.sink.now c.answer_line.new.sink _ c.in-Err-OutOfMemory.field-0
+    c.in-Err-OutOfMemory.ensures.done.written c.in-Err-OutOfMemory.field-0-is

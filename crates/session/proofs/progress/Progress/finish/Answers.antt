@@ -27,11 +27,9 @@ returns-clause-write g c = λ left end held out come at e.
     let ok = c.args.self.now.line.ok in
     let filled = is_not_zero c.args.self.now.line.len (sym c.is_empty.ensures ∙ c.if-is_empty.false) in
     let some : length c.args.self.now.line.items ≡ 0 → ⊥ = λ e. filled (omega arith) in
-    let stops = c.end_line.ensures.write held come.lines come.part come.commands out come.stands e in (
-      last_not_written c.args.self.now.session.bundles (standing_of c.args.self.now) left end held (g.S.Sink.held c.args.sink.now) come at some
-          (g.S.Sink.held c.end_line.new.sink) out stops.0,
-      stops.1,
-    )
+    last_not_written c.args.self.now.session.bundles (standing_of c.args.self.now) left end held (g.S.Sink.held c.args.sink.now) come at
+    some
+    (g.S.Sink.held c.end_line.new.sink) out (c.end_line.ensures.write held come.lines come.part come.commands out come.stands e)
 
 pub returns-clause-memory : goal.returns-clause-memory
 returns-clause-memory g c = λ left end held line come at e.

@@ -19,11 +19,9 @@ returns-then-byte-eq-LINE_FEED-clause-ok g c = λ left before after held come ta
 pub returns-then-byte-eq-LINE_FEED-clause-write : goal.returns-then-byte-eq-LINE_FEED-clause-write
 returns-then-byte-eq-LINE_FEED-clause-write g c = λ left before after held out come taken e.
     let feed = subst (λ (b : ℕ). Consumes before after (b ∷ [])) c.if-byte-eq-LINE_FEED.true taken in
-    let stops = c.end_line.ensures.write held come.lines come.part come.commands out come.stands e in (
-      line_not_written c.args.self.now.session.bundles (standing_of c.args.self.now) left before held (g.S.Sink.held c.args.sink.now) come after feed
-          (g.S.Sink.held c.end_line.new.sink) out stops.0,
-      stops.1,
-    )
+    line_not_written c.args.self.now.session.bundles (standing_of c.args.self.now) left before held (g.S.Sink.held c.args.sink.now) come
+    after feed
+    (g.S.Sink.held c.end_line.new.sink) out (c.end_line.ensures.write held come.lines come.part come.commands out come.stands e)
 
 pub returns-then-byte-eq-LINE_FEED-clause-memory : goal.returns-then-byte-eq-LINE_FEED-clause-memory
 returns-then-byte-eq-LINE_FEED-clause-memory g c = λ left before after held line come taken e.
