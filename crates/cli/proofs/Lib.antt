@@ -1,1 +1,6 @@
 mod AnswerLaws
+mod ExportLaws
+mod TurnLaws
+mod RunLaws
+mod HeadlineLaws
+mod FindingLaws

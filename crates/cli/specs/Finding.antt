@@ -5,6 +5,7 @@ use Rattle.call_tables.specs.declared.arch.Arch.{Arch}
 use Rattle.bpf_insn.specs.Bytes.{insns_of}
 use Rattle.kernel_check.specs.Accepted.{IsAccepted}
 use Rattle.profile.specs.Policy.{Policy}
+use Rattle.profile_json.specs.declared.fault.ProfileError.{ProfileError}
 use Rattle.profile_json.specs.declared.fault.ProfileError.TheVariants as refusal
 use Rattle.profile_json.specs.Breaks.{Breaks}
 use Rattle.profile_json.specs.Fault.{fault_of, text_of as refusal_text}
@@ -69,3 +70,13 @@ abbrev pub WritesFinding : {S : Type 0} → (S → Option (List ℕ)) → (S →
 WritesFinding held failures old new native bundle filter cert (Ok told) = TellsFinding held failures old new native bundle filter cert (Ok told)
 WritesFinding held failures old new native bundle filter cert (Err (Write out)) = TellsFinding held failures old new native bundle filter cert (Err (Write out))
 WritesFinding held failures old new native bundle filter cert (Err OutOfMemory) = new ≡ old
+
+-- Only one of the three stands. A yes leaves no fault of the bundle and no broken rule, and a bundle that means a profile has
+-- no fault.
+pub record FindingsExclude : Type 0 where
+  pub yes_no : (native : Arch) (bundle filter cert : List ℕ) (e : CheckError)
+      → IsFinding native bundle filter cert Yes → IsFinding native bundle filter cert (No e) → ⊥
+  pub yes_refused : (native : Arch) (bundle filter cert : List ℕ) (e : ProfileError)
+      → IsFinding native bundle filter cert Yes → IsFinding native bundle filter cert (NoProfile e) → ⊥
+  pub no_refused : (native : Arch) (bundle filter cert : List ℕ) (e : CheckError) (f : ProfileError)
+      → IsFinding native bundle filter cert (No e) → IsFinding native bundle filter cert (NoProfile f) → ⊥

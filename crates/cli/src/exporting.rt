@@ -1,67 +1,21 @@
 //! From a bundle to a checked filter, which is written in one of its forms.
+ghost use Rattle.std.specs.Prelude.{◌≡◌, ℕ, List};
+ghost use Rattle.export.specs.Sink.{WritesMade};
+ghost use Rattle.call_tables.specs.declared.arch.Arch.{Arch as TheArch};
+ghost use Rattle.cli.specs.Exported.{Exports, Refuses, bytes_in};
+ghost use Rattle.cli.specs.Finding.{IsBundle};
 
+use crate::refusal::Unready;
 use bpf_insn::Program;
 use call_tables::Arch;
-use cert_check::{CheckError, Checked, check};
+use cert_check::{Checked, check};
 use certify::{CertifyError, certify};
 use command_line::Form;
 use export::{ExportFault, Sink, export_cert, export_listing, export_raw, write_all};
 use profile::Profile;
-use profile_json::{ProfileError, read_bundle};
-use rule_compile::{CompileError, compile};
+use profile_json::read_bundle;
+use rule_compile::compile;
 use std::alloc::Global;
-use thiserror::Error;
-
-/// Why a bundle has no checked filter. Its text is the line that says so.
-#[derive(Clone, Copy, Debug, Error)]
-pub(crate) enum Unready {
-    #[error("refused profile {0}")]
-    Profile(ProfileError),
-    #[error("refused compile {0}")]
-    Compile(CompileError),
-    #[error("refused certify {0}")]
-    Certify(CertifyError),
-    #[error("no {0}")]
-    Check(CheckError),
-    #[error("out of memory")]
-    OutOfMemory,
-}
-
-impl From<ProfileError> for Unready {
-    fn from(error: ProfileError) -> Unready {
-        match error {
-            ProfileError::OutOfMemory => Unready::OutOfMemory,
-            _ => Unready::Profile(error),
-        }
-    }
-}
-
-impl From<CompileError> for Unready {
-    fn from(error: CompileError) -> Unready {
-        match error {
-            CompileError::OutOfMemory => Unready::OutOfMemory,
-            _ => Unready::Compile(error),
-        }
-    }
-}
-
-impl From<CertifyError> for Unready {
-    fn from(error: CertifyError) -> Unready {
-        match error {
-            CertifyError::OutOfMemory => Unready::OutOfMemory,
-            _ => Unready::Certify(error),
-        }
-    }
-}
-
-impl From<CheckError> for Unready {
-    fn from(error: CheckError) -> Unready {
-        match error {
-            CheckError::OutOfMemory => Unready::OutOfMemory,
-            _ => Unready::Check(error),
-        }
-    }
-}
 
 /// A profile, the filter that was compiled for it, and the certificate that was made of the two. None of it is checked.
 #[derive(Drop)]
@@ -71,15 +25,36 @@ pub(crate) struct Prepared {
     certificate: Vec<u8>,
 }
 
+// The certificate of a filter. What `certify` promises of profiles without conditions is left behind here.
+fn certified(
+    alloc: Global,
+    profile: &Profile,
+    program: &Program<'_>,
+) -> Result<Vec<u8>, CertifyError> {
+    certify(alloc, profile, program)
+}
+
 impl Prepared {
+    ghost use Rattle.std.specs.Prelude.{◌≡◌, ◌≢◌, ℕ, List, IfOk, IfErr};
+    ghost use Rattle.call_tables.specs.declared.arch.Arch.{Arch as TheArch};
+    ghost use Rattle.kernel_check.specs.Accepted.{IsAccepted};
+    ghost use Rattle.cert_check.specs.Checked.{profile_of, program_of};
+    ghost use Rattle.cert_check.specs.Right.{IsRight};
+    ghost use Rattle.cli.specs.declared.refusal.Unready.TheVariants.{OutOfMemory};
+    ghost use Rattle.cli.specs.Exported.{IsCheckedOf, IsUnready};
+    ghost use Rattle.cli.specs.Finding.{IsBundle};
+
     /// What is made of the text of a bundle, which is read for a native machine.
-    pub(crate) fn of(alloc: Global, native: Arch, bundle: &[u8]) -> Result<Prepared, Unready> {
+    pub(crate) fn of(alloc: Global, native: Arch, bundle: &[u8]) -> Result<Prepared, Unready>
+        ensures ok { IfOk result (λ prepared. IsBundle native bundle.now prepared.profile) }
+        ensures err { IfErr result (λ unready. unready ≢ OutOfMemory → IsUnready native bundle.now unready) }
+    {
         let profile = read_bundle(alloc, bundle, native)?.profile;
         let filter = compile(alloc, &profile)?;
-        let certificate = match Program::view(&filter) {
-            Ok(program) => certify(alloc, &profile, &program)?,
-            Err(fault) => return Err(Unready::Check(CheckError::View(fault))),
+        let Ok(program) = Program::view(&filter) else {
+            unreachable!();
         };
+        let certificate = certified(alloc, &profile, &program)?;
         Ok(Prepared {
             profile,
             filter,
@@ -88,7 +63,11 @@ impl Prepared {
     }
 
     /// The same, checked.
-    pub(crate) fn checked(&self, alloc: Global) -> Result<Checked<'_>, Unready> {
+    pub(crate) fn checked(&self, alloc: Global) -> Result<Checked<'_>, Unready>
+        ensures ok { (native : TheArch) (bundle : List ℕ) → IsBundle native bundle self.now.profile → IfOk result (IsCheckedOf native bundle) }
+        ensures err { (native : TheArch) (bundle : List ℕ) → IsBundle native bundle self.now.profile
+            → IfErr result (λ unready. unready ≢ OutOfMemory → IsUnready native bundle unready) }
+    {
         Ok(check(alloc, &self.profile, &self.filter, &self.certificate)?)
     }
 }
@@ -98,7 +77,9 @@ pub(crate) fn refuse<S: Sink>(
     alloc: Global,
     unready: &Unready,
     sink: &mut S,
-) -> Result<bool, ExportFault> {
+) -> Result<bool, ExportFault>
+    ensures { Refuses S.held S.failures sink.old sink.new unready.now result }
+{
     if let Unready::OutOfMemory = unready {
         return Err(ExportFault::OutOfMemory);
     }
@@ -115,7 +96,9 @@ fn write_form<S: Sink>(
     checked: &Checked<'_>,
     form: Form,
     sink: &mut S,
-) -> Result<(), ExportFault> {
+) -> Result<(), ExportFault>
+    ensures { WritesMade S.held S.failures sink.old sink.new (bytes_in form checked.now) result }
+{
     match form {
         Form::Raw => export_raw(checked, sink),
         Form::Listing => export_listing(alloc, checked, sink),
@@ -129,7 +112,10 @@ fn export_prepared<S: Sink>(
     prepared: &Prepared,
     form: Form,
     sink: &mut S,
-) -> Result<bool, ExportFault> {
+) -> Result<bool, ExportFault>
+    ensures { (native : TheArch) (bundle : List ℕ) → IsBundle native bundle prepared.now.profile
+        → Exports S.held S.failures sink.old sink.new native bundle form result }
+{
     match prepared.checked(alloc) {
         Ok(checked) => {
             write_form(alloc, &checked, form, sink)?;
@@ -141,13 +127,15 @@ fn export_prepared<S: Sink>(
 
 /// Writes the filter of a bundle, which is read for a native machine, in a form, once it is compiled, certified and
 /// checked. Where one of these refuses, the line that says so is written, and the answer is false.
-pub(crate) fn export_bundle<S: Sink>(
+pub fn export_bundle<S: Sink>(
     alloc: Global,
     native: Arch,
     bundle: &[u8],
     form: Form,
     sink: &mut S,
-) -> Result<bool, ExportFault> {
+) -> Result<bool, ExportFault>
+    ensures { Exports S.held S.failures sink.old sink.new native bundle.now form result }
+{
     match Prepared::of(alloc, native, bundle) {
         Ok(prepared) => export_prepared(alloc, &prepared, form, sink),
         Err(unready) => refuse(alloc, &unready, sink),

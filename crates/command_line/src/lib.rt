@@ -1,8 +1,8 @@
 //! The words of a command line of `ccell`. It is a crate of its own since a check of clap's calls takes a minute.
 #![tactic(auto)]
 
-ghost use Rattle.std.specs.Prelude.{◌≡◌, ◌↔◌, IsTrue, true, false, Any, IfOk, IsErrOf};
-ghost use Rattle.command_line.specs.Words.{IsDashed, IsRunOf, form_called, is_run, machine_called};
+ghost use Rattle.std.specs.Prelude.{◌≡◌, ◌↔◌, IsTrue, Any, IfOk, IsErrOf};
+ghost use Rattle.command_line.specs.Words.{IsDashed, IsOrderOf, form_called};
 
 use call_tables::Arch;
 use clap::error::ErrorKind;
@@ -71,20 +71,6 @@ impl From<Error> for Misuse {
             _ => Misuse::Usage,
         }
     }
-}
-
-/// The machine that a word calls by its name, `x86-64` or `aarch64`.
-#[tactic(auto, unfolding(crate::specs::Words::machine_called))]
-pub fn machine_named(word: &str) -> Option<Arch>
-    ensures { result ≡ machine_called word.now }
-{
-    if word == "x86-64" {
-        return Some(Arch::X86_64);
-    }
-    if word == "aarch64" {
-        return Some(Arch::Aarch64);
-    }
-    None
 }
 
 /// The form that a word calls by its name, `raw`, `listing` or `cert`.
@@ -160,52 +146,75 @@ fn has_dashed(words: &[&str]) -> bool
     words.iter().any(|word| is_dashed(word))
 }
 
-// The word that stands for a part of an order.
-fn part<'a>(matches: &ArgMatches<'a>, name: &str) -> Result<&'a str, Misuse> {
-    matches.get_str(name).ok_or(Misuse::Usage)
-}
+// Each of the next four takes the parts of its order by their places.
 
-fn verdict_order<'a>(matches: &ArgMatches<'a>) -> Result<Order<'a>, Misuse>
-    ensures { IfOk result (λ order. is_run order ≡ false) }
+fn verdict_order<'a>(words: &'a [&'a str]) -> Result<Order<'a>, Misuse>
+    ensures { IfOk result (IsOrderOf words.entry.now) }
 {
-    Ok(Order::Verdict {
-        filter: part(matches, "filter")?,
-        record: part(matches, "record")?,
-    })
-}
-
-fn check_order<'a>(matches: &ArgMatches<'a>) -> Result<Order<'a>, Misuse>
-    ensures { IfOk result (λ order. is_run order ≡ false) }
-{
-    Ok(Order::Check {
-        native: machine_named(part(matches, "machine")?).ok_or(Misuse::Usage)?,
-        bundle: part(matches, "bundle")?,
-        filter: part(matches, "filter")?,
-        certificate: part(matches, "certificate")?,
-    })
-}
-
-fn export_order<'a>(matches: &ArgMatches<'a>) -> Result<Order<'a>, Misuse>
-    ensures { IfOk result (λ order. is_run order ≡ false) }
-{
-    Ok(Order::Export {
-        native: machine_named(part(matches, "machine")?).ok_or(Misuse::Usage)?,
-        bundle: part(matches, "bundle")?,
-        form: form_named(part(matches, "form")?).ok_or(Misuse::Usage)?,
-    })
-}
-
-// The order of `run`: its name, the machine and the bundles, one at least.
-fn run_order<'a>(words: &'a [&'a str]) -> Result<Order<'a>, Misuse>
-    ensures { IfOk result (IsRunOf words.entry.now) }
-{
-    let [_, machine, bundles @ ..] = words else {
+    let [name, filter, record] = words else {
         return Err(Misuse::Usage);
     };
+    if *name != "verdict" {
+        return Err(Misuse::Usage);
+    }
+    Ok(Order::Verdict { filter, record })
+}
+
+fn check_order<'a>(words: &'a [&'a str]) -> Result<Order<'a>, Misuse>
+    ensures { IfOk result (IsOrderOf words.entry.now) }
+{
+    let [name, machine, bundle, filter, certificate] = words else {
+        return Err(Misuse::Usage);
+    };
+    if *name != "check" {
+        return Err(Misuse::Usage);
+    }
+    let Some(native) = Arch::called(machine) else {
+        return Err(Misuse::Usage);
+    };
+    Ok(Order::Check {
+        native,
+        bundle,
+        filter,
+        certificate,
+    })
+}
+
+fn export_order<'a>(words: &'a [&'a str]) -> Result<Order<'a>, Misuse>
+    ensures { IfOk result (IsOrderOf words.entry.now) }
+{
+    let [name, machine, bundle, form] = words else {
+        return Err(Misuse::Usage);
+    };
+    if *name != "export" {
+        return Err(Misuse::Usage);
+    }
+    let Some(native) = Arch::called(machine) else {
+        return Err(Misuse::Usage);
+    };
+    let Some(form) = form_named(form) else {
+        return Err(Misuse::Usage);
+    };
+    Ok(Order::Export {
+        native,
+        bundle,
+        form,
+    })
+}
+
+fn run_order<'a>(words: &'a [&'a str]) -> Result<Order<'a>, Misuse>
+    ensures { IfOk result (IsOrderOf words.entry.now) }
+{
+    let [name, machine, bundles @ ..] = words else {
+        return Err(Misuse::Usage);
+    };
+    if *name != "run" {
+        return Err(Misuse::Usage);
+    }
     if bundles.is_empty() {
         return Err(Misuse::Usage);
     }
-    let Some(native) = machine_named(machine) else {
+    let Some(native) = Arch::called(machine) else {
         return Err(Misuse::Usage);
     };
     Ok(Order::Run { native, bundles })
@@ -213,21 +222,22 @@ fn run_order<'a>(words: &'a [&'a str]) -> Result<Order<'a>, Misuse>
 
 // The order of words that the command takes.
 fn order_of<'a>(matches: &ArgMatches<'a>, words: &'a [&'a str]) -> Result<Order<'a>, Misuse>
-    ensures { IfOk result (λ order. is_run order ≡ true → IsRunOf words.entry.now order) }
+    ensures { IfOk result (IsOrderOf words.entry.now) }
 {
     match matches.subcommand() {
-        Some(("verdict", parts)) => verdict_order(parts),
-        Some(("check", parts)) => check_order(parts),
-        Some(("export", parts)) => export_order(parts),
+        Some(("verdict", _)) => verdict_order(words),
+        Some(("check", _)) => check_order(words),
+        Some(("export", _)) => export_order(words),
         Some(("run", _)) => run_order(words),
         _ => Err(Misuse::Usage),
     }
 }
 
-/// The order that words give. A word that begins with `-` is never part of one.
+/// The order that words give: its name and its parts, each a word, in their order. A word that begins with `-` is never
+/// part of one.
 pub fn read_words<'a>(alloc: Global, words: &'a [&'a str]) -> Result<Order<'a>, Misuse>
     ensures dashed { Any (λ word. IsDashed word.now) words.entry.now → IsErrOf result Misuse.Usage }
-    ensures run { IfOk result (λ order. is_run order ≡ true → IsRunOf words.entry.now order) }
+    ensures order { IfOk result (IsOrderOf words.entry.now) }
 {
     if has_dashed(words) {
         return Err(Misuse::Usage);

@@ -1,0 +1,67 @@
+-- What a run of bundles reads and writes, by what its parts do.
+use Rattle.std.proofs.Common.{◌≡◌, ℕ, ◌⊎◌, inl, inr, Bool, List, refl, ap, ◌∙◌}
+use Rattle.std.specs.Prelude.{Option, Result, Ok, Err, IfOk, ◌≢◌}
+use Rattle.call_tables.specs.declared.arch.Arch.{Arch}
+use Rattle.export.specs.declared.fault.ExportFault.{ExportFault}
+use Rattle.session.specs.declared.bundles.Bundles.{Bundles}
+use Rattle.session.specs.declared.fault.ScriptFault.{ScriptFault}
+use Rattle.session.specs.declared.fault.ScriptFault.TheVariants.{Read, Write, Memory}
+use Rattle.session.specs.Scripts.{IsAnswered, StopsForMemory, StopsReading, StopsWriting, TellsFailedRead, TellsFailedWrite}
+use Rattle.cli.specs.declared.refusal.Unready.{Unready}
+use Rattle.cli.specs.declared.refusal.Unready.TheVariants.{OutOfMemory}
+use Rattle.cli.specs.declared.stops.Stop.{Stop}
+use Rattle.cli.specs.Exported.{Refuses}
+use Rattle.cli.specs.Running.{AnswersScript, AreBundlesOf, FirstUnready, Runs, RunsBundles, told_line, told_script}
+
+module _ {I O : Type 0} (left : I → Option (List ℕ)) (given : I → ℕ) (held : O → Option (List ℕ)) (taken : O → ℕ)
+    (source source' : I) (sink sink' : O) (native : Arch) (texts : List (List ℕ)) where
+  by_result : {T : Type 0} (bundles : Bundles) (r : Result T ScriptFault)
+      → IfOk r (λ _. IsAnswered bundles (left source) (left source') (held sink) (held sink'))
+      → ((line : ℕ) → r ≡ Err (Read line) → StopsReading bundles (left source) (left source') (held sink) (held sink') line)
+      → ((out : ℕ) → r ≡ Err (Write out) → StopsWriting bundles (left source) (left source') (held sink) (held sink') out)
+      → ((line : ℕ) → r ≡ Err (Memory line) → StopsForMemory bundles (left source) (left source') (held sink) (held sink') line
+      ⊎ ((line ≡ 0) × (source' ≡ source) × (sink' ≡ sink)))
+      → Runs left held source source' sink sink' bundles r
+  by_result bundles (Ok x) ok read write memory = ok
+  by_result bundles (Err (Read line)) ok read write memory = read line refl
+  by_result bundles (Err (Write out)) ok read write memory = write out refl
+  by_result bundles (Err (Memory line)) ok read write memory = memory line refl
+
+  -- a script was run
+  pub ran : (bundles : Bundles) → AreBundlesOf native texts bundles → (r : Result (Unit {0}) ScriptFault)
+      → IfOk r (λ _. IsAnswered bundles (left source) (left source') (held sink) (held sink'))
+      → ((line : ℕ) → r ≡ Err (Read line) → StopsReading bundles (left source) (left source') (held sink) (held sink') line)
+      → ((out : ℕ) → r ≡ Err (Write out) → StopsWriting bundles (left source) (left source') (held sink) (held sink') out)
+      → ((line : ℕ) → r ≡ Err (Memory line) → StopsForMemory bundles (left source) (left source') (held sink) (held sink') line
+      ⊎ ((line ≡ 0) × (source' ≡ source) × (sink' ≡ sink)))
+      → TellsFailedRead (given source) (given source') r → TellsFailedWrite (taken sink) (taken sink') r
+      → (result : Result Bool Stop) → result ≡ told_script r
+      → AnswersScript left given held taken source source' sink sink' native texts result
+  ran bundles are r ok read write memory failed_read failed_write result told = record {
+    bundles = bundles;
+    are = are;
+    outcome = r;
+    runs = by_result bundles r ok read write memory;
+    failed_read = failed_read;
+    failed_write = failed_write;
+    told = told;
+  }
+
+module _ {I O : Type 0} (left : I → Option (List ℕ)) (given : I → ℕ) (held : O → Option (List ℕ)) (taken : O → ℕ)
+    (source : I) (sink sink' : O) (native : Arch) (texts : List (List ℕ)) where
+  -- a text is refused
+  pub refused_script : (u : Unready) (r : Result Bool ExportFault) (result : Result Bool Stop)
+      → (u ≢ OutOfMemory → FirstUnready native texts u)
+      → Refuses held taken sink sink' u r → result ≡ told_line r
+      → RunsBundles left given held taken source source sink sink' native texts result
+  refused_script u r result why (inl h) told = inr (inl (record {
+    unready = u;
+    is = why h.0;
+    unread = refl;
+    outcome = r;
+    written = h.1;
+    answer = h.2;
+    told = told;
+  }))
+  refused_script u r result why (inr h) told =
+      inr (inr (record { unread = refl; unwritten = h.1; told = told ∙ ap told_line h.0 }))

@@ -1,0 +1,134 @@
+-- Lists side by side, and what was made of bundles in order.
+use Rattle.std.proofs.Common.{◌≡◌, ℕ, ◌+◌, ◌<◌, List, [], ◌∷◌, ◌++◌, length, take, drop, get_or, refl, ap, sym, subst, ◌∙◌, arith}
+use Rattle.std.proofs.Common.{append_assoc, add-one, true, false}
+use Rattle.std.proofs.Math.Seq.{drop-cons}
+use Rattle.std.proofs.lemmas.List.{take-append-drop, take_more}
+use Rattle.std.specs.Prelude.{Option, None, Some, Result, Ok, Err, is_err, is_ok, if◌then◌else◌, ◌≢◌}
+use Rattle.std.specs.List.{All}
+use Rattle.std.proofs.lemmas.List.Elements.{All-cons, All-nil}
+use Rattle.call_tables.specs.declared.arch.Arch.{Arch}
+use Rattle.session.specs.declared.bundles.Bundle.{Bundle}
+use Rattle.cli.specs.declared.refusal.Unready.{Unready}
+use Rattle.cli.specs.declared.refusal.Unready.TheVariants.{OutOfMemory}
+use Rattle.cli.specs.declared.running.Named.{Named}
+use Rattle.cli.specs.Exported.{IsUnready}
+use Rattle.cli.specs.Finding.{IsBundle}
+use Rattle.cli.specs.Running.{FirstUnready, HasChecked, InTurn, IsBundleOf}
+use Rattle.cli.specs.inner.Made.{IsLent, IsMade, IsNamed, MadeBefore}
+
+-- a list, cut at a place
+pub cut_at : {X : Type 0} (xs : List X) (i : ℕ) (x : X) → i < length xs → x ≡ get_or xs i x → xs ≡ take i xs ++ x ∷ drop (i + 1) xs
+cut_at xs i x lt is =
+    let parts : drop i xs ≡ get_or xs i x ∷ drop (i + 1) xs = rw (add-one, drop-cons xs i x) refl in
+    sym (take-append-drop i xs) ∙ ap (λ l. take i xs ++ l) (parts ∙ ap (λ y. y ∷ drop (i + 1) xs) (sym is))
+
+-- its beginning, by one element longer
+pub taken_on : {X : Type 0} (xs : List X) (i : ℕ) (x : X) → i < length xs → x ≡ get_or xs i x → take (i + 1) xs ≡ take i xs ++ x ∷ []
+taken_on xs i x lt is = take_more xs i x lt ∙ ap (λ y. take i xs ++ y ∷ []) (sym is)
+
+-- what was pushed without an error
+pub of_ok : {T E X : Type 0} (r : Result T E) (xs more less : X) → is_err r ≡ false → xs ≡ (if is_ok r then more else less) → xs ≡ more
+of_ok (Ok x) xs more less e h = h
+of_ok (Err x) xs more less e h = let no_way : true ≡ false = e in absurd (cc)
+
+-- one more at the end
+pub in_turn_more : {X Y : Type 0} (R : ℕ → X → Y → Type 0) (i n : ℕ) (xs : List X) (ys : List Y) (x : X) (y : Y) → n ≡ i + length ys
+    → InTurn R i xs ys → R n x y → InTurn R i (xs ++ x ∷ []) (ys ++ y ∷ [])
+in_turn_more R i n [] [] x y e h g = let same : n ≡ i = omega arith in (subst (λ k. R k x y) same g, tt)
+in_turn_more R i n [] (b ∷ ys) x y e h g = absurd h
+in_turn_more R i n (a ∷ xs) [] x y e h g = absurd h
+in_turn_more R i n (a ∷ xs) (b ∷ ys) x y e h g = (h.0, in_turn_more R (i + 1) n xs ys x y (omega arith) h.1 g)
+
+-- the same of longer lists
+pub in_turn_on : {X Y : Type 0} (R : ℕ → X → Y → Type 0) (xs xs' : List X) (ys ys' : List Y) (x : X) (y : Y) (n : ℕ) → xs' ≡ xs ++ x ∷ []
+    → ys' ≡ ys ++ y ∷ [] → length ys ≡ n → InTurn R 1 xs ys → R (n + 1) x y → InTurn R 1 xs' ys'
+in_turn_on R xs xs' ys ys' x y n ex ey count h g =
+    rw (ex, ey) (in_turn_more R 1 (n + 1) xs ys x y (omega arith) h g)
+
+-- the checked filters of these texts
+pub lent : (native : Arch) (i : ℕ) (texts : List (List ℕ)) (ns : List Named) (bs : List Bundle) → InTurn (IsNamed native) i texts ns
+    → InTurn IsLent i ns bs → InTurn (IsBundleOf native) i texts bs
+lent native i [] [] [] h g = tt
+lent native i [] [] (b ∷ bs) h g = absurd g
+lent native i [] (n ∷ ns) bs h g = absurd h
+lent native i (t ∷ ts) [] bs h g = absurd h
+lent native i (t ∷ ts) (n ∷ ns) [] h g = absurd g
+lent native i (t ∷ ts) (n ∷ ns) (b ∷ bs) h g =
+    ((g.0.name ∙ h.0.0, g.0.checked native t h.0.1), lent native (i + 1) ts ns bs h.1 g.1)
+
+ready : (native : Arch) (i : ℕ) (texts : List (List ℕ)) (bs : List Bundle) → InTurn (IsBundleOf native) i texts bs
+    → All (HasChecked native) texts
+ready native i [] [] h = All-nil (HasChecked native)
+ready native i [] (b ∷ bs) h = absurd h
+ready native i (t ∷ ts) [] h = absurd h
+ready native i (t ∷ ts) (b ∷ bs) h = All-cons (HasChecked native) t ts (b.checked, h.0.1) (ready native (i + 1) ts bs h.1)
+
+-- the texts of some, of one and of those after it
+record Halves (native : Arch) (i : ℕ) (texts : List (List ℕ)) (some : List Named) (n : Named) : Type 0 where
+  pub before : List (List ℕ)
+  pub text : List ℕ
+  pub after : List (List ℕ)
+  pub split : texts ≡ before ++ text ∷ after
+  pub each : InTurn (IsNamed native) i before some
+  pub means : IsBundle native text n.prepared.profile
+
+halves : (native : Arch) (i : ℕ) (texts : List (List ℕ)) (some : List Named) (n : Named) (rest : List Named)
+    → InTurn (IsNamed native) i texts (some ++ n ∷ rest) → Halves native i texts some n
+halves native i [] [] n rest h = absurd h
+halves native i (t ∷ ts) [] n rest h = record { before = []; text = t; after = ts; split = refl; each = tt; means = h.0.1 }
+halves native i [] (m ∷ some) n rest h = absurd h
+halves native i (t ∷ ts) (m ∷ some) n rest h =
+    let g = halves native (i + 1) ts some n rest h.1 in record {
+      before = t ∷ g.before;
+      text = g.text;
+      after = g.after;
+      split = ap (λ (l : List (List ℕ)). t ∷ l) g.split;
+      each = (h.0, g.each);
+      means = g.means;
+    }
+
+-- one of them has no checked filter, and those before it have
+no_filter : (native : Arch) (texts : List (List ℕ)) (some : List Named) (n : Named) (rest : List Named) (bs : List Bundle) (u : Unready)
+    → InTurn (IsNamed native) 1 texts (some ++ n ∷ rest) → InTurn IsLent 1 some bs
+    → ((text : List ℕ) → IsBundle native text n.prepared.profile → IsUnready native text u) → FirstUnready native texts u
+no_filter native texts some n rest bs u h g why =
+    let parts = halves native 1 texts some n rest h in record {
+      before = parts.before;
+      text = parts.text;
+      after = parts.after;
+      split = parts.split;
+      ready = ready native 1 parts.before bs (lent native 1 parts.before some bs parts.each g);
+      is = why parts.text parts.means;
+    }
+
+-- the same where a later text is refused
+longer : (native : Arch) (texts before : List (List ℕ)) (rest : List (List ℕ)) (u : Unready) → texts ≡ before ++ rest
+    → FirstUnready native before u → FirstUnready native texts u
+longer native texts before rest u e first = record {
+  before = first.before;
+  text = first.text;
+  after = first.after ++ rest;
+  split = e ∙ (ap (λ (l : List (List ℕ)). l ++ rest) first.split ∙ append_assoc first.before (first.text ∷ first.after) rest);
+  ready = first.ready;
+  is = first.is;
+}
+
+pub not_checked : (native : Arch) (texts : List (List ℕ)) (o : Option Unready) (some : List Named) (n : Named) (rest : List Named)
+    (bs : List Bundle) (u : Unready)
+    → IsMade native texts (some ++ n ∷ rest) o → InTurn IsLent 1 some bs
+    → ((text : List ℕ) → IsBundle native text n.prepared.profile → IsUnready native text u) → FirstUnready native texts u
+not_checked native texts None some n rest bs u h g why = no_filter native texts some n rest bs u h g why
+not_checked native texts (Some v) some n rest bs u h g why =
+    longer native texts h.before (h.text ∷ h.after) u h.split (no_filter native h.before some n rest bs u h.each g why)
+
+-- all that were made have checked filters, and a later text is refused
+pub not_made : (native : Arch) (texts : List (List ℕ)) (ns : List Named) (bs : List Bundle) (u : Unready) → MadeBefore native texts ns u
+    → InTurn IsLent 1 ns bs → u ≢ OutOfMemory → FirstUnready native texts u
+not_made native texts ns bs u h g other = record {
+  before = h.before;
+  text = h.text;
+  after = h.after;
+  split = h.split;
+  ready = ready native 1 h.before bs (lent native 1 h.before ns bs h.each g);
+  is = h.is other;
+}

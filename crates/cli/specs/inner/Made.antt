@@ -1,0 +1,33 @@
+-- What was made of the texts of bundles.
+use Rattle.std.specs.Prelude.{ℕ, ◌≡◌, ◌≢◌, List, ◌∷◌, ◌++◌, Option, None, Some, string_bytes}
+use Rattle.call_tables.specs.declared.arch.Arch.{Arch}
+use Rattle.session.specs.declared.bundles.Bundle.{Bundle}
+use Rattle.cli.specs.declared.refusal.Unready.{Unready}
+use Rattle.cli.specs.declared.refusal.Unready.TheVariants.{OutOfMemory}
+use Rattle.cli.specs.declared.running.Named.{Named}
+use Rattle.cli.specs.Exported.{IsCheckedOf, IsUnready}
+use Rattle.cli.specs.Finding.{IsBundle}
+use Rattle.cli.specs.Running.{InTurn, name_of}
+
+-- the name is that of the number, and the text means the profile
+abbrev pub IsNamed : Arch → ℕ → List ℕ → Named → Type 0
+IsNamed native i text n = (string_bytes n.name ≡ name_of i) × IsBundle native text n.prepared.profile
+
+-- these were made of the texts before the one that is refused
+pub record MadeBefore (native : Arch) (texts : List (List ℕ)) (made : List Named) (unready : Unready) : Type 0 where
+  pub before : List (List ℕ)
+  pub text : List ℕ
+  pub after : List (List ℕ)
+  pub split : texts ≡ before ++ text ∷ after
+  pub each : InTurn (IsNamed native) 1 before made
+  pub is : unready ≢ OutOfMemory → IsUnready native text unready
+
+-- these were made of the texts, or of those before one that is refused
+abbrev pub IsMade : Arch → List (List ℕ) → List Named → Option Unready → Type 0
+IsMade native texts made None = InTurn (IsNamed native) 1 texts made
+IsMade native texts made (Some unready) = MadeBefore native texts made unready
+
+-- the bundle has the name, and is the checked filter of each text that means the profile
+pub record IsLent (i : ℕ) (n : Named) (b : Bundle) : Type 0 where
+  pub name : b.name.now ≡ string_bytes n.name
+  pub checked : (native : Arch) (text : List ℕ) → IsBundle native text n.prepared.profile → IsCheckedOf native text b.checked
