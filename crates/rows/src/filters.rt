@@ -6,7 +6,7 @@ use crate::text::{call, expanded};
 use anyhow::{Context, Result};
 use bpf_asm::{assemble, disassemble};
 use bpf_insn::{Insn, Program};
-use bpf_interp::verdict_counted;
+use bpf_interp::{fixed_allow, verdict_counted};
 use kernel_check::{AcceptedBuf, accept};
 use std::alloc::Global;
 use std::fmt::Write;
@@ -34,6 +34,7 @@ impl Filters {
         match word {
             "program" => self.check(out, alloc, rest)?,
             "run" => self.run(out, rest)?,
+            "fixed" => self.fixed(out, rest)?,
             "assemble" => tell_assembled(out, alloc, rest)?,
             "disassemble" => tell_listing(out, alloc, rest)?,
             "codes" => tell_codes(out, alloc)?,
@@ -60,6 +61,14 @@ impl Filters {
         let program = self.program.as_ref().context("a program")?;
         let (word, count) = verdict_counted(&program.as_accepted(), &call(text)?);
         tell(out, format_args!("{word} after {count}"))
+    }
+
+    // Asks whether the program allows a call by its number and its machine alone.
+    fn fixed(&mut self, out: &mut String, text: &str) -> Result<()> {
+        let program = self.program.as_ref().context("a program")?;
+        let call = call(text)?;
+        let is_fixed = fixed_allow(&program.as_accepted(), call.arch, call.nr);
+        tell(out, if is_fixed { "yes" } else { "no" })
     }
 }
 

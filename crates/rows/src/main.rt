@@ -25,6 +25,8 @@
 //! - `inputs ccell WORD .. < FILE` runs it with an input that fails at each of its calls, where a call gives all bytes that
 //!   there are, or one. Each time the output has to hold the replies to the lines that were read whole, with status 3 and
 //!   the line of a failed read. The answer is how many calls there are, one byte a call.
+//! - `ends ccell WORD .. < FILE` runs it with an input that gives a byte a call, and none behind each of its beginnings: it
+//!   has to do what it does on that beginning alone. The answer is how many there are.
 //! - `names COUNT` runs it with the name of a file of so many bytes that cannot be read: in how many writes the line on
 //!   standard error came.
 //!
@@ -41,16 +43,21 @@
 //!   CONDS are conditions `INDEX OP VALUE DATUM` with commas between.
 //!
 //! Filters, calls and words:
-//! - `program LISTING` asks the kernel's check, and after it `run NUMBER MACHINE ARGUMENT ..` runs the program.
+//! - `program LISTING` asks the kernel's check, and after it `run NUMBER MACHINE ARGUMENT ..` runs the program, and `fixed
+//!   NUMBER MACHINE` asks whether it allows the call whatever the rest of the record holds.
 //! - `assemble LISTING` and `disassemble HEX`; `codes` for the codes of listed instructions.
 //! - `strictest WORD ..`, `effect WORD`, `record POINTER NUMBER MACHINE ARGUMENT ..`, `least BITS FROM MASK DATUM`.
-//! - `machines`, `calls` for both tables of calls, `call NAME`, `number NUMBER`.
+//! - `machines`, `calls` for both tables of calls, `counts`, `call NAME`, `number NUMBER`: of the chosen lists, and with `linux-`
+//!   before the word of the whole tables of Linux.
 //!
 //! Certificates:
 //! - `nodes FILE` reads a certificate: how many nodes it has, or its fault. `written FILE OTHER` and `chained FILE
 //!   OTHER` write its nodes, as a list or with a chain for each node's literals, and say whether these are OTHER's bytes.
 //! - `long-chain COUNT` reads a certificate of one node with a chain of so many literals.
 //! - `nodes-flipped FILE` reads a certificate with each of its bits flipped alone, and counts the answers.
+//! - `made-up SEED COUNT` draws so many small profiles and filters of up to eight instructions, makes eight certificates of
+//!   each accepted one by changing its nodes, in all forms, and counts the answers. Where one is yes, the filter is run on a
+//!   grid of records, and its words are compared with the profile's.
 //! - `check-beginnings`, `check-flipped-filter`, `check-flipped-certificate` and then `MACHINE BUNDLE FILTER CERTIFICATE`
 //!   run the check with each beginning of the certificate, or with each bit of the filter or certificate flipped alone.
 //!   They count the answers, without the places that these name. Where the answer is yes, the filter is run on a grid of
@@ -69,8 +76,10 @@ mod conformance;
 mod dice;
 mod filters;
 mod grid;
+mod growths;
 mod input;
 mod kernel;
+mod made_up;
 mod nodes;
 mod paths;
 mod profiles;
@@ -87,6 +96,7 @@ mod verdicts;
 use crate::bundles::Bundles;
 use crate::filters::Filters;
 use crate::input::{input_rows, is_input};
+use crate::made_up::tell_made_up;
 use crate::program::session;
 use crate::random::tell_random;
 use crate::shelf::Shelf;
@@ -126,6 +136,7 @@ impl Bench {
             "more" => self.shelf.add(alloc, rest),
             "$" => session(out, alloc, &mut self.shelf, rest, input),
             "random" => tell_random(out, alloc, rest),
+            "made-up" => tell_made_up(out, alloc, rest),
             _ => self.answer_question(out, alloc, word, rest),
         }
     }
@@ -180,7 +191,17 @@ fn answered(alloc: Global, text: &str) -> Result<String> {
 }
 
 fn main(rt: HostRuntime) -> Result<()> {
-    for name in env::args(&rt)?.skip(1) {
+    let mut words = env::args(&rt)?.skip(1).peekable();
+    if words.next_if(|word| word.as_str() == "growths").is_some() {
+        return growths::growths(&rt);
+    }
+    if words
+        .next_if(|word| word.as_str() == "without-memory")
+        .is_some()
+    {
+        return growths::without_memory(&rt, words.next());
+    }
+    for name in words {
         let text = fs::read_to_string(&rt, name.as_str())?;
         let answers = if name.ends_with(".blocks") {
             kernel::answered(rt.alloc(), text.as_str())?

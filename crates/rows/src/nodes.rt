@@ -24,12 +24,12 @@ pub fn answer(
         "nodes-flipped" => tell_flipped(out, alloc, shelf.bytes_of(rest)?)?,
         "written" => {
             let (name, other) = rest.split_once(' ').context("two files")?;
-            let written = listed(alloc, shelf.bytes_of(name)?)?;
+            let written = write(alloc, &nodes_of(alloc, shelf.bytes_of(name)?)?)?;
             tell_alike(out, alloc, &written, shelf.bytes_of(other)?)?;
         }
         "chained" => {
             let (name, other) = rest.split_once(' ').context("two files")?;
-            let written = chained(alloc, shelf.bytes_of(name)?)?;
+            let written = chained(alloc, &nodes_of(alloc, shelf.bytes_of(name)?)?)?;
             tell_alike(out, alloc, &written, shelf.bytes_of(other)?)?;
         }
         "long-chain" => tell_long(out, alloc, rest)?,
@@ -100,8 +100,8 @@ fn literals_of(alloc: Global, node: &NodeView<'_>) -> Result<Vec<Lit>> {
     Ok(lits)
 }
 
-// The nodes of a certificate, written as a list.
-fn listed(alloc: Global, bytes: &[u8]) -> Result<Vec<u8>> {
+/// The nodes of a certificate.
+pub fn nodes_of(alloc: Global, bytes: &[u8]) -> Result<Vec<Node>> {
     let view = CertView::read(alloc, bytes)?;
     let mut nodes = Vec::new(alloc);
     for i in 0..view.len() {
@@ -113,21 +113,19 @@ fn listed(alloc: Global, bytes: &[u8]) -> Result<Vec<u8>> {
             lits: literals_of(alloc, &node)?,
         })?;
     }
-    Ok(write(alloc, &nodes)?)
+    Ok(nodes)
 }
 
-// The nodes of a certificate, written with a chain for each node's literals.
-fn chained(alloc: Global, bytes: &[u8]) -> Result<Vec<u8>> {
-    let view = CertView::read(alloc, bytes)?;
+/// Nodes, written with a chain for each node's literals.
+pub fn chained(alloc: Global, all: &[Node]) -> Result<Vec<u8>> {
     let mut entries = Vec::new(alloc);
     let mut nodes = Vec::new(alloc);
-    for i in 0..view.len() {
-        let node = view.node(i);
+    for node in all {
         nodes.push(ChainNode {
-            kind: node.kind(),
-            pc: node.pc(),
-            regs: node.regs(),
-            chain: add_chain(&mut entries, &literals_of(alloc, &node)?)?,
+            kind: node.kind,
+            pc: node.pc,
+            regs: node.regs,
+            chain: add_chain(&mut entries, &node.lits)?,
         })?;
     }
     Ok(write_chained(alloc, &entries, &nodes)?)

@@ -1,7 +1,7 @@
 //! Rules of profiles.
 
 use crate::tell::tell;
-use crate::text::{expanded, machine, machine_name, narrow, number, verdict_word};
+use crate::text::{expanded, machine, narrow, number, verdict_word};
 use anyhow::{Context, Result};
 use arrayvec::ArrayVec;
 use call_record::Word;
@@ -111,9 +111,9 @@ fn read_rule(text: &str) -> Result<Rule> {
 pub fn tell_profile(out: &mut String, alloc: Global, profile: &Profile) -> Result<()> {
     let mut line = String::new(alloc);
     for arch in profile.machines() {
-        write!(line, " {}", machine_name(*arch))?;
+        write!(line, " {}", arch.word())?;
     }
-    let native = machine_name(profile.native());
+    let native = profile.native().word();
     let default_word = profile.default_word();
     tell(
         out,
@@ -130,7 +130,7 @@ pub fn tell_profile(out: &mut String, alloc: Global, profile: &Profile) -> Resul
 }
 
 fn tell_rule(out: &mut String, alloc: Global, rule: &Rule) -> Result<()> {
-    let mut line = format!(in alloc; "{} {} {}", machine_name(rule.arch), rule.nr, rule.word)?;
+    let mut line = format!(in alloc; "{} {} {}", rule.arch.word(), rule.nr, rule.word)?;
     for (i, cond) in rule.conds.iter().enumerate() {
         if i > 0 {
             line.push_str(",")?;

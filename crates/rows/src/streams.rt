@@ -4,7 +4,7 @@ pub mod ends;
 pub mod trial;
 
 use crate::shelf::Shelf;
-use crate::streams::ends::{AT_ONCE, BYTE_BY_BYTE, Manner};
+use crate::streams::ends::{AT_ONCE, BYTE_BY_BYTE, Manner, TO_AN_END};
 use crate::streams::trial::Case;
 use crate::tell::tell;
 use crate::text::expanded;
@@ -22,6 +22,7 @@ pub fn answer(
     match word {
         "outputs" => outputs(out, alloc, shelf, rest)?,
         "inputs" => inputs(out, alloc, shelf, rest)?,
+        "ends" => endings(out, alloc, shelf, rest)?,
         "names" => names(out, alloc, shelf, rest)?,
         _ => return Ok(false),
     }
@@ -125,6 +126,38 @@ fn inputs(out: &mut String, alloc: Global, shelf: &mut Shelf, line: &str) -> Res
         out,
         format_args!("{} calls", case.input().len().saturating_add(1)),
     )
+}
+
+// The first beginning of the input behind which no byte comes, and the program does otherwise than on that beginning alone.
+fn wrong_end(alloc: Global, shelf: &mut Shelf, case: &Case<'_>) -> Option<usize> {
+    let text = case.input();
+    for calls in 0..=text.len() {
+        let ended = case.run(alloc, shelf, TO_AN_END, calls, usize::MAX);
+        let alone = case.run_on(
+            &text[..calls],
+            alloc,
+            shelf,
+            AT_ONCE,
+            usize::MAX,
+            usize::MAX,
+        );
+        if ended.status != alone.status || ended.out != alone.out {
+            return Some(calls);
+        }
+    }
+    None
+}
+
+// Adds the answer on inputs that end.
+fn endings(out: &mut String, alloc: Global, shelf: &mut Shelf, line: &str) -> Result<()> {
+    let case = Case::read(alloc, shelf, line)?;
+    match wrong_end(alloc, shelf, &case) {
+        Some(calls) => tell(out, format_args!("wrong after {calls} bytes")),
+        None => tell(
+            out,
+            format_args!("{} ends", case.input().len().saturating_add(1)),
+        ),
+    }
 }
 
 // Adds the answer on a name of so many bytes.

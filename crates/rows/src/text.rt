@@ -1,6 +1,6 @@
 //! Words and texts of a line.
 
-use anyhow::{Context, Result, anyhow};
+use anyhow::{Context, Result};
 use call_record::{Record, Word};
 use call_tables::Arch;
 use std::alloc::Global;
@@ -27,19 +27,7 @@ pub fn verdict_word(word: &str) -> Result<Word> {
 
 /// A machine by the name that the program's words have for it.
 pub fn machine(word: &str) -> Result<Arch> {
-    match word {
-        "x86-64" => Ok(Arch::X86_64),
-        "aarch64" => Ok(Arch::Aarch64),
-        _ => Err(anyhow!("no machine {word}")),
-    }
-}
-
-/// The name of a machine.
-pub fn machine_name(arch: Arch) -> &'static str {
-    match arch {
-        Arch::X86_64 => "x86-64",
-        Arch::Aarch64 => "aarch64",
-    }
+    Arch::called(word).context(format_args!("no machine {word}"))
 }
 
 // A machine's token, by its name or as a number.

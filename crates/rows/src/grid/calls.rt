@@ -2,7 +2,6 @@
 ghost use Rattle.std.specs.Prelude.{◌<◌};
 
 use crate::grid::{Grid, joined};
-use call_tables::Arch;
 use profile::Profile;
 use std::alloc::{AllocError, Global};
 
@@ -10,9 +9,10 @@ impl Grid {
     /// Each call of a table, and the numbers on both sides of the least x32 call; with each argument that a condition of
     /// the profile names, or all where none does.
     pub fn of_calls(alloc: Global, profile: &Profile) -> Result<Grid, AllocError> {
+        let machines = profile.native().family().machines();
         let mut numbers = vec![in alloc; 0x3fff_ffff, 0x4000_0000]?;
         for nr in 0..1024 {
-            if Arch::ALL.iter().any(|arch| arch.name(nr).is_some()) {
+            if machines.iter().any(|arch| arch.name(nr).is_some()) {
                 numbers.push(nr)?;
             }
         }

@@ -8,26 +8,31 @@ use crate::tell::tell;
 use crate::text::{number, record};
 use anyhow::{Context, Result, bail};
 use cert_check::Checked;
-use processes::{Id, Kernel, Outcome, TaskTable};
+use processes::{Id, Kernel, Outcome};
 use script::Request;
 use std::alloc::{AllocError, Global};
 
-/// Adds a block with its answers.
-pub fn tell_kernel(out: &mut String, alloc: Global, bench: &Bench<'_>, block: &str) -> Result<()> {
-    let mut kernel = TaskTable::new(alloc);
+/// Adds a block with the answers of a kernel to which no container is admitted.
+pub fn tell_kernel<K: Kernel>(
+    out: &mut String,
+    alloc: Global,
+    kernel: &mut K,
+    bench: &Bench<'_>,
+    block: &str,
+) -> Result<()> {
     for line in block.lines() {
         out.push_str(line)?;
         out.push_str("\n")?;
-        tell_line(out, alloc, &mut kernel, bench, line).context(format_args!("at {line}"))?;
+        tell_line(out, alloc, kernel, bench, line).context(format_args!("at {line}"))?;
     }
     Ok(())
 }
 
 // Adds the answer to a line.
-fn tell_line(
+fn tell_line<K: Kernel>(
     out: &mut String,
     alloc: Global,
-    kernel: &mut TaskTable,
+    kernel: &mut K,
     bench: &Bench<'_>,
     line: &str,
 ) -> Result<()> {
@@ -43,7 +48,12 @@ fn tell_line(
 }
 
 // The answer to a call of the kernel.
-fn answer(alloc: Global, kernel: &mut TaskTable, bench: &Bench<'_>, line: &str) -> Result<String> {
+fn answer<K: Kernel>(
+    alloc: Global,
+    kernel: &mut K,
+    bench: &Bench<'_>,
+    line: &str,
+) -> Result<String> {
     let (word, rest) = line.split_once(' ').unwrap_or((line, ""));
     let (id, last) = rest.split_once(' ').unwrap_or((rest, ""));
     let id = Id::read(id).context("an id")?;
@@ -63,13 +73,13 @@ fn answer(alloc: Global, kernel: &mut TaskTable, bench: &Bench<'_>, line: &str) 
 }
 
 // Admits a container, anew if it is there.
-fn admit(kernel: &mut TaskTable, id: &Id, first: Checked<'_>) -> Result<(), AllocError> {
+fn admit<K: Kernel>(kernel: &mut K, id: &Id, first: Checked<'_>) -> Result<(), AllocError> {
     kernel.expel(id);
     kernel.admit(id, first)
 }
 
 // Sends a signal, which a live container takes.
-fn signal(kernel: &mut TaskTable, id: &Id, sig: u64) -> Result<()> {
+fn signal<K: Kernel>(kernel: &mut K, id: &Id, sig: u64) -> Result<()> {
     if !kernel.live(id) {
         bail!("no live container");
     }
@@ -81,9 +91,9 @@ fn signal(kernel: &mut TaskTable, id: &Id, sig: u64) -> Result<()> {
 }
 
 // What becomes of the call of a line.
-fn present(
+fn present<K: Kernel>(
     alloc: Global,
-    kernel: &mut TaskTable,
+    kernel: &mut K,
     bench: &Bench<'_>,
     id: &Id,
     line: &str,
@@ -97,10 +107,10 @@ fn present(
 }
 
 // Adds what becomes of each call of the machine.
-fn tell_every_call(
+fn tell_every_call<K: Kernel>(
     out: &mut String,
     alloc: Global,
-    kernel: &mut TaskTable,
+    kernel: &mut K,
     bench: &Bench<'_>,
     name: &str,
 ) -> Result<()> {
@@ -115,7 +125,7 @@ fn tell_every_call(
 }
 
 // What becomes of the first call of a container.
-fn first_call(kernel: &mut TaskTable, first: Checked<'_>, nr: u32) -> Result<Outcome> {
+fn first_call<K: Kernel>(kernel: &mut K, first: Checked<'_>, nr: u32) -> Result<Outcome> {
     let id = Id::read("c").context("an id")?;
     admit(kernel, &id, first)?;
     let call = record(nr, first.profile().native().token(), 0, [0; 6]);

@@ -1,4 +1,5 @@
 //! Commands of a runtime, by single calls and by one call for all.
+ghost use Rattle.std.specs.Prelude.{ℕ, ◌≡◌, List, None};
 
 use crate::kernel::bench::{Bench, Made};
 use crate::kernel::orders::{Order, written_out};
@@ -9,8 +10,9 @@ use crate::text::number;
 use anyhow::{Context, Result};
 use call_tables::Arch;
 use lifecycle::{Command, Reply, Runtime};
-use processes::TaskTable;
+use processes::{Kernel, TaskTable};
 use script::Request;
+use shared_table::SharedTable;
 use std::alloc::{AllocError, Global};
 
 // The lines that a block stands for, and empty ones.
@@ -67,8 +69,8 @@ fn commands_of<'a>(
 }
 
 // The reply to a command, by the call that it names.
-fn reply_to<'a>(
-    runtime: &mut Runtime<'a, TaskTable>,
+fn reply_to<'a, K: Kernel>(
+    runtime: &mut Runtime<'a, K>,
     command: &Command<'a>,
 ) -> Result<Reply, AllocError> {
     match *command {
@@ -81,19 +83,25 @@ fn reply_to<'a>(
     }
 }
 
-// The replies to all commands, by one run.
-fn replies_of_run<'a>(alloc: Global, commands: &[Command<'a>]) -> Result<Vec<Reply>, AllocError> {
-    let mut runtime = Runtime::new(alloc, TaskTable::new(alloc));
+// The replies to all commands, by one run over a kernel to which no container is admitted.
+fn replies_of_run<'a, K: Kernel + Drop>(
+    alloc: Global,
+    kernel: K,
+    commands: &[Command<'a>],
+) -> Result<Vec<Reply>, AllocError>
+    requires { (id : List ℕ) → K.processes kernel id ≡ None }
+{
+    let mut runtime = Runtime::new(alloc, kernel);
     let (replies, end) = runtime.run(commands);
     end?;
     Ok(replies)
 }
 
 // Adds the answers to the commands of a line, beside the replies of the run.
-fn tell_replies<'a>(
+fn tell_replies<'a, K: Kernel>(
     out: &mut String,
     alloc: Global,
-    runtime: &mut Runtime<'a, TaskTable>,
+    runtime: &mut Runtime<'a, K>,
     commands: &[Command<'a>],
     replies: &[Reply],
 ) -> Result<()> {
@@ -109,20 +117,23 @@ fn tell_replies<'a>(
 }
 
 // Adds the id at a place.
-fn tell_id(out: &mut String, runtime: &Runtime<'_, TaskTable>, place: &str) -> Result<()> {
+fn tell_id<K: Kernel>(out: &mut String, runtime: &Runtime<'_, K>, place: &str) -> Result<()> {
     let place = usize::try_from(number(place)?)?;
     tell(out, runtime.id_at(place).unwrap_or("none"))
 }
 
 // Adds the lines of a block with the answers of single calls.
-fn tell_lines<'a>(
+fn tell_lines<'a, K: Kernel + Drop>(
     out: &mut String,
     alloc: Global,
+    kernel: K,
     block: &str,
     commands: &[Command<'a>],
     replies: &[Reply],
-) -> Result<()> {
-    let mut runtime = Runtime::new(alloc, TaskTable::new(alloc));
+) -> Result<()>
+    requires { (id : List ℕ) → K.processes kernel id ≡ None }
+{
+    let mut runtime = Runtime::new(alloc, kernel);
     let mut done = 0usize;
     for line in block.lines() {
         out.push_str(line)?;
@@ -139,7 +150,7 @@ fn tell_lines<'a>(
     Ok(())
 }
 
-/// Adds a block with its answers.
+/// Adds a block with the answers of single calls of one kernel, beside those of a run over the other.
 pub fn tell_runtime(
     out: &mut String,
     alloc: Global,
@@ -151,6 +162,22 @@ pub fn tell_runtime(
     let orders = orders_of(alloc, native, script.as_str())?;
     let bench = Bench::of(alloc, native, made)?;
     let commands = commands_of(alloc, &bench, &orders)?;
-    let replies = replies_of_run(alloc, &commands)?;
-    tell_lines(out, alloc, block, &commands, &replies)
+    let replies = replies_of_run(alloc, SharedTable::new(alloc), &commands)?;
+    tell_lines(
+        out,
+        alloc,
+        TaskTable::new(alloc),
+        block,
+        &commands,
+        &replies,
+    )
+}
+
+/// Whether the two kernels give the same replies to a script.
+pub fn are_alike(alloc: Global, bench: &Bench<'_>, script: &str) -> Result<bool> {
+    let orders = orders_of(alloc, bench.native, script)?;
+    let commands = commands_of(alloc, bench, &orders)?;
+    let shared = replies_of_run(alloc, SharedTable::new(alloc), &commands)?;
+    let own = replies_of_run(alloc, TaskTable::new(alloc), &commands)?;
+    Ok(shared == own)
 }

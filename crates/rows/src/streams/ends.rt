@@ -3,7 +3,7 @@
 use std::alloc::Global;
 use std::io;
 
-/// How ends give out: how many bytes a call moves at most, and whether an output without room fails or takes none.
+/// How ends give out: how many bytes a call moves at most, and whether an end that gives out fails or moves none.
 #[derive(Clone, Copy)]
 pub struct Manner {
     pub most: usize,
@@ -22,7 +22,13 @@ pub const BYTE_BY_BYTE: Manner = Manner {
     fails: true,
 };
 
-/// A reader that fails after so many calls.
+/// One byte a call, and then none.
+pub const TO_AN_END: Manner = Manner {
+    most: 1,
+    fails: false,
+};
+
+/// A reader that gives out after so many calls.
 #[derive(Drop)]
 pub struct Supply<'a> {
     left: &'a [u8],
@@ -48,7 +54,11 @@ impl<'a> Supply<'a> {
 impl io::Read for Supply<'_> {
     fn read(&mut self, buffer: &mut [u8]) -> io::Result<usize> {
         if self.calls == 0 {
-            return Err(io::Error::from(io::ErrorKind::Other));
+            return if self.manner.fails {
+                Err(io::Error::from(io::ErrorKind::Other))
+            } else {
+                Ok(0)
+            };
         }
         self.calls -= 1;
         let n = buffer.len().min(self.left.len()).min(self.manner.most);

@@ -49,7 +49,7 @@ impl<'a> Case<'a> {
         &self.text
     }
 
-    /// Runs the program with an input that fails after so many calls, and an output with so much room.
+    /// Runs the program with an input that gives out after so many calls, and an output with so much room.
     pub fn run(
         &self,
         alloc: Global,
@@ -58,7 +58,20 @@ impl<'a> Case<'a> {
         calls: usize,
         room: usize,
     ) -> Ended {
-        let mut input = FromRead::new(Supply::new(&self.text, manner, calls));
+        self.run_on(&self.text, alloc, shelf, manner, calls, room)
+    }
+
+    /// The same on another input.
+    pub fn run_on(
+        &self,
+        text: &[u8],
+        alloc: Global,
+        shelf: &mut Shelf,
+        manner: Manner,
+        calls: usize,
+        room: usize,
+    ) -> Ended {
+        let mut input = FromRead::new(Supply::new(text, manner, calls));
         let mut out = ToWrite::new(Room::new(alloc, manner, room));
         let mut err = ToWrite::new(Room::new(alloc, AT_ONCE, usize::MAX));
         let status = dispatch(alloc, &self.words, shelf, &mut input, &mut out, &mut err);
