@@ -9,7 +9,7 @@ use crate::refusal::Unready;
 use bpf_insn::Program;
 use call_tables::Arch;
 use cert_check::{Checked, check};
-use certify::{CertifyError, certify};
+use certify::certify;
 use command_line::Form;
 use export::{ExportFault, Sink, export_cert, export_listing, export_raw, write_all};
 use profile::Profile;
@@ -23,15 +23,6 @@ pub(crate) struct Prepared {
     profile: Profile,
     filter: Vec<u8>,
     certificate: Vec<u8>,
-}
-
-// The certificate of a filter. What `certify` promises of profiles without conditions is left behind here.
-fn certified(
-    alloc: Global,
-    profile: &Profile,
-    program: &Program<'_>,
-) -> Result<Vec<u8>, CertifyError> {
-    certify(alloc, profile, program)
 }
 
 impl Prepared {
@@ -54,7 +45,7 @@ impl Prepared {
         let Ok(program) = Program::view(&filter) else {
             unreachable!();
         };
-        let certificate = certified(alloc, &profile, &program)?;
+        let certificate = certify(alloc, &profile, &program)?;
         Ok(Prepared {
             profile,
             filter,
