@@ -25,26 +25,34 @@ pub mod runs;
 use crate::growths::free::call_freely;
 use crate::growths::kernels::tell_kernel;
 use crate::growths::making::{Made, tell_texts};
-use crate::growths::runs::{tell_run, tell_steps};
+use crate::growths::runs::{commands, records, tell_runs, tell_steps};
 use crate::text::number;
 use anyhow::{Context, Result};
+use call_record::Record;
 use processes::TaskTable;
 use shared_table::SharedTable;
 
 /// Makes the calls that take memory, and prints their answers.
 pub fn growths(rt: &HostRuntime) -> Result<()> {
-    let alloc = rt.alloc();
     let made = Made::of(rt)?;
     tell_texts(rt, &made)?;
+    tell_kernels(rt, &made, &records()?)
+}
+
+// The calls of both kernels and of containers over them.
+fn tell_kernels<'a>(rt: &HostRuntime, made: &'a Made, records: &'a [Record; 9]) -> Result<()> {
+    let alloc = rt.alloc();
     let checked = made.checked(alloc)?;
+    let first = commands("a", checked, records);
+    let second = commands("b", checked, records);
     println!(rt; "lists of filters")?;
     tell_kernel(rt, TaskTable::new(alloc), checked)?;
     tell_steps(rt, TaskTable::new(alloc), checked)?;
-    tell_run(rt, TaskTable::new(alloc), checked)?;
+    tell_runs(rt, TaskTable::new(alloc), &first, &second)?;
     println!(rt; "a tree of filters")?;
     tell_kernel(rt, SharedTable::new(alloc), checked)?;
     tell_steps(rt, SharedTable::new(alloc), checked)?;
-    tell_run(rt, SharedTable::new(alloc), checked)
+    tell_runs(rt, SharedTable::new(alloc), &first, &second)
 }
 
 /// Makes the calls that take no memory so many times.

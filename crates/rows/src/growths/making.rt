@@ -117,6 +117,11 @@ fn chained(alloc: Global) -> Result<Vec<u8>, FormError> {
     write_chained(alloc, &[(0, Lit::In(0, 0, 7))], &[node])
 }
 
+// How many nodes a certificate has.
+fn nodes_of(alloc: Global, cert: &[u8]) -> Result<usize, FormError> {
+    Ok(CertView::read(alloc, cert)?.len())
+}
+
 /// Prints what comes of building, writing, reading, copying and listing.
 pub fn tell_texts(rt: &HostRuntime, made: &Made) -> Result<()> {
     let alloc = rt.alloc();
@@ -127,14 +132,15 @@ pub fn tell_texts(rt: &HostRuntime, made: &Made) -> Result<()> {
     let program = Program::view(&bytes)?;
     let listing = again!(disassemble(alloc, &program), AllocError)?;
     print!(rt; "listed: {listing}")?;
-    let buffer = again!(AcceptedBuf::copy_of(alloc, &accept(&program)?), AllocError)?;
+    let accepted = accept(&program)?;
+    let buffer = again!(AcceptedBuf::copy_of(alloc, &accepted), AllocError)?;
     println!(rt;
         "copied: {} instructions",
         buffer.as_accepted().program().len()
     )?;
     let cert = again!(listed(alloc), FormError::OutOfMemory)?;
-    let view = again!(CertView::read(alloc, &cert), FormError::OutOfMemory)?;
-    println!(rt; "form 1: {} bytes, {} nodes", cert.len(), view.len())?;
+    let nodes = again!(nodes_of(alloc, &cert), FormError::OutOfMemory)?;
+    println!(rt; "form 1: {} bytes, {nodes} nodes", cert.len())?;
     let cert = again!(chained(alloc), FormError::OutOfMemory)?;
     println!(rt; "form 2: {} bytes", cert.len())?;
     let is_checked = made.checked(alloc)?.cert() == made.cert.as_slice();

@@ -2,7 +2,7 @@
 ghost use Rattle.std.specs.Prelude.{ℕ, ◌≡◌, List, None};
 
 use crate::growths::kernels::EVENTS;
-use anyhow::{Result, bail, ensure};
+use anyhow::{Context, Result, ensure};
 use call_record::Record;
 use cert_check::Checked;
 use lifecycle::{Command, Refusal, Reply, Runtime};
@@ -51,8 +51,8 @@ pub fn tell_steps<'a, K: Kernel + Drop>(
     Ok(())
 }
 
-// The records of the events.
-fn records() -> Result<[Record; 9]> {
+/// The records of the events.
+pub fn records() -> Result<[Record; 9]> {
     let mut all = [EVENTS[0].record()?; 9];
     for (rec, event) in all.iter_mut().zip(&EVENTS) {
         *rec = event.record()?;
@@ -60,8 +60,12 @@ fn records() -> Result<[Record; 9]> {
     Ok(all)
 }
 
-// The commands that make a container and let its tasks present the events.
-fn commands<'a>(id: &'a str, checked: Checked<'a>, records: &'a [Record; 9]) -> [Command<'a>; 11] {
+/// The commands that make a container and let its tasks present the events.
+pub fn commands<'a>(
+    id: &'a str,
+    checked: Checked<'a>,
+    records: &'a [Record; 9],
+) -> [Command<'a>; 11] {
     let mut all = [Command::Start(id); 11];
     all[0] = Command::Create(id, checked);
     let calls = EVENTS.iter().zip(records);
@@ -71,38 +75,44 @@ fn commands<'a>(id: &'a str, checked: Checked<'a>, records: &'a [Record; 9]) -> 
     all
 }
 
-/// Prints the replies to a run of commands, and where one was refused memory, to a run of those from it on.
-pub fn tell_run<'a, K: Kernel + Drop>(
+/// Prints the replies to two runs of commands.
+pub fn tell_runs<'a, K: Kernel + Drop>(
     rt: &HostRuntime,
     kernel: K,
-    checked: Checked<'a>,
+    first: &[Command<'a>],
+    second: &[Command<'a>],
 ) -> Result<()>
     requires { (q : List ℕ) → K.processes kernel q ≡ None }
 {
-    let records = records()?;
     let mut runtime = Runtime::new(rt.alloc(), kernel);
-    for id in ["a", "b"] {
-        tell_replies(rt, &mut runtime, &commands(id, checked, &records))?;
-    }
-    Ok(())
+    tell_run(rt, &mut runtime, first)?;
+    tell_run(rt, &mut runtime, second)
 }
 
-// Prints the replies to commands.
-fn tell_replies<'a, K: Kernel>(
+// Prints the replies to a run of commands, and where one was refused memory, to a run of those from it on.
+fn tell_run<'a, K: Kernel>(
     rt: &HostRuntime,
     runtime: &mut Runtime<'a, K>,
     commands: &[Command<'a>],
 ) -> Result<()> {
-    let mut left = commands;
-    for _ in 0..2 {
-        let (replies, end) = runtime.run(left);
-        for reply in &replies {
-            println!(rt; "{reply:?}")?;
-        }
-        if end.is_ok() {
-            return Ok(());
-        }
-        left = left.get(replies.len()..).unwrap_or(&[]);
+    let done = tell_replies(rt, runtime, commands)?;
+    let left = commands
+        .get(done..)
+        .context("no more replies than commands")?;
+    let more = tell_replies(rt, runtime, left)?;
+    ensure!(more == left.len(), "refused memory again");
+    Ok(())
+}
+
+// Prints the replies to commands, and says how many there are.
+fn tell_replies<'a, K: Kernel>(
+    rt: &HostRuntime,
+    runtime: &mut Runtime<'a, K>,
+    commands: &[Command<'a>],
+) -> Result<usize> {
+    let (replies, _end) = runtime.run(commands);
+    for reply in &replies {
+        println!(rt; "{reply:?}")?;
     }
-    bail!("refused memory again")
+    Ok(replies.len())
 }
