@@ -46,9 +46,13 @@ tables_below Aarch64 = aarch64_below
 tables_below LinuxX86_64 = linux_x86_64_below
 tables_below LinuxAarch64 = linux_aarch64_below
 
+-- a rule of the tables is plain
+pub table_rule_is_plain : (rule : Rule) → IsTableRule rule → IsPlainRule rule
+table_rule_is_plain rule (conds, (name, found)) =
+    (conds, below above_all_numbers (table_of rule.arch) rule.nr name (tables_below rule.arch) found)
+
 pub tables_are_plain : TableProfilesArePlain
 tables_are_plain policy is rules = record {
-  rules = All-weaker IsTableRule IsPlainRule
-      (λ rule (conds, (name, found)). (conds, below above_all_numbers (table_of rule.arch) rule.nr name (tables_below rule.arch) found)) policy.rules rules;
+  rules = All-weaker IsTableRule IsPlainRule table_rule_is_plain policy.rules rules;
   clear = is.clear;
 }
