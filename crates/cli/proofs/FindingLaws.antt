@@ -15,12 +15,12 @@ use Rattle.profile_json.specs.Meaning.{Means}
 use Rattle.cli.specs.Finding.{FindingsExclude, IsBundle}
 
 module _ (unbroken : MeaningIsUnbroken) (one : MeaningIsOne) where
-  one_policy : (native : Arch) (bundle : List ℕ) (p q : Policy) → IsBundle native bundle p → IsBundle native bundle q → p ≡ q
+  pub one_policy : (native : Arch) (bundle : List ℕ) (p q : Policy) → IsBundle native bundle p → IsBundle native bundle q → p ≡ q
   one_policy native bundle p q h g =
       let same : h.0 ≡ g.0 = same_Some h.0 g.0 (sym h.1.1 ∙ g.1.1) in
       one g.0 native p q (subst (λ (t : Data). Means t native p) same h.2) g.2
 
-  no_fault : (native : Arch) (bundle : List ℕ) (p : Policy) (e : ProfileError) → IsBundle native bundle p → e ≢ refusal.OutOfMemory
+  pub no_fault : (native : Arch) (bundle : List ℕ) (p : Policy) (e : ProfileError) → IsBundle native bundle p → e ≢ refusal.OutOfMemory
       → IfSome (fault_of e) (Breaks bundle native) → ⊥
   no_fault native bundle p refusal.OutOfMemory is other h = other refl
   no_fault native bundle p e is other h = unbroken bundle is.0 native p _ is.1 is.2 h

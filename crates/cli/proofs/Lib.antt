@@ -4,3 +4,4 @@ mod TurnLaws
 mod RunLaws
 mod HeadlineLaws
 mod FindingLaws
+mod PlainLaws

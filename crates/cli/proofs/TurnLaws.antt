@@ -12,9 +12,8 @@ use Rattle.cli.specs.declared.refusal.Unready.{Unready}
 use Rattle.cli.specs.declared.refusal.Unready.TheVariants.{OutOfMemory}
 use Rattle.cli.specs.declared.running.Named.{Named}
 use Rattle.cli.specs.Exported.{IsUnready}
-use Rattle.cli.specs.Finding.{IsBundle}
 use Rattle.cli.specs.Running.{FirstUnready, HasChecked, InTurn, IsBundleOf}
-use Rattle.cli.specs.inner.Made.{IsLent, IsMade, IsNamed, MadeBefore}
+use Rattle.cli.specs.inner.Made.{IsLent, IsMade, IsNamed, IsPreparedOf, MadeBefore}
 
 -- a list, cut at a place
 pub cut_at : {X : Type 0} (xs : List X) (i : ℕ) (x : X) → i < length xs → x ≡ get_or xs i x → xs ≡ take i xs ++ x ∷ drop (i + 1) xs
@@ -70,7 +69,7 @@ record Halves (native : Arch) (i : ℕ) (texts : List (List ℕ)) (some : List N
   pub after : List (List ℕ)
   pub split : texts ≡ before ++ text ∷ after
   pub each : InTurn (IsNamed native) i before some
-  pub means : IsBundle native text n.prepared.profile
+  pub means : IsPreparedOf native text n.prepared
 
 halves : (native : Arch) (i : ℕ) (texts : List (List ℕ)) (some : List Named) (n : Named) (rest : List Named)
     → InTurn (IsNamed native) i texts (some ++ n ∷ rest) → Halves native i texts some n
@@ -90,7 +89,7 @@ halves native i (t ∷ ts) (m ∷ some) n rest h =
 -- one of them has no checked filter, and those before it have
 no_filter : (native : Arch) (texts : List (List ℕ)) (some : List Named) (n : Named) (rest : List Named) (bs : List Bundle) (u : Unready)
     → InTurn (IsNamed native) 1 texts (some ++ n ∷ rest) → InTurn IsLent 1 some bs
-    → ((text : List ℕ) → IsBundle native text n.prepared.profile → IsUnready native text u) → FirstUnready native texts u
+    → ((text : List ℕ) → IsPreparedOf native text n.prepared → IsUnready native text u) → FirstUnready native texts u
 no_filter native texts some n rest bs u h g why =
     let parts = halves native 1 texts some n rest h in record {
       before = parts.before;
@@ -116,7 +115,7 @@ longer native texts before rest u e first = record {
 pub not_checked : (native : Arch) (texts : List (List ℕ)) (o : Option Unready) (some : List Named) (n : Named) (rest : List Named)
     (bs : List Bundle) (u : Unready)
     → IsMade native texts (some ++ n ∷ rest) o → InTurn IsLent 1 some bs
-    → ((text : List ℕ) → IsBundle native text n.prepared.profile → IsUnready native text u) → FirstUnready native texts u
+    → ((text : List ℕ) → IsPreparedOf native text n.prepared → IsUnready native text u) → FirstUnready native texts u
 not_checked native texts None some n rest bs u h g why = no_filter native texts some n rest bs u h g why
 not_checked native texts (Some v) some n rest bs u h g why =
     longer native texts h.before (h.text ∷ h.after) u h.split (no_filter native h.before some n rest bs u h.each g why)

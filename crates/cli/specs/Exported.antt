@@ -26,6 +26,7 @@ use Rattle.command_line.specs.declared.Form.{Form}
 use Rattle.command_line.specs.declared.Form.TheVariants.{Raw, Listing, Certificate}
 use Rattle.cli.specs.Answer.{line_feed}
 use Rattle.cli.specs.Finding.{IsBundle}
+use Rattle.cli.specs.Plain.{HasConditions, HasNoConditions}
 use Rattle.cli.specs.declared.refusal.Unready.{Unready}
 use Rattle.cli.specs.declared.refusal.Unready.TheVariants.{Profile, Compile, Certify, Check, OutOfMemory}
 
@@ -47,13 +48,15 @@ pub record IsNo (policy : Policy) (e : CheckError) : Type 0 where
   pub cert : List ℕ
   pub first : IsFirst policy filter cert e
 
--- Why a bundle has no checked filter. It breaks a rule of bundles; or it means a profile, of which the compiler or the maker
--- of certificates gave nothing, or the checker said no of what they gave. Want of memory is no such reason.
+-- Why a bundle has no checked filter. It breaks a rule of bundles; or it means a profile of which some rule has a condition,
+-- and of this the compiler or the maker of certificates gave nothing, or the checker said no of what they gave. Want of
+-- memory is no such reason.
 abbrev pub IsUnready : Arch → List ℕ → Unready → Type 0
 IsUnready native bundle (Profile e) = (e ≢ refusal.OutOfMemory) × IfSome (fault_of e) (Breaks bundle native)
-IsUnready native bundle (Compile e) = (e ≢ compiler.OutOfMemory) × ((policy : Policy) × IsBundle native bundle policy)
-IsUnready native bundle (Certify e) = (e ≢ maker.OutOfMemory) × ((policy : Policy) × IsBundle native bundle policy)
-IsUnready native bundle (Check e) = (e ≢ error.OutOfMemory) × ((policy : Policy) × IsBundle native bundle policy × IsNo policy e)
+IsUnready native bundle (Compile e) = (e ≢ compiler.OutOfMemory) × HasConditions native bundle
+IsUnready native bundle (Certify e) = (e ≢ maker.OutOfMemory) × HasConditions native bundle
+IsUnready native bundle (Check e) =
+    (e ≢ error.OutOfMemory) × ((policy : Policy) × IsBundle native bundle policy × (HasNoConditions policy → ⊥) × IsNo policy e)
 IsUnready native bundle OutOfMemory = ⊥
 
 -- the text that says it
@@ -97,6 +100,11 @@ abbrev pub Exports : {S : Type 0} → (S → Option (List ℕ)) → (S → ℕ) 
 Exports held failures old new native bundle form result =
     WritesFilter held failures old new native bundle form result
     ⊎ (WritesUnready held failures old new native bundle result ⊎ LacksMemory old new result)
+
+-- a checked filter of the bundle was written, or memory was refused
+abbrev pub ExportsFilter : {S : Type 0} → (S → Option (List ℕ)) → (S → ℕ) → S → S → Arch → List ℕ → Form → Result Bool ExportFault → Type 0
+ExportsFilter held failures old new native bundle form result =
+    WritesFilter held failures old new native bundle form result ⊎ LacksMemory old new result
 
 -- what is written of a refusal, if it is one
 abbrev pub Refuses : {S : Type 0} → (S → Option (List ℕ)) → (S → ℕ) → S → S → Unready → Result Bool ExportFault → Type 0

@@ -2,6 +2,7 @@ pub mod Answer
 pub mod Stop
 pub mod Fault
 pub mod Finding
+pub mod Plain
 pub mod Exported
 pub mod Running
 pub mod Headline

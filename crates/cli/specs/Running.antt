@@ -103,3 +103,9 @@ abbrev pub RunsBundles : {I O : Type 0} → (I → Option (List ℕ)) → (I →
 RunsBundles left given held taken source source' sink sink' native texts result =
     AnswersScript left given held taken source source' sink sink' native texts result
     ⊎ (RefusesScript held taken source source' sink sink' native texts result ⊎ BeginsNoScript source source' sink sink' result)
+
+-- the script was run with the bundles of the texts, or memory was refused first
+abbrev pub RunsScript : {I O : Type 0} → (I → Option (List ℕ)) → (I → ℕ) → (O → Option (List ℕ)) → (O → ℕ) → I → I → O → O
+    → Arch → List (List ℕ) → Result Bool Stop → Type 0
+RunsScript left given held taken source source' sink sink' native texts result =
+    AnswersScript left given held taken source source' sink sink' native texts result ⊎ BeginsNoScript source source' sink sink' result

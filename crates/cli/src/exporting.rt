@@ -2,19 +2,18 @@
 ghost use Rattle.std.specs.Prelude.{◌≡◌, ℕ, List};
 ghost use Rattle.export.specs.Sink.{WritesMade};
 ghost use Rattle.call_tables.specs.declared.arch.Arch.{Arch as TheArch};
-ghost use Rattle.cli.specs.Exported.{Exports, Refuses, bytes_in};
-ghost use Rattle.cli.specs.Finding.{IsBundle};
+ghost use Rattle.cli.specs.Exported.{Exports, ExportsFilter, Refuses, bytes_in};
+ghost use Rattle.cli.specs.Plain.{IsPlainBundle};
+ghost use Rattle.cli.specs.inner.Prepared.{IsPrepared};
 
+use crate::making::{Work, work_of};
 use crate::refusal::Unready;
-use bpf_insn::Program;
 use call_tables::Arch;
 use cert_check::{Checked, check};
-use certify::certify;
 use command_line::Form;
 use export::{ExportFault, Sink, export_cert, export_listing, export_raw, write_all};
 use profile::Profile;
 use profile_json::read_bundle;
-use rule_compile::compile;
 use std::alloc::Global;
 
 /// A profile, the filter that was compiled for it, and the certificate that was made of the two. None of it is checked.
@@ -33,19 +32,19 @@ impl Prepared {
     ghost use Rattle.cert_check.specs.Right.{IsRight};
     ghost use Rattle.cli.specs.declared.refusal.Unready.TheVariants.{OutOfMemory};
     ghost use Rattle.cli.specs.Exported.{IsCheckedOf, IsUnready};
-    ghost use Rattle.cli.specs.Finding.{IsBundle};
+    ghost use Rattle.cli.specs.inner.Prepared.{IsPrepared};
 
     /// What is made of the text of a bundle, which is read for a native machine.
     pub(crate) fn of(alloc: Global, native: Arch, bundle: &[u8]) -> Result<Prepared, Unready>
-        ensures ok { IfOk result (λ prepared. IsBundle native bundle.now prepared.profile) }
+        ensures ok { IfOk result
+            (λ made. IsPrepared native bundle.now made.profile made.filter.items made.certificate.items) }
         ensures err { IfErr result (λ unready. unready ≢ OutOfMemory → IsUnready native bundle.now unready) }
     {
         let profile = read_bundle(alloc, bundle, native)?.profile;
-        let filter = compile(alloc, &profile)?;
-        let Ok(program) = Program::view(&filter) else {
-            unreachable!();
-        };
-        let certificate = certify(alloc, &profile, &program)?;
+        let Work {
+            filter,
+            certificate,
+        } = work_of(alloc, &profile)?;
         Ok(Prepared {
             profile,
             filter,
@@ -55,8 +54,11 @@ impl Prepared {
 
     /// The same, checked.
     pub(crate) fn checked(&self, alloc: Global) -> Result<Checked<'_>, Unready>
-        ensures ok { (native : TheArch) (bundle : List ℕ) → IsBundle native bundle self.now.profile → IfOk result (IsCheckedOf native bundle) }
-        ensures err { (native : TheArch) (bundle : List ℕ) → IsBundle native bundle self.now.profile
+        ensures ok { (native : TheArch) (bundle : List ℕ)
+            → IsPrepared native bundle self.now.profile self.now.filter.items self.now.certificate.items
+            → IfOk result (IsCheckedOf native bundle) }
+        ensures err { (native : TheArch) (bundle : List ℕ)
+            → IsPrepared native bundle self.now.profile self.now.filter.items self.now.certificate.items
             → IfErr result (λ unready. unready ≢ OutOfMemory → IsUnready native bundle unready) }
     {
         Ok(check(alloc, &self.profile, &self.filter, &self.certificate)?)
@@ -104,7 +106,8 @@ fn export_prepared<S: Sink>(
     form: Form,
     sink: &mut S,
 ) -> Result<bool, ExportFault>
-    ensures { (native : TheArch) (bundle : List ℕ) → IsBundle native bundle prepared.now.profile
+    ensures { (native : TheArch) (bundle : List ℕ)
+        → IsPrepared native bundle prepared.now.profile prepared.now.filter.items prepared.now.certificate.items
         → Exports S.held S.failures sink.old sink.new native bundle form result }
 {
     match prepared.checked(alloc) {
@@ -125,7 +128,11 @@ pub fn export_bundle<S: Sink>(
     form: Form,
     sink: &mut S,
 ) -> Result<bool, ExportFault>
-    ensures { Exports S.held S.failures sink.old sink.new native bundle.now form result }
+    ensures exports { Exports S.held S.failures sink.old sink.new native bundle.now form result }
+    // Of a bundle that means a profile without conditions the filter is written, unless memory is refused or the sink
+    // fails.
+    ensures own { IsPlainBundle native bundle.now
+        → ExportsFilter S.held S.failures sink.old sink.new native bundle.now form result }
 {
     match Prepared::of(alloc, native, bundle) {
         Ok(prepared) => export_prepared(alloc, &prepared, form, sink),

@@ -1,6 +1,7 @@
 //! From bundles to their checked filters, with which a script is run.
-ghost use Rattle.std.specs.Prelude.{ℕ, List, map};
-ghost use Rattle.cli.specs.Running.{AnswersScript, InTurn, IsBundleOf, RunsBundles};
+ghost use Rattle.std.specs.Prelude.{ℕ, List, All, map};
+ghost use Rattle.cli.specs.Plain.{IsPlainBundle};
+ghost use Rattle.cli.specs.Running.{AnswersScript, InTurn, IsBundleOf, RunsBundles, RunsScript};
 
 use crate::exporting::{Prepared, refuse};
 use crate::refusal::Unready;
@@ -102,7 +103,13 @@ pub fn run_bundles<'a, I: Source, O: Sink>(
     input: &mut I,
     out: &mut O,
 ) -> Result<bool, Stop<'a>>
-    ensures { RunsBundles I.left I.failures O.held O.failures input.old input.new out.old out.new native (map (λ t. t.items) texts.now) result }
+    ensures runs { RunsBundles I.left I.failures O.held O.failures input.old input.new out.old out.new
+        native (map (λ t. t.items) texts.now) result }
+    // Of bundles that mean profiles without conditions none is refused: the script is run, unless memory is refused
+    // first.
+    ensures own { All (IsPlainBundle native) (map (λ t. t.items) texts.now)
+        → RunsScript I.left I.failures O.held O.failures input.old input.new out.old out.new
+        native (map (λ t. t.items) texts.now) result }
 {
     let made = Made::of(alloc, native, texts)?;
     match made.checked(alloc) {

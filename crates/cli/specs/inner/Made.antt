@@ -4,14 +4,19 @@ use Rattle.call_tables.specs.declared.arch.Arch.{Arch}
 use Rattle.session.specs.declared.bundles.Bundle.{Bundle}
 use Rattle.cli.specs.declared.refusal.Unready.{Unready}
 use Rattle.cli.specs.declared.refusal.Unready.TheVariants.{OutOfMemory}
+use Rattle.cli.specs.declared.exporting.Prepared.{Prepared}
 use Rattle.cli.specs.declared.running.Named.{Named}
 use Rattle.cli.specs.Exported.{IsCheckedOf, IsUnready}
-use Rattle.cli.specs.Finding.{IsBundle}
 use Rattle.cli.specs.Running.{InTurn, name_of}
+use Rattle.cli.specs.inner.Prepared.{IsPrepared}
 
--- the name is that of the number, and the text means the profile
+-- this was made of the text
+abbrev pub IsPreparedOf : Arch → List ℕ → Prepared → Type 0
+IsPreparedOf native text p = IsPrepared native text p.profile p.filter.items p.certificate.items
+
+-- the name is that of the number, and the rest was made of the text
 abbrev pub IsNamed : Arch → ℕ → List ℕ → Named → Type 0
-IsNamed native i text n = (string_bytes n.name ≡ name_of i) × IsBundle native text n.prepared.profile
+IsNamed native i text n = (string_bytes n.name ≡ name_of i) × IsPreparedOf native text n.prepared
 
 -- these were made of the texts before the one that is refused
 pub record MadeBefore (native : Arch) (texts : List (List ℕ)) (made : List Named) (unready : Unready) : Type 0 where
@@ -27,7 +32,7 @@ abbrev pub IsMade : Arch → List (List ℕ) → List Named → Option Unready �
 IsMade native texts made None = InTurn (IsNamed native) 1 texts made
 IsMade native texts made (Some unready) = MadeBefore native texts made unready
 
--- the bundle has the name, and is the checked filter of each text that means the profile
+-- the bundle has the name, and is the checked filter of each text of which this was made
 pub record IsLent (i : ℕ) (n : Named) (b : Bundle) : Type 0 where
   pub name : b.name.now ≡ string_bytes n.name
-  pub checked : (native : Arch) (text : List ℕ) → IsBundle native text n.prepared.profile → IsCheckedOf native text b.checked
+  pub checked : (native : Arch) (text : List ℕ) → IsPreparedOf native text n.prepared → IsCheckedOf native text b.checked

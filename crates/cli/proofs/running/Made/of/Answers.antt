@@ -1,8 +1,7 @@
 use Rattle.std.proofs.Common.{◌+◌, ◌<◌, ℕ, List, [], ◌∷◌, ap, arith, drop, length, length-append, map, subst, take, ◌∙◌, Vec, Global}
 use Rattle.std.proofs.lemmas.List.{map-append}
 use Rattle.cli.specs.Exported.{IsUnready}
-use Rattle.cli.specs.Finding.{IsBundle}
-use Rattle.cli.specs.inner.Made.{IsNamed}
+use Rattle.cli.specs.inner.Made.{IsNamed, IsPreparedOf}
 use Rattle.cli.proofs.TurnLaws.{cut_at, in_turn_on, taken_on}
 use Rattle.cli.proofs.running.Made.of.Goals as goal
 
@@ -30,7 +29,7 @@ loop-i-preserved c =
     let i = c.loop-i.i in
     let text = c.index-texts-i.result in
     let lt : i < length texts = omega (arith, c.loop-i-test.true, c.loop-i.auto.i-end) in
-    let means = subst (λ t. IsBundle c.args.native t c.in-Ok.prepared.profile) c.deref.ensures.value c.in-Ok.ensures.ok in
+    let means = subst (λ t. IsPreparedOf c.args.native t c.in-Ok.prepared) c.deref.ensures.value c.in-Ok.ensures.ok in
     let pushed = c.in_ok-push-in-Ok.ensures.items in record {
       made = in_turn_on (IsNamed c.args.native) (map bytes_of (take i texts)) (map bytes_of (take (i + 1) texts)) c.loop-i.bundles.items
           c.push.new.self.items
