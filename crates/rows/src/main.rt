@@ -18,6 +18,8 @@
 //! - `$ ccell WORD ..` runs the program on these files (an empty word is written `''`): its lines, and its status. Lines
 //!   `> TEXT` right under it are its standard input, and each is printed with the reply to it. `>` alone is an empty line;
 //!   a backslash at the end stands for no line feed.
+//! - `own MACHINE BUNDLE` has the program export the filter and the certificate of a bundle, each with its status, and check
+//!   the two.
 //! - `outputs ccell WORD .. < FILE` runs the program on these words and this input, which may be left out, with an output
 //!   that has room for each beginning of what is written: it fails then, or takes nothing more; and it takes all bytes of
 //!   a call at once, or one. Each time the output has to hold that beginning, with status 3 and the line of a failed write
@@ -97,7 +99,7 @@ use crate::bundles::Bundles;
 use crate::filters::Filters;
 use crate::input::{input_rows, is_input};
 use crate::made_up::tell_made_up;
-use crate::program::session;
+use crate::program::{own, session};
 use crate::random::tell_random;
 use crate::shelf::Shelf;
 use anyhow::{Context, Result, ensure};
@@ -135,6 +137,7 @@ impl Bench {
             "file" => self.shelf.put(alloc, rest),
             "more" => self.shelf.add(alloc, rest),
             "$" => session(out, alloc, &mut self.shelf, rest, input),
+            "own" => own(out, alloc, &mut self.shelf, rest),
             "random" => tell_random(out, alloc, rest),
             "made-up" => tell_made_up(out, alloc, rest),
             _ => self.answer_question(out, alloc, word, rest),

@@ -3,7 +3,7 @@
 use crate::input::{tell_replies, text_of};
 use crate::shelf::Shelf;
 use crate::tell::{tell, tell_lines};
-use anyhow::Result;
+use anyhow::{Context, Result};
 use cli::dispatch;
 use export::{FromRead, ToWrite};
 use std::alloc::Global;
@@ -31,4 +31,25 @@ pub fn session(
         tell_lines(out, str::from_utf8(&faults.writer)?)?;
     }
     tell(out, format_args!("status {status}"))
+}
+
+// What the program writes on these words, and its status.
+fn written(alloc: Global, shelf: &mut Shelf, words: &[&str]) -> Result<(Vec<u8>, u8)> {
+    let mut source = FromRead::new("".as_bytes());
+    let mut bytes = ToWrite::new(Vec::new(alloc));
+    let mut faults = ToWrite::new(Vec::new(alloc));
+    let status = dispatch(alloc, words, shelf, &mut source, &mut bytes, &mut faults);
+    Ok((bytes.writer, status))
+}
+
+/// Exports the filter and the certificate of `MACHINE BUNDLE` by the program, and has it check the two.
+pub fn own(out: &mut String, alloc: Global, shelf: &mut Shelf, line: &str) -> Result<()> {
+    let (native, bundle) = line.split_once(' ').context("a machine and a bundle")?;
+    for form in ["raw", "cert"] {
+        let (bytes, status) = written(alloc, shelf, &["export", native, bundle, form])?;
+        tell(out, format_args!("export {form}: status {status}"))?;
+        shelf.keep(alloc, form, bytes)?;
+    }
+    let words = format!(in alloc; "ccell check {native} {bundle} raw cert")?;
+    session(out, alloc, shelf, words.as_str(), &[])
 }

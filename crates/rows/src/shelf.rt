@@ -48,6 +48,13 @@ impl Shelf {
         Ok(())
     }
 
+    /// Puts a file with these bytes into memory, in place of one of that name.
+    pub fn keep(&mut self, alloc: Global, name: &str, bytes: Vec<u8>) -> Result<()> {
+        self.files
+            .insert(String::from_str(alloc, name)?, Content::Bytes(bytes))?;
+        Ok(())
+    }
+
     /// Adds the bytes `NAME HEX` to the end of a file.
     pub fn add(&mut self, alloc: Global, line: &str) -> Result<()> {
         let (name, digits) = line.split_once(' ').context("a name and bytes")?;
