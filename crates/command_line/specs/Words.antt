@@ -5,7 +5,7 @@ use Rattle.call_tables.specs.declared.arch.Arch.{Arch}
 use Rattle.call_tables.specs.Arch.{machine_called}
 use denote.Ref.{Bor}
 use Rattle.command_line.specs.declared.Order.{Order}
-use Rattle.command_line.specs.declared.Order.TheVariants.{Verdict, Check, Export, Run}
+use Rattle.command_line.specs.declared.Order.TheVariants.{Verdict, Check, Certify, Export, Run}
 use Rattle.command_line.specs.declared.Form.{Form}
 use Rattle.command_line.specs.declared.Form.TheVariants.{Raw, Listing, Certificate}
 
@@ -36,6 +36,8 @@ IsOrderOf words (Verdict filter rec) = AreWords words (codes "verdict") (filter 
 IsOrderOf words (Check native bundle filter cert) =
     (machine : Bor (List ℕ)) × AreWords words (codes "check") (machine ∷ bundle ∷ filter ∷ cert ∷ []) ×
     (machine_called machine.now ≡ Some native)
+IsOrderOf words (Certify native bundle filter) =
+    (machine : Bor (List ℕ)) × AreWords words (codes "certify") (machine ∷ bundle ∷ filter ∷ []) × (machine_called machine.now ≡ Some native)
 IsOrderOf words (Export native bundle form) =
     (machine : Bor (List ℕ)) × (last : Bor (List ℕ)) × AreWords words (codes "export") (machine ∷ bundle ∷ last ∷ [])
     × (machine_called machine.now ≡ Some native) × (form_called last.now ≡ Some form)

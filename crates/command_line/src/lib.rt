@@ -36,6 +36,13 @@ pub enum Order<'a> {
         filter: &'a str,
         certificate: &'a str,
     },
+    /// A certificate that a filter answers what a bundle says, read for a native machine, or a call record of which it
+    /// does not. The last two are given as names of files.
+    Certify {
+        native: Arch,
+        bundle: &'a str,
+        filter: &'a str,
+    },
     /// The filter that is compiled for a bundle, read for a native machine, once it is certified and checked. The bundle
     /// is given as the name of a file.
     Export {
@@ -94,6 +101,7 @@ pub fn form_named(word: &str) -> Option<Form>
 const ORDERS: &[(&str, &[&str])] = &[
     ("verdict", &["filter", "record"]),
     ("check", &["machine", "bundle", "filter", "certificate"]),
+    ("certify", &["machine", "bundle", "filter"]),
     ("export", &["machine", "bundle", "form"]),
     ("run", &["machine", "bundles"]),
 ];
@@ -146,7 +154,7 @@ fn has_dashed(words: &[&str]) -> bool
     words.iter().any(|word| is_dashed(word))
 }
 
-// Each of the next four takes the parts of its order by their places.
+// Each of the next five takes the parts of its order by their places.
 
 fn verdict_order<'a>(words: &'a [&'a str]) -> Result<Order<'a>, Misuse>
     ensures { IfOk result (IsOrderOf words.entry.now) }
@@ -177,6 +185,25 @@ fn check_order<'a>(words: &'a [&'a str]) -> Result<Order<'a>, Misuse>
         bundle,
         filter,
         certificate,
+    })
+}
+
+fn certify_order<'a>(words: &'a [&'a str]) -> Result<Order<'a>, Misuse>
+    ensures { IfOk result (IsOrderOf words.entry.now) }
+{
+    let [name, machine, bundle, filter] = words else {
+        return Err(Misuse::Usage);
+    };
+    if *name != "certify" {
+        return Err(Misuse::Usage);
+    }
+    let Some(native) = Arch::called(machine) else {
+        return Err(Misuse::Usage);
+    };
+    Ok(Order::Certify {
+        native,
+        bundle,
+        filter,
     })
 }
 
@@ -227,6 +254,7 @@ fn order_of<'a>(matches: &ArgMatches<'a>, words: &'a [&'a str]) -> Result<Order<
     match matches.subcommand() {
         Some(("verdict", _)) => verdict_order(words),
         Some(("check", _)) => check_order(words),
+        Some(("certify", _)) => certify_order(words),
         Some(("export", _)) => export_order(words),
         Some(("run", _)) => run_order(words),
         _ => Err(Misuse::Usage),
