@@ -13,7 +13,7 @@ use Rattle.cli.specs.Exported.{Exports, IsCheckedOf, IsUnready, Refuses, WritesF
 
 module _ {S : Type 0} (held : S → Option (List ℕ)) (failures : S → ℕ) (old new : S) where
   -- a fault of writing, whatever was to be told
-  as_failed : (T : Type 0) (bytes : List ℕ) (fault : ExportFault) → WritesMade {S = S} {T = T} held failures old new bytes (Err fault)
+  pub as_failed : (T : Type 0) (bytes : List ℕ) (fault : ExportFault) → WritesMade {S = S} {T = T} held failures old new bytes (Err fault)
       → WritesMade {S = S} {T = Bool} held failures old new bytes (Err fault)
   as_failed T bytes (Write out) h = h
   as_failed T bytes OutOfMemory h = h

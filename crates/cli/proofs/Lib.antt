@@ -5,3 +5,4 @@ mod RunLaws
 mod HeadlineLaws
 mod FindingLaws
 mod PlainLaws
+mod EvidenceLaws

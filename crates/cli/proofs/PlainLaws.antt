@@ -167,7 +167,7 @@ module _ (policy : Policy) (p : List Insn) (filter : List ℕ) (same : p ≡ ins
 -- ---- bundles without conditions
 
 same_policy : (native : Arch) (bundle : List ℕ) (p q : Policy) → IsBundle native bundle p → IsBundle native bundle q → p ≡ q
-same_policy = one_policy meaning_is_unbroken meaning_is_one
+same_policy = one_policy meaning_is_one
 
 -- is not one of a profile with conditions
 has_none : (native : Arch) (bundle : List ℕ) (q : Policy) → IsPlainBundle native bundle → IsBundle native bundle q

@@ -4,6 +4,7 @@ pub mod Fault
 pub mod Finding
 pub mod Plain
 pub mod Exported
+pub mod Certified
 pub mod Running
 pub mod Headline
 pub mod inner

@@ -1,2 +1,3 @@
 pub mod Prepared
 pub mod Made
+pub mod Told

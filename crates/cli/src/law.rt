@@ -1,5 +1,6 @@
 //! Laws of the program.
 ghost use Rattle.cli.specs.Answer.{OneAnswer};
+ghost use Rattle.cli.specs.Certified.{EvidenceExcludes};
 ghost use Rattle.cli.specs.Finding.{FindingsExclude};
 ghost use Rattle.cli.specs.Headline.{Headline};
 
@@ -25,5 +26,12 @@ pub fn findings_exclude()
     ensures { FindingsExclude }
 {
     meaning_is_unbroken();
+    meaning_is_one();
+}
+
+/// No filter has both a certificate with which the checker says yes beside a bundle and a call record that convicts it.
+pub fn evidence_excludes()
+    ensures { EvidenceExcludes }
+{
     meaning_is_one();
 }

@@ -2,6 +2,7 @@
 #![tactic(auto)]
 
 mod answer;
+mod certifying;
 mod exporting;
 mod fault;
 mod files;
@@ -15,11 +16,12 @@ mod running;
 mod stops;
 
 pub use answer::{Answer, answer_to};
+pub use certifying::certify_bundle;
 pub use exporting::export_bundle;
 pub use fault::FileFault;
 pub use files::Files;
 pub use finding::{Finding, check_line, finding_of};
-pub use law::{findings_exclude, headline, one_answer};
+pub use law::{evidence_excludes, findings_exclude, headline, one_answer};
 pub use line::verdict_line;
 pub use making::{Work, own_work};
 pub use program::dispatch;

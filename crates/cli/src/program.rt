@@ -1,6 +1,7 @@
 //! The whole program, from the words after its name to its exit status.
 ghost use Rattle.std.specs.Prelude.{◌≤◌};
 
+use crate::certifying::certify_bundle;
 use crate::exporting::export_bundle;
 use crate::fault::FileFault;
 use crate::files::Files;
@@ -86,6 +87,19 @@ fn judge<'a>(
     Ok(check_line(alloc, native, &bundle, &filter, &certificate, out)?)
 }
 
+// Writes a certificate that a filter answers what a bundle says, or what tells that it has none.
+fn certify<'a>(
+    alloc: Global,
+    native: Arch,
+    [bundle, filter]: [&'a str; 2],
+    files: &mut impl Files,
+    out: &mut impl Sink,
+) -> Result<bool, Stop<'a>> {
+    let bundle = read(alloc, files, bundle)?;
+    let filter = read_up_to(alloc, files, filter, FILTER_SIZE)?;
+    Ok(certify_bundle(alloc, native, &bundle, &filter, out)?)
+}
+
 // Carries the order out: true where it answered a word or yes, wrote what was asked for or ran a script, false where it
 // refused.
 fn carry_out<'a>(
@@ -103,6 +117,11 @@ fn carry_out<'a>(
             filter,
             certificate,
         } => judge(alloc, native, [bundle, filter, certificate], files, out),
+        Order::Certify {
+            native,
+            bundle,
+            filter,
+        } => certify(alloc, native, [bundle, filter], files, out),
         Order::Export {
             native,
             bundle,
