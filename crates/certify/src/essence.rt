@@ -6,12 +6,14 @@ use crate::words::Words;
 use cert_state::Lit;
 use std::alloc::{AllocError, Global};
 
-// Whether a literal says more of a word than the range from one number to another.
-fn says_more(literal: Lit, least: u32, greatest: u32) -> bool {
+// Whether a literal says more of a word than the range from one number to another, and the bits that are known of it. A
+// number that is excluded by itself may come to be an end of the range, so it stays.
+fn says_more(known: &Known, literal: Lit, least: u32, greatest: u32) -> bool {
     match literal {
         Lit::In(_, _, _) => false,
         Lit::Bits(_, mask, _) => mask != u32::MAX,
-        Lit::NotBits(_, mask, datum) => mask != u32::MAX || least < datum && datum < greatest,
+        Lit::NotBits(_, u32::MAX, number) => least < number && number < greatest,
+        Lit::NotBits(word, mask, datum) => !known.has_other_bits(word, mask, datum),
     }
 }
 
@@ -33,7 +35,7 @@ pub(crate) fn add_essence(
         needs.add(Lit::In(word, 0, greatest))?;
     }
     for literal in &known.of_word(alloc, word)? {
-        if says_more(*literal, least, greatest) {
+        if says_more(known, *literal, least, greatest) {
             needs.add(*literal)?;
         }
     }

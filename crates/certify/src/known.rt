@@ -299,6 +299,12 @@ impl Known {
         }
     }
 
+    /// Whether the bits that are known of a word exclude this datum under this mask.
+    pub(crate) fn has_other_bits(&self, word: u8, mask: u32, datum: u32) -> bool {
+        let facts = self.word(word);
+        facts.mask & mask & (facts.datum ^ datum) != 0
+    }
+
     /// How many numbers of a word are excluded one by one.
     pub(crate) fn excluded(&self, word: u8) -> u32 {
         self.word(word).excluded
@@ -346,11 +352,10 @@ impl Known {
                 facts.least == facts.greatest && facts.least & mask == datum
             }
             Lit::NotBits(w, mask, datum) => {
-                let facts = self.word(w);
-                if facts.mask & mask & (facts.datum ^ datum) != 0 {
+                if self.has_other_bits(w, mask, datum) {
                     return true;
                 }
-                self.excludes(w, mask, datum) || self.misses(facts, mask, datum)
+                self.excludes(w, mask, datum) || self.misses(self.word(w), mask, datum)
             }
         }
     }
