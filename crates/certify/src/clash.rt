@@ -44,17 +44,32 @@ fn clash(one: Lit, other: Lit) -> bool {
     }
 }
 
-/// Few of these literals of one word that can not all be true: the last of them, or it with another, if that is enough.
-pub(crate) fn contradiction(alloc: Global, own: Vec<Lit>) -> Result<Vec<Lit>, AllocError> {
-    let Some(last) = own.last().copied() else {
-        return Ok(own);
-    };
+// One of these literals with another that can not be true beside it, or it alone.
+fn clash_with(alloc: Global, own: &[Lit], last: Lit) -> Result<Option<Vec<Lit>>, AllocError> {
     if is_false(last) {
-        return Vec::from_slice(alloc, &[last]);
+        return Ok(Some(Vec::from_slice(alloc, &[last])?));
     }
-    for literal in &own {
+    for literal in own {
         if clash(*literal, last) {
-            return Vec::from_slice(alloc, &[*literal, last]);
+            return Ok(Some(Vec::from_slice(alloc, &[*literal, last])?));
+        }
+    }
+    Ok(None)
+}
+
+/// Few of these literals of one word that can not all be true: the fact that came last or what followed from it, alone or
+/// with another, if that is enough. The fact is looked at first: who comes here may know more than these literals, and
+/// then what followed from it may not follow.
+pub(crate) fn contradiction(
+    alloc: Global,
+    own: Vec<Lit>,
+    fact: Option<Lit>,
+) -> Result<Vec<Lit>, AllocError> {
+    for last in [fact, own.last().copied()] {
+        if let Some(last) = last {
+            if let Some(few) = clash_with(alloc, &own, last)? {
+                return Ok(few);
+            }
         }
     }
     Ok(own)

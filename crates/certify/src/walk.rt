@@ -349,7 +349,7 @@ impl<'a> Walk<'a> {
             return Ok(Some(number));
         }
         self.needs.clear();
-        for literal in &contradiction(self.alloc, own)? {
+        for literal in &contradiction(self.alloc, own, place.fact)? {
             self.needs.add(*literal)?;
         }
         self.make(Kind::Dead, place.pc, NOTHING)
