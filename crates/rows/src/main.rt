@@ -53,6 +53,8 @@
 //!   before the word of the whole tables of Linux.
 //!
 //! Certificates:
+//! - `certify MACHINE BUNDLE FILTER` asks for the evidence on a filter: a certificate, and what the check says of it, or
+//!   the line of a call record on which filter and bundle differ, or why there is neither.
 //! - `nodes FILE` reads a certificate: how many nodes it has, or its fault. `written FILE OTHER` and `chained FILE
 //!   OTHER` write its nodes, as a list or with a chain for each node's literals, and say whether these are OTHER's bytes.
 //! - `long-chain COUNT` reads a certificate of one node with a chain of so many literals.
@@ -76,6 +78,7 @@ mod certified;
 mod changes;
 mod conformance;
 mod dice;
+mod evidence;
 mod filters;
 mod grid;
 mod growths;
@@ -159,6 +162,7 @@ impl Bench {
             || verdicts::answer(out, alloc, word, rest)?
             || nodes::answer(out, alloc, &self.shelf, word, rest)?
             || cases::answer(out, alloc, &self.shelf, word, rest)?
+            || evidence::answer(out, alloc, &self.shelf, word, rest)?
             || streams::answer(out, alloc, &mut self.shelf, word, rest)?;
         ensure!(is_known, "no word of this program");
         Ok(())

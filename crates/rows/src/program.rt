@@ -1,5 +1,6 @@
 //! Sessions of the program.
 
+use crate::bytes::tell_bytes;
 use crate::input::{tell_replies, text_of};
 use crate::shelf::Shelf;
 use crate::tell::{tell, tell_lines};
@@ -7,6 +8,14 @@ use anyhow::{Context, Result};
 use cli::dispatch;
 use export::{FromRead, ToWrite};
 use std::alloc::Global;
+
+// Adds the lines that were written, or the bytes of a certificate.
+fn tell_written(out: &mut String, alloc: Global, input: &[&str], written: &[u8]) -> Result<()> {
+    if written.starts_with(b"CCRT") {
+        return tell_bytes(out, alloc, written);
+    }
+    tell_replies(out, input, str::from_utf8(written)?)
+}
 
 /// Runs the program on the words after its name and on rows of standard input, and adds what it writes and its status.
 pub fn session(
@@ -25,7 +34,7 @@ pub fn session(
     let mut lines = ToWrite::new(Vec::new(alloc));
     let mut faults = ToWrite::new(Vec::new(alloc));
     let status = dispatch(alloc, &words, shelf, &mut source, &mut lines, &mut faults);
-    tell_replies(out, input, str::from_utf8(&lines.writer)?)?;
+    tell_written(out, alloc, input, &lines.writer)?;
     if !faults.writer.is_empty() {
         tell(out, "on standard error:")?;
         tell_lines(out, str::from_utf8(&faults.writer)?)?;
