@@ -4,6 +4,8 @@
 //! takes memory, and where it was refused looks at what it may have changed and makes it once more. So with one growth
 //! refused the same lines are printed as with ample memory, and with all refused from some growth on a beginning of them.
 //! `without-memory COUNT` makes those calls so many times that take no memory: however many times, they ask for none.
+//! `forks KERNEL FURTHER COUNT`, where KERNEL is `lists` or `tree`, has a task with so many filters beside its first fork so
+//! many times: over the tree it asks for as many growths as a task without any.
 //!
 //! Lines are printed without memory too, so that each growth is one of the library's, after those for the words.
 
@@ -17,17 +19,19 @@ macro_rules! again {
     };
 }
 
+pub mod forking;
 pub mod free;
 pub mod kernels;
 pub mod making;
 pub mod runs;
 
+use crate::growths::forking::fork_often;
 use crate::growths::free::call_freely;
 use crate::growths::kernels::tell_kernel;
 use crate::growths::making::{Made, tell_texts};
 use crate::growths::runs::{commands, records, tell_runs, tell_steps};
 use crate::text::number;
-use anyhow::{Context, Result};
+use anyhow::{Context, Result, bail};
 use call_record::Record;
 use processes::TaskTable;
 use shared_table::SharedTable;
@@ -63,4 +67,20 @@ pub fn without_memory(rt: &HostRuntime, count: Option<String>) -> Result<()> {
     let checked = made.checked(alloc)?;
     call_freely(alloc, TaskTable::new(alloc), &made, checked, times)?;
     call_freely(alloc, SharedTable::new(alloc), &made, checked, times)
+}
+
+/// Has a task with so many further filters fork so many times, over a kernel.
+pub fn forks(rt: &HostRuntime, words: [Option<String>; 3]) -> Result<()> {
+    let [Some(kernel), Some(further), Some(count)] = words else {
+        bail!("a kernel and two numbers");
+    };
+    let (further, count) = (number(further.as_str())?, number(count.as_str())?);
+    let made = Made::of(rt)?;
+    let alloc = rt.alloc();
+    let checked = made.checked(alloc)?;
+    match kernel.as_str() {
+        "lists" => fork_often(TaskTable::new(alloc), checked, further, count),
+        "tree" => fork_often(SharedTable::new(alloc), checked, further, count),
+        _ => bail!("no kernel"),
+    }
 }
