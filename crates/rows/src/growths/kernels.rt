@@ -1,5 +1,6 @@
 //! Calls of a kernel.
 
+use crate::text::record;
 use anyhow::{Context, Result, ensure};
 use call_record::Record;
 use call_tables::Arch;
@@ -81,12 +82,8 @@ impl Event {
     pub fn record(&self) -> Result<Record> {
         let nr = Arch::X86_64.number(self.name).context("a call")?;
         let [first, second] = self.args;
-        Ok(Record {
-            nr,
-            arch: Arch::X86_64.token(),
-            ip: 0,
-            args: [first, second, 0, 0, 0, 0],
-        })
+        let args = [first, second, 0, 0, 0, 0];
+        Ok(record(nr, Arch::X86_64.token(), 0, args))
     }
 }
 
