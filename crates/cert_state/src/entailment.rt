@@ -1,5 +1,5 @@
 //! What follows from what is known, and what can not be so.
-ghost use Rattle.std.specs.Prelude.{◌≡◌, ◌↔◌, ℕ, IsTrue, Contains};
+ghost use Rattle.std.specs.Prelude.{◌≡◌, ◌↔◌, ◌≤◌, ℕ, IsTrue, Contains, bit_and};
 ghost use Rattle.cert_state.specs.Points.{NoneBetween};
 ghost use Rattle.cert_state.specs.Entailment.{Entails, IsDead, IsDeadAt, IsExcluded};
 ghost use Rattle.cert_state.specs.inner.Exclusion.{IsSuch};
@@ -49,10 +49,44 @@ pub(crate) fn is_excluded<S: State>(state: &S, word: u8, mask: u32, datum: u32) 
     false
 }
 
+// The bits from the highest one of a number down.
+fn downwards(number: u32) -> u32 {
+    let pairs = number | number >> 1;
+    let fours = pairs | pairs >> 2;
+    let bytes = fours | fours >> 4;
+    let halves = bytes | bytes >> 8;
+    halves | halves >> 16
+}
+
+// What is likely the least number from `low` on with the datum under the mask: the free bits are those of `low` above the
+// highest bit where the datum differs, or one of them is raised, and all below are clear.
+fn likely(low: u32, mask: u32, datum: u32) -> u32 {
+    let free = u32::MAX ^ mask;
+    let first = low & free | datum;
+    let below = downwards(first ^ low);
+    if first >= low {
+        return first & (u32::MAX ^ free & below);
+    }
+    let open = free & (u32::MAX ^ (low | below));
+    let raised = open & open.wrapping_neg();
+    let under = raised.wrapping_sub(1);
+    low & free & (u32::MAX ^ under) | raised | datum
+}
+
+// Whether a number from `low` to `high` has the datum under the mask.
+fn is_one_of(number: u32, low: u32, high: u32, mask: u32, datum: u32) -> bool
+    ensures { IsTrue result ↔ (low ≤ number) × (number ≤ high) × (bit_and number mask ≡ datum) }
+{
+    low <= number && number <= high && number & mask == datum
+}
+
 // Whether no number from `low` to `high` has the datum under the mask.
 pub(crate) fn none_between(low: u32, high: u32, mask: u32, datum: u32) -> bool
     ensures { IsTrue result ↔ NoneBetween low high mask datum }
 {
+    if is_one_of(likely(low, mask, datum), low, high, mask, datum) {
+        return false;
+    }
     match least_below(32, low as u64, mask as u64, datum as u64) {
         Some(least) => least > high as u64,
         None => true,
