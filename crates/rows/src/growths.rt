@@ -4,8 +4,8 @@
 //! takes memory, and where it was refused looks at what it may have changed and makes it once more. So with one growth
 //! refused the same lines are printed as with ample memory, and with all refused from some growth on a beginning of them.
 //! `without-memory COUNT` makes those calls so many times that take no memory: however many times, they ask for none.
-//! `forks KERNEL FURTHER COUNT`, where KERNEL is `lists` or `tree`, has a task with so many filters beside its first fork so
-//! many times: over the tree it asks for as many growths as a task without any.
+//! `forks KERNEL FURTHER COUNT`, over `SharedTable` where KERNEL is `tree`, has a task with so many filters beside its first
+//! fork so many times: over the tree it asks for as many growths as a task without any.
 //!
 //! Lines are printed without memory too, so that each growth is one of the library's, after those for the words.
 
@@ -31,7 +31,7 @@ use crate::growths::kernels::tell_kernel;
 use crate::growths::making::{Made, tell_texts};
 use crate::growths::runs::{commands, records, tell_runs, tell_steps};
 use crate::text::number;
-use anyhow::{Context, Result, bail};
+use anyhow::{Context, Result};
 use call_record::Record;
 use processes::TaskTable;
 use shared_table::SharedTable;
@@ -70,17 +70,21 @@ pub fn without_memory(rt: &HostRuntime, count: Option<String>) -> Result<()> {
 }
 
 /// Has a task with so many further filters fork so many times, over a kernel.
-pub fn forks(rt: &HostRuntime, words: [Option<String>; 3]) -> Result<()> {
-    let [Some(kernel), Some(further), Some(count)] = words else {
-        bail!("a kernel and two numbers");
-    };
-    let (further, count) = (number(further.as_str())?, number(count.as_str())?);
+pub fn forks(
+    rt: &HostRuntime,
+    kernel: Option<String>,
+    further: Option<String>,
+    count: Option<String>,
+) -> Result<()> {
+    let kernel = kernel.context("a kernel")?;
+    let further = number(further.context("how many filters")?.as_str())?;
+    let times = number(count.context("how many forks")?.as_str())?;
     let made = Made::of(rt)?;
     let alloc = rt.alloc();
-    let checked = made.checked(alloc)?;
-    match kernel.as_str() {
-        "lists" => fork_often(TaskTable::new(alloc), checked, further, count),
-        "tree" => fork_often(SharedTable::new(alloc), checked, further, count),
-        _ => bail!("no kernel"),
+    let first = made.checked(alloc)?;
+    if kernel.as_str() == "tree" {
+        fork_often(SharedTable::new(alloc), first, further, times)
+    } else {
+        fork_often(TaskTable::new(alloc), first, further, times)
     }
 }

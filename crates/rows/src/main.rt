@@ -209,7 +209,7 @@ fn main(rt: HostRuntime) -> Result<()> {
         return growths::without_memory(&rt, words.next());
     }
     if words.next_if(|word| word.as_str() == "forks").is_some() {
-        return growths::forks(&rt, [words.next(), words.next(), words.next()]);
+        return growths::forks(&rt, words.next(), words.next(), words.next());
     }
     for name in words {
         let text = fs::read_to_string(&rt, name.as_str())?;
