@@ -1,5 +1,6 @@
 -- A line, and the instruction that is read from it.
-use Rattle.std.proofs.Common.{◌≡◌, ℕ, suc, ◌+◌, ◌<◌, ◌^◌, Bool, true, false, cond, ◌&&◌, ◌||◌, List, [], ◌∷◌, ◌++◌, take, refl, ap, sym, ◌∙◌, subst, arith, lit<, inl, inr}
+use Rattle.std.proofs.Common.{◌≡◌, ℕ, suc, ◌+◌, ◌<◌, ◌^◌, Bool, true, false, cond, ◌&&◌, ◌||◌, List, [], ◌∷◌, ◌++◌, take, refl, ap}
+use Rattle.std.proofs.Common.{sym, ◌∙◌, subst, arith, lit<, inl, inr}
 use Rattle.std.specs.Prelude.{◌==◌, not, map, Option, Some, None, Result, Ok, Err, option_and_then, is_some}
 use Rattle.std.specs.Option.{option_map}
 use Rattle.std.specs.List.{AllByRecursion, before_first, join_with_byte, position_or_len}
@@ -19,14 +20,18 @@ use Rattle.bpf_asm.specs.declared.fault.LineFault.TheVariants.{UnknownWord, BadN
 use Rattle.bpf_asm.specs.declared.arguments.Arguments.{Arguments}
 use Rattle.bpf_asm.specs.declared.arguments.Arguments.TheVariants.{Nothing}
 use Rattle.bpf_asm.specs.Faults.{HasBadNumber, HasDigits, HasFault, IsNeedlesslyRaw, IsShaped, IsShapeless, IsUnknown, first_word}
-use Rattle.bpf_asm.specs.Forms.{Code, Digits, Field, Form, Jf, Jt, K, Notation, Number, Piece, RegisterA, RegisterX, line_text, notation_in, number_at, pieces_of, word_of}
+use Rattle.bpf_asm.specs.Forms.{Code, Digits, Field, Form, Jf, Jt, K, Notation, Number, Piece, RegisterA, RegisterX, line_text}
+use Rattle.bpf_asm.specs.Forms.{notation_in, number_at, pieces_of, word_of}
 use Rattle.bpf_asm.specs.Listing.{digits_of, form_of, has_own_form, is_told, line_of}
 use Rattle.bpf_asm.specs.inner.Mnemonics.{form_with, is_raw, mnemonic_at, mnemonic_of, text_of}
-use Rattle.bpf_asm.specs.inner.Reading.{arguments_at, checked, fields_at, fields_of, first_part, insn_of, insn_with, judged, line_at, read_rest, split_at, with_fields, within}
-use Rattle.bpf_asm.specs.inner.Written.{IsWritten, Written, arguments_of, content, content_by, fields_with, fixed, with_digits, written_text}
+use Rattle.bpf_asm.specs.inner.Reading.{arguments_at, checked, fields_at, fields_of, first_part, insn_of, insn_with, judged}
+use Rattle.bpf_asm.specs.inner.Reading.{line_at, read_rest, split_at, with_fields, within}
+use Rattle.bpf_asm.specs.inner.Written.{IsWritten, Written, arguments_of, content, content_by, fields_with, fixed, with_digits}
+use Rattle.bpf_asm.specs.inner.Written.{written_text}
 use Rattle.bpf_asm.proofs.Numerals.{are_digits-digits, number_of-digits, within_some}
 use Rattle.bpf_asm.proofs.Splits.{Lacks, lacks_append, split_at_first, split_at_none, split_at_sound}
-use Rattle.bpf_asm.proofs.Pieces.{Spells, OfOne, OfThree, OfFour, and_then_some, arguments_at-four, arguments_at-one, arguments_at-three, arguments_at_sound, lacks-written_text}
+use Rattle.bpf_asm.proofs.Pieces.{Spells, OfOne, OfThree, OfFour, and_then_some, arguments_at-four, arguments_at-one}
+use Rattle.bpf_asm.proofs.Pieces.{arguments_at-three, arguments_at_sound, lacks-written_text}
 use Rattle.bpf_asm.proofs.Mnemonics.{lacks-text_of, mnemonic_at-text_of, mnemonic_at_none, mnemonic_at_sound, not_raw, text_of-mnemonic_of}
 use Rattle.bpf_asm.proofs.Outcomes.{Faulty, Made, Outcome, outcome}
 use Rattle.bpf_asm.proofs.Shapes.{all_digits, all_written, found, line_whole, no_code, reads_form, same_line, whole}

@@ -15,7 +15,8 @@ use Rattle.bpf_insn.specs.Bytes.{IsInsn}
 use Rattle.bpf_insn.specs.Code.{code_of}
 use Rattle.bpf_asm.specs.Digits.{IsBadNumber, are_digits}
 use Rattle.bpf_asm.specs.Faults.{HasDigits}
-use Rattle.bpf_asm.specs.Forms.{Code, Digits, Field, Form, Jf, Jt, K, Notation, Number, Piece, RegisterA, RegisterX, base_of, is_digit_of, is_same, notation_in, number_at, pieces_of, width_of}
+use Rattle.bpf_asm.specs.Forms.{Code, Digits, Field, Form, Jf, Jt, K, Notation, Number, Piece, RegisterA, RegisterX, base_of}
+use Rattle.bpf_asm.specs.Forms.{is_digit_of, is_same, notation_in, number_at, pieces_of, width_of}
 use Rattle.bpf_asm.specs.Listing.{digits_of}
 use Rattle.bpf_asm.specs.inner.Reading.{insn_of, insn_with, within}
 use Rattle.bpf_asm.specs.inner.Written.{content, content_by, fields_with, fixed}

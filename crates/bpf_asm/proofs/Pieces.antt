@@ -16,7 +16,8 @@ use Rattle.bpf_asm.specs.declared.arguments.Arguments.TheVariants.{One, Three, F
 use Rattle.bpf_asm.specs.Digits.{are_digits, is_hexadecimal_digit}
 use Rattle.bpf_asm.specs.Forms.{Address, Scratch, Constant, Decimal, Hexadecimal}
 use Rattle.bpf_asm.specs.inner.Written.{IsWritten, OfA, OfNumber, OfX, Written, part_of, written_text}
-use Rattle.bpf_asm.specs.inner.Reading.{ahead_of, arguments_at, behind, bracketed_at, decimal_at, hexadecimal_at, last_parts, marked_part, number_of, bare_part, part_at, parts_of, split_at}
+use Rattle.bpf_asm.specs.inner.Reading.{ahead_of, arguments_at, behind, bracketed_at, decimal_at, hexadecimal_at, last_parts}
+use Rattle.bpf_asm.specs.inner.Reading.{marked_part, number_of, bare_part, part_at, parts_of, split_at}
 use Rattle.bpf_asm.proofs.Splits.{Lacks, ahead_of_sound, behind_sound, lacks_append, split_at_first, split_at_none, split_at_sound}
 use Rattle.bpf_asm.proofs.Parts.{bracketed_at-closed, part_at-address, part_at-number, part_at-scratch}
 

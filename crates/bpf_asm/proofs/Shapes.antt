@@ -10,10 +10,13 @@ use Rattle.bpf_asm.specs.declared.line.Fields.{Fields}
 use Rattle.bpf_asm.specs.declared.mnemonic.Mnemonic.{Mnemonic}
 use Rattle.bpf_asm.specs.declared.mnemonic.Mnemonic.TheVariants.{Ld, Ldx, St, Stx, Ret, Ja, Branch, Compute, Lsh, Rsh, Neg, Tax, Txa, Raw}
 use Rattle.bpf_asm.specs.Faults.{HasDigits}
-use Rattle.bpf_asm.specs.Forms.{Address, Code, Constant, Decimal, Digits, Field, Form, Hexadecimal, Jf, Jt, K, Notation, Number, Piece, RegisterA, RegisterX, Scratch, line_text, notation_in, number_text, piece_text, pieces_of, rest_text, word_of}
+use Rattle.bpf_asm.specs.Forms.{Address, Code, Constant, Decimal, Digits, Field, Form, Hexadecimal, Jf, Jt, K, Notation, Number}
+use Rattle.bpf_asm.specs.Forms.{Piece, RegisterA, RegisterX, Scratch, line_text, notation_in, number_text, piece_text, pieces_of}
+use Rattle.bpf_asm.specs.Forms.{rest_text, word_of}
 use Rattle.bpf_asm.specs.inner.Mnemonics.{mnemonic_of, text_of}
 use Rattle.bpf_asm.specs.inner.Reading.{fields_of}
-use Rattle.bpf_asm.specs.inner.Written.{IsWritten, OfA, OfNumber, OfX, Written, arguments_of, fields_with, part_of, with_digits, written_text}
+use Rattle.bpf_asm.specs.inner.Written.{IsWritten, OfA, OfNumber, OfX, Written, arguments_of, fields_with, part_of, with_digits}
+use Rattle.bpf_asm.specs.inner.Written.{written_text}
 use Rattle.bpf_asm.proofs.Mnemonics.{text_of-mnemonic_of}
 use Rattle.bpf_asm.proofs.Outcomes.{Shows}
 

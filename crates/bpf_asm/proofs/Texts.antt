@@ -1,5 +1,6 @@
 -- A text, line by line.
-use Rattle.std.proofs.Common.{◌≡◌, ℕ, zero, suc, ◌+◌, ◌/◌, ◌%◌, ◌<◌, ◌≤◌, ◌^◌, cond, List, [], ◌∷◌, ◌++◌, length, refl, ap, sym, ◌∙◌, subst, arith, inl, inr}
+use Rattle.std.proofs.Common.{◌≡◌, ℕ, zero, suc, ◌+◌, ◌/◌, ◌%◌, ◌<◌, ◌≤◌, ◌^◌, cond, List, [], ◌∷◌, ◌++◌, length, refl, ap, sym}
+use Rattle.std.proofs.Common.{◌∙◌, subst, arith, inl, inr}
 use Rattle.std.specs.Prelude.{Option, Some, None, Result, Ok, Err, nat_lt, slice_index, unwrap_or}
 use Rattle.std.specs.Result.{result_err}
 use Rattle.std.proofs.lemmas.List.{append_assoc, append-nil, length-append}
@@ -20,7 +21,8 @@ use Rattle.bpf_asm.specs.Faults.{AtItsEnd, BeyondLimit, Explains, FaultAt, Fault
 use Rattle.bpf_asm.specs.inner.Mnemonics.{mnemonic_at}
 use Rattle.bpf_asm.specs.inner.Reading.{first_part, line_at, split_at}
 use Rattle.bpf_asm.proofs.Splits.{Lacks, split_at_first, split_at_none, split_at_sound}
-use Rattle.bpf_asm.proofs.Lines.{LineJudged, Unknown, Shapeless, BadNumbers, NeedlesslyRaw, Reads, before_first-split, fault_told, lacks-line_of, line_at-line_of, line_judged, line_of_injective}
+use Rattle.bpf_asm.proofs.Lines.{LineJudged, Unknown, Shapeless, BadNumbers, NeedlesslyRaw, Reads, before_first-split, fault_told}
+use Rattle.bpf_asm.proofs.Lines.{lacks-line_of, line_at-line_of, line_judged, line_of_injective}
 
 -- One line.
 

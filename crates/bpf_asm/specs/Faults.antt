@@ -8,7 +8,8 @@ use Rattle.bpf_asm.specs.declared.fault.AsmError.TheVariants.{Line, OutOfMemory}
 use Rattle.bpf_asm.specs.declared.fault.LineFault.{LineFault}
 use Rattle.bpf_asm.specs.declared.fault.LineFault.TheVariants.{UnknownWord, BadNumber, TooLong, BadLine}
 use Rattle.bpf_asm.specs.Digits.{IsBadNumber, are_digits}
-use Rattle.bpf_asm.specs.Forms.{Digits, Field, Form, Notation, Number, Piece, RegisterA, RegisterX, base_of, is_digit_of, line_text, notation_in, pieces_of, space, width_of, word_of}
+use Rattle.bpf_asm.specs.Forms.{Digits, Field, Form, Notation, Number, Piece, RegisterA, RegisterX, base_of, is_digit_of, line_text}
+use Rattle.bpf_asm.specs.Forms.{notation_in, pieces_of, space, width_of, word_of}
 use Rattle.bpf_asm.specs.Listing.{digits_of, form_of, line_feed, line_of, listing}
 
 -- a number is digits, one of them at least

@@ -8,7 +8,9 @@ use Rattle.bpf_insn.specs.declared.code.Test.TheVariants.{Equal, Greater, AtLeas
 use Rattle.bpf_insn.specs.declared.code.Arithmetic.{Arithmetic}
 use Rattle.bpf_insn.specs.declared.code.Arithmetic.TheVariants.{Add, Sub, Or, And, Xor}
 use Rattle.bpf_insn.specs.declared.code.Operation.{Operation}
-use Rattle.bpf_insn.specs.declared.code.Operation.TheVariants.{LoadWord, LoadScratch, LoadScratchX, Store, StoreX, SetA, SetX, ReturnK, ReturnA, Jump, Branch, Compute, ShiftLeft, ShiftRight, Negate, CopyToX, CopyToA}
+use Rattle.bpf_insn.specs.declared.code.Operation.TheVariants.{LoadWord, LoadScratch, LoadScratchX, Store, StoreX, SetA, SetX}
+use Rattle.bpf_insn.specs.declared.code.Operation.TheVariants.{ReturnK, ReturnA, Jump, Branch, Compute, ShiftLeft, ShiftRight}
+use Rattle.bpf_insn.specs.declared.code.Operation.TheVariants.{Negate, CopyToX, CopyToA}
 
 -- the source of the second operand (BPF_SRC)
 abbrev pub source_bits : Operand → ℕ

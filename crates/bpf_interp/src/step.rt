@@ -50,7 +50,7 @@ fn with_a(registers: &mut Registers, a: u32) -> Next
     Next::Continues(0)
 }
 
-// The same for X.
+// The run goes on with the next instruction and this value in X.
 fn with_x(registers: &mut Registers, x: u32) -> Next
     ensures { step_of result registers.new ≡ Goes 0 (record (state_of registers.old) { x = x }) }
 {
@@ -58,7 +58,7 @@ fn with_x(registers: &mut Registers, x: u32) -> Next
     Next::Continues(0)
 }
 
-// The same for a scratch word.
+// The run goes on with the next instruction and this value in a scratch word.
 fn with_scratch(registers: &mut Registers, i: u32, word: u32) -> Next
     requires { i < 16 }
     ensures { step_of result registers.new ≡ stored (state_of registers.old) i word }

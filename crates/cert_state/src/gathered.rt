@@ -57,7 +57,7 @@ fn follows(literal: Lit, word: u8, mask: u32, datum: u32) -> bool
     }
 }
 
-// Whether each one does.
+// Whether each literal, if it is a `Bits` of the word, follows from the union of masks and that of data.
 fn all_follow<S: State>(state: &S, word: u8, mask: u32, datum: u32) -> bool
     ensures { IsTrue result ↔ All (Follows word mask datum) (S.known state.now) }
 {
@@ -82,7 +82,7 @@ fn is_other(literal: Lit, word: u8) -> bool
     }
 }
 
-// Whether none is.
+// Whether no literal is a `NotBits` of the word.
 fn all_other<S: State>(state: &S, word: u8) -> bool
     ensures { IsTrue result ↔ All (IsOther word) (S.known state.now) }
 {

@@ -103,7 +103,7 @@ impl Question<'_> {
         }
     }
 
-    // The same for x86-64, where an x32 call is foreign.
+    // Whether the x86-64 records get the word, of which x32 calls are foreign.
     fn settle_x86_64(&self, token: u32) -> Outcome {
         if self
             .known

@@ -1,5 +1,6 @@
 -- What stays true of a container through each order stays true of it as long as it is there.
-use Rattle.std.proofs.Common.{◌≡◌, ℕ, suc, Bool, true, false, List, [], ◌∷◌, Option, Some, None, if◌then◌else◌, is_some, take, refl, sym, ap, subst, ◌∙◌, nat_lt}
+use Rattle.std.proofs.Common.{◌≡◌, ℕ, suc, Bool, true, false, List, [], ◌∷◌, Option, Some, None, if◌then◌else◌, is_some, take, refl}
+use Rattle.std.proofs.Common.{sym, ap, subst, ◌∙◌, nat_lt}
 use Rattle.call_record.specs.declared.layout.Record.{Record}
 use Rattle.cert_check.specs.declared.checked.Checked.{Checked}
 use Rattle.cert_check.specs.Checked.{profile_of}

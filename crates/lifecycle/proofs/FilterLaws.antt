@@ -25,7 +25,8 @@ use Rattle.lifecycle.specs.declared.command.Status.{Status}
 use Rattle.lifecycle.specs.declared.command.Status.TheVariants.{Created, Running, Stopped}
 use Rattle.lifecycle.specs.Orders.{Order}
 use Rattle.lifecycle.specs.Orders.Order.{Start, Call}
-use Rattle.lifecycle.specs.Promises.{FirstFilterIsOldest, IsDeniedStart, IsOldest, MadeBy, NotCarriedOut, RefusedIsNotCarriedOut, world_after}
+use Rattle.lifecycle.specs.Promises.{FirstFilterIsOldest, IsDeniedStart, IsOldest, MadeBy, NotCarriedOut, RefusedIsNotCarriedOut}
+use Rattle.lifecycle.specs.Promises.{world_after}
 use Rattle.lifecycle.specs.Steps.{acted, call, first_call, left_after, start, start_reply, step}
 use Rattle.lifecycle.specs.Worlds.{Container, First, container_at}
 use Rattle.lifecycle.proofs.CommandLaws.{never}

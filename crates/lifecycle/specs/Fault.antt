@@ -3,7 +3,8 @@ use Rattle.std.specs.Prelude.{ℕ, List, [], ◌++◌, codes}
 use Rattle.std.specs.Fmt.{decimal}
 use Rattle.call_record.specs.Text as word
 use Rattle.lifecycle.specs.declared.fault.Refusal.{Refusal}
-use Rattle.lifecycle.specs.declared.fault.Refusal.TheVariants.{IdTaken, NoContainer, NotCreated, NotAlive, NotStopped, BadSignal, StartDenied, BadId}
+use Rattle.lifecycle.specs.declared.fault.Refusal.TheVariants.{IdTaken, NoContainer, NotCreated, NotAlive, NotStopped, BadSignal}
+use Rattle.lifecycle.specs.declared.fault.Refusal.TheVariants.{StartDenied, BadId}
 
 abbrev pub label_of : Refusal → ℕ × List ℕ
 label_of IdTaken = (1, codes "IdTaken")

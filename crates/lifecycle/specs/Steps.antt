@@ -15,7 +15,8 @@ use Rattle.processes.specs.declared.outcome.Outcome.{Outcome}
 use Rattle.processes.specs.declared.outcome.Outcome.TheVariants.{Denied, NoTask}
 use Rattle.lifecycle.specs.declared.command.Status.{Status}
 use Rattle.lifecycle.specs.declared.command.Status.TheVariants.{Created, Running, Stopped}
-use Rattle.lifecycle.specs.declared.fault.Refusal.TheVariants.{BadId, IdTaken, NoContainer, NotCreated, StartDenied, NotAlive, BadSignal, NotStopped}
+use Rattle.lifecycle.specs.declared.fault.Refusal.TheVariants.{BadId, IdTaken, NoContainer, NotCreated, StartDenied, NotAlive}
+use Rattle.lifecycle.specs.declared.fault.Refusal.TheVariants.{BadSignal, NotStopped}
 use Rattle.lifecycle.specs.declared.command.Reply.{Reply}
 use Rattle.lifecycle.specs.declared.command.Reply.TheVariants.{Accepted, Refused, Presented, IsIn}
 use Rattle.lifecycle.specs.Orders.{Order, id_of}

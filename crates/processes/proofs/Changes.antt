@@ -14,7 +14,9 @@ use Rattle.processes.specs.Tasks.{Process, Processes, is_in_group, live_task, gr
 use Rattle.processes.specs.Calls.{row_of, arg}
 use Rattle.processes.specs.declared.row.Row.{Row}
 use Rattle.processes.specs.declared.row.Row.TheVariants.{NewTask, NewThread, Execve, Exit, ExitGroup, Kill, Load}
-use Rattle.processes.specs.Kernel.{Answer, forked, cloned, with_next, executed, killed, signalled, is_fatal, load_size, loaded, first_conflict, unless_conflict, load, carried_out, ended_by_verdict, judged, presented_by, presented, verdict_on}
+use Rattle.processes.specs.Kernel.{Answer, forked, cloned, with_next, executed, killed, signalled, is_fatal, load_size, loaded}
+use Rattle.processes.specs.Kernel.{first_conflict, unless_conflict, load, carried_out, ended_by_verdict, judged, presented_by}
+use Rattle.processes.specs.Kernel.{presented, verdict_on}
 use Rattle.processes.specs.Attached.{Attached}
 use Rattle.processes.specs.Attached.Attached.{NoBytes, Refused, Taken}
 

@@ -1,5 +1,7 @@
 -- A task keeps its filters: what stood in a task's list stands there after an event, behind newer ones or none.
-use Rattle.std.proofs.Common.{◌≡◌, ℕ, zero, suc, ◌+◌, ◌-◌, ◌==◌, ◌&&◌, ◌||◌, ◌<◌, ◌≤◌, Bool, true, false, not, List, [], ◌∷◌, ◌++◌, Option, Some, None, if◌then◌else◌, refl, map, length, take, drop, sym, ap, subst, ◌∙◌, arith, take-append-drop}
+use Rattle.std.proofs.Common.{◌≡◌, ℕ, zero, suc, ◌+◌, ◌-◌, ◌==◌, ◌&&◌, ◌||◌, ◌<◌, ◌≤◌, Bool, true, false, not, List, [], ◌∷◌, ◌++◌}
+use Rattle.std.proofs.Common.{Option, Some, None, if◌then◌else◌, refl, map, length, take, drop, sym, ap, subst, ◌∙◌, arith}
+use Rattle.std.proofs.Common.{take-append-drop}
 use Rattle.std.specs.Prelude.{filter, find}
 use Rattle.std.specs.Cmp.Lexicographic.{bytes_decides}
 use Rattle.std.proofs.lemmas.Bool.{and_parts, eqb-true}
@@ -13,11 +15,15 @@ use Rattle.processes.specs.declared.outcome.End.{End}
 use Rattle.processes.specs.declared.outcome.End.TheVariants as end
 use Rattle.processes.specs.declared.outcome.Outcome.TheVariants.{Denied}
 use Rattle.processes.specs.declared.row.Row.{Row}
-use Rattle.processes.specs.declared.row.Row.TheVariants.{NewTask, NewThread, Execve, Exit, ExitGroup, Kill, GetPid, GetTid, GetParent, Load, NoLoad, Plain, Missing}
+use Rattle.processes.specs.declared.row.Row.TheVariants.{NewTask, NewThread, Execve, Exit, ExitGroup, Kill, GetPid, GetTid}
+use Rattle.processes.specs.declared.row.Row.TheVariants.{GetParent, Load, NoLoad, Plain, Missing}
 use Rattle.processes.specs.Laws.{Each, StandsBehind, executes, goes_on, goes_on_by, is_execve}
-use Rattle.processes.specs.Tasks.{Filter, Judge, Process, Processes, admitted, end_where, is_in_group, is_live, is_task, live_task, program_judge, with_tasks}
+use Rattle.processes.specs.Tasks.{Filter, Judge, Process, Processes, admitted, end_where, is_in_group, is_live, is_task, live_task}
+use Rattle.processes.specs.Tasks.{program_judge, with_tasks}
 use Rattle.processes.specs.Calls.{row_of}
-use Rattle.processes.specs.Kernel.{carried_out, cloned, conflicts, ended_by_verdict, executed, first_conflict, forked, is_oldest_part, is_sibling, judged, loaded, loads_of, presented, presented_by, renewed, signalled, takes, verdict_on}
+use Rattle.processes.specs.Kernel.{carried_out, cloned, conflicts, ended_by_verdict, executed, first_conflict, forked}
+use Rattle.processes.specs.Kernel.{is_oldest_part, is_sibling, judged, loaded, loads_of, presented, presented_by, renewed}
+use Rattle.processes.specs.Kernel.{signalled, takes, verdict_on}
 use Rattle.processes.specs.Attached.{Attached}
 use Rattle.processes.proofs.Changes.{Survives, either, event_keeps, judged_stays, signal_keeps}
 use Rattle.processes.proofs.Laws.{behind_one, each_map, each_push, end_each, found, image_each}

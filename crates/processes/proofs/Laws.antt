@@ -1,5 +1,6 @@
 -- What is kept, and what ends, whatever tasks do.
-use Rattle.std.proofs.Common.{◌≡◌, ℕ, ◌+◌, ◌&&◌, ◌||◌, Bool, true, false, not, List, [], ◌∷◌, ◌++◌, Some, None, if◌then◌else◌, refl, map, ap, subst}
+use Rattle.std.proofs.Common.{◌≡◌, ℕ, ◌+◌, ◌&&◌, ◌||◌, Bool, true, false, not, List, [], ◌∷◌, ◌++◌, Some, None, if◌then◌else◌, refl}
+use Rattle.std.proofs.Common.{map, ap, subst}
 use Rattle.std.specs.Prelude.{filter, find}
 use Rattle.call_record.specs.declared.layout.Record.{Record}
 use Rattle.bpf_insn.specs.declared.instruction.Insn.{Insn}
@@ -7,7 +8,8 @@ use Rattle.call_tables.specs.declared.arch.Arch.{Arch}
 use Rattle.processes.specs.declared.outcome.End.{End}
 use Rattle.processes.specs.declared.outcome.End.TheVariants as end
 use Rattle.processes.specs.Laws.{Each, FirstFilterStays, HasEnded, KeepsBehind, StandsBehind}
-use Rattle.processes.specs.Tasks.{Judge, Filter, admitted, Process, Processes, is_live, is_task, live_task, lives, end_by, end_where, with_tasks, ended}
+use Rattle.processes.specs.Tasks.{Judge, Filter, admitted, Process, Processes, is_live, is_task, live_task, lives, end_by}
+use Rattle.processes.specs.Tasks.{end_where, with_tasks, ended}
 use Rattle.processes.specs.Kernel.{forked, cloned, is_sibling, renewed, executed, loaded, presented, signalled, takes}
 use Rattle.processes.specs.Attached.{Attached}
 use Rattle.processes.proofs.Changes.{Survives, either, event_keeps, signal_keeps}

@@ -1,5 +1,6 @@
 -- A further filter, and who gets it.
-use Rattle.std.proofs.Common.{◌≡◌, ℕ, suc, ◌+◌, ◌<◌, ◌≤◌, Option, Some, None, Bool, true, false, cond, not, List, [], ◌∷◌, ◌++◌, All, length, get_or, drop, set, refl, IsTrue, ap, ◌∙◌, arith, add-one}
+use Rattle.std.proofs.Common.{◌≡◌, ℕ, suc, ◌+◌, ◌<◌, ◌≤◌, Option, Some, None, Bool, true, false, cond, not, List, [], ◌∷◌, ◌++◌}
+use Rattle.std.proofs.Common.{All, length, get_or, drop, set, refl, IsTrue, ap, ◌∙◌, arith, add-one}
 use Rattle.std.specs.Prelude.{count_by, find, if◌then◌else◌, option_map}
 use Rattle.std.proofs.lemmas.Bool.{le-ltb, lt-ltb, lt-leb}
 use Rattle.processes.specs.Attached.Attached.{Taken}

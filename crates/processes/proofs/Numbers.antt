@@ -1,6 +1,7 @@
 -- Tasks stand in the order of their numbers, so no number stands twice and the first that meets a test
 -- has the least.
-use Rattle.std.proofs.Common.{◌≡◌, ℕ, ◌+◌, ◌==◌, ◌||◌, ◌<◌, ◌≤◌, Bool, true, false, not, List, [], ◌∷◌, ◌++◌, Some, if◌then◌else◌, refl, sym, ◌∙◌, map, arith, subst}
+use Rattle.std.proofs.Common.{◌≡◌, ℕ, ◌+◌, ◌==◌, ◌||◌, ◌<◌, ◌≤◌, Bool, true, false, not, List, [], ◌∷◌, ◌++◌, Some, if◌then◌else◌}
+use Rattle.std.proofs.Common.{refl, sym, ◌∙◌, map, arith, subst}
 use Rattle.std.specs.Prelude.{IsTrue, nat_lt, filter, find}
 use Rattle.std.proofs.lemmas.Bool.Decides.{Decides-eqb}
 use Rattle.std.proofs.lemmas.Bool.{and_parts, leb-true, ltb-true, le-leb, lt-ltb}

@@ -3,7 +3,8 @@ use Rattle.std.specs.Prelude.{ℕ, zero, suc, ◌↔◌, ◌+◌, ◌%◌, ◌==
 use Rattle.std.specs.Prelude.{Option, Some, None, is_none, if◌then◌else◌, IsTrue}
 use Rattle.std.specs.List.{list_any}
 use Rattle.bpf_insn.specs.declared.code.Operation.{Operation}
-use Rattle.bpf_insn.specs.declared.code.Operation.TheVariants.{LoadWord, LoadScratch, LoadScratchX, Store, StoreX, ReturnK, ReturnA, Jump, Branch, ShiftLeft, ShiftRight}
+use Rattle.bpf_insn.specs.declared.code.Operation.TheVariants.{LoadWord, LoadScratch, LoadScratchX, Store, StoreX, ReturnK, ReturnA}
+use Rattle.bpf_insn.specs.declared.code.Operation.TheVariants.{Jump, Branch, ShiftLeft, ShiftRight}
 use Rattle.bpf_insn.specs.declared.instruction.Insn.{Insn}
 use Rattle.bpf_insn.specs.Code.{operation_of}
 use Rattle.bpf_insn.specs.Bytes.{insns_of, max_insns, view_fault}

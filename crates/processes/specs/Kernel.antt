@@ -1,6 +1,7 @@
 -- The modelled kernel of one container: what each call of a task does, what a verdict ends, and what a
 -- signal from outside does.
-use Rattle.std.specs.Prelude.{ℕ, ◌+◌, ◌-◌, ◌^◌, ◌==◌, ◌&&◌, ◌||◌, Bool, true, false, not, List, [], ◌∷◌, ◌++◌, Option, Some, None, if◌then◌else◌, nat_lt, nat_le, nat_eq, map, filter, find, drop, length, sum_by, min, bit_and}
+use Rattle.std.specs.Prelude.{ℕ, ◌+◌, ◌-◌, ◌^◌, ◌==◌, ◌&&◌, ◌||◌, Bool, true, false, not, List, [], ◌∷◌, ◌++◌, Option, Some, None}
+use Rattle.std.specs.Prelude.{if◌then◌else◌, nat_lt, nat_le, nat_eq, map, filter, find, drop, length, sum_by, min, bit_and}
 use Rattle.std.specs.Cmp.Lexicographic.{pointwise}
 use Rattle.call_record.specs.declared.layout.Record.{Record}
 use Rattle.call_record.specs.declared.effect.Ends.{Ends}
@@ -13,11 +14,13 @@ use Rattle.processes.specs.declared.outcome.Outcome.{Outcome}
 use Rattle.processes.specs.declared.outcome.Outcome.TheVariants.{Done, Failed, Absent, Denied, NoTask}
 use Rattle.processes.specs.Calls.{arg}
 use Rattle.processes.specs.declared.row.Row.{Row}
-use Rattle.processes.specs.declared.row.Row.TheVariants.{NewTask, NewThread, Execve, Exit, ExitGroup, Kill, GetPid, GetTid, GetParent, Load, NoLoad, Plain, Missing}
+use Rattle.processes.specs.declared.row.Row.TheVariants.{NewTask, NewThread, Execve, Exit, ExitGroup, Kill, GetPid, GetTid}
+use Rattle.processes.specs.declared.row.Row.TheVariants.{GetParent, Load, NoLoad, Plain, Missing}
 use Rattle.processes.specs.Calls as calls
 use Rattle.processes.specs.Attached.{Attached}
 use Rattle.processes.specs.Attached.Attached.{NoBytes, Refused, Taken}
-use Rattle.processes.specs.Tasks.{program_judge, Process, Processes, is_live, is_task, is_in_group, live_task, group_lives, end_where, with_tasks, ended}
+use Rattle.processes.specs.Tasks.{program_judge, Process, Processes, is_live, is_task, is_in_group, live_task, group_lives}
+use Rattle.processes.specs.Tasks.{end_where, with_tasks, ended}
 
 -- what an event leads to: an answer, and the container's tasks after it
 abbrev pub Answer : Type 0

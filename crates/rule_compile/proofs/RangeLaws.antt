@@ -1,5 +1,6 @@
 -- The ranges of a machine's numbers, as they are added.
-use Rattle.std.proofs.Common.{◌≡◌, ℕ, zero, suc, ◌+◌, ◌-◌, ◌<◌, ◌≤◌, ◌^◌, List, [], ◌∷◌, ◌++◌, length, refl, ap, sym, ◌∙◌, subst, arith, max, inl, inr, length-append, take}
+use Rattle.std.proofs.Common.{◌≡◌, ℕ, zero, suc, ◌+◌, ◌-◌, ◌<◌, ◌≤◌, ◌^◌, List, [], ◌∷◌, ◌++◌, length, refl, ap, sym, ◌∙◌, subst}
+use Rattle.std.proofs.Common.{arith, max, inl, inr, length-append, take}
 use Rattle.std.proofs.Math.Seq.{take-append_seam}
 use Rattle.std.specs.Prelude.{replicate, slice_index, slice_index_or}
 use Rattle.std.proofs.lemmas.List.{get_or_past, get_or-replicate}
@@ -17,7 +18,8 @@ use Rattle.rule_compile.specs.declared.ranges.Leaf.{Leaf}
 use Rattle.rule_compile.specs.declared.ranges.Leaf.TheVariants.{Word}
 use Rattle.rule_compile.specs.declared.ranges.Range.{Range}
 use Rattle.rule_compile.specs.Shape.{IsPlain, IsPlainRule, call}
-use Rattle.rule_compile.specs.inner.Numbers.{AreFew, AreUnconditional, IsExtended, IsFor, IsListed, IsNativeEnd, IsNext, IsWorded, LeafFor, NoneFor, Reached, Tiles, more, nothing, ruled, said_of, unruled, wider}
+use Rattle.rule_compile.specs.inner.Numbers.{AreFew, AreUnconditional, IsExtended, IsFor, IsListed, IsNativeEnd, IsNext, IsWorded}
+use Rattle.rule_compile.specs.inner.Numbers.{LeafFor, NoneFor, Reached, Tiles, more, nothing, ruled, said_of, unruled, wider}
 use Rattle.rule_compile.specs.inner.Ranges.{AreInOrder, IsWithin}
 use Rattle.rule_compile.proofs.FindLaws.{all_left, all_right}
 

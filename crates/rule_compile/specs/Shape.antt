@@ -1,5 +1,6 @@
 -- What may be counted on of the filter of a profile whose rules have no conditions.
-use Rattle.std.specs.Prelude.{◌≡◌, ℕ, zero, suc, ◌+◌, ◌<◌, ◌≤◌, ◌^◌, if◌then◌else◌, List, [], ◌∷◌, Option, Some, None, max, replicate, slice_index}
+use Rattle.std.specs.Prelude.{◌≡◌, ℕ, zero, suc, ◌+◌, ◌<◌, ◌≤◌, ◌^◌, if◌then◌else◌, List, [], ◌∷◌, Option, Some, None, max}
+use Rattle.std.specs.Prelude.{replicate, slice_index}
 use Rattle.std.specs.List.{All}
 use Rattle.bpf_insn.specs.declared.code.Operation.{Operation}
 use Rattle.bpf_insn.specs.declared.code.Operation.TheVariants.{ReturnK, Jump, Branch}

@@ -1,5 +1,6 @@
 -- Fields are read as an order exactly where they are its fields.
-use Rattle.std.proofs.Common.{◌≡◌, ℕ, ◌≤◌, ◌⊎◌, true, false, cond, List, [], ◌∷◌, ◌++◌, length, refl, ap, sym, ◌∙◌, inl, inr, subst, arith, length-append}
+use Rattle.std.proofs.Common.{◌≡◌, ℕ, ◌≤◌, ◌⊎◌, true, false, cond, List, [], ◌∷◌, ◌++◌, length, refl, ap, sym, ◌∙◌, inl, inr, subst}
+use Rattle.std.proofs.Common.{arith, length-append}
 use Rattle.std.specs.Prelude.{Option, Some, None, option_and_then, codes}
 use Rattle.std.specs.Option.{option_map}
 use Rattle.std.specs.Str.{bytes_eq}
@@ -8,11 +9,13 @@ use Rattle.std.proofs.lemmas.Slice.Eq.{bytes_eq-Decides}
 use Rattle.call_tables.specs.declared.arch.Arch.{Arch}
 use Rattle.script.specs.Orders.{Order, Create, Start, Delete, State, Kill, Call}
 use Rattle.script.specs.Grammar.{AreCall, AreFieldsOf}
-use Rattle.script.specs.inner.Reading.{arguments_at, call_at, number_at, order_from, order_of_more, order_of_three, order_of_two, program_at, what_at}
+use Rattle.script.specs.inner.Reading.{arguments_at, call_at, number_at, order_from, order_of_more, order_of_three, order_of_two}
+use Rattle.script.specs.inner.Reading.{program_at, what_at}
 use Rattle.script.proofs.Options.{bind_some, chosen, map_some, tested}
 use Rattle.script.proofs.NumberLaws.{number_at-is, number_at-some}
 use Rattle.script.proofs.WhatLaws.{what_at-is, what_at-some}
-use Rattle.script.proofs.ArgumentLaws.{Given, arguments_at-is, arguments_at-some, length-given-le, length-program-le, program-stops, program_at-is, program_at-some}
+use Rattle.script.proofs.ArgumentLaws.{Given, arguments_at-is, arguments_at-some, length-given-le, length-program-le, program-stops}
+use Rattle.script.proofs.ArgumentLaws.{program_at-is, program_at-some}
 
 same_word : (word text : List ℕ) (more : List (List ℕ)) → bytes_eq word text ≡ true → word ∷ more ≡ text ∷ more
 same_word word text more h = ap (λ w. w ∷ more) ((bytes_eq-Decides word text).0 h)

@@ -1,5 +1,6 @@
 -- Listed machines: what reading gives is meant, and what it refuses is broken.
-use Rattle.std.proofs.Common.{◌≡◌, ℕ, ◌==◌, List, [], ◌∷◌, cond, if◌then◌else◌, Ok, Err, Some, None, true, false, inl, inr, refl, sym, ◌∙◌, ap, subst}
+use Rattle.std.proofs.Common.{◌≡◌, ℕ, ◌==◌, List, [], ◌∷◌, cond, if◌then◌else◌, Ok, Err, Some, None, true, false, inl, inr, refl}
+use Rattle.std.proofs.Common.{sym, ◌∙◌, ap, subst}
 use Rattle.std.specs.Option.{ok_or}
 use Rattle.std.specs.List.{All, AllZip, Contains, list_any}
 use Rattle.std.specs.Str.{bytes_eq}

@@ -1,5 +1,6 @@
 -- A bundle as a whole: what is read and made is meant, and what is refused is broken.
-use Rattle.std.proofs.Common.{◌≡◌, ℕ, zero, suc, List, [], ◌∷◌, ◌&&◌, cond, Bool, Result, Ok, Err, Option, Some, None, IfSome, IsSomeAnd, true}
+use Rattle.std.proofs.Common.{◌≡◌, ℕ, zero, suc, List, [], ◌∷◌, ◌&&◌, cond, Bool, Result, Ok, Err, Option, Some, None, IfSome}
+use Rattle.std.proofs.Common.{IsSomeAnd, true}
 use Rattle.std.proofs.Common.{false, inl, inr, refl, sym, ◌∙◌, ap, subst}
 use Rattle.std.specs.List.{All, AllZip, Contains, list_any, slice_get}
 use Rattle.std.proofs.lemmas.List.Elements.{All-contains}

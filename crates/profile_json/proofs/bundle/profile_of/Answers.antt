@@ -8,7 +8,8 @@ use Rattle.profile_json.specs.Fault.{fault_of}
 use Rattle.profile_json.specs.Rules.{same_arch, in_order, rules_of}
 use Rattle.profile_json.specs.inner.Clashes.{IsOverlap}
 use Rattle.profile_json.proofs.reading.ArchLaws.{lists_native}
-use Rattle.profile_json.proofs.clashing.MakingLaws.{if_is_some_and, has_clash, no_foreign, not_missing, not_mixed, too_many_rules, clash_refused}
+use Rattle.profile_json.proofs.clashing.MakingLaws.{if_is_some_and, has_clash, no_foreign, not_missing, not_mixed, too_many_rules}
+use Rattle.profile_json.proofs.clashing.MakingLaws.{clash_refused}
 use Rattle.profile_json.proofs.bundle.profile_of.Goals as goal
 
 pub overlap_of-requires-clause-clash : goal.overlap_of-requires-clause-clash

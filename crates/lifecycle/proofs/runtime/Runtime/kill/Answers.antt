@@ -13,7 +13,8 @@ use Rattle.lifecycle.specs.Steps.{kill, running}
 use Rattle.lifecycle.specs.Worlds.{Container, put}
 use Rattle.lifecycle.specs.Views.{world_of}
 use Rattle.lifecycle.specs.Entries.{container_of, is_started, started_in, world_from}
-use Rattle.lifecycle.proofs.CommandLaws.{FindsAt, bad_created, bad_running, ended_as, ids_kept, is_known, killed_created, killed_running, made, runs_on, set_own, step_kept}
+use Rattle.lifecycle.proofs.CommandLaws.{FindsAt, bad_created, bad_running, ended_as, ids_kept, is_known, killed_created}
+use Rattle.lifecycle.proofs.CommandLaws.{killed_running, made, runs_on, set_own, step_kept}
 use Rattle.lifecycle.proofs.Entries.{changed, not_there, there, told, unchanged, written}
 use Rattle.lifecycle.proofs.runtime.Runtime.kill.Goals as goal
 use Rattle.lifecycle.proofs.runtime.Runtime.kill.Goals.{then-is_fatal, else-is_fatal}
