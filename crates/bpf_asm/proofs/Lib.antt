@@ -1,5 +1,5 @@
-pub mod Splits
-pub mod Numerals
+mod Ends
+mod Numerals
 mod Parts
 mod Pieces
 mod Mnemonics

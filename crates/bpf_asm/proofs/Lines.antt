@@ -8,6 +8,8 @@ use Rattle.std.proofs.lemmas.Bool.{and_parts, eq-eqb, eqb-true}
 use Rattle.std.proofs.lemmas.List.{append-nil}
 use Rattle.std.proofs.lemmas.Option.{cond_some, same_Some}
 use Rattle.std.proofs.lemmas.List.Elements.{All-from_recursion, recursion_from_All}
+use Rattle.texts.specs.Splits.{split_at}
+use Rattle.texts.proofs.Options.{bind_some}
 use Rattle.bpf_insn.specs.declared.code.Operation.{Operation}
 use Rattle.bpf_insn.specs.declared.instruction.Insn.{Insn}
 use Rattle.bpf_insn.specs.Bytes.{IsInsn}
@@ -25,12 +27,12 @@ use Rattle.bpf_asm.specs.Forms.{notation_in, number_at, pieces_of, word_of}
 use Rattle.bpf_asm.specs.Listing.{digits_of, form_of, has_own_form, is_told, line_of}
 use Rattle.bpf_asm.specs.inner.Mnemonics.{form_with, is_raw, mnemonic_at, mnemonic_of, text_of}
 use Rattle.bpf_asm.specs.inner.Reading.{arguments_at, checked, fields_at, fields_of, first_part, insn_of, insn_with, judged}
-use Rattle.bpf_asm.specs.inner.Reading.{line_at, read_rest, split_at, with_fields, within}
+use Rattle.bpf_asm.specs.inner.Reading.{line_at, read_rest, with_fields, within}
 use Rattle.bpf_asm.specs.inner.Written.{IsWritten, Written, arguments_of, content, content_by, fields_with, fixed, with_digits}
 use Rattle.bpf_asm.specs.inner.Written.{written_text}
 use Rattle.bpf_asm.proofs.Numerals.{are_digits-digits, number_of-digits, within_some}
-use Rattle.bpf_asm.proofs.Splits.{Lacks, lacks_append, split_at_first, split_at_none, split_at_sound}
-use Rattle.bpf_asm.proofs.Pieces.{Spells, OfOne, OfThree, OfFour, and_then_some, arguments_at-four, arguments_at-one}
+use Rattle.texts.proofs.Splits.{Lacks, lacks_append, split_at_first, split_at_none, split_at_sound}
+use Rattle.bpf_asm.proofs.Pieces.{Spells, OfOne, OfThree, OfFour, arguments_at-four, arguments_at-one}
 use Rattle.bpf_asm.proofs.Pieces.{arguments_at-three, arguments_at_sound, lacks-written_text}
 use Rattle.bpf_asm.proofs.Mnemonics.{lacks-text_of, mnemonic_at-text_of, mnemonic_at_none, mnemonic_at_sound, not_raw, text_of-mnemonic_of}
 use Rattle.bpf_asm.proofs.Outcomes.{Faulty, Made, Outcome, outcome}
@@ -98,7 +100,7 @@ fields_at-shaped : (line : List ℕ) (form : Form) (d : Digits) → IsShaped lin
     → fields_at line ≡ Some (mnemonic_of form, Some (fields_with form d))
 fields_at-shaped line form d shaped =
     let ps = map (with_digits d) (pieces_of form) in
-    let read = and_then_some (fields_of (mnemonic_of form)) (arguments_of ps) (fields_with form d) (reads_form form d) in
+    let read = bind_some (arguments_of ps) (fields_of (mnemonic_of form)) (fields_with form d) (reads_form form d) in
     let each = all_written d (pieces_of form) (recursion_from_All (HasDigits d) (pieces_of form) shaped.each) in
     ap fields_at (shaped.text ∙ line_whole form d) ∙ fields_at-whole (mnemonic_of form) ps read.0 each read.1
     ∙ ap (λ o. Some (mnemonic_of form, o)) (reads_form form d)
@@ -140,7 +142,7 @@ form_of-own op i hidden =
 form_parts : (op : Operation) (i : Insn) → form_of i ≡ Some op → (i.code ≡ code_of op) × (has_own_form i op ≡ true)
 unfolding form_of
 form_parts op i h =
-    let listed = and_then_some (λ o. cond (has_own_form i o) (Some o) None) (operation_of i.code) op h in
+    let listed = bind_some (operation_of i.code) (λ o. cond (has_own_form i o) (Some o) None) op h in
     let own = cond_some (has_own_form i listed.0) listed.0 op listed.2 in
     let code = code_of-operation_of i.code listed.0 listed.1 in
     (code ∙ ap code_of own.1, sym (ap (has_own_form i) own.1) ∙ own.0)
@@ -270,11 +272,11 @@ line_judged line = by_word (mnemonic_at (first_part line (split_at 32 line))) re
 
 -- Each instruction's line, read.
 
-small : (i : Insn) → IsInsn i → (field : Field) → number_at field i < 2 ^ 32
+small : (i : Insn) → IsInsn i → (field : Field) → number_at field i < 2 ^ 64
 small i fits Code = let low = fits.code in omega arith
 small i fits Jt = let low = fits.jt in omega arith
 small i fits Jf = let low = fits.jf in omega arith
-small i fits K = fits.k
+small i fits K = let low = fits.k in omega arith
 
 shaped_own : (i : Insn) → IsInsn i → (form : Form) → IsShaped (line_text form (digits_of i)) form (digits_of i)
 shaped_own i fits form =
@@ -295,7 +297,7 @@ insn_of-fields : (form : Form) (i : Insn) → IsInsn i
     → ((field : Field) → notation_in (pieces_of form) field ≡ None → fixed field form ≡ number_at field i)
     → insn_of (fields_with form (digits_of i)) ≡ Some i
 insn_of-fields form i fits hidden =
-    (λ x. insn_with (within 16 (own Code x)) (within 8 (own Jt x)) (within 8 (own Jf x)) (own K x)) ∙ widths
+    (λ x. insn_with (within 16 (own Code x)) (within 8 (own Jt x)) (within 8 (own Jf x)) (within 32 (own K x))) ∙ widths
   where
     by_notation : (field : Field) (o : Option Notation) → notation_in (pieces_of form) field ≡ o
         → content form (digits_of i) field ≡ Some (number_at field i)
@@ -307,8 +309,8 @@ insn_of-fields form i fits hidden =
     own : (field : Field) → content form (digits_of i) field ≡ Some (number_at field i)
     own field = by_notation field (notation_in (pieces_of form) field) refl
 
-    widths : insn_with (within 16 (Some i.code)) (within 8 (Some i.jt)) (within 8 (Some i.jf)) (Some i.k) ≡ Some i
-    widths = rw (within_some 16 i.code fits.code, within_some 8 i.jt fits.jt, within_some 8 i.jf fits.jf) refl
+    widths : insn_with (within 16 (Some i.code)) (within 8 (Some i.jt)) (within 8 (Some i.jf)) (within 32 (Some i.k)) ≡ Some i
+    widths = rw (within_some 16 i.code fits.code, within_some 8 i.jt fits.jt, within_some 8 i.jf fits.jf, within_some 32 i.k fits.k) refl
 
 -- a raw line is read, unless the instruction has another form
 line_at-raw : (line : List ℕ) (i : Insn) → IsInsn i → line ≡ line_text None (digits_of i) → line_at line ≡ checked true (Some i)

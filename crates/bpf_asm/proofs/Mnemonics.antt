@@ -13,7 +13,7 @@ use Rattle.bpf_asm.specs.declared.mnemonic.Mnemonic.{Mnemonic}
 use Rattle.bpf_asm.specs.declared.mnemonic.Mnemonic.TheVariants.{Ld, Ldx, St, Stx, Ret, Ja, Branch, Compute, Lsh, Rsh, Neg, Tax, Txa, Raw}
 use Rattle.bpf_asm.specs.Forms.{Form, word_of}
 use Rattle.bpf_asm.specs.inner.Mnemonics.{is_raw, mnemonic_at, mnemonic_of, mnemonics, text_of}
-use Rattle.bpf_asm.proofs.Splits.{Lacks}
+use Rattle.texts.proofs.Splits.{Lacks}
 use Rattle.bpf_asm.proofs.Pieces.{lacks_digits}
 
 letters : (w : Mnemonic) → list_all (λ b. nat_le 97 b) (text_of w) ≡ true

@@ -13,15 +13,15 @@ use Rattle.bpf_insn.specs.declared.code.Operation.TheVariants as operations
 use Rattle.bpf_insn.specs.declared.instruction.Insn.{Insn}
 use Rattle.bpf_insn.specs.Bytes.{IsInsn}
 use Rattle.bpf_insn.specs.Code.{code_of}
-use Rattle.bpf_asm.specs.Digits.{IsBadNumber, are_digits}
-use Rattle.bpf_asm.specs.Faults.{HasDigits}
+use Rattle.texts.specs.Digits.{are_digits}
+use Rattle.bpf_asm.specs.Faults.{HasDigits, IsBadNumber}
 use Rattle.bpf_asm.specs.Forms.{Code, Digits, Field, Form, Jf, Jt, K, Notation, Number, Piece, RegisterA, RegisterX, base_of}
 use Rattle.bpf_asm.specs.Forms.{is_digit_of, is_same, notation_in, number_at, pieces_of, width_of}
 use Rattle.bpf_asm.specs.Listing.{digits_of}
 use Rattle.bpf_asm.specs.inner.Reading.{insn_of, insn_with, within}
 use Rattle.bpf_asm.specs.inner.Written.{content, content_by, fields_with, fixed}
 use Rattle.bpf_asm.proofs.Numerals as numerals
-use Rattle.bpf_asm.proofs.Numerals.{Judged, judged_number, number_of-within, within_some}
+use Rattle.bpf_asm.proofs.Numerals.{Judged, judged_number, within_some}
 
 pub code_small : (op : Operation) → code_of op < 2 ^ 16
 code_small operations.LoadWord = lit< tt
@@ -116,7 +116,7 @@ data FieldJudged (form : Form) (d : Digits) (field : Field) : Type 0 where
       → (d notation field ≡ digits (base_of notation) false n) × (IsBadAt d notation field → ⊥))
       → (notation_in (pieces_of form) field ≡ None → n ≡ fixed field form) → FieldJudged form d field
 
-narrow : (field : Field) → 2 ^ width_of field ≤ 2 ^ 32
+narrow : (field : Field) → 2 ^ width_of field ≤ 2 ^ 64
 narrow Code = lit≤ tt
 narrow Jt = lit≤ tt
 narrow Jf = lit≤ tt
@@ -153,13 +153,6 @@ field_judged form d each field = by_notation (notation_in (pieces_of form) field
       (read None hidden ∙ within_some (width_of field) (fixed field form) (fixed_small field form))
       (λ notation shows. absurd (cc)) (λ h. refl)
 
--- 32 bits hold each k that is read
-k_within : (form : Form) (d : Digits) → within 32 (content form d K) ≡ content form d K
-k_within form d = by_notation (notation_in (pieces_of form) K) where
-  by_notation : (o : Option Notation) → within 32 (content_by o form d K) ≡ content_by o form d K
-  by_notation (Some notation) = number_of-within (base_of notation) (d notation K)
-  by_notation None = refl
-
 -- All fields.
 
 pub data Outcome (form : Form) (d : Digits) : Type 0 where
@@ -174,25 +167,23 @@ together : (form : Form) (d : Digits)
     → FieldJudged form d Code → FieldJudged form d Jt → FieldJudged form d Jf → FieldJudged form d K → Outcome form d
 together form d (Bad notation shows bad none) t f k =
     Faulty Code notation shows bad
-    (ap (λ x. insn_with x (within 8 (content form d Jt)) (within 8 (content form d Jf)) (content form d K)) none)
+    (ap (λ x. insn_with x (within 8 (content form d Jt)) (within 8 (content form d Jf)) (within 32 (content form d K))) none)
 together form d (Good c fits_c found_c shown_c hidden_c) (Bad notation shows bad none) f k =
     Faulty Jt notation shows bad
-    (ap (λ x. insn_with (within 16 (content form d Code)) x (within 8 (content form d Jf)) (content form d K)) none
-    ∙ no_jt (within 16 (content form d Code)) (within 8 (content form d Jf)) (content form d K))
+    (ap (λ x. insn_with (within 16 (content form d Code)) x (within 8 (content form d Jf)) (within 32 (content form d K))) none
+    ∙ no_jt (within 16 (content form d Code)) (within 8 (content form d Jf)) (within 32 (content form d K)))
 together form d (Good c fits_c found_c shown_c hidden_c) (Good t fits_t found_t shown_t hidden_t) (Bad notation shows bad none) k =
     Faulty Jf notation shows bad
-    (ap (λ x. insn_with (within 16 (content form d Code)) (within 8 (content form d Jt)) x (content form d K)) none
-    ∙ no_jf (within 16 (content form d Code)) (within 8 (content form d Jt)) (content form d K))
+    (ap (λ x. insn_with (within 16 (content form d Code)) (within 8 (content form d Jt)) x (within 32 (content form d K))) none
+    ∙ no_jf (within 16 (content form d Code)) (within 8 (content form d Jt)) (within 32 (content form d K)))
 together form d (Good c fits_c found_c shown_c hidden_c) (Good t fits_t found_t shown_t hidden_t) (Good f fits_f found_f shown_f hidden_f)
     (Bad notation shows bad none) =
     Faulty K notation shows bad
-    (ap (λ x. insn_with (within 16 (content form d Code)) (within 8 (content form d Jt)) (within 8 (content form d Jf)) x)
-    (sym (k_within form d) ∙ none)
+    (ap (λ x. insn_with (within 16 (content form d Code)) (within 8 (content form d Jt)) (within 8 (content form d Jf)) x) none
     ∙ no_k (within 16 (content form d Code)) (within 8 (content form d Jt)) (within 8 (content form d Jf)))
 together form d (Good c fits_c found_c shown_c hidden_c) (Good t fits_t found_t shown_t hidden_t) (Good f fits_f found_f shown_f hidden_f)
     (Good k fits_k found_k shown_k hidden_k) =
-    let read_k = sym (k_within form d) ∙ found_k in
-    Made own (λ x. insn_with (found_c x) (found_t x) (found_f x) (read_k x))
+    Made own (λ x. insn_with (found_c x) (found_t x) (found_f x) (found_k x))
     (record { code = fits_c; jt = fits_t; jf = fits_f; k = fits_k }) shown hidden
   where
     own : Insn

@@ -3,9 +3,11 @@ use Rattle.std.proofs.Common.{◌≡◌, ◌≢◌, ℕ, false, List, [], ◌∷
 use Rattle.std.specs.Prelude.{None, option_and_then, codes}
 use Rattle.std.specs.Option.{option_map}
 use Rattle.std.specs.Str.{bytes_eq}
+use Rattle.texts.specs.Splits.{behind}
+use Rattle.texts.proofs.Splits.{behind_none}
 use Rattle.bpf_asm.specs.declared.arguments.Part.TheVariants.{Address, Scratch}
-use Rattle.bpf_asm.specs.inner.Reading.{behind, bracketed_at, decimal_at, hexadecimal_at, bare_part, part_at}
-use Rattle.bpf_asm.proofs.Splits.{ahead_of-push, ahead_of_none, behind_none}
+use Rattle.bpf_asm.specs.inner.Reading.{bracketed_at, decimal_at, hexadecimal_at, bare_part, part_at}
+use Rattle.bpf_asm.proofs.Ends.{ahead_of-push, ahead_of_none}
 
 -- up to a bracket at the end there is a decimal number
 pub bracketed_at-closed : (text ds : List ℕ) → text ≡ ds ++ 93 ∷ [] → bracketed_at text ≡ decimal_at ds

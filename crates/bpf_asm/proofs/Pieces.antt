@@ -13,22 +13,17 @@ use Rattle.bpf_asm.specs.declared.arguments.Part.{Part}
 use Rattle.bpf_asm.specs.declared.arguments.Part.TheVariants as parts
 use Rattle.bpf_asm.specs.declared.arguments.Arguments.{Arguments}
 use Rattle.bpf_asm.specs.declared.arguments.Arguments.TheVariants.{One, Three, Four}
-use Rattle.bpf_asm.specs.Digits.{are_digits, is_hexadecimal_digit}
+use Rattle.texts.specs.Digits.{are_digits, is_hexadecimal_digit}
+use Rattle.texts.specs.Numbers.{number_of}
+use Rattle.texts.specs.Splits.{behind, split_at}
+use Rattle.texts.proofs.Options.{bind_some, map_some}
+use Rattle.texts.proofs.Splits.{Lacks, behind_sound, lacks_append, split_at_first, split_at_none, split_at_sound}
 use Rattle.bpf_asm.specs.Forms.{Address, Scratch, Constant, Decimal, Hexadecimal}
 use Rattle.bpf_asm.specs.inner.Written.{IsWritten, OfA, OfNumber, OfX, Written, part_of, written_text}
-use Rattle.bpf_asm.specs.inner.Reading.{ahead_of, arguments_at, behind, bracketed_at, decimal_at, hexadecimal_at, last_parts}
-use Rattle.bpf_asm.specs.inner.Reading.{marked_part, number_of, bare_part, part_at, parts_of, split_at}
-use Rattle.bpf_asm.proofs.Splits.{Lacks, ahead_of_sound, behind_sound, lacks_append, split_at_first, split_at_none, split_at_sound}
+use Rattle.bpf_asm.specs.inner.Reading.{ahead_of, arguments_at, bracketed_at, decimal_at, hexadecimal_at, last_parts}
+use Rattle.bpf_asm.specs.inner.Reading.{marked_part, bare_part, part_at, parts_of}
+use Rattle.bpf_asm.proofs.Ends.{ahead_of_sound}
 use Rattle.bpf_asm.proofs.Parts.{bracketed_at-closed, part_at-address, part_at-number, part_at-scratch}
-
-pub and_then_some : {A B : Type 0} (f : A → Option B) (o : Option A) (y : B) → option_and_then f o ≡ Some y
-    → (x : A) × (o ≡ Some x) × (f x ≡ Some y)
-and_then_some f None y h = absurd (cc)
-and_then_some f (Some x) y h = (x, refl, h)
-
-pub map_some : {A B : Type 0} (f : A → B) (o : Option A) (y : B) → option_map f o ≡ Some y → (x : A) × (o ≡ Some x) × (f x ≡ y)
-map_some f None y h = absurd (cc)
-map_some f (Some x) y h = (x, refl, cc)
 
 -- One piece.
 
@@ -100,7 +95,7 @@ hexadecimal_at_sound : (text : List ℕ) (n : Option ℕ) → hexadecimal_at tex
 unfolding hexadecimal_at
 hexadecimal_at_sound text n h =
     let found =
-    and_then_some (λ ds. cond (are_digits is_hexadecimal_digit ds) (Some (number_of 16 ds)) None) (behind (48 ∷ 120 ∷ []) text) n h in
+    bind_some (behind (48 ∷ 120 ∷ []) text) (λ ds. cond (are_digits is_hexadecimal_digit ds) (Some (number_of 16 ds)) None) n h in
     let digits = cond_some (are_digits is_hexadecimal_digit found.0) (number_of 16 found.0) n found.2 in
     (found.0, behind_sound (48 ∷ 120 ∷ []) text found.0 found.1, digits.0, digits.1)
 
@@ -108,7 +103,7 @@ bracketed_at_sound : (text : List ℕ) (n : Option ℕ) → bracketed_at text �
     → (ds : List ℕ) × (text ≡ ds ++ 93 ∷ []) × (are_digits is_ascii_digit ds ≡ true) × (number_of 10 ds ≡ n)
 unfolding bracketed_at
 bracketed_at_sound text n h =
-    let ended = and_then_some decimal_at (ahead_of 93 text) n h in
+    let ended = bind_some (ahead_of 93 text) decimal_at n h in
     let read = decimal_at_sound ended.0 n ended.2 in
     (ended.0, ahead_of_sound 93 text ended.0 ended.1, read.0, read.1)
 
@@ -122,7 +117,7 @@ bare_part_sound text x (Some n) found h =
     let made : parts.Hexadecimal n ≡ x = cc in
     (OfNumber Hexadecimal read.0, read.2, read.1, ap parts.Hexadecimal read.3 ∙ made)
 bare_part_sound text x None found h =
-    let taken = map_some parts.Decimal (decimal_at text) x h in
+    let taken = map_some (decimal_at text) parts.Decimal x h in
     let read = decimal_at_sound text taken.0 taken.1 in
     (OfNumber Decimal text, read.0, refl, ap parts.Decimal read.1 ∙ taken.2)
 
@@ -130,15 +125,15 @@ marked_part_sound : (text : List ℕ) (x : Part) (mark bracket word : Option (Li
     → behind (91 ∷ []) text ≡ bracket
     → behind (77 ∷ 91 ∷ []) text ≡ word → marked_part mark bracket word text ≡ Some x → Shows text x
 marked_part_sound text x (Some rest) bracket word m b s h =
-    let taken = map_some parts.Constant (hexadecimal_at rest) x h in
+    let taken = map_some (hexadecimal_at rest) parts.Constant x h in
     let read = hexadecimal_at_sound rest taken.0 taken.1 in
     (OfNumber Constant read.0, read.2, behind_sound (35 ∷ []) text rest m ∙ ap (λ t. 35 ∷ t) read.1, ap parts.Constant read.3 ∙ taken.2)
 marked_part_sound text x None (Some rest) word m b s h =
-    let taken = map_some parts.Address (bracketed_at rest) x h in
+    let taken = map_some (bracketed_at rest) parts.Address x h in
     let read = bracketed_at_sound rest taken.0 taken.1 in
     (OfNumber Address read.0, read.2, behind_sound (91 ∷ []) text rest b ∙ ap (λ t. 91 ∷ t) read.1, ap parts.Address read.3 ∙ taken.2)
 marked_part_sound text x None None (Some rest) m b s h =
-    let taken = map_some parts.Scratch (bracketed_at rest) x h in
+    let taken = map_some (bracketed_at rest) parts.Scratch x h in
     let read = bracketed_at_sound rest taken.0 taken.1 in
     let whole = behind_sound (77 ∷ 91 ∷ []) text rest s ∙ ap (λ t. 77 ∷ 91 ∷ t) read.1 in
     (OfNumber Scratch read.0, read.2, whole, ap parts.Scratch read.3 ∙ taken.2)
@@ -267,11 +262,11 @@ last_parts_sound : (text first second rest : List ℕ) (a b : Part) (arguments :
     → text ≡ first ++ 44 ∷ (second ++ 44 ∷ rest) → Shows first a → Shows second b → split_at 44 rest ≡ o
     → last_parts a b rest o ≡ Some arguments → Spells text arguments
 last_parts_sound text first second rest a b arguments None e sa sb cut h =
-    let third = and_then_some (λ c. Some (Three a b c)) (part_at rest) arguments h in
+    let third = bind_some (part_at rest) (λ c. Some (Three a b c)) arguments h in
     spelled_three text first second rest a b third.0 arguments e sa sb (part_at_sound rest third.0 third.1) cc
 last_parts_sound text first second rest a b arguments (Some both_parts) e sa sb cut h =
-    let third = and_then_some (λ c. option_and_then (λ d. Some (Four a b c d)) (part_at both_parts.1)) (part_at both_parts.0) arguments h in
-    let fourth = and_then_some (λ d. Some (Four a b third.0 d)) (part_at both_parts.1) arguments third.2 in
+    let third = bind_some (part_at both_parts.0) (λ c. option_and_then (λ d. Some (Four a b c d)) (part_at both_parts.1)) arguments h in
+    let fourth = bind_some (part_at both_parts.1) (λ d. Some (Four a b third.0 d)) arguments third.2 in
     let whole = split_at_sound 44 rest both_parts cut in
     spelled_four text first second both_parts.0 both_parts.1 a b third.0 fourth.0 arguments
     (e ∙ ap (λ t. first ++ 44 ∷ (second ++ 44 ∷ t)) whole.0) sa sb
@@ -280,16 +275,16 @@ last_parts_sound text first second rest a b arguments (Some both_parts) e sa sb 
 parts_of_sound : (text : List ℕ) (arguments : Arguments) (o : Option (List ℕ × List ℕ)) → split_at 44 text ≡ o
     → parts_of text o ≡ Some arguments → Spells text arguments
 parts_of_sound text arguments None cut h =
-    let one = and_then_some (λ a. Some (One a)) (part_at text) arguments h in
+    let one = bind_some (part_at text) (λ a. Some (One a)) arguments h in
     let (p, hp, tp, vp) = part_at_sound text one.0 one.1 in
     let made : One one.0 ≡ arguments = cc in
     OfOne p hp tp (sym made ∙ ap One (sym vp))
 parts_of_sound text arguments (Some cut_parts) cut h =
     let after : Part → List ℕ × List ℕ → Option Arguments =
     λ a more. option_and_then (λ b. last_parts a b more.1 (split_at 44 more.1)) (part_at more.0) in
-    let first = and_then_some (λ a. option_and_then (after a) (split_at 44 cut_parts.1)) (part_at cut_parts.0) arguments h in
-    let more = and_then_some (after first.0) (split_at 44 cut_parts.1) arguments first.2 in
-    let second = and_then_some (λ b. last_parts first.0 b more.0.1 (split_at 44 more.0.1)) (part_at more.0.0) arguments more.2 in
+    let first = bind_some (part_at cut_parts.0) (λ a. option_and_then (after a) (split_at 44 cut_parts.1)) arguments h in
+    let more = bind_some (split_at 44 cut_parts.1) (after first.0) arguments first.2 in
+    let second = bind_some (part_at more.0.0) (λ b. last_parts first.0 b more.0.1 (split_at 44 more.0.1)) arguments more.2 in
     let whole = split_at_sound 44 text cut_parts cut in
     let rest = split_at_sound 44 cut_parts.1 more.0 more.1 in
     last_parts_sound text cut_parts.0 more.0.0 more.0.1 first.0 second.0 arguments (split_at 44 more.0.1)

@@ -16,11 +16,13 @@ use Rattle.bpf_asm.specs.declared.fault.AsmError.{AsmError}
 use Rattle.bpf_asm.specs.declared.fault.AsmError.TheVariants.{Line, OutOfMemory}
 use Rattle.bpf_asm.specs.declared.fault.LineFault.{LineFault}
 use Rattle.bpf_asm.specs.declared.fault.LineFault.TheVariants.{UnknownWord, BadNumber, TooLong, BadLine}
-use Rattle.bpf_asm.specs.Listing.{line_feed, line_of, listing}
+use Rattle.texts.specs.Lines.{line_feed}
+use Rattle.texts.specs.Splits.{split_at}
+use Rattle.bpf_asm.specs.Listing.{line_of, listing}
 use Rattle.bpf_asm.specs.Faults.{AtItsEnd, BeyondLimit, Explains, FaultAt, FaultStands, HasFault, InLine, NoLine, first_line}
 use Rattle.bpf_asm.specs.inner.Mnemonics.{mnemonic_at}
-use Rattle.bpf_asm.specs.inner.Reading.{first_part, line_at, split_at}
-use Rattle.bpf_asm.proofs.Splits.{Lacks, split_at_first, split_at_none, split_at_sound}
+use Rattle.bpf_asm.specs.inner.Reading.{first_part, line_at}
+use Rattle.texts.proofs.Splits.{Lacks, split_at_first, split_at_none, split_at_sound}
 use Rattle.bpf_asm.proofs.Lines.{LineJudged, Unknown, Shapeless, BadNumbers, NeedlesslyRaw, Reads, before_first-split, fault_told}
 use Rattle.bpf_asm.proofs.Lines.{lacks-line_of, line_at-line_of, line_judged, line_of_injective}
 

@@ -1,6 +1,7 @@
 -- How it is told why a text is no listing: by a number and a name, and by the line.
 use Rattle.std.specs.Prelude.{ℕ, List, [], ◌++◌, codes}
 use Rattle.std.specs.Fmt.{decimal}
+use Rattle.texts.specs.Labels.{label_text}
 use Rattle.bpf_asm.specs.declared.fault.AsmError.{AsmError}
 use Rattle.bpf_asm.specs.declared.fault.AsmError.TheVariants.{Line, OutOfMemory}
 use Rattle.bpf_asm.specs.declared.fault.LineFault.TheVariants.{UnknownWord, BadNumber, TooLong, BadLine}
@@ -19,4 +20,4 @@ place_of OutOfMemory = []
 
 -- the text that says it
 abbrev pub text_of : AsmError → List ℕ
-text_of error = decimal (label_of error).0 ++ codes " " ++ (label_of error).1 ++ place_of error
+text_of error = label_text (label_of error) ++ place_of error

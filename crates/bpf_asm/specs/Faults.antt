@@ -1,16 +1,18 @@
 -- What is wrong with a text.
-use Rattle.std.specs.Prelude.{ℕ, ◌≡◌, ◌≢◌, ◌<◌, ◌≤◌, ◌+◌, ◌⊎◌, ◌==◌, true, List, [], ◌++◌, length, Some, None, ⊤}
+use Rattle.std.specs.Prelude.{ℕ, ◌≡◌, ◌≢◌, ◌<◌, ◌≤◌, ◌+◌, ◌^◌, ◌⊎◌, ◌==◌, true, List, [], ◌++◌, length, Some, None, ⊤}
 use Rattle.std.specs.List.{All, before_first}
+use Rattle.std.specs.Str.Parse.{digits_value}
+use Rattle.texts.specs.Digits.{are_digits, has_leading_zero}
+use Rattle.texts.specs.Lines.{line_feed, space}
 use Rattle.bpf_insn.specs.declared.instruction.Insn.{Insn}
 use Rattle.bpf_insn.specs.Bytes.{AreInsns, IsInsn, max_insns}
 use Rattle.bpf_asm.specs.declared.fault.AsmError.{AsmError}
 use Rattle.bpf_asm.specs.declared.fault.AsmError.TheVariants.{Line, OutOfMemory}
 use Rattle.bpf_asm.specs.declared.fault.LineFault.{LineFault}
 use Rattle.bpf_asm.specs.declared.fault.LineFault.TheVariants.{UnknownWord, BadNumber, TooLong, BadLine}
-use Rattle.bpf_asm.specs.Digits.{IsBadNumber, are_digits}
 use Rattle.bpf_asm.specs.Forms.{Digits, Field, Form, Notation, Number, Piece, RegisterA, RegisterX, base_of, is_digit_of, line_text}
-use Rattle.bpf_asm.specs.Forms.{notation_in, pieces_of, space, width_of, word_of}
-use Rattle.bpf_asm.specs.Listing.{digits_of, form_of, line_feed, line_of, listing}
+use Rattle.bpf_asm.specs.Forms.{notation_in, pieces_of, width_of, word_of}
+use Rattle.bpf_asm.specs.Listing.{digits_of, form_of, line_of, listing}
 
 -- a number is digits, one of them at least
 abbrev pub HasDigits : Digits → Piece → Type 0
@@ -36,6 +38,10 @@ pub record IsShapeless (line : List ℕ) : Type 0 where
   pub form : Form
   pub begins : first_word line ≡ word_of form
   pub none : (other : Form) (digits : Digits) → IsShaped line other digits → ⊥
+
+-- a number that is not written as its field asks: with a leading zero, or too large for the field's bits
+abbrev pub IsBadNumber : ℕ → ℕ → List ℕ → Type 0
+IsBadNumber radix bits ds = (has_leading_zero ds ≡ true) ⊎ (2 ^ bits ≤ digits_value radix ds)
 
 -- it has the shape of a form, and a number is bad for its field
 pub record HasBadNumber (line : List ℕ) : Type 0 where

@@ -3,6 +3,8 @@
 use Rattle.std.specs.Prelude.{ℕ, Bool, true, false, if◌then◌else◌, List, [], ◌∷◌, ◌++◌, map, codes, Option, Some, None}
 use Rattle.std.specs.List.{join_with_byte}
 use Rattle.std.specs.Char.{is_ascii_digit}
+use Rattle.texts.specs.Digits.{is_hexadecimal_digit}
+use Rattle.texts.specs.Lines.{space}
 use Rattle.bpf_insn.specs.declared.code.Operand.TheVariants as operands
 use Rattle.bpf_insn.specs.declared.code.Test.{Test}
 use Rattle.bpf_insn.specs.declared.code.Test.TheVariants.{Equal, Greater, AtLeast, AnyBit}
@@ -13,7 +15,6 @@ use Rattle.bpf_insn.specs.declared.code.Operation.TheVariants.{LoadWord, LoadScr
 use Rattle.bpf_insn.specs.declared.code.Operation.TheVariants.{ReturnK, ReturnA, Jump, Branch, Compute, ShiftLeft, ShiftRight}
 use Rattle.bpf_insn.specs.declared.code.Operation.TheVariants.{Negate, CopyToX, CopyToA}
 use Rattle.bpf_insn.specs.declared.instruction.Insn.{Insn}
-use Rattle.bpf_asm.specs.Digits.{is_hexadecimal_digit}
 
 -- a field of an instruction
 pub data Field : Type 0 where
@@ -154,9 +155,6 @@ abbrev pub piece_text : Digits → Piece → List ℕ
 piece_text digits RegisterA = codes "a"
 piece_text digits RegisterX = codes "x"
 piece_text digits (Number notation field) = number_text notation (digits notation field)
-
-abbrev pub space : ℕ
-space = 32
 
 abbrev pub comma : ℕ
 comma = 44

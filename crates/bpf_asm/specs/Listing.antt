@@ -2,6 +2,7 @@
 use Rattle.std.specs.Prelude.{ℕ, ◌==◌, Bool, false, ◌&&◌, ◌||◌, if◌then◌else◌, List, [], ◌∷◌, ◌++◌, Some, None, option_and_then, is_some}
 use Rattle.std.specs.List.{flat_map}
 use Rattle.std.specs.Fmt.{digits}
+use Rattle.texts.specs.Lines.{line_feed}
 use Rattle.bpf_insn.specs.declared.code.Operation.{Operation}
 use Rattle.bpf_insn.specs.declared.instruction.Insn.{Insn}
 use Rattle.bpf_insn.specs.Code.{operation_of}
@@ -27,9 +28,6 @@ digits_of i notation field = digits (base_of notation) false (number_at field i)
 -- the line of an instruction, without its line feed
 unfoldable pub line_of : Insn → List ℕ
 line_of i = line_text (form_of i) (digits_of i)
-
-abbrev pub line_feed : ℕ
-line_feed = 10
 
 -- the listing of a program
 abbrev pub listing : List Insn → List ℕ

@@ -1,14 +1,13 @@
 //! What stands after the word of a line.
-ghost use Rattle.std.specs.Prelude.{◌≡◌, ◌≤◌, ◌<◌};
-ghost use Rattle.std.specs.Option.{option_map};
-ghost use Rattle.std.specs.Char.{is_ascii_digit};
-ghost use Rattle.std.specs.Str.Parse.{IsNumeral};
-ghost use Rattle.bpf_asm.specs.Digits.{are_digits, is_hexadecimal_digit};
-ghost use Rattle.bpf_asm.specs.inner.Reading.{arguments_at, bracketed_at, decimal_at, hexadecimal_at, last_parts, number_of, part_at, split_at};
+ghost use Rattle.std.specs.Prelude.{◌≡◌};
+ghost use Rattle.texts.specs.Splits.{split_at};
+ghost use Rattle.bpf_asm.specs.inner.Reading.{arguments_at, bracketed_at, decimal_at, hexadecimal_at, last_parts, part_at};
+
+use texts::{is_decimal, is_hexadecimal, split};
 
 /// What stands after the word of a line, between two commas.
 ///
-/// Of a number there is the value, where it has no leading zero and 32 bits hold it.
+/// Of a number there is the value, where it has no leading zero and 64 bits hold it.
 #[derive(Clone, Copy)]
 pub(crate) enum Part {
     /// `a`
@@ -16,15 +15,15 @@ pub(crate) enum Part {
     /// `x`
     RegisterX,
     /// `[4]`
-    Address(Option<u32>),
+    Address(Option<u64>),
     /// `M[4]`
-    Scratch(Option<u32>),
+    Scratch(Option<u64>),
     /// `#0x4`
-    Constant(Option<u32>),
+    Constant(Option<u64>),
     /// `4`
-    Decimal(Option<u32>),
+    Decimal(Option<u64>),
     /// `0x4`
-    Hexadecimal(Option<u32>),
+    Hexadecimal(Option<u64>),
 }
 
 /// All that stands after the word of a line.
@@ -36,63 +35,26 @@ pub(crate) enum Arguments {
     Four(Part, Part, Part, Part),
 }
 
-// A text at the first separator in it.
-pub(crate) fn split(text: &str, separator: char) -> Option<(&str, &str)>
-    requires { separator < 128 }
-    ensures { option_map (λ parts. (parts.0.now, parts.1.now)) result ≡ split_at separator text.now }
-{
-    text.split_once(separator)
-}
-
-// The number that digits write, where it has no leading zero and 32 bits hold it.
-#[tactic(auto, unfolding(crate::specs::inner::Reading::number_of))]
-fn number(digits: &str, radix: u32) -> Option<u32>
-    requires least_radix { 2 ≤ radix }
-    requires greatest_radix { radix ≤ 36 }
-    requires digits { IsNumeral radix digits.now }
-    ensures { result ≡ number_of radix digits.now }
-{
-    if digits.len() > 1 && digits.as_bytes()[0] == b'0' {
-        None
-    } else {
-        u32::from_str_radix(digits, radix).ok()
-    }
-}
-
-// Whether a text is decimal digits, one at least.
-fn is_decimal(text: &str) -> bool
-    ensures { result ≡ are_digits is_ascii_digit text.now }
-{
-    !text.is_empty() && text.bytes().all(|b| b.is_ascii_digit())
-}
-
-// Whether a text is hexadecimal digits with small letters, one at least.
-fn is_hexadecimal(text: &str) -> bool
-    ensures { result ≡ are_digits is_hexadecimal_digit text.now }
-{
-    !text.is_empty() && text.bytes().all(|b| matches!(b, b'0'..=b'9' | b'a'..=b'f'))
-}
-
 // The number that a text is in decimal, if it is digits alone.
-#[tactic(auto, unfolding(crate::specs::inner::Reading::decimal_at))]
-fn decimal(text: &str) -> Option<Option<u32>>
+#[tactic(auto, unfolding(crate::specs::inner::Reading::decimal_at, texts::specs::Numbers::decimal_at))]
+fn decimal(text: &str) -> Option<Option<u64>>
     ensures { result ≡ decimal_at text.now }
 {
     if is_decimal(text) {
-        Some(number(text, 10))
+        Some(texts::decimal(text))
     } else {
         None
     }
 }
 
 // The number that a text is in hexadecimal, if it is `0x` and digits alone.
-#[tactic(auto, unfolding(crate::specs::inner::Reading::hexadecimal_at))]
-fn hexadecimal(text: &str) -> Option<Option<u32>>
+#[tactic(auto, unfolding(crate::specs::inner::Reading::hexadecimal_at, texts::specs::Numbers::hexadecimal_at))]
+fn hexadecimal(text: &str) -> Option<Option<u64>>
     ensures { result ≡ hexadecimal_at text.now }
 {
     let digits = text.strip_prefix("0x")?;
     if is_hexadecimal(digits) {
-        Some(number(digits, 16))
+        Some(texts::hexadecimal(digits))
     } else {
         None
     }
@@ -100,7 +62,7 @@ fn hexadecimal(text: &str) -> Option<Option<u32>>
 
 // The number that a text is in decimal, up to a bracket at its end.
 #[tactic(auto, unfolding(crate::specs::inner::Reading::bracketed_at))]
-fn bracketed(rest: &str) -> Option<Option<u32>>
+fn bracketed(rest: &str) -> Option<Option<u64>>
     ensures { result ≡ bracketed_at rest.now }
 {
     decimal(rest.strip_suffix(']')?)

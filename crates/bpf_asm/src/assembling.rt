@@ -4,11 +4,11 @@ ghost use Rattle.bpf_insn.specs.Bytes.{AreBytes, AreInsns, insns_of, max_insns, 
 ghost use Rattle.bpf_asm.specs.Faults.{Explains};
 ghost use Rattle.bpf_asm.specs.Listing.{listing};
 
-use crate::arguments::split;
 use crate::fault::{AsmError, LineFault};
 use crate::line::read_line;
 use bpf_insn::{Insn, MAX_INSNS, encode_into};
 use std::alloc::Global;
+use texts::split;
 
 // The instructions of the lines, of which there are 1 to 4096.
 fn read_lines(alloc: Global, text: &str) -> Result<Vec<Insn>, AsmError>

@@ -7,36 +7,37 @@ use crate::arguments::Arguments::{Four, Nothing, One, Three};
 use crate::arguments::Part::{
     Address, Constant, Decimal, Hexadecimal, RegisterA, RegisterX, Scratch,
 };
-use crate::arguments::{Arguments, read_arguments, split};
+use crate::arguments::{Arguments, read_arguments};
 use crate::fault::LineFault;
 use crate::listing::form;
 use crate::mnemonic::Mnemonic;
 use bpf_insn::{Insn, Operand, Operation};
+use texts::split;
 
 /// The fields of an instruction, each with its number where a line gives it well.
 #[derive(Clone, Copy)]
 pub(crate) struct Fields {
-    code: Option<u32>,
-    jt: Option<u32>,
-    jf: Option<u32>,
-    k: Option<u32>,
+    code: Option<u64>,
+    jt: Option<u64>,
+    jf: Option<u64>,
+    k: Option<u64>,
 }
 
 impl Fields {
     ghost use Rattle.bpf_asm.specs.inner.Reading.{branch_fields, plain_fields};
 
-    // Those of an operation that has no targets.
-    fn plain(operation: Operation, k: Option<u32>) -> Fields
+    // The fields of an operation that has no targets.
+    fn plain(operation: Operation, k: Option<u64>) -> Fields
         ensures { result ≡ plain_fields operation k }
     {
         Fields::branch(operation, k, Some(0), Some(0))
     }
 
-    // Those of an operation with targets.
-    fn branch(operation: Operation, k: Option<u32>, jt: Option<u32>, jf: Option<u32>) -> Fields
+    // The fields of an operation with targets.
+    fn branch(operation: Operation, k: Option<u64>, jt: Option<u64>, jf: Option<u64>) -> Fields
         ensures { result ≡ branch_fields operation k jt jf }
     {
-        let code = Some(u32::from(operation.code()));
+        let code = Some(u64::from(operation.code()));
         Fields { code, jt, jf, k }
     }
 
@@ -88,7 +89,7 @@ impl Fields {
             code: u16::try_from(self.code?).ok()?,
             jt: u8::try_from(self.jt?).ok()?,
             jf: u8::try_from(self.jf?).ok()?,
-            k: self.k?,
+            k: u32::try_from(self.k?).ok()?,
         })
     }
 }

@@ -47,7 +47,7 @@ impl Mnemonic {
         }
     }
 
-    /// Whether it is `raw`.
+    /// Whether the mnemonic is `raw`.
     pub(crate) fn is_raw(self) -> bool
         ensures { result ≡ is_raw self }
     {

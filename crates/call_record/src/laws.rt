@@ -28,7 +28,7 @@ pub fn same_bytes(a: &[u8; 64], b: &[u8; 64])
     same_spelling(a, b)
 }
 
-// The same of bytes in slices.
+// 64 bytes in slices that spell the same words are the same bytes.
 fn same_spelling(a: &[u8], b: &[u8])
     requires a_len { length a.now ≡ 64 }
     requires b_len { length b.now ≡ 64 }

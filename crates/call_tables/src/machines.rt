@@ -1,3 +1,4 @@
+//! Machines as types, each with the table of its calls.
 ghost use Rattle.std.specs.Prelude.{◌≡◌, ℕ, option_copied, IsTrue, refl};
 ghost use Rattle.call_tables.specs.Table.{Table, number_in, name_in, is_one_to_one, IsInverse};
 ghost use Rattle.call_tables.specs.Machines as spec;

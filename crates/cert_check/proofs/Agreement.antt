@@ -1,10 +1,11 @@
 -- What is known of a record settles the word that the profile says of it.
-use Rattle.std.proofs.Common.{◌≡◌, ◌≢◌, ℕ, ◌+◌, ◌*◌, ◌/◌, ◌%◌, ◌^◌, ◌<◌, ◌≤◌, Bool, true, false, List, sym, refl, ap, ◌∙◌, subst, inl, inr, arith}
-use Rattle.std.specs.Prelude.{bit_and, slice_index, slice_index_or, All, Any, Contains}
+use Rattle.std.proofs.Common.{◌≡◌, ◌≢◌, ℕ, ◌+◌, ◌*◌, ◌/◌, ◌%◌, ◌^◌, ◌<◌, ◌≤◌, Bool, true, false, List, sym, ap, ◌∙◌, subst, inl, inr, arith}
+use Rattle.std.specs.Prelude.{bit_and, slice_get, slice_index, slice_index_or, All, Any, Contains, Some}
 use Rattle.std.proofs.lemmas.Nat.{and_block, and_le_l}
 use Rattle.std.specs.Int.Bits.{and_mask}
 use Rattle.std.proofs.lemmas.List.Elements.{All-contains}
-use Rattle.cert_check.proofs.Elements.{each_of}
+use Rattle.std.proofs.lemmas.Option.{slice_get-get_or}
+use Rattle.cert_check.proofs.Elements.{contains_at, each_of}
 use Rattle.std.proofs.lemmas.Bool.{cases_eq, ltb-true, ltb-false, leb-true, leb-false, lt-ltb, le-ltb, le-leb, lt-leb}
 use Rattle.std.proofs.lemmas.Bool.Decides.{not_from_Decides}
 use Rattle.call_record.specs.Words.{IsRecord, word, argument}
@@ -13,6 +14,7 @@ use Rattle.call_tables.specs.declared.arch.Arch.TheVariants.{X86_64}
 use Rattle.call_tables.specs.Arch.{token_of}
 use Rattle.profile.specs.declared.conditions.Op.{Op}
 use Rattle.profile.specs.declared.conditions.Op.TheVariants.{Ne, Lt, Le, Eq, Ge, Gt, MaskedEq}
+use Rattle.profile.specs.declared.conditions.Cond.{Cond}
 use Rattle.profile.specs.declared.rules.Rule.{Rule}
 use Rattle.profile.specs.Operator.{Compares}
 use Rattle.profile.specs.Condition.{Meets}
@@ -27,7 +29,9 @@ use Rattle.cert_state.specs.Points.{IsPoint}
 use Rattle.cert_state.specs.Entailment.{Entails}
 use Rattle.cert_state.proofs.KnownLaws.{entailed_is_true}
 use Rattle.cert_state.proofs.BitLaws.{and_all}
-use Rattle.cert_check.specs.Agree.{HasBits, LacksBits, AtBothEnds, all_64_bits, IsYesBy, IsNoBy, IsYesRule, IsNoRule, RulesAgree, MachineAgrees, ListedAgrees, Agrees}
+use Rattle.cert_check.specs.Agree.{HasBits, LacksBits, AtBothEnds, all_64_bits, IsYesBy}
+use Rattle.cert_check.specs.Agree.{IsNoBy, IsYes, IsYesRule, IsNoRule, IsRefuted, IsLeft}
+use Rattle.cert_check.specs.Agree.{IsRuleOf, RulesAgree, MachineAgrees, ListedAgrees, Agrees}
 
 -- a number of two halves under a mask, half by half
 masked_halves : (l h m : ℕ) → l < 2 ^ 32 → bit_and (l + 2 ^ 32 * h) m ≡ bit_and h (m / 2 ^ 32) * 2 ^ 32 + bit_and l (m % 2 ^ 32)
@@ -66,6 +70,16 @@ monotone Ge value datum low u high false o l h p q = let k = leb-false value hig
 monotone Gt value datum low u high true o l h p q = let k = ltb-true value low p in lt-ltb value u (omega arith)
 monotone Gt value datum low u high false o l h p q = let k = ltb-false value high q in le-ltb value u (omega arith)
 
+-- no rule that is said to be out matches the record
+abbrev pub AreOut : Policy → List ℕ → List ℕ → Type 0
+AreOut policy out r = (place : ℕ) (rule : Rule) → Contains out place → slice_get policy.rules place ≡ Some rule → Matches rule r → ⊥
+
+-- the record meets each condition that is said to be met
+abbrev pub AreMet : Policy → List (ℕ × ℕ) → List ℕ → Type 0
+AreMet policy met r =
+    (place own : ℕ) (rule : Rule) (c : Cond) → Contains met (place, own) → slice_get policy.rules place ≡ Some rule
+    → slice_get rule.conds.items own ≡ Some c → Meets c (argument r c.index)
+
 module _ (r : List ℕ) (rec : IsRecord r) (known : List Lit) (so : All (λ l. Holds l r) known) where
   -- a word of the record is one of its points
   point : (w : ℕ) → IsPoint known w (slice_index r w)
@@ -98,7 +112,8 @@ module _ (r : List ℕ) (rec : IsRecord r) (known : List Lit) (so : All (λ l. H
       differ (quotient (bit_and (slice_index r (5 + 2 * j)) (m / 2 ^ 32)) (bit_and (slice_index r (4 + 2 * j)) (m % 2 ^ 32)) d (omega (arith, small, below)) e).1
 
   whole : (j : ℕ) → bit_and (argument r j) all_64_bits ≡ argument r j
-  whole j = and_mask (argument r j) 64 ∙ fits (slice_index r (4 + 2 * j)) (slice_index r (5 + 2 * j)) (rec.words (4 + 2 * j)) (rec.words (5 + 2 * j))
+  whole j = and_mask (argument r j) 64
+      ∙ fits (slice_index r (4 + 2 * j)) (slice_index r (5 + 2 * j)) (rec.words (4 + 2 * j)) (rec.words (5 + 2 * j))
 
   -- the argument lies between the numbers at both ends
   ends : (j : ℕ) (op : Op) (value : ℕ) (b : Bool) (h : AtBothEnds known j op value b)
@@ -108,7 +123,8 @@ module _ (r : List ℕ) (rec : IsRecord r) (known : List Lit) (so : All (λ l. H
       let k = h.range_above.between (slice_index r (5 + 2 * j)) (point (5 + 2 * j)) in
       (omega (arith, l, k), omega (arith, l, k))
 
-  ends_sound : (op : Op) (j value datum : ℕ) (b : Bool) → IsOrder op → AtBothEnds known j op value b → compares op value datum (argument r j) ≡ b
+  ends_sound : (op : Op) (j value datum : ℕ) (b : Bool) → IsOrder op → AtBothEnds known j op value b
+      → compares op value datum (argument r j) ≡ b
   ends_sound op j value datum b o h =
       let at = ends j op value b h in
       monotone op value datum (h.low + 2 ^ 32 * h.low_above) (argument r j) (h.high + 2 ^ 32 * h.high_above) b o at.0 at.1 h.at_low h.at_high
@@ -145,40 +161,76 @@ module _ (r : List ℕ) (rec : IsRecord r) (known : List Lit) (so : All (λ l. H
   word_is_not : (w n : ℕ) → Entails known (NotBits w all_bits n) → slice_index r w ≢ n
   word_is_not w n h = λ e. entailed_is_true r rec known so (NotBits w all_bits n) h (and_all (slice_index r w) (rec.words w) ∙ e)
 
-  yes_rule : (rule : Rule) → word r 1 ≡ token_of rule.arch → IsYesRule known rule → Matches rule r
-  yes_rule rule machine h = record {
-    machine = machine;
-    number = word_is 0 rule.nr h.0;
-    conditions = each_of (λ c. Meets c (argument r c.index)) rule.conds.items (λ c has. yes_by c.op c.index c.value c.datum (h.1 c has));
-  }
+  -- a condition that is yes is met
+  pub yes_condition : (c : Cond) → IsYes known c → Meets c (argument r c.index)
+  yes_condition c h = yes_by c.op c.index c.value c.datum h
 
-  no_rule : (rule : Rule) → IsNoRule known rule → Matches rule r → ⊥
-  no_rule rule (inl h, not_yes) m = word_is_not 0 rule.nr h m.number
-  no_rule rule (inr (c, has, denied), not_yes) m =
+  -- what is refuted does not match
+  pub refuted_rule : (rule : Rule) → IsRefuted known rule → Matches rule r → ⊥
+  refuted_rule rule (inl machine) m = word_is_not 1 (token_of rule.arch) machine m.machine
+  refuted_rule rule (inr (inl number)) m = word_is_not 0 rule.nr number m.number
+  refuted_rule rule (inr (inr (c, has, denied))) m =
       no_by c.op c.index c.value c.datum denied.0 (All-contains (λ d. Meets d (argument r d.index)) rule.conds.items c m.conditions has)
 
-  module _ (policy : Policy) (v : ℕ) (clear : IsClear policy.rules) (h : Agrees policy known v) where
+  module _ (policy : Policy) (out : List ℕ) (met : List (ℕ × ℕ)) (v : ℕ) (clear : IsClear policy.rules) (h : Agrees policy out met known v)
+      (gone : AreOut policy out r) (so_met : AreMet policy met r) where
+    -- a rule that is yes matches
+    yes_rule : (place : ℕ) (rule : Rule) → slice_get policy.rules place ≡ Some rule
+        → word r 1 ≡ token_of rule.arch → IsYesRule met known place rule
+        → Matches rule r
+    yes_rule place rule stands machine holds = record {
+      machine = machine;
+      number = word_is 0 rule.nr holds.0;
+      conditions = each_of (λ c. Meets c (argument r c.index)) rule.conds.items (λ c has.
+          let its : slice_get rule.conds.items has.0 ≡ Some c = slice_get-get_or rule.conds.items has.0 c has.1 ∙ ap Some has.2 in
+          elim (holds.1 has.0 c its) [
+            | inl said ↦ so_met place has.0 rule c said stands its
+            | inr settled ↦ yes_condition c settled
+          ]);
+    }
+
+    -- one that is no does not
+    no_rule : (place : ℕ) (rule : Rule) → IsNoRule met known place rule → Matches rule r → ⊥
+    no_rule place rule (inl number, not_yes) m = word_is_not 0 rule.nr number m.number
+    no_rule place rule (inr one, not_yes) m =
+        let c = one.cond in
+        no_by c.op c.index c.value c.datum one.is_no.0
+        (All-contains (λ d. Meets d (argument r d.index)) rule.conds.items c m.conditions (contains_at rule.conds.items one.own c one.stands))
+
     -- a rule that matches has the word, where the record's machine agrees
     rule_agrees : (arch : Arch) (rule : Rule) → word r 1 ≡ token_of arch → Contains policy.rules rule → Matches rule r
-        → RulesAgree policy known v arch → v ≡ rule.word
-    rule_agrees arch rule machine has m (inl (sure, of, holds, e)) =
-        sym e ∙ clear r rec sure rule of.stands has (yes_rule sure (machine ∙ sym of.is_for) holds) m
-    rule_agrees arch rule machine has m (inr (none, default, each)) =
-        elim (each rule (record { stands = has; is_for = sym m.machine ∙ machine })) [ inl denied ↦ absurd (no_rule rule denied m) | inr e ↦ sym e ]
+        → RulesAgree policy out met known v arch → v ≡ rule.word
+    rule_agrees arch rule machine has m (inl one) =
+        sym one.word ∙ clear r rec one.rule rule (contains_at policy.rules one.place one.rule one.is_of.stands) has
+        (yes_rule one.place one.rule one.is_of.stands (machine ∙ sym one.is_of.left.is_for) one.is_yes) m
+    rule_agrees arch rule machine (place, within, at) m (inr none) =
+        let stands : slice_get policy.rules place ≡ Some rule = slice_get-get_or policy.rules place rule within ∙ ap Some at in
+        let left : IsLeft out arch place rule = record { not_out = λ is. gone place rule is stands m; is_for = sym m.machine ∙ machine } in
+        elim (none.each place rule (record {
+          stands = stands;
+          left = left;
+        })) [ inl denied ↦ absurd (no_rule place rule denied m) | inr e ↦ sym e ]
 
     -- where none matches, the default is the word
-    default_agrees : (arch : Arch) → word r 1 ≡ token_of arch → All (λ rule. ¬ Matches rule r) policy.rules → RulesAgree policy known v arch → v ≡ policy.default_word
-    default_agrees arch machine none (inl (sure, of, holds, e)) =
-        absurd (All-contains (λ rule. ¬ Matches rule r) policy.rules sure none of.stands (yes_rule sure (machine ∙ sym of.is_for) holds))
-    default_agrees arch machine none (inr (no_yes, default, each)) = sym default
+    default_agrees : (arch : Arch) → word r 1 ≡ token_of arch → All (λ rule. ¬ Matches rule r) policy.rules
+        → RulesAgree policy out met known v arch
+        → v ≡ policy.default_word
+    default_agrees arch machine none (inl one) =
+        absurd (All-contains (λ rule. ¬ Matches rule r) policy.rules one.rule none (contains_at policy.rules one.place one.rule one.is_of.stands)
+        (yes_rule one.place one.rule one.is_of.stands (machine ∙ sym one.is_of.left.is_for) one.is_yes))
+    default_agrees arch machine none (inr all) = sym all.default
 
     -- a listed machine whose token the record has agrees
-    machine_agrees : (arch : Arch) → Contains policy.machines arch → word r 1 ≡ token_of arch → MachineAgrees policy known v arch
+    machine_agrees : (arch : Arch) → Contains policy.machines arch → word r 1 ≡ token_of arch → MachineAgrees policy out met known v arch
     machine_agrees arch listed machine =
-        elim (All-contains (ListedAgrees policy known v) policy.machines arch h.machines listed) [ inl other ↦ absurd (word_is_not 1 (token_of arch) other machine) | inr agrees ↦ agrees ]
+        elim (All-contains (ListedAgrees policy out met known v) policy.machines arch h.machines listed) [
+          | inl other ↦ absurd (word_is_not 1 (token_of arch) other machine)
+          | inr agrees ↦ agrees
+        ]
 
     -- where the number is no x32 number its rules agree
-    rules_agree : (arch : Arch) → IsNative policy r → Contains policy.machines arch → word r 1 ≡ token_of arch → RulesAgree policy known v arch
+    rules_agree : (arch : Arch) → IsNative policy r → Contains policy.machines arch
+        → word r 1 ≡ token_of arch → RulesAgree policy out met known v arch
     rules_agree arch native listed machine =
         elim (machine_agrees arch listed machine).rules [
           | inl (is, above) ↦
@@ -189,7 +241,8 @@ module _ (r : List ℕ) (rec : IsRecord r) (known : List Lit) (so : All (λ l. H
         ]
 
     -- the record's machine, where it is listed
-    listed_machine : Any (λ a. word r 1 ≡ token_of a) policy.machines → (arch : Arch) × Contains policy.machines arch × (word r 1 ≡ token_of arch)
+    listed_machine : Any (λ a. word r 1 ≡ token_of a) policy.machines
+        → (arch : Arch) × Contains policy.machines arch × (word r 1 ≡ token_of arch)
     listed_machine (k, arch, inside, at, machine) = (arch, (k, inside, at), machine)
 
     foreign_agrees : (¬ IsNative policy r) → v ≡ 0

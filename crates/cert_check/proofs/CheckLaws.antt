@@ -34,8 +34,7 @@ count_said version bytes ns s =
 
 pub count_of_nodes : (bytes : List ℕ) (ns : List PlainNode) → Spells bytes ns → (1 ≤ length ns) × (length ns ≤ 16384)
 count_of_nodes bytes ns (inl s) = (s.some, s.few)
-count_of_nodes bytes ns (inr (inl s)) = count_said 2 bytes ns s
-count_of_nodes bytes ns (inr (inr s)) = count_said 3 bytes ns s
+count_of_nodes bytes ns (inr (version, known, s)) = count_said version bytes ns s
 
 module _ (policy : Policy) (filter cert : List ℕ) where
   module _ (whole : view_fault filter ≡ None) (accepted : IsAccepted (insns_of filter)) (e : FormError) where

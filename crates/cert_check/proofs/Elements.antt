@@ -1,5 +1,5 @@
 -- Elements of a list.
-use Rattle.std.proofs.Common.{◌≡◌, ℕ, Bool, List, [], ◌∷◌, Some, sym, subst}
+use Rattle.std.proofs.Common.{◌≡◌, ℕ, zero, suc, ◌<◌, Bool, List, [], ◌∷◌, length, Some, refl, sym, subst, arith}
 use Rattle.std.specs.Prelude.{slice_get, All, Contains, IsTrue, ◌↔◌}
 use Rattle.std.proofs.lemmas.List.Elements.{All-contains_itself, All-weaker, All-nil, All-cons, All-head, All-tail}
 use Rattle.std.proofs.lemmas.Option.{slice_get_within, get_or_from_slice_get}
@@ -11,6 +11,12 @@ each_of P xs h = All-weaker (Contains xs) P (λ x has. h x has) xs (All-contains
 -- what stands at a place is an element
 pub contains_at : {X : Type 0} (xs : List X) (k : ℕ) (x : X) → slice_get xs k ≡ Some x → Contains xs x
 contains_at xs k x at = (k, slice_get_within xs k x at, get_or_from_slice_get xs k x x at)
+
+-- at each place below the length something stands
+pub element_at : {X : Type 0} (xs : List X) (place : ℕ) → place < length xs → (x : X) × (slice_get xs place ≡ Some x)
+element_at [] place h = absurd (omega (arith, h))
+element_at (x ∷ xs) zero h = (x, refl)
+element_at (x ∷ xs) (suc place) h = element_at xs place (omega arith)
 
 -- one element, and two
 pub all_one : {X : Type 0} (P : X → Type 0) (x : X) (b : Bool) → (IsTrue b ↔ P x) → (IsTrue b ↔ All P (x ∷ []))

@@ -29,7 +29,11 @@ module _ (policy : Policy) (filter cert : List ℕ) where
   module _ (whole : view_fault filter ≡ None) where
     -- the kernel does not accept it
     pub first_kernel : (e : Refused) → IsRefusal (insns_of filter) e → IsFirst policy filter cert (Kernel e)
-    first_kernel e refused = record { broken = λ ok. one_refusal.none (insns_of filter) e ok refused; earlier = before; told = refused } where
+    first_kernel e refused = record {
+      broken = λ ok. one_refusal.none (insns_of filter) e ok refused;
+      earlier = before;
+      told = refused;
+    } where
       before : KeptBefore policy filter cert 1
       before (View d) lt = whole
       before OutOfMemory lt = tt
@@ -61,8 +65,9 @@ module _ (policy : Policy) (filter cert : List ℕ) where
         all_kept valid Root = λ ms spells. subst RootRule (only ms spells) valid.root
         all_kept valid (Edge j) = of_each (λ xs k m. EdgeRule (insns_of filter) xs k m) j (λ m at. (valid.each j m at).edge)
         all_kept valid (Split j) = of_each (λ xs k m. SplitRule m.kind) j (λ m at. (valid.each j m at).split)
-        all_kept valid (Entail j) = of_each (λ xs k m. EntailRule (insns_of filter) xs m) j (λ m at. (valid.each j m at).entail)
-        all_kept valid (Return j) = of_each (λ xs k m. m.kind ≡ kind.Return → ReturnRule policy (insns_of filter) m) j (λ m at. (valid.each j m at).return)
+        all_kept valid (Entail j) = of_each (λ xs k m. EntailRule policy (insns_of filter) xs m) j (λ m at. (valid.each j m at).entail)
+        all_kept valid (Return j) = of_each (λ xs k m. m.kind ≡ kind.Return
+            → ReturnRule policy (insns_of filter) m) j (λ m at. (valid.each j m at).return)
         all_kept valid OutOfMemory = tt
 
         -- the root is broken
@@ -75,10 +80,13 @@ module _ (policy : Policy) (filter cert : List ℕ) where
           before OutOfMemory lt = tt
           before _ lt = absurd (omega arith)
 
-        module _ (root : RootRule ns) (i : ℕ) (n : PlainNode) (at : slice_get ns i ≡ Some n) (so : KeepBefore policy (insns_of filter) ns i) where
+        module _ (root : RootRule ns) (i : ℕ) (n : PlainNode) (at : slice_get ns i
+            ≡ Some n) (so : KeepBefore policy (insns_of filter) ns i) where
           -- a rule of the nodes up to this one
-          up_to : (R : List PlainNode → ℕ → PlainNode → Type 0) → ((j : ℕ) (m : PlainNode) → Keeps policy (insns_of filter) ns j m → R ns j m)
-              → (j : ℕ) → j ≤ i → (j ≡ i → R ns i n) → (ms : List PlainNode) → Spells cert ms → (m : PlainNode) → slice_get ms j ≡ Some m → R ms j m
+          up_to : (R : List PlainNode → ℕ → PlainNode → Type 0)
+              → ((j : ℕ) (m : PlainNode) → Keeps policy (insns_of filter) ns j m → R ns j m)
+              → (j : ℕ) → j ≤ i → (j ≡ i → R ns i n) → (ms : List PlainNode) → Spells cert ms
+              → (m : PlainNode) → slice_get ms j ≡ Some m → R ms j m
           up_to R from j le here = of_each R j (λ m stands.
               elim (cases_lt j i) [
                 | inl earlier ↦ from j m (so j m earlier stands)
@@ -94,15 +102,17 @@ module _ (policy : Policy) (filter cert : List ℕ) where
           split_up_to : (j : ℕ) → j ≤ i → (j ≡ i → SplitRule n.kind) → Kept policy filter cert (Split j)
           split_up_to = up_to (λ xs k m. SplitRule m.kind) (λ j m k. k.split)
 
-          entail_up_to : (j : ℕ) → j ≤ i → (j ≡ i → EntailRule (insns_of filter) ns n) → Kept policy filter cert (Entail j)
-          entail_up_to = up_to (λ xs k m. EntailRule (insns_of filter) xs m) (λ j m k. k.entail)
+          entail_up_to : (j : ℕ) → j ≤ i → (j ≡ i → EntailRule policy (insns_of filter) ns n) → Kept policy filter cert (Entail j)
+          entail_up_to = up_to (λ xs k m. EntailRule policy (insns_of filter) xs m) (λ j m k. k.entail)
 
-          return_up_to : (j : ℕ) → j ≤ i → (j ≡ i → n.kind ≡ kind.Return → ReturnRule policy (insns_of filter) n) → Kept policy filter cert (Return j)
+          return_up_to : (j : ℕ) → j ≤ i → (j ≡ i → n.kind ≡ kind.Return → ReturnRule policy (insns_of filter) n)
+              → Kept policy filter cert (Return j)
           return_up_to = up_to (λ xs k m. m.kind ≡ kind.Return → ReturnRule policy (insns_of filter) m) (λ j m k. k.return)
 
           -- all that is looked for before a turn of node i
           before_turn : (turn : ℕ) → turn ≤ 7 + 4 * i → (4 + 4 * i < turn → EdgeRule (insns_of filter) ns i n)
-              → (5 + 4 * i < turn → SplitRule n.kind) → (6 + 4 * i < turn → EntailRule (insns_of filter) ns n) → KeptBefore policy filter cert turn
+              → (5 + 4 * i < turn → SplitRule n.kind) → (6 + 4 * i < turn → EntailRule policy (insns_of filter) ns n)
+              → KeptBefore policy filter cert turn
           before_turn turn most edge split entail (View d) lt = whole
           before_turn turn most edge split entail (Kernel d) lt = accepted
           before_turn turn most edge split entail (Form d) lt = (ns, spelled)

@@ -1,23 +1,30 @@
 -- A valid certificate follows each run to a return whose word the profile says.
-use Rattle.std.proofs.Common.{◌≡◌, ◌==◌, ℕ, zero, suc, ◌+◌, ◌<◌, ◌≤◌, Bool, true, false, cond, List, [], ◌∷◌, ◌++◌, length, Option, Some, None, sym, refl, ap, ◌∙◌, subst, inl, inr, ◌⊎◌, arith}
+use Rattle.std.proofs.Common.{◌≡◌, ◌==◌, ℕ, zero, suc, ◌+◌, ◌<◌, ◌≤◌, Bool, true, false, cond, List, [], ◌∷◌, ◌++◌}
+use Rattle.std.proofs.Common.{length, Option, Some, None, sym, refl, ap, ◌∙◌, subst, inl, inr, ◌⊎◌, arith}
 use Rattle.std.specs.Prelude.{bit_and, slice_index, slice_index_or, slice_get, unwrap_or, All, Contains, IfSome, option_to_list}
 use Rattle.std.proofs.lemmas.List.Elements.{All-contains, All-append, All-nil, All-cons}
 use Rattle.cert_check.proofs.Elements.{contains_at, each_of}
 use Rattle.std.proofs.lemmas.Bool.{cases_eq, cases_lt}
 use Rattle.std.proofs.lemmas.Option.{slice_get_within, same_Some, cond_some, none-some, unwrap_or-slice_get}
-use Rattle.call_record.specs.Words.{IsRecord}
+use Rattle.call_record.specs.Words.{IsRecord, argument}
 use Rattle.bpf_insn.specs.declared.code.Operand.{Operand}
 use Rattle.bpf_insn.specs.declared.code.Test.{Test}
 use Rattle.bpf_insn.specs.declared.code.Operation.{Operation}
-use Rattle.bpf_insn.specs.declared.code.Operation.TheVariants.{LoadWord, LoadScratch, LoadScratchX, ReturnK, ReturnA, Jump, Branch, ShiftLeft, ShiftRight}
+use Rattle.bpf_insn.specs.declared.code.Operation.TheVariants.{LoadWord, LoadScratch, LoadScratchX, ReturnK}
+use Rattle.bpf_insn.specs.declared.code.Operation.TheVariants.{ReturnA, Jump, Branch, ShiftLeft, ShiftRight}
 use Rattle.bpf_insn.specs.declared.instruction.Insn.{Insn}
 use Rattle.bpf_insn.specs.Code.{operation_of}
-use Rattle.bpf_insn.specs.Machine.{Registers, Step, Ends, Goes, Stuck, Ending, after_one, ending, start, holds, operand, loaded, loaded_x, with_a, kept, word_at, perform_if, step}
+use Rattle.bpf_insn.specs.Machine.{Registers, Step, Ends, Goes, Stuck, Ending, after_one, ending, start, holds}
+use Rattle.bpf_insn.specs.Machine.{operand, loaded, loaded_x, with_a, kept, word_at, perform_if, step}
 use Rattle.bpf_insn.proofs.RunLaws.{ending_ends, ending_goes, ending_stuck}
 use Rattle.kernel_check.specs.Accepted.{IsAccepted}
 use Rattle.kernel_check.specs.Paths.{LeadsTo}
 use Rattle.kernel_check.proofs.RunLaws.{leads, plain}
+use Rattle.profile.specs.declared.conditions.Cond.{Cond}
+use Rattle.profile.specs.declared.rules.Rule.{Rule}
 use Rattle.profile.specs.Policy.{Policy, Says}
+use Rattle.profile.specs.Rule.{Matches}
+use Rattle.profile.specs.Condition.{Meets}
 use Rattle.cert_state.specs.declared.literal.Lit.{Lit}
 use Rattle.cert_state.specs.declared.literal.Lit.TheVariants.{In, Bits, NotBits}
 use Rattle.cert_state.specs.declared.literal.AVal.{AVal}
@@ -33,8 +40,10 @@ use Rattle.cert_state.proofs.EdgeLaws.{follows_fact}
 use Rattle.cert_form.specs.declared.node.Kind.{Kind}
 use Rattle.cert_form.specs.declared.node.Kind.TheVariants as kind
 use Rattle.cert_form.specs.Nodes.{PlainNode}
-use Rattle.cert_check.specs.Agree.{Agrees}
-use Rattle.cert_check.specs.Rules.{no_node, Edge, one_edge, step_edges, edges_by, Leads, Covers, SplitRule, Allows, Carries, value_word, word_by, Keeps, IsValid}
+use Rattle.cert_check.specs.Agree.{Agrees, IsRefuted, IsYes}
+use Rattle.cert_check.proofs.Agreement.{AreOut, AreMet, refuted_rule, yes_condition}
+use Rattle.cert_check.specs.Rules.{no_node, Edge, one_edge, step_edges, edges_by, Leads, Covers, SplitRule, Allows}
+use Rattle.cert_check.specs.Rules.{IsOutOn, IsMetBy, Carries, known_on, value_word, word_by, Keeps, IsValid}
 
 -- what gives a word after one instruction gives it before
 after_one_gives : (e : Ending) (v n : ℕ) → after_one e ≡ Some (v, n) → (m : ℕ) × (e ≡ Some (v, m))
@@ -90,6 +99,10 @@ steps_go (Some ShiftLeft) r i s n first second out word leave e = guarded_goes _
 steps_go (Some ShiftRight) r i s n first second out word leave e = guarded_goes _ _ s word e
 steps_go (Some _) r i s n first second out word leave e = cc
 
+-- what a node says of rules is true
+abbrev IsTrueOf : Policy → List ℕ → List (ℕ × ℕ) → List ℕ → Type 0
+IsTrueOf policy out met r = AreOut policy out r × AreMet policy met r
+
 module _ (r : List ℕ) (rec : IsRecord r) (p : List Insn) (accepted : IsAccepted p) (policy : Policy) where
   -- from this position, with these registers, only words that the profile says are given
   abbrev Right : ℕ → Registers → Type 0
@@ -113,7 +126,8 @@ module _ (r : List ℕ) (rec : IsRecord r) (p : List Insn) (accepted : IsAccepte
 
   -- the only edge of an instruction that goes on
   one_way : (i : Insn) (n : PlainNode) (s t : Registers) (skip first second pc : ℕ) (out : List Edge) → slice_get p n.pc ≡ Some i
-      → step r i s ≡ Goes skip t → Inside n.regs n.known r s → pc ≡ n.pc + 1 + skip → one_edge first second pc (transfer n.regs i) ≡ Some out
+      → step r i s ≡ Goes skip t → Inside n.regs n.known r s → pc ≡ n.pc + 1 + skip
+      → one_edge first second pc (transfer n.regs i) ≡ Some out
       → Way n s out
   one_way i n s t skip first second pc out found e inside at leave =
       let edge : Edge = record { to = first; pc = pc; fact = None; regs = transfer n.regs i } in
@@ -129,7 +143,8 @@ module _ (r : List ℕ) (rec : IsRecord r) (p : List Insn) (accepted : IsAccepte
 
   -- the edge of a jump that is taken, or is not
   branch_way : (i : Insn) (n : PlainNode) (s : Registers) (test : Test) (c : Operand) (first second : ℕ) (out : List Edge) (b : Bool)
-      → holds test s.a (operand c i s) ≡ b → operation_of i.code ≡ Some (Branch test c) → slice_get p n.pc ≡ Some i → Inside n.regs n.known r s
+      → holds test s.a (operand c i s) ≡ b → operation_of i.code ≡ Some (Branch test c)
+      → slice_get p n.pc ≡ Some i → Inside n.regs n.known r s
       → step_edges (Some (Branch test c)) n first second i ≡ Some out → Way n s out
   branch_way i n s test c first second out true is op found inside leave =
       let edge : Edge = record { to = first; pc = n.pc + 1 + i.jt; fact = edge_fact n.regs i true; regs = transfer n.regs i } in
@@ -190,10 +205,24 @@ module _ (r : List ℕ) (rec : IsRecord r) (p : List Insn) (accepted : IsAccepte
       → edges_by (kind.Split c d first second) n i ≡ Some out → Holds c r ⊎ Holds d r → Way n s out
   split_way n s first second c d i out inside leave (inl h) =
       let edge : Edge = record { to = first; pc = n.pc; fact = Some c; regs = n.regs } in
-      record { edge = edge; stands = subst (λ es. Contains es edge) (same_Some _ out leave) (0, omega arith, refl); fact = h; next = s; fits = inside; on = λ h. h }
+      record {
+        edge = edge;
+        stands = subst (λ es. Contains es edge) (same_Some _ out leave) (0, omega arith, refl);
+        fact = h;
+        next = s;
+        fits = inside;
+        on = λ h. h;
+      }
   split_way n s first second c d i out inside leave (inr h) =
       let edge : Edge = record { to = second; pc = n.pc; fact = Some d; regs = n.regs } in
-      record { edge = edge; stands = subst (λ es. Contains es edge) (same_Some _ out leave) (1, omega arith, refl); fact = h; next = s; fits = inside; on = λ h. h }
+      record {
+        edge = edge;
+        stands = subst (λ es. Contains es edge) (same_Some _ out leave) (1, omega arith, refl);
+        fact = h;
+        next = s;
+        fits = inside;
+        on = λ h. h;
+      }
 
   -- a register at the node that an edge leads to is as that says
   allowed : (there here : AVal) (a : ℕ) → Allows there here → HasValue here r a → HasValue there r a
@@ -213,37 +242,85 @@ module _ (r : List ℕ) (rec : IsRecord r) (p : List Insn) (accepted : IsAccepte
         by_case None e = tt
         by_case (Some v) e = h k v e
 
+  -- what is known on an edge is true
+  more_holds : (n : PlainNode) → All (λ l. Holds l r) n.known → (o : Option Lit) → IfSome o (λ l. Holds l r)
+      → All (λ l. Holds l r) (n.known ++ option_to_list o)
+  more_holds n known None h = All-append (λ l. Holds l r) n.known [] known (All-nil (λ l. Holds l r))
+  more_holds n known (Some l) h = All-append (λ l. Holds l r) n.known (l
+      ∷ []) known (All-cons (λ l. Holds l r) l [] h (All-nil (λ l. Holds l r)))
+
   -- what an edge carries, its node may say
   arrives : (n : PlainNode) (e : Edge) (m : PlainNode) (s : Registers) → Inside e.regs n.known r s → IfSome e.fact (λ l. Holds l r)
-      → Carries n.known e m → Inside m.regs m.known r s
+      → Carries policy n e m → Inside m.regs m.known r s
   arrives n e m s inside fact carries =
-      let so = more_holds e.fact fact in
+      let so = more_holds n inside.known e.fact fact in
       record {
         known = each_of (λ l. Holds l r) m.known (λ l has.
-            entailed_is_true r rec (n.known ++ option_to_list e.fact) so l (All-contains (Entails (n.known ++ option_to_list e.fact)) m.known l carries.literals has));
+            entailed_is_true r rec (n.known
+            ++ option_to_list e.fact) so l (All-contains (Entails (n.known ++ option_to_list e.fact)) m.known l carries.literals has));
         has_a = allowed m.regs.a e.regs.a s.a carries.for_a inside.has_a;
         has_x = allowed m.regs.x e.regs.x s.x carries.for_x inside.has_x;
         sixteen = inside.sixteen;
         has_scratch = λ k v at. allowed_kept v (slice_index_or e.regs.scratch k Unknown) (kept s k) (carries.for_scratch k v at) (kept_at e.regs s k inside.has_scratch);
       }
+
+  -- a rule that is out there does not match, since it was out at the node or is refuted
+  arrives_out : (n : PlainNode) (e : Edge) (m : PlainNode) → All (λ l. Holds l r) n.known
+      → AreOut policy n.out r → IfSome e.fact (λ l. Holds l r)
+      → Carries policy n e m → AreOut policy m.out r
+  arrives_out n e m known gone fact carries = λ place rule has stands.
+      let is = All-contains (IsOutOn policy n e) m.out place carries.outs has in
+      let same : is.rule ≡ rule = same_Some is.rule rule (sym is.stands ∙ stands) in
+      by_reason place rule stands (subst (λ x. Contains n.out place ⊎ IsRefuted (known_on n e) x) same is.reason)
     where
-      more_holds : (o : Option Lit) → IfSome o (λ l. Holds l r) → All (λ l. Holds l r) (n.known ++ option_to_list o)
-      more_holds None h = All-append (λ l. Holds l r) n.known [] inside.known (All-nil (λ l. Holds l r))
-      more_holds (Some l) h = All-append (λ l. Holds l r) n.known (l ∷ []) inside.known (All-cons (λ l. Holds l r) l [] h (All-nil (λ l. Holds l r)))
+      by_reason : (place : ℕ) (rule : Rule) → slice_get policy.rules place ≡ Some rule
+          → Contains n.out place ⊎ IsRefuted (known_on n e) rule
+          → Matches rule r → ⊥
+      by_reason place rule stands (inl before) = gone place rule before stands
+      by_reason place rule stands (inr refuted) = refuted_rule r rec (known_on n e) (more_holds n known e.fact fact) rule refuted
 
-  module _ (ns : List PlainNode) (settles : (known : List Lit) (w : ℕ) → Agrees policy known w → All (λ l. Holds l r) known → Says policy r w) where
-    -- from node j, wherever a run is inside it, only words that the profile says are given
+  -- a condition that is met there is met, since it was so at the node or is yes
+  arrives_met : (n : PlainNode) (e : Edge) (m : PlainNode) → All (λ l. Holds l r) n.known
+      → AreMet policy n.met r → IfSome e.fact (λ l. Holds l r)
+      → Carries policy n e m → AreMet policy m.met r
+  arrives_met n e m known so_met fact carries = λ place own rule c has stands its.
+      let is = All-contains (IsMetBy policy n.met (known_on n e)) m.met (place, own) carries.mets has in
+      let same : is.rule ≡ rule = same_Some is.rule rule (sym is.stands ∙ stands) in
+      let one : is.cond ≡ c = same_Some is.cond c (sym is.its ∙ subst (λ x. slice_get x.conds.items own ≡ Some c) (sym same) its) in
+      by_reason place own rule c stands its (subst (λ x. Contains n.met (place, own) ⊎ IsYes (known_on n e) x) one is.reason)
+    where
+      by_reason : (place own : ℕ) (rule : Rule) (c : Cond) → slice_get policy.rules place ≡ Some rule
+          → slice_get rule.conds.items own ≡ Some c
+          → Contains n.met (place, own) ⊎ IsYes (known_on n e) c → Meets c (argument r c.index)
+      by_reason place own rule c stands its (inl before) = so_met place own rule c before stands its
+      by_reason place own rule c stands its (inr settled) = yes_condition r rec (known_on n e) (more_holds n known e.fact fact) c settled
+
+  arrives_told : (n : PlainNode) (e : Edge) (m : PlainNode) → All (λ l. Holds l r) n.known → IsTrueOf policy n.out n.met r
+      → IfSome e.fact (λ l. Holds l r) → Carries policy n e m → IsTrueOf policy m.out m.met r
+  arrives_told n e m known told fact carries =
+      (arrives_out n e m known told.0 fact carries, arrives_met n e m known told.1 fact carries)
+
+  module _ (ns : List PlainNode)
+      (settles : (out : List ℕ) (met : List (ℕ × ℕ)) (known : List Lit) (w : ℕ) → Agrees policy out met known w → All (λ l. Holds l r) known
+      → IsTrueOf policy out met r → Says policy r w) where
+    -- from node j, wherever a run is inside it and what it says of rules is true, only words that the profile says are
+    -- given
     abbrev GoesFrom : ℕ → Type 0
-    GoesFrom j = (m : PlainNode) → slice_get ns j ≡ Some m → (s : Registers) → Inside m.regs m.known r s → Right m.pc s
+    GoesFrom j =
+        (m : PlainNode) → slice_get ns j ≡ Some m → (s : Registers) → Inside m.regs m.known r s
+        → IsTrueOf policy m.out m.met r → Right m.pc s
 
-    along : (i : ℕ) (n : PlainNode) (s : Registers) (out : List Edge) → All (Leads ns i) out
-        → All (λ e. (m : PlainNode) → slice_get ns e.to ≡ Some m → Carries n.known e m) out → ((j : ℕ) → i < j → GoesFrom j) → Way n s out → Right n.pc s
-    along i n s out lead carry later way =
+    along : (i : ℕ) (n : PlainNode) (s : Registers) (out : List Edge) → All (λ l. Holds l r) n.known
+        → IsTrueOf policy n.out n.met r → All (Leads ns i) out
+        → All (λ e. (m : PlainNode) → slice_get ns e.to ≡ Some m → Carries policy n e m) out
+        → ((j : ℕ) → i < j → GoesFrom j) → Way n s out → Right n.pc s
+    along i n s out known gone lead carry later way =
         let e = way.edge in
         let there = All-contains (Leads ns i) out e lead way.stands in
         let m = there.1.0 in
-        let carried = All-contains (λ e. (m : PlainNode) → slice_get ns e.to ≡ Some m → Carries n.known e m) out e carry way.stands m there.1.1 in
-        let right = later e.to there.0 m there.1.1 way.next (arrives n e m way.next way.fits way.fact carried) in
+        let carried = All-contains (λ e. (m : PlainNode) → slice_get ns e.to ≡ Some m
+        → Carries policy n e m) out e carry way.stands m there.1.1 in
+        let right = later e.to there.0 m there.1.1 way.next (arrives n e m way.next way.fits way.fact carried) (arrives_told n e m known gone way.fact carried) in
         way.on (subst (λ pc. Right pc way.next) there.1.2 right)
 
     at_step : (first second i : ℕ) (n : PlainNode) (s : Registers) (insn : Insn) (out : List Edge) (does : Step) → step r insn s ≡ does
@@ -256,30 +333,36 @@ module _ (r : List ℕ) (rec : IsRecord r) (p : List Insn) (accepted : IsAccepte
     at_step first second i n s insn out Stuck does found leave inside on = λ v count given.
         absurd (none-some (v, count) (sym (ending_stuck p n.pc insn s r found does) ∙ given))
 
-    at_node : (k : Kind) (i : ℕ) (n : PlainNode) (s : Registers) → n.kind ≡ k → Keeps policy p ns i n → Inside n.regs n.known r s
+    at_node : (k : Kind) (i : ℕ) (n : PlainNode) (s : Registers) → n.kind ≡ k → Keeps policy p ns i n
+        → Inside n.regs n.known r s → IsTrueOf policy n.out n.met r
         → ((j : ℕ) → i < j → GoesFrom j) → Right n.pc s
-    at_node (kind.Step first second) i n s is keeps inside later =
+    at_node (kind.Step first second) i n s is keeps inside gone later =
         let rule = keeps.edge in
-        let leave : edges_by (kind.Step first second) n rule.insn ≡ Some rule.out = ap (λ k. edges_by k n rule.insn) (sym is) ∙ rule.leave in
+        let leave : edges_by (kind.Step first second) n rule.insn ≡ Some rule.out = ap (λ k. edges_by k n rule.insn) (sym is)
+        ∙ rule.leave in
         at_step first second i n s rule.insn rule.out (step r rule.insn s) refl rule.inside leave inside
-        (along i n s rule.out rule.lead (keeps.entail.carry rule.insn rule.out rule.inside rule.leave) later)
-    at_node (kind.Split c d first second) i n s is keeps inside later =
+        (along i n s rule.out inside.known gone rule.lead (keeps.entail.carry rule.insn rule.out rule.inside rule.leave) later)
+    at_node (kind.Split c d first second) i n s is keeps inside gone later =
         let rule = keeps.edge in
-        let leave : edges_by (kind.Split c d first second) n rule.insn ≡ Some rule.out = ap (λ k. edges_by k n rule.insn) (sym is) ∙ rule.leave in
-        along i n s rule.out rule.lead (keeps.entail.carry rule.insn rule.out rule.inside rule.leave) later
+        let leave : edges_by (kind.Split c d first second) n rule.insn ≡ Some rule.out = ap (λ k. edges_by k n rule.insn) (sym is)
+        ∙ rule.leave in
+        along i n s rule.out inside.known gone rule.lead (keeps.entail.carry rule.insn rule.out rule.inside rule.leave) later
         (split_way n s first second c d rule.insn rule.out inside leave (split_covers c d (subst SplitRule is keeps.split)))
-    at_node kind.Return i n s is keeps inside later = λ v count given.
+    at_node kind.Return i n s is keeps inside gone later = λ v count given.
         let rule = keeps.return is in
         let does = returns (operation_of rule.insn.code) r rule.insn s n.regs rule.word rule.known in
-        let word : does.0 ≡ v = ap (λ (end : ℕ × ℕ). end.0) (same_Some (does.0, 1) (v, count) (sym (ending_ends p n.pc rule.insn s r does.0 rule.inside does.1) ∙ given)) in
+        let word : does.0 ≡ v = ap (λ (end : ℕ × ℕ). end.0) (same_Some (does.0, 1) (
+          v,
+          count,
+        ) (sym (ending_ends p n.pc rule.insn s r does.0 rule.inside does.1) ∙ given)) in
         let same = ends_by (operation_of rule.insn.code) r rule.insn s n.regs does.0 rule.word inside.has_a does.1 rule.known in
-        subst (Says policy r) (sym same ∙ word) (settles n.known rule.word rule.agrees inside.known)
-    at_node kind.Dead i n s is keeps inside later = absurd (dead_is_none r rec n.known inside.known (keeps.entail.dead is))
+        subst (Says policy r) (sym same ∙ word) (settles n.out n.met n.known rule.word rule.agrees inside.known gone)
+    at_node kind.Dead i n s is keeps inside gone later = absurd (dead_is_none r rec n.known inside.known (keeps.entail.dead is))
 
     follow : ((i : ℕ) (n : PlainNode) → slice_get ns i ≡ Some n → Keeps policy p ns i n) → (fuel i : ℕ) → length ns ≤ i + fuel → GoesFrom i
-    follow each zero i enough m at s inside = absurd (omega (arith, slice_get_within ns i m at))
-    follow each (suc fuel) i enough m at s inside =
-        at_node m.kind i m s refl (each i m at) inside (λ j later. follow each fuel j (omega arith))
+    follow each zero i enough m at s inside gone = absurd (omega (arith, slice_get_within ns i m at))
+    follow each (suc fuel) i enough m at s inside gone =
+        at_node m.kind i m s refl (each i m at) inside gone (λ j later. follow each fuel j (omega arith))
 
     -- what the program gives is what the profile says
     pub only_right : IsValid policy p ns → Right 0 start
@@ -290,6 +373,11 @@ module _ (r : List ℕ) (rec : IsRecord r) (p : List Insn) (accepted : IsAccepte
           has_a = subst (λ v. HasValue v r 0) (sym root.a_is_zero) refl;
           has_x = subst (λ v. HasValue v r 0) (sym root.x_is_zero) refl;
           sixteen = refl;
-          has_scratch = λ k v at. subst (λ u. IsKept u r (kept start k)) (sym (All-contains (λ u. u ≡ Unknown) root.root.regs.scratch v root.none_stated (contains_at root.root.regs.scratch k v at))) tt;
+          has_scratch = λ k v at. subst (λ u. IsKept u r (kept start k)) (sym (All-contains (λ u. u
+              ≡ Unknown) root.root.regs.scratch v root.none_stated (contains_at root.root.regs.scratch k v at))) tt;
         } in
-        subst (λ pc. Right pc start) root.at_first (follow valid.each (length ns) 0 (omega arith) root.root root.first start inside)
+        let gone : IsTrueOf policy root.root.out root.root.met r = (
+          subst (λ os. AreOut policy os r) (sym root.none_out) (λ place rule has. absurd (omega (arith, has.1))),
+          subst (λ ms. AreMet policy ms r) (sym root.none_met) (λ place own rule c has. absurd (omega (arith, has.1))),
+        ) in
+        subst (λ pc. Right pc start) root.at_first (follow valid.each (length ns) 0 (omega arith) root.root root.first start inside gone)

@@ -39,13 +39,16 @@ order_test op value datum u b order h = by_answer b refl where
       ])
 
 -- an answer at both ends is the one at these
-ends_answer : (known : List Lit) (j : ℕ) (op : Op) (value low high : ℕ) (answer : Bool) → AreEnds known j low high → AtBothEnds known j op value answer
+ends_answer : (known : List Lit) (j : ℕ) (op : Op) (value low high : ℕ) (answer : Bool)
+    → AreEnds known j low high → AtBothEnds known j op value answer
     → (compares op value 0 low ≡ answer) × (compares op value 0 high ≡ answer)
 ends_answer known j op value low high answer e h =
     let a = same_range known (4 + 2 * j) e.least e.greatest h.low h.high e.range h.range in
     let b = same_range known (5 + 2 * j) e.least_above e.greatest_above h.low_above h.high_above e.range_above h.range_above in
-    let low_is : low ≡ h.low + 2 ^ 32 * h.low_above = e.low_is ∙ (ap (λ n. n + 2 ^ 32 * e.least_above) a.0 ∙ ap (λ n. h.low + 2 ^ 32 * n) b.0) in
-    let high_is : high ≡ h.high + 2 ^ 32 * h.high_above = e.high_is ∙ (ap (λ n. n + 2 ^ 32 * e.greatest_above) a.1 ∙ ap (λ n. h.high + 2 ^ 32 * n) b.1) in
+    let low_is : low ≡ h.low + 2 ^ 32 * h.low_above = e.low_is
+    ∙ (ap (λ n. n + 2 ^ 32 * e.least_above) a.0 ∙ ap (λ n. h.low + 2 ^ 32 * n) b.0) in
+    let high_is : high ≡ h.high + 2 ^ 32 * h.high_above = e.high_is
+    ∙ (ap (λ n. n + 2 ^ 32 * e.greatest_above) a.1 ∙ ap (λ n. h.high + 2 ^ 32 * n) b.1) in
     (ap (λ n. compares op value 0 n) low_is ∙ h.at_low, ap (λ n. compares op value 0 n) high_is ∙ h.at_high)
 
 -- and these give it
@@ -63,8 +66,10 @@ both_ends known j op value datum low high answer order e at_low at_high = record
 }
 
 -- no other answer stands at both ends
-pub not_both_ends : (known : List Lit) (j : ℕ) (op : Op) (value datum low high : ℕ) (b answer : Bool) → IsOrder op → AreEnds known j low high
-    → (IsTrue b ↔ Compares op value datum low) ⊎ (IsTrue b ↔ Compares op value datum high) → b ≢ answer → AtBothEnds known j op value answer → ⊥
+pub not_both_ends : (known : List Lit) (j : ℕ) (op : Op) (value datum low high : ℕ) (b answer : Bool)
+    → IsOrder op → AreEnds known j low high
+    → (IsTrue b ↔ Compares op value datum low) ⊎ (IsTrue b ↔ Compares op value datum high)
+    → b ≢ answer → AtBothEnds known j op value answer → ⊥
 not_both_ends known j op value datum low high b answer order e (inl at) differ h =
     differ (sym (order_test op value datum low b order at) ∙ (ends_answer known j op value low high answer e h).0)
 not_both_ends known j op value datum low high b answer order e (inr at) differ h =

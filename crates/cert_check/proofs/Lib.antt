@@ -1,4 +1,6 @@
 pub mod Elements
+pub mod OutsLaws
+pub mod MetsLaws
 pub mod Agreement
 pub mod Follow
 pub mod Right

@@ -24,7 +24,8 @@ found_at policy p ns i n found at h m stands =
 pub no_insn : (p : List Insn) (ns : List PlainNode) (i : ℕ) (n : PlainNode) → slice_get p n.pc ≡ None → EdgeRule p ns i n → ⊥
 no_insn p ns i n past rule = none-some rule.insn (sym past ∙ rule.inside)
 
-module _ (policy : Policy) (p : List Insn) (ns : List PlainNode) (i : ℕ) (n : PlainNode) (insn : Insn) (at : slice_get p n.pc ≡ Some insn) where
+module _ (policy : Policy) (p : List Insn) (ns : List PlainNode) (i : ℕ) (n : PlainNode) (insn : Insn) (at : slice_get p n.pc
+    ≡ Some insn) where
   -- an instruction where the node may not stand
   pub no_edges : edges n insn ≡ None → EdgeRule p ns i n → ⊥
   no_edges none rule =
@@ -57,13 +58,13 @@ module _ (policy : Policy) (p : List Insn) (ns : List PlainNode) (i : ℕ) (n : 
     pub there : All (Leads ns i) out → All (λ e. e.to < length ns) out
     there lead = All-weaker (Leads ns i) (λ e. e.to < length ns) (λ e l. slice_get_within ns e.to l.1.0 l.1.1) out lead
 
-    pub entail_from : All (CarriesTo ns n) out × (n.kind ≡ kind.Dead → IsDead n.known) → EntailRule p ns n
+    pub entail_from : All (CarriesTo policy ns n) out × (n.kind ≡ kind.Dead → IsDead n.known) → EntailRule policy p ns n
     entail_from h = record {
-      carry = λ j es stands its. subst (All (CarriesTo ns n)) (sym (same_out j es stands its)) h.0;
+      carry = λ j es stands its. subst (All (CarriesTo policy ns n)) (sym (same_out j es stands its)) h.0;
       dead = h.1;
     }
 
-    pub entail_back : EntailRule p ns n → All (CarriesTo ns n) out × (n.kind ≡ kind.Dead → IsDead n.known)
+    pub entail_back : EntailRule policy p ns n → All (CarriesTo policy ns n) out × (n.kind ≡ kind.Dead → IsDead n.known)
     entail_back rule = (rule.carry insn out at leave, rule.dead)
 
 -- one node more
@@ -78,11 +79,19 @@ keep_one_more policy p ns i before here j m lt at =
     ]
 
 -- the first node that breaks a rule
-pub found_first : (policy : Policy) (p : List Insn) (ns : List PlainNode) (i : ℕ) (e : CheckError) → RootRule ns → i < length ns → KeepBefore policy p ns i
+pub found_first : (policy : Policy) (p : List Insn) (ns : List PlainNode) (i : ℕ) (e : CheckError)
+    → RootRule ns → i < length ns → KeepBefore policy p ns i
     → ((n : PlainNode) → slice_get ns i ≡ Some n → IsBrokenAt policy p ns i n e) → IsFound policy p ns e
 found_first policy p ns i e root inside before broken =
     elim (slice_get_cases ns i).1 [
-      | inl here ↦ as_found e (record { root = root; place = i; node = here.0; at = here.2; before = before; broken = broken here.0 here.2 })
+      | inl here ↦ as_found e (record {
+        root = root;
+        place = i;
+        node = here.0;
+        at = here.2;
+        before = before;
+        broken = broken here.0 here.2;
+      })
       | inr past ↦ absurd (omega (arith, past.0))
     ] where
       as_found : (e : CheckError) → IsBrokenFirst policy p ns e → IsFound policy p ns e

@@ -13,7 +13,7 @@ use Rattle.cert_check.proofs.Follow.{only_right}
 pub right : ValidIsRight
 right policy p ns clear accepted valid r rec v =
     let run = runs p r accepted rec.length_is in
-    let says = only_right r rec p accepted policy ns (λ known w agrees so. agrees_sound r rec known so policy w clear agrees) valid in
+    let says = only_right r rec p accepted policy ns (λ out met known w agrees so told. agrees_sound r rec known so policy out met w clear agrees told.0 told.1) valid in
     let gives : verdict_of p r ≡ Some run.0 = ap (λ e. option_map (λ (end : ℕ × ℕ). end.0) e) run.2 in
     let one = each_record_is_said_one_word policy r v clear rec in
     let its = each_record_is_said_one_word policy r run.0 clear rec in

@@ -1,34 +1,40 @@
 -- One condition more, and one rule more.
-use Rattle.std.proofs.Common.{◌≡◌, ◌≢◌, ℕ, ◌+◌, ◌<◌, Bool, true, false, List, length, sym, subst, ◌∙◌, inl, inr, ◌⊎◌, arith}
-use Rattle.std.specs.Prelude.{slice_index_or}
+use Rattle.std.proofs.Common.{◌≡◌, ◌≢◌, ℕ, ◌+◌, ◌<◌, Bool, true, false, List, length, ap, sym, subst, ◌∙◌, inl, inr, ◌⊎◌, arith}
+use Rattle.std.specs.Prelude.{slice_index_or, Some}
 use Rattle.std.proofs.lemmas.Bool.{cases_lt}
 use Rattle.std.proofs.lemmas.List.{get_or_default}
+use Rattle.std.proofs.lemmas.Option.{slice_get-get_or}
 use Rattle.call_tables.specs.declared.arch.Arch.{Arch}
-use Rattle.call_tables.specs.Arch.{token_of}
 use Rattle.profile.specs.declared.conditions.Cond.{Cond}
 use Rattle.profile.specs.declared.rules.Rule.{Rule}
 use Rattle.cert_state.specs.declared.literal.Lit.{Lit}
-use Rattle.cert_check.specs.Agree.{IsYes, IsNo, IsYesRule, IsNoRule}
-use Rattle.cert_check.specs.inner.Judged.{ConditionsSoFar, RulesSoFar, IsOther}
+use Rattle.cert_check.specs.Agree.{IsYes, IsNo, IsYesRule, IsNoRule, IsLeft, AllAreYes, OneIsNo}
+use Rattle.cert_check.specs.inner.Judged.{ConditionsSoFar, LeftSoFar, IsYesOrMet, IsNoNorMet, RulesSoFar, IsOther}
 
--- what holds of the first elements and of the next one holds of one more
-pub one_more : {X : Type 0} (P : X → Type 0) (xs : List X) (n : ℕ) (x : X) → n < length xs → slice_index_or xs n x ≡ x
-    → ((k : ℕ) (d : X) → k < n → P (slice_index_or xs k d)) → P x → (k : ℕ) (d : X) → k < n + 1 → P (slice_index_or xs k d)
-one_more P xs n x inside at before here k d lt =
+-- what holds of the first elements at their places and of the next one holds of one more
+pub one_more_placed : {X : Type 0} (P : ℕ → X → Type 0) (xs : List X) (n : ℕ) (x : X) → n < length xs → slice_index_or xs n x ≡ x
+    → ((k : ℕ) (d : X) → k < n → P k (slice_index_or xs k d)) → P n x → (k : ℕ) (d : X) → k < n + 1 → P k (slice_index_or xs k d)
+one_more_placed P xs n x inside at before here k d lt =
     elim (cases_lt k n) [
       | inl earlier ↦ before k d earlier
       | inr later ↦
           let same : n ≡ k = omega arith in
-          subst (λ j. P (slice_index_or xs j d)) same (subst P (sym (get_or_default xs n d x inside ∙ at)) here)
+          subst (λ j. P j (slice_index_or xs j d)) same (subst (P n) (sym (get_or_default xs n d x inside ∙ at)) here)
     ]
+
+pub one_more : {X : Type 0} (P : X → Type 0) (xs : List X) (n : ℕ) (x : X) → n < length xs → slice_index_or xs n x ≡ x
+    → ((k : ℕ) (d : X) → k < n → P (slice_index_or xs k d)) → P x → (k : ℕ) (d : X) → k < n + 1 → P (slice_index_or xs k d)
+one_more P xs n x inside at before here = one_more_placed (λ k x. P x) xs n x inside at before here
 
 -- the same where the next element is named by its place
 pub one_more_at : {X : Type 0} (P : X → Type 0) (xs : List X) (n : ℕ) (d0 : X) → n < length xs
-    → ((k : ℕ) (d : X) → k < n → P (slice_index_or xs k d)) → P (slice_index_or xs n d0) → (k : ℕ) (d : X) → k < n + 1 → P (slice_index_or xs k d)
+    → ((k : ℕ) (d : X) → k < n → P (slice_index_or xs k d)) → P (slice_index_or xs n d0)
+    → (k : ℕ) (d : X) → k < n + 1 → P (slice_index_or xs k d)
 one_more_at P xs n d0 inside before here =
     one_more P xs n (slice_index_or xs n d0) inside (get_or_default xs n (slice_index_or xs n d0) d0 inside) before here
 
-pub condition_is_yes : (known : List Lit) (conds : List Cond) (n : ℕ) (b : Bool) (c : Cond) → n < length conds → slice_index_or conds n c ≡ c
+pub condition_is_yes : (known : List Lit) (conds : List Cond) (n : ℕ) (b : Bool) (c : Cond)
+    → n < length conds → slice_index_or conds n c ≡ c
     → IsYes known c → ConditionsSoFar known conds n b → ConditionsSoFar known conds (n + 1) b
 condition_is_yes known conds n b c inside at yes_here so = record {
   yes_so_far = λ e. one_more (IsYes known) conds n c inside at (so.yes_so_far e) yes_here;
@@ -36,7 +42,8 @@ condition_is_yes known conds n b c inside at yes_here so = record {
   none_no = one_more (λ x. IsNo known x → ⊥) conds n c inside at so.none_no (λ never. never.1 yes_here);
 }
 
-pub condition_is_open : (known : List Lit) (conds : List Cond) (n : ℕ) (b : Bool) (c : Cond) → n < length conds → slice_index_or conds n c ≡ c
+pub condition_is_open : (known : List Lit) (conds : List Cond) (n : ℕ) (b : Bool) (c : Cond)
+    → n < length conds → slice_index_or conds n c ≡ c
     → (IsYes known c → ⊥) → (IsNo known c → ⊥) → ConditionsSoFar known conds n b → ConditionsSoFar known conds (n + 1) false
 condition_is_open known conds n b c inside at not_yes not_no so = record {
   yes_so_far = λ e. cc;
@@ -44,28 +51,60 @@ condition_is_open known conds n b c inside at not_yes not_no so = record {
   none_no = one_more (λ x. IsNo known x → ⊥) conds n c inside at so.none_no not_no;
 }
 
-module _ (known : List Lit) (v : ℕ) (arch : Arch) (rules : List Rule) (n : ℕ) (others : Bool) (rule : Rule)
-    (inside : n < length rules) (at : slice_index_or rules n rule ≡ rule) (so : RulesSoFar known v arch rules n others) where
-  -- a rule of another machine
-  pub rule_passed : token_of rule.arch ≢ token_of arch → RulesSoFar known v arch rules (n + 1) others
-  rule_passed other = record {
-    none_sure = one_more (λ x. token_of x.arch ≡ token_of arch → IsYesRule known x → x.word ≢ v) rules n rule inside at so.none_sure (λ is. absurd (other is));
-    settled = λ e. one_more (λ x. token_of x.arch ≡ token_of arch → IsNoRule known x ⊎ (x.word ≡ v)) rules n rule inside at (so.settled e) (λ is. absurd (other is));
+-- the same where some conditions are said to be met
+module _ (met : List (ℕ × ℕ)) (known : List Lit) (place : ℕ) (conds : List Cond) (n : ℕ) (b : Bool) (c : Cond)
+    (inside : n < length conds) (at : slice_index_or conds n c ≡ c) (so : LeftSoFar met known place conds n b) where
+  pub left_is_yes : IsYesOrMet met known place n c → LeftSoFar met known place conds (n + 1) b
+  left_is_yes here = record {
+    yes_so_far = λ e. one_more_placed (IsYesOrMet met known place) conds n c inside at (so.yes_so_far e) here;
+    not_all = so.not_all;
+    none_no = one_more_placed (λ k x. IsNoNorMet met known place k x → ⊥) conds n c inside at so.none_no
+        (λ never. elim here [ inl said ↦ never.0 said | inr is ↦ never.1.1 is ]);
+  }
+
+  pub left_is_open : (IsYesOrMet met known place n c → ⊥) → (IsNoNorMet met known place n c → ⊥)
+      → LeftSoFar met known place conds (n + 1) false
+  left_is_open not_yes not_no = record {
+    yes_so_far = λ e. cc;
+    not_all = λ e all. not_yes (all n c (slice_get-get_or conds n c inside ∙ ap Some at));
+    none_no = one_more_placed (λ k x. IsNoNorMet met known place k x → ⊥) conds n c inside at so.none_no not_no;
+  }
+
+module _ (out : List ℕ) (met : List (ℕ
+    × ℕ)) (known : List Lit) (v : ℕ) (arch : Arch) (rules : List Rule) (n : ℕ) (others : Bool) (rule : Rule)
+    (inside : n < length rules) (at : slice_index_or rules n rule ≡ rule) (so : RulesSoFar out met known v arch rules n others) where
+  -- a rule of another machine, or one that is out
+  pub rule_passed : (IsLeft out arch n rule → ⊥) → RulesSoFar out met known v arch rules (n + 1) others
+  rule_passed gone = record {
+    none_sure = one_more_placed (λ k x. IsLeft out arch k x → IsYesRule met known k x
+        → x.word ≢ v) rules n rule inside at so.none_sure (λ left. absurd (gone left));
+    settled = λ e. one_more_placed (λ k x. IsLeft out arch k x → IsNoRule met known k x
+        ⊎ (x.word ≡ v)) rules n rule inside at (so.settled e) (λ left. absurd (gone left));
     another = so.another;
   }
 
   -- a rule with the word, or one that is no
-  pub rule_settled : (IsYesRule known rule → rule.word ≢ v) → IsNoRule known rule ⊎ (rule.word ≡ v) → RulesSoFar known v arch rules (n + 1) others
+  pub rule_settled : (IsYesRule met known n rule → rule.word ≢ v) → IsNoRule met known n rule ⊎ (rule.word ≡ v)
+      → RulesSoFar out met known v arch rules (n + 1) others
   rule_settled not_sure fine = record {
-    none_sure = one_more (λ x. token_of x.arch ≡ token_of arch → IsYesRule known x → x.word ≢ v) rules n rule inside at so.none_sure (λ _. not_sure);
-    settled = λ e. one_more (λ x. token_of x.arch ≡ token_of arch → IsNoRule known x ⊎ (x.word ≡ v)) rules n rule inside at (so.settled e) (λ _. fine);
+    none_sure = one_more_placed (λ k x. IsLeft out arch k x → IsYesRule met known k x
+        → x.word ≢ v) rules n rule inside at so.none_sure (λ _. not_sure);
+    settled = λ e. one_more_placed (λ k x. IsLeft out arch k x → IsNoRule met known k x
+        ⊎ (x.word ≡ v)) rules n rule inside at (so.settled e) (λ _. fine);
     another = so.another;
   }
 
   -- a rule with another word that is not no
-  pub rule_is_other : token_of rule.arch ≡ token_of arch → IsOther known v rule → RulesSoFar known v arch rules (n + 1) true
-  rule_is_other its other = record {
-    none_sure = one_more (λ x. token_of x.arch ≡ token_of arch → IsYesRule known x → x.word ≢ v) rules n rule inside at so.none_sure (λ _ _. other.1);
+  pub rule_is_other : IsLeft out arch n rule → IsOther met known v n rule → RulesSoFar out met known v arch rules (n + 1) true
+  rule_is_other left other = record {
+    none_sure = one_more_placed (λ k x. IsLeft out arch k x → IsYesRule met known k x
+        → x.word ≢ v) rules n rule inside at so.none_sure (λ _ _. other.1);
     settled = λ e. cc;
-    another = λ e. (rule, (n, inside, at), its, other);
+    another = λ e. record {
+      place = n;
+      rule = rule;
+      stands = slice_get-get_or rules n rule inside ∙ ap Some at;
+      left = left;
+      other = other;
+    };
   }

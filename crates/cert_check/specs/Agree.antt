@@ -1,6 +1,6 @@
 -- Where what is known of a record settles the word that a profile says of it. Arguments have 64 bits, and what is
 -- known is of their halves: the low half of argument j is word 4 + 2 * j, the high half the word after it.
-use Rattle.std.specs.Prelude.{◌≡◌, ℕ, ◌+◌, ◌*◌, ◌/◌, ◌%◌, ◌^◌, ◌⊎◌, Bool, true, false, List, All, Contains}
+use Rattle.std.specs.Prelude.{◌≡◌, ℕ, ◌+◌, ◌*◌, ◌/◌, ◌%◌, ◌^◌, ◌⊎◌, Bool, true, false, List, All, Contains, Some, slice_get}
 use Rattle.call_tables.specs.declared.arch.Arch.{Arch}
 use Rattle.call_tables.specs.declared.arch.Arch.TheVariants.{X86_64}
 use Rattle.call_tables.specs.Arch.{token_of}
@@ -65,41 +65,78 @@ IsYes known c = IsYesBy c.op known c.index c.value c.datum
 abbrev pub IsNo : List Lit → Cond → Type 0
 IsNo known c = IsNoBy c.op known c.index c.value c.datum × (IsYes known c → ⊥)
 
--- so a rule: yes where the number is known to be its own and each condition is yes, no where the number is known
--- to be another or a condition is no
-abbrev pub IsYesRule : List Lit → Rule → Type 0
-IsYesRule known rule =
-    Entails known (Bits 0 all_bits rule.nr) × ((c : Cond) → Contains rule.conds.items c → IsYes known c)
+-- a condition that is no
+abbrev pub SomeIsNo : List Lit → List Cond → Type 0
+SomeIsNo known conds = (c : Cond) × Contains conds c × IsNo known c
 
-abbrev pub IsNoRule : List Lit → Rule → Type 0
-IsNoRule known rule =
-    (Entails known (NotBits 0 all_bits rule.nr) ⊎ ((c : Cond) × Contains rule.conds.items c × IsNo known c))
-    × (IsYesRule known rule → ⊥)
+-- what is known refutes a rule: the machine or the number is another than the rule's, or a condition is no
+abbrev pub IsRefuted : List Lit → Rule → Type 0
+IsRefuted known rule =
+    Entails known (NotBits 1 all_bits (token_of rule.arch))
+    ⊎ (Entails known (NotBits 0 all_bits rule.nr) ⊎ SomeIsNo known rule.conds.items)
 
--- a rule of the profile for the machine
-pub record IsRuleOf (policy : Policy) (arch : Arch) (rule : Rule) : Type 0 where
-  pub stands : Contains policy.rules rule
+-- Some conditions are said to be met, each by the place of its rule and its own among the rule's: they count as yes.
+-- The conditions of the rule at a place are all yes.
+abbrev pub AllAreYes : List (ℕ × ℕ) → List Lit → ℕ → List Cond → Type 0
+AllAreYes met known place conds = (own : ℕ) (c : Cond) → slice_get conds own ≡ Some c → Contains met (place, own) ⊎ IsYes known c
+
+-- one of them is no
+pub record OneIsNo (met : List (ℕ × ℕ)) (known : List Lit) (place : ℕ) (conds : List Cond) : Type 0 where
+  pub own : ℕ
+  pub cond : Cond
+  pub stands : slice_get conds own ≡ Some cond
+  pub not_met : Contains met (place, own) → ⊥
+  pub is_no : IsNo known cond
+
+-- so the rule at a place: yes where the number is known to be its own and each condition is yes, no where the number
+-- is known to be another or a condition is no
+abbrev pub IsYesRule : List (ℕ × ℕ) → List Lit → ℕ → Rule → Type 0
+IsYesRule met known place rule = Entails known (Bits 0 all_bits rule.nr) × AllAreYes met known place rule.conds.items
+
+abbrev pub IsNoRule : List (ℕ × ℕ) → List Lit → ℕ → Rule → Type 0
+IsNoRule met known place rule =
+    (Entails known (NotBits 0 all_bits rule.nr) ⊎ OneIsNo met known place rule.conds.items) × (IsYesRule met known place rule → ⊥)
+
+-- a rule at a place is for the machine, and is not said to be out
+pub record IsLeft (out : List ℕ) (arch : Arch) (place : ℕ) (rule : Rule) : Type 0 where
+  pub not_out : Contains out place → ⊥
   pub is_for : token_of rule.arch ≡ token_of arch
 
--- the rules of a machine agree with v: a rule that is yes has the word v; or none is yes, the default is v, and each
--- rule that is not no has the word v
-abbrev pub RulesAgree : Policy → List Lit → ℕ → Arch → Type 0
-RulesAgree policy known v arch =
-    ((rule : Rule) × IsRuleOf policy arch rule × IsYesRule known rule × (rule.word ≡ v))
-    ⊎ (((rule : Rule) → IsRuleOf policy arch rule → IsYesRule known rule → ⊥)
-    × (policy.default_word ≡ v)
-    × ((rule : Rule) → IsRuleOf policy arch rule → IsNoRule known rule ⊎ (rule.word ≡ v)))
+-- a rule stands at a place of the profile, and is left for the machine
+pub record IsRuleOf (policy : Policy) (out : List ℕ) (arch : Arch) (place : ℕ) (rule : Rule) : Type 0 where
+  pub stands : slice_get policy.rules place ≡ Some rule
+  pub left : IsLeft out arch place rule
+
+-- one that is yes has the word v
+pub record OneSays (policy : Policy) (out : List ℕ) (met : List (ℕ × ℕ)) (known : List Lit) (v : ℕ) (arch : Arch) : Type 0 where
+  pub place : ℕ
+  pub rule : Rule
+  pub is_of : IsRuleOf policy out arch place rule
+  pub is_yes : IsYesRule met known place rule
+  pub word : rule.word ≡ v
+
+-- none is yes, the default is v, and each one that is not no has the word v
+pub record NoneSays (policy : Policy) (out : List ℕ) (met : List (ℕ × ℕ)) (known : List Lit) (v : ℕ) (arch : Arch) : Type 0 where
+  pub none_yes : (place : ℕ) (rule : Rule) → IsRuleOf policy out arch place rule → IsYesRule met known place rule → ⊥
+  pub default : policy.default_word ≡ v
+  pub each : (place : ℕ) (rule : Rule) → IsRuleOf policy out arch place rule → IsNoRule met known place rule ⊎ (rule.word ≡ v)
+
+-- the rules that are left for a machine agree with v in one of these two ways
+abbrev pub RulesAgree : Policy → List ℕ → List (ℕ × ℕ) → List Lit → ℕ → Arch → Type 0
+RulesAgree policy out met known v arch = OneSays policy out met known v arch ⊎ NoneSays policy out met known v arch
 
 -- a machine agrees with v: v is 0 where an x32 number is possible, and its rules agree unless the number is one
-pub record MachineAgrees (policy : Policy) (known : List Lit) (v : ℕ) (arch : Arch) : Type 0 where
+pub record MachineAgrees (policy : Policy) (out : List ℕ) (met : List (ℕ × ℕ)) (known : List Lit) (v : ℕ) (arch : Arch) : Type 0 where
   pub foreign_numbers : token_of arch ≡ token_of X86_64 → Entails known (In 0 0 0x3fffffff) ⊎ (v ≡ 0)
-  pub rules : ((token_of arch ≡ token_of X86_64) × Entails known (In 0 0x40000000 all_bits)) ⊎ RulesAgree policy known v arch
+  pub rules : ((token_of arch ≡ token_of X86_64) × Entails known (In 0 0x40000000 all_bits)) ⊎ RulesAgree policy out met known v arch
 
 -- a listed machine is known to be another than the record's, or agrees
-abbrev pub ListedAgrees : Policy → List Lit → ℕ → Arch → Type 0
-ListedAgrees policy known v arch = Entails known (NotBits 1 all_bits (token_of arch)) ⊎ MachineAgrees policy known v arch
+abbrev pub ListedAgrees : Policy → List ℕ → List (ℕ × ℕ) → List Lit → ℕ → Arch → Type 0
+ListedAgrees policy out met known v arch =
+    Entails known (NotBits 1 all_bits (token_of arch)) ⊎ MachineAgrees policy out met known v arch
 
--- the profile agrees with v: v is 0 where a foreign record is possible, and each machine agrees that is possible
-pub record Agrees (policy : Policy) (known : List Lit) (v : ℕ) : Type 0 where
+-- the profile agrees with v where these rules are out and these conditions are met: v is 0 where a foreign record is
+-- possible, and each machine agrees that is possible
+pub record Agrees (policy : Policy) (out : List ℕ) (met : List (ℕ × ℕ)) (known : List Lit) (v : ℕ) : Type 0 where
   pub foreign : ((arch : Arch) × Contains policy.machines arch × Entails known (Bits 1 all_bits (token_of arch))) ⊎ (v ≡ 0)
-  pub machines : All (ListedAgrees policy known v) policy.machines
+  pub machines : All (ListedAgrees policy out met known v) policy.machines

@@ -32,7 +32,7 @@ Kept policy filter cert (Form e) = IsCertificate cert
 Kept policy filter cert Root = OfNodes cert RootRule
 Kept policy filter cert (Edge i) = AtNode cert i (λ ns n. EdgeRule (insns_of filter) ns i n)
 Kept policy filter cert (Split i) = AtNode cert i (λ ns n. SplitRule n.kind)
-Kept policy filter cert (Entail i) = AtNode cert i (λ ns n. EntailRule (insns_of filter) ns n)
+Kept policy filter cert (Entail i) = AtNode cert i (λ ns n. EntailRule policy (insns_of filter) ns n)
 Kept policy filter cert (Return i) = AtNode cert i (λ ns n. n.kind ≡ kind.Return → ReturnRule policy (insns_of filter) n)
 Kept policy filter cert OutOfMemory = ⊤
 

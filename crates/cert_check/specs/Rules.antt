@@ -1,11 +1,13 @@
 -- The rules that each node of a certificate keeps. A node stands at a position of the program and says what is
 -- known there; its edges lead on to later nodes.
 use Rattle.std.specs.Prelude.{◌≡◌, ◌==◌, ℕ, ◌+◌, ◌<◌, ◌⊎◌, ⊤, true, false, if◌then◌else◌, List, [], ◌∷◌, ◌++◌, Option, Some, None}
-use Rattle.std.specs.Prelude.{option_to_list, slice_get, slice_index_or, All}
+use Rattle.std.specs.Prelude.{option_to_list, slice_get, slice_index_or, All, Contains}
 use Rattle.bpf_insn.specs.declared.instruction.Insn.{Insn}
 use Rattle.bpf_insn.specs.declared.code.Operation.{Operation}
 use Rattle.bpf_insn.specs.declared.code.Operation.TheVariants.{Branch, Jump, ReturnK, ReturnA}
 use Rattle.bpf_insn.specs.Code.{operation_of}
+use Rattle.profile.specs.declared.conditions.Cond.{Cond}
+use Rattle.profile.specs.declared.rules.Rule.{Rule}
 use Rattle.profile.specs.Policy.{Policy}
 use Rattle.cert_state.specs.declared.literal.Lit.{Lit}
 use Rattle.cert_state.specs.declared.literal.Lit.TheVariants.{In, Bits, NotBits}
@@ -18,7 +20,7 @@ use Rattle.cert_state.specs.Transfer.{transfer, edge_fact}
 use Rattle.cert_form.specs.declared.node.Kind.{Kind}
 use Rattle.cert_form.specs.declared.node.Kind.TheVariants.{Step, Split, Return, Dead}
 use Rattle.cert_form.specs.Nodes.{PlainNode}
-use Rattle.cert_check.specs.Agree.{Agrees}
+use Rattle.cert_check.specs.Agree.{Agrees, IsRefuted, IsYes}
 
 -- the number that stands for no second successor
 abbrev pub no_node : ℕ
@@ -63,12 +65,15 @@ edges n i = edges_by n.kind n i
 abbrev pub Leads : List PlainNode → ℕ → Edge → Type 0
 Leads ns i e = (i < e.to) × ((m : PlainNode) × (slice_get ns e.to ≡ Some m) × (m.pc ≡ e.pc))
 
--- Root: node 0 stands at position 0, knows no literal, A and X are 0, and no scratch word is stated
+-- Root: node 0 stands at position 0, knows no literal, says no rule to be out and no condition to be met, A and X are
+-- 0, and no scratch word is stated
 pub record RootRule (ns : List PlainNode) : Type 0 where
   pub root : PlainNode
   pub first : slice_get ns 0 ≡ Some root
   pub at_first : root.pc ≡ 0
   pub nothing : root.known ≡ []
+  pub none_out : root.out ≡ []
+  pub none_met : root.met ≡ []
   pub a_is_zero : root.regs.a ≡ Const 0
   pub x_is_zero : root.regs.x ≡ Const 0
   pub none_stated : All (λ v. v ≡ Unknown) root.regs.scratch
@@ -96,17 +101,38 @@ SplitRule _ = ⊤
 abbrev pub Allows : AVal → AVal → Type 0
 Allows there here = (there ≡ Unknown) ⊎ (there ≡ here)
 
+-- what is known on an edge
+abbrev pub known_on : PlainNode → Edge → List Lit
+known_on n e = n.known ++ option_to_list e.fact
+
+-- the rule of the profile at this place is out: it was so at the node, or what is known on the edge refutes it
+pub record IsOutOn (policy : Policy) (n : PlainNode) (e : Edge) (place : ℕ) : Type 0 where
+  pub rule : Rule
+  pub stands : slice_get policy.rules place ≡ Some rule
+  pub reason : Contains n.out place ⊎ IsRefuted (known_on n e) rule
+
+-- the condition of the profile with these places, that of its rule and its own, is met: it was among those that were, or
+-- what is known makes it yes
+pub record IsMetBy (policy : Policy) (met : List (ℕ × ℕ)) (known : List Lit) (place : ℕ × ℕ) : Type 0 where
+  pub rule : Rule
+  pub stands : slice_get policy.rules place.0 ≡ Some rule
+  pub cond : Cond
+  pub its : slice_get rule.conds.items place.1 ≡ Some cond
+  pub reason : Contains met place ⊎ IsYes known cond
+
 -- what is known on an edge gives what its node says
-pub record Carries (known : List Lit) (e : Edge) (m : PlainNode) : Type 0 where
-  pub literals : All (Entails (known ++ option_to_list e.fact)) m.known
+pub record Carries (policy : Policy) (n : PlainNode) (e : Edge) (m : PlainNode) : Type 0 where
+  pub literals : All (Entails (known_on n e)) m.known
+  pub outs : All (IsOutOn policy n e) m.out
+  pub mets : All (IsMetBy policy n.met (known_on n e)) m.met
   pub for_a : Allows m.regs.a e.regs.a
   pub for_x : Allows m.regs.x e.regs.x
   pub for_scratch : (j : ℕ) (v : AVal) → slice_get m.regs.scratch j ≡ Some v → Allows v (slice_index_or e.regs.scratch j Unknown)
 
 -- Entail: each edge carries what its node says, and a dead node is dead
-pub record EntailRule (p : List Insn) (ns : List PlainNode) (n : PlainNode) : Type 0 where
+pub record EntailRule (policy : Policy) (p : List Insn) (ns : List PlainNode) (n : PlainNode) : Type 0 where
   pub carry : (i : Insn) (out : List Edge) → slice_get p n.pc ≡ Some i → edges n i ≡ Some out
-      → All (λ e. (m : PlainNode) → slice_get ns e.to ≡ Some m → Carries n.known e m) out
+      → All (λ e. (m : PlainNode) → slice_get ns e.to ≡ Some m → Carries policy n e m) out
   pub dead : n.kind ≡ Dead → IsDead n.known
 
 -- the word that a return gives, where it is known
@@ -126,13 +152,13 @@ pub record ReturnRule (policy : Policy) (p : List Insn) (n : PlainNode) : Type 0
   pub inside : slice_get p n.pc ≡ Some insn
   pub word : ℕ
   pub known : word_by (operation_of insn.code) n.regs insn ≡ Some word
-  pub agrees : Agrees policy n.known word
+  pub agrees : Agrees policy n.out n.met n.known word
 
 -- node i keeps each rule
 pub record Keeps (policy : Policy) (p : List Insn) (ns : List PlainNode) (i : ℕ) (n : PlainNode) : Type 0 where
   pub edge : EdgeRule p ns i n
   pub split : SplitRule n.kind
-  pub entail : EntailRule p ns n
+  pub entail : EntailRule policy p ns n
   pub return : n.kind ≡ Return → ReturnRule policy p n
 
 -- the root and each node keep each rule

@@ -1,5 +1,6 @@
 -- Mirrors of private code.
 pub mod Judged
+pub mod Marked
 pub mod Ways
 pub mod Broken
 pub mod Among

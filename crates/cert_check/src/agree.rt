@@ -6,20 +6,23 @@ ghost use Rattle.call_tables.specs.declared.arch.Arch.TheVariants as machine;
 ghost use Rattle.cert_state.specs.declared.literal.Lit.TheVariants.{Bits};
 ghost use Rattle.cert_state.specs.Literals.{all_bits};
 ghost use Rattle.cert_state.specs.Entailment.{Entails};
-ghost use Rattle.cert_check.specs.Agree.{Agrees, IsNoRule, IsYesRule, ListedAgrees, MachineAgrees, RulesAgree};
-ghost use Rattle.cert_check.specs.inner.Judged.{AreKnownNumbers, AreYes, Bears, IsAnswered, IsJudged, IsKnownNumber, SomeIsNo};
+ghost use Rattle.cert_form.specs.Views.{says};
+ghost use Rattle.cert_check.specs.Agree.{Agrees, AllAreYes, IsLeft, IsNoRule, IsYesRule, ListedAgrees, MachineAgrees, OneIsNo, RulesAgree};
+ghost use Rattle.cert_check.specs.inner.Judged.{AreKnownNumbers, Bears, IsAnswered, IsJudged, IsKnownNumber};
 
-use crate::conditions::judge_conditions;
+use crate::conditions::{judge_conditions, judge_left};
 use crate::judged::{Answered, Bearing, Judged, Number};
+use crate::mets::Mets;
+use crate::outs::Outs;
 use call_record::Word;
 use call_tables::Arch;
 use cert_state::{Facts, Lit, State};
 use profile::{Cond, Op, Profile, Rule, has_x32_calls};
 
 // The words of a record that hold the call's number and the machine's token.
-const NUMBER: u8 = 0;
+pub(crate) const NUMBER: u8 = 0;
 
-const TOKEN: u8 = 1;
+pub(crate) const TOKEN: u8 = 1;
 
 // The least number of an x32 call.
 const LEAST_X32_NUMBER: u32 = 0x4000_0000;
@@ -91,7 +94,11 @@ fn are_same(a: &[Cond], b: &[Cond]) -> bool
 }
 
 // The answer to the conditions of a rule: the last one, where that was to the same conditions.
-fn answer_of<'a, S: State>(facts: &Facts<'_, S>, rule: &'a Rule, last: Answered<'a>) -> Answered<'a>
+pub(crate) fn answer_of<'a, S: State>(
+    facts: &Facts<'_, S>,
+    rule: &'a Rule,
+    last: Answered<'a>,
+) -> Answered<'a>
     requires { IsAnswered (S.known facts.now.state.now) last }
     ensures answer { IsAnswered (S.known facts.now.state.now) result }
     ensures conds { result.conds.now ≡ rule.now.conds.items }
@@ -106,12 +113,43 @@ fn answer_of<'a, S: State>(facts: &Facts<'_, S>, rule: &'a Rule, last: Answered<
     }
 }
 
+// The answer to the conditions of the rule at a place, and the last answer to conditions of which none was said to be
+// met: that is no answer for a rule with conditions that are.
+fn answer_at<'a, S: State>(
+    facts: &Facts<'_, S>,
+    mets: &Mets<'_>,
+    place: usize,
+    rule: &'a Rule,
+    last: Answered<'a>,
+) -> (Judged, Answered<'a>)
+    requires place { place < 8192 }
+    requires last { IsAnswered (S.known facts.now.state.now) last }
+    ensures judged { let met = (says mets.now.node).met in let known = S.known facts.now.state.now in
+        IsJudged (AllAreYes met known place rule.now.conds.items) (OneIsNo met known place rule.now.conds.items) result.0 }
+    ensures answer { IsAnswered (S.known facts.now.state.now) result.1 }
+{
+    let conds = rule.conds.as_slice();
+    if mets.has_some(place) {
+        return (judge_left(facts, mets, place, conds), last);
+    }
+    let answer = answer_of(facts, rule, last);
+    (answer.judged, answer)
+}
+
 // Whether a rule of the record's machine is settled, by the answers to its number and to its conditions.
-fn judge_rule<S: State>(facts: &Facts<'_, S>, rule: &Rule, number: Number, conds: Judged) -> Judged
+fn judge_rule<S: State>(
+    facts: &Facts<'_, S>,
+    mets: &Mets<'_>,
+    place: usize,
+    rule: &Rule,
+    number: Number,
+    conds: Judged,
+) -> Judged
     requires number { IsKnownNumber (S.known facts.now.state.now) rule.now.nr number }
-    requires conds { let known = S.known facts.now.state.now in
-        IsJudged (AreYes known rule.now.conds.items) (SomeIsNo known rule.now.conds.items) conds }
-    ensures { IsJudged (IsYesRule (S.known facts.now.state.now) rule.now) (IsNoRule (S.known facts.now.state.now) rule.now) result }
+    requires conds { let met = (says mets.now.node).met in let known = S.known facts.now.state.now in
+        IsJudged (AllAreYes met known place rule.now.conds.items) (OneIsNo met known place rule.now.conds.items) conds }
+    ensures { let met = (says mets.now.node).met in let known = S.known facts.now.state.now in
+        IsJudged (IsYesRule met known place rule.now) (IsNoRule met known place rule.now) result }
 {
     match conds {
         Judged::No => Judged::No,
@@ -135,9 +173,17 @@ fn judge_rule<S: State>(facts: &Facts<'_, S>, rule: &Rule, number: Number, conds
 }
 
 // How a rule of the record's machine bears on a word, by whether it is settled.
-fn bearing_of<S: State>(facts: &Facts<'_, S>, rule: &Rule, word: Word, judged: Judged) -> Bearing
-    requires { IsJudged (IsYesRule (S.known facts.now.state.now) rule.now) (IsNoRule (S.known facts.now.state.now) rule.now) judged }
-    ensures { Bears (S.known facts.now.state.now) word rule.now result }
+fn bearing_of<S: State>(
+    facts: &Facts<'_, S>,
+    mets: &Mets<'_>,
+    place: usize,
+    rule: &Rule,
+    word: Word,
+    judged: Judged,
+) -> Bearing
+    requires { let met = (says mets.now.node).met in let known = S.known facts.now.state.now in
+        IsJudged (IsYesRule met known place rule.now) (IsNoRule met known place rule.now) judged }
+    ensures { Bears (says mets.now.node).met (S.known facts.now.state.now) word place rule.now result }
 {
     if rule.word == word {
         match judged {
@@ -161,18 +207,32 @@ fn is_for(rule: &Rule, arch: Arch) -> bool
     rule.arch.token() == arch.token()
 }
 
-// How a rule of the record's machine bears on a word, with the last answer to conditions. That of a rule of another
-// number is not asked for.
+// Whether a rule at a place is for the machine, and is not said to be out.
+fn is_left(outs: &Outs<'_>, place: usize, rule: &Rule, arch: Arch) -> bool
+    requires { place < 8192 }
+    ensures { IsTrue result ↔ IsLeft (says outs.now.node).out arch place rule.now }
+{
+    if !is_for(rule, arch) {
+        return false;
+    }
+    !outs.has(place)
+}
+
+// How the rule of the record's machine at a place bears on a word, with the last answer to conditions. That of a rule of
+// another number is not asked for.
 fn weigh<'a, S: State>(
     facts: &Facts<'_, S>,
+    mets: &Mets<'_>,
+    place: usize,
     rule: &'a Rule,
     word: Word,
     number: Number,
     last: Answered<'a>,
 ) -> (Bearing, Answered<'a>)
+    requires place { place < 8192 }
     requires number { IsKnownNumber (S.known facts.now.state.now) rule.now.nr number }
     requires last { IsAnswered (S.known facts.now.state.now) last }
-    ensures bearing { Bears (S.known facts.now.state.now) word rule.now result.0 }
+    ensures bearing { Bears (says mets.now.node).met (S.known facts.now.state.now) word place rule.now result.0 }
     ensures answer { IsAnswered (S.known facts.now.state.now) result.1 }
 {
     if number.other {
@@ -180,25 +240,33 @@ fn weigh<'a, S: State>(
             return (Bearing::Agrees, last);
         }
     }
-    let answer = answer_of(facts, rule, last);
-    let judged = judge_rule(facts, rule, number, answer.judged);
-    (bearing_of(facts, rule, word, judged), answer)
+    let (conds, answer) = answer_at(facts, mets, place, rule, last);
+    let judged = judge_rule(facts, mets, place, rule, number, conds);
+    (bearing_of(facts, mets, place, rule, word, judged), answer)
 }
 
-// Whether the rules of a machine agree with a word.
-fn rules_agree<S: State>(profile: &Profile, facts: &Facts<'_, S>, word: Word, arch: Arch) -> bool
-    ensures { IsTrue result ↔ RulesAgree profile.now (S.known facts.now.state.now) word arch }
+// Whether the rules that are left for a machine agree with a word.
+fn rules_agree<S: State>(
+    profile: &Profile,
+    outs: &Outs<'_>,
+    mets: &Mets<'_>,
+    facts: &Facts<'_, S>,
+    word: Word,
+    arch: Arch,
+) -> bool
+    ensures { IsTrue result ↔ RulesAgree profile.now (says outs.now.node).out (says mets.now.node).met (S.known facts.now.state.now) word arch }
 {
     let mut others = false;
+    let mut place = 0_usize;
     let mut numbers = [None; 512];
     let mut last = Answered {
         conds: &[],
         judged: Judged::Yes,
     };
     for rule in profile.rules() {
-        if is_for(rule, arch) {
+        if is_left(outs, place, rule, arch) {
             let number = number_of(facts, &mut numbers, rule.nr);
-            let (bearing, answer) = weigh(facts, rule, word, number, last);
+            let (bearing, answer) = weigh(facts, mets, place, rule, word, number, last);
             last = answer;
             match bearing {
                 Bearing::Settles => return true,
@@ -206,6 +274,7 @@ fn rules_agree<S: State>(profile: &Profile, facts: &Facts<'_, S>, word: Word, ar
                 Bearing::Differs => others = true,
             }
         }
+        place += 1;
     }
     if others {
         return false;
@@ -224,9 +293,16 @@ fn follows_or_kills<S: State>(facts: &Facts<'_, S>, literal: &Lit, word: Word) -
 }
 
 // Whether an x86-64 agrees with a word: an x32 call is foreign.
-fn x86_64_agrees<S: State>(profile: &Profile, facts: &Facts<'_, S>, word: Word, arch: Arch) -> bool
+fn x86_64_agrees<S: State>(
+    profile: &Profile,
+    outs: &Outs<'_>,
+    mets: &Mets<'_>,
+    facts: &Facts<'_, S>,
+    word: Word,
+    arch: Arch,
+) -> bool
     requires { token_of arch ≡ token_of machine.X86_64 }
-    ensures { IsTrue result ↔ MachineAgrees profile.now (S.known facts.now.state.now) word arch }
+    ensures { IsTrue result ↔ MachineAgrees profile.now (says outs.now.node).out (says mets.now.node).met (S.known facts.now.state.now) word arch }
 {
     if !follows_or_kills(facts, &Lit::In(NUMBER, 0, LEAST_X32_NUMBER - 1), word) {
         return false;
@@ -234,40 +310,56 @@ fn x86_64_agrees<S: State>(profile: &Profile, facts: &Facts<'_, S>, word: Word, 
     if facts.entails(&Lit::In(NUMBER, LEAST_X32_NUMBER, u32::MAX)) {
         return true;
     }
-    rules_agree(profile, facts, word, arch)
+    rules_agree(profile, outs, mets, facts, word, arch)
 }
 
 // Whether a machine agrees with a word.
-fn machine_agrees<S: State>(profile: &Profile, facts: &Facts<'_, S>, word: Word, arch: Arch) -> bool
-    ensures { IsTrue result ↔ MachineAgrees profile.now (S.known facts.now.state.now) word arch }
+fn machine_agrees<S: State>(
+    profile: &Profile,
+    outs: &Outs<'_>,
+    mets: &Mets<'_>,
+    facts: &Facts<'_, S>,
+    word: Word,
+    arch: Arch,
+) -> bool
+    ensures { IsTrue result ↔ MachineAgrees profile.now (says outs.now.node).out (says mets.now.node).met (S.known facts.now.state.now) word arch }
 {
     if has_x32_calls(arch) {
-        return x86_64_agrees(profile, facts, word, arch);
+        return x86_64_agrees(profile, outs, mets, facts, word, arch);
     }
-    rules_agree(profile, facts, word, arch)
+    rules_agree(profile, outs, mets, facts, word, arch)
 }
 
 // Whether a listed machine is another than the record's, or agrees with a word.
-fn listed_agrees<S: State>(profile: &Profile, facts: &Facts<'_, S>, word: Word, arch: Arch) -> bool
-    ensures { IsTrue result ↔ ListedAgrees profile.now (S.known facts.now.state.now) word arch }
+fn listed_agrees<S: State>(
+    profile: &Profile,
+    outs: &Outs<'_>,
+    mets: &Mets<'_>,
+    facts: &Facts<'_, S>,
+    word: Word,
+    arch: Arch,
+) -> bool
+    ensures { IsTrue result ↔ ListedAgrees profile.now (says outs.now.node).out (says mets.now.node).met (S.known facts.now.state.now) word arch }
 {
     if facts.entails(&Lit::NotBits(TOKEN, u32::MAX, arch.token())) {
         return true;
     }
-    machine_agrees(profile, facts, word, arch)
+    machine_agrees(profile, outs, mets, facts, word, arch)
 }
 
 // Whether each listed machine does.
 fn all_agree<S: State>(
     profile: &Profile,
+    outs: &Outs<'_>,
+    mets: &Mets<'_>,
     facts: &Facts<'_, S>,
     word: Word,
     machines: &[Arch],
 ) -> bool
-    ensures { IsTrue result ↔ All (ListedAgrees profile.now (S.known facts.now.state.now) word) machines.now }
+    ensures { IsTrue result ↔ All (ListedAgrees profile.now (says outs.now.node).out (says mets.now.node).met (S.known facts.now.state.now) word) machines.now }
 {
     for arch in machines {
-        if !listed_agrees(profile, facts, word, *arch) {
+        if !listed_agrees(profile, outs, mets, facts, word, *arch) {
             return false;
         }
     }
@@ -292,12 +384,19 @@ fn foreign_agrees<S: State>(profile: &Profile, facts: &Facts<'_, S>, word: Word)
     is_listed(facts, profile.machines())
 }
 
-/// Whether the profile says this word of each record of which this is known.
-pub(crate) fn agrees<S: State>(profile: &Profile, facts: &Facts<'_, S>, word: Word) -> bool
-    ensures { IsTrue result ↔ Agrees profile.now (S.known facts.now.state.now) word }
+/// Whether the profile says this word of each record of which this is known, and also that no rule matches that is out
+/// and that the conditions are met that are said to be.
+pub(crate) fn agrees<S: State>(
+    profile: &Profile,
+    outs: &Outs<'_>,
+    mets: &Mets<'_>,
+    facts: &Facts<'_, S>,
+    word: Word,
+) -> bool
+    ensures { IsTrue result ↔ Agrees profile.now (says outs.now.node).out (says mets.now.node).met (S.known facts.now.state.now) word }
 {
     if !foreign_agrees(profile, facts, word) {
         return false;
     }
-    all_agree(profile, facts, word, profile.machines())
+    all_agree(profile, outs, mets, facts, word, profile.machines())
 }

@@ -1,10 +1,12 @@
 //! Whether what is known of a record settles a condition on an argument.
-ghost use Rattle.std.specs.Prelude.{◌≡◌, ◌↔◌, ◌<◌, ◌+◌, ◌*◌, ◌/◌, ◌%◌, ◌^◌, ◌⊎◌, IsTrue, MatchOption, true, false};
+ghost use Rattle.std.specs.Prelude.{◌≡◌, ◌↔◌, ◌<◌, ◌≤◌, ◌+◌, ◌*◌, ◌/◌, ◌%◌, ◌^◌, ◌⊎◌, IsTrue, MatchOption, length, true, false};
 ghost use Rattle.cert_state.specs.Points.{HasNoPoint};
-ghost use Rattle.cert_check.specs.Agree.{AtBothEnds, HasBits, IsNo, IsYes, LacksBits};
-ghost use Rattle.cert_check.specs.inner.Judged.{AreEnds, AreYes, ConditionsSoFar, IsJudged, IsOrder, SomeIsNo};
+ghost use Rattle.cert_form.specs.Views.{says};
+ghost use Rattle.cert_check.specs.Agree.{AllAreYes, AtBothEnds, HasBits, IsNo, IsYes, LacksBits, OneIsNo, SomeIsNo};
+ghost use Rattle.cert_check.specs.inner.Judged.{AreEnds, AreYes, IsJudged, IsNoNorMet, IsOrder, IsYesOrMet};
 
 use crate::judged::Judged;
+use crate::mets::Mets;
 use cert_state::{Facts, Lit, State};
 use profile::{Cond, Op};
 
@@ -124,8 +126,8 @@ fn judge_order<S: State>(facts: &Facts<'_, S>, cond: &Cond) -> Judged
     }
 }
 
-// Whether a condition is settled.
-fn judge_condition<S: State>(facts: &Facts<'_, S>, cond: &Cond) -> Judged
+/// Whether a condition is settled.
+pub(crate) fn judge_condition<S: State>(facts: &Facts<'_, S>, cond: &Cond) -> Judged
     ensures { IsJudged (IsYes (S.known facts.now.state.now) cond.now) (IsNo (S.known facts.now.state.now) cond.now) result }
 {
     let Cond {
@@ -154,6 +156,50 @@ pub(crate) fn judge_conditions<S: State>(facts: &Facts<'_, S>, conds: &[Cond]) -
             Judged::No => return Judged::No,
             Judged::Open => all_yes = false,
         }
+    }
+    if all_yes { Judged::Yes } else { Judged::Open }
+}
+
+// Whether a condition of the rule at a place is settled, or is said to be met, which counts as yes.
+fn judge_unless_met<S: State>(
+    facts: &Facts<'_, S>,
+    mets: &Mets<'_>,
+    place: usize,
+    own: usize,
+    cond: &Cond,
+) -> Judged
+    requires place { place < 8192 }
+    requires own { own < 6 }
+    ensures { let met = (says mets.now.node).met in let known = S.known facts.now.state.now in
+        IsJudged (IsYesOrMet met known place own cond.now) (IsNoNorMet met known place own cond.now) result }
+{
+    if mets.has(place, own) {
+        return Judged::Yes;
+    }
+    judge_condition(facts, cond)
+}
+
+/// Whether the conditions of the rule at a place, of which some are said to be met, are all yes, or one is no.
+pub(crate) fn judge_left<S: State>(
+    facts: &Facts<'_, S>,
+    mets: &Mets<'_>,
+    place: usize,
+    conds: &[Cond],
+) -> Judged
+    requires place { place < 8192 }
+    requires few { length conds.now ≤ 6 }
+    ensures { let met = (says mets.now.node).met in let known = S.known facts.now.state.now in
+        IsJudged (AllAreYes met known place conds.now) (OneIsNo met known place conds.now) result }
+{
+    let mut all_yes = true;
+    let mut own = 0_usize;
+    for cond in conds {
+        match judge_unless_met(facts, mets, place, own, cond) {
+            Judged::Yes => {}
+            Judged::No => return Judged::No,
+            Judged::Open => all_yes = false,
+        }
+        own += 1;
     }
     if all_yes { Judged::Yes } else { Judged::Open }
 }

@@ -11,8 +11,11 @@ ghost use Rattle.cert_check.specs.inner.Broken.{CarriesTo};
 ghost use Rattle.cert_check.specs.inner.Ways.{edge_list, edge_of};
 
 use crate::edges::{Way, Ways};
+use crate::met::mets_follow;
+use crate::refuted::outs_follow;
 use cert_form::{CertView, Kind, NodeView};
 use cert_state::{AVal, Facts, Lit, State, With, dead};
+use profile::Profile;
 
 // Whether a node may say this of a register of which that is known.
 fn allows(there: AVal, here: AVal) -> bool
@@ -147,8 +150,8 @@ fn entails_all<S: State, T: State>(known: &With<'_, S>, there: &T) -> bool
 }
 
 // Whether what is known on a way gives what its node says.
-fn carries(node: &NodeView<'_>, way: &Way, there: &NodeView<'_>) -> bool
-    ensures { IsTrue result ↔ Carries (says node.now).known (edge_of way.now) (says there.now) }
+fn carries(profile: &Profile, node: &NodeView<'_>, way: &Way, there: &NodeView<'_>) -> bool
+    ensures { IsTrue result ↔ Carries profile.now (says node.now) (edge_of way.now) (says there.now) }
 {
     let regs = there.regs();
     if !allows(regs.a, way.regs.a) {
@@ -164,30 +167,36 @@ fn carries(node: &NodeView<'_>, way: &Way, there: &NodeView<'_>) -> bool
         state: node,
         more: way.fact,
     };
-    entails_all(&known, there)
+    if !entails_all(&known, there) {
+        return false;
+    }
+    if !outs_follow(profile, node, way, there) {
+        return false;
+    }
+    mets_follow(profile, node, way, there)
 }
 
 // Whether what is known on a way gives what the node there says.
-fn carries_to(view: &CertView<'_>, node: &NodeView<'_>, way: &Way) -> bool
+fn carries_to(profile: &Profile, view: &CertView<'_>, node: &NodeView<'_>, way: &Way) -> bool
     requires { way.now.to < length (nodes_of view.now) }
-    ensures { IsTrue result ↔ CarriesTo (nodes_of view.now) (says node.now) (edge_of way.now) }
+    ensures { IsTrue result ↔ CarriesTo profile.now (nodes_of view.now) (says node.now) (edge_of way.now) }
 {
-    carries(node, way, &view.node(way.to as usize))
+    carries(profile, node, way, &view.node(way.to as usize))
 }
 
 // Whether each way carries what its node says.
-fn all_carry(view: &CertView<'_>, node: &NodeView<'_>, ways: &Ways) -> bool
+fn all_carry(profile: &Profile, view: &CertView<'_>, node: &NodeView<'_>, ways: &Ways) -> bool
     requires { All (λ e. e.to < length (nodes_of view.now)) (edge_list ways.now) }
-    ensures { IsTrue result ↔ All (CarriesTo (nodes_of view.now) (says node.now)) (edge_list ways.now) }
+    ensures { IsTrue result ↔ All (CarriesTo profile.now (nodes_of view.now) (says node.now)) (edge_list ways.now) }
 {
     match ways {
         Ways::Nowhere => true,
-        Ways::One(way) => carries_to(view, node, way),
+        Ways::One(way) => carries_to(profile, view, node, way),
         Ways::Two(first, second) => {
-            if !carries_to(view, node, first) {
+            if !carries_to(profile, view, node, first) {
                 return false;
             }
-            carries_to(view, node, second)
+            carries_to(profile, view, node, second)
         }
     }
 }
@@ -205,12 +214,17 @@ fn dead_is_dead(node: &NodeView<'_>) -> bool
 }
 
 /// Whether each way carries what its node says, and a dead node can hold no record.
-pub(crate) fn entail_is_kept(view: &CertView<'_>, node: &NodeView<'_>, ways: &Ways) -> bool
+pub(crate) fn entail_is_kept(
+    profile: &Profile,
+    view: &CertView<'_>,
+    node: &NodeView<'_>,
+    ways: &Ways,
+) -> bool
     requires { All (λ e. e.to < length (nodes_of view.now)) (edge_list ways.now) }
-    ensures { IsTrue result ↔ All (CarriesTo (nodes_of view.now) (says node.now)) (edge_list ways.now)
+    ensures { IsTrue result ↔ All (CarriesTo profile.now (nodes_of view.now) (says node.now)) (edge_list ways.now)
         × ((says node.now).kind ≡ kind.Dead → IsDead (says node.now).known) }
 {
-    if !all_carry(view, node, ways) {
+    if !all_carry(profile, view, node, ways) {
         return false;
     }
     dead_is_dead(node)

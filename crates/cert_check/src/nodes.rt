@@ -51,7 +51,7 @@ fn check_node(
     if !split_is_kept(&node.kind()) {
         return Err(CheckError::Split(i));
     }
-    if !entail_is_kept(view, &node, &ways) {
+    if !entail_is_kept(profile, view, &node, &ways) {
         return Err(CheckError::Entail(i));
     }
     if !return_is_kept(profile, &insn, &node) {

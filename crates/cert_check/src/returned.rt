@@ -7,6 +7,8 @@ ghost use Rattle.cert_check.specs.Rules.{word_by};
 ghost use Rattle.cert_check.specs.inner.Broken.{ReturnsAt};
 
 use crate::agree::agrees;
+use crate::mets::Mets;
+use crate::outs::Outs;
 use bpf_insn::{Insn, Operation};
 use call_record::Word;
 use cert_form::{Kind, NodeView};
@@ -34,7 +36,8 @@ fn returns(profile: &Profile, insn: &Insn, node: &NodeView<'_>) -> bool
     let Some(word) = word_of(insn, &node.regs()) else {
         return false;
     };
-    agrees(profile, &Facts::of(node), Word(word))
+    let (outs, mets) = (Outs::of(node), Mets::of(node));
+    agrees(profile, &outs, &mets, &Facts::of(node), Word(word))
 }
 
 /// Whether a node, if it is a return, returns the profile's word at its instruction.

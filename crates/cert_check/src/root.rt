@@ -3,10 +3,13 @@ ghost use Rattle.std.specs.Prelude.{◌↔◌, ◌<◌, IsTrue, length};
 ghost use Rattle.cert_form.specs.Views.{nodes_of};
 ghost use Rattle.cert_check.specs.Rules.{RootRule};
 
+use crate::mets::has_no_met;
+use crate::outs::has_none;
 use cert_form::CertView;
 use cert_state::{AVal, State};
 
-/// Whether node 0 stands at position 0, knows no literal, A and X are 0, and no scratch word is stated.
+/// Whether node 0 stands at position 0, knows no literal, says no rule to be out and no condition to be met, A and X
+/// are 0, and no scratch word is stated.
 pub(crate) fn root_is_kept(view: &CertView<'_>) -> bool
     requires { 0 < length (nodes_of view.now) }
     ensures { IsTrue result ↔ RootRule (nodes_of view.now) }
@@ -17,6 +20,12 @@ pub(crate) fn root_is_kept(view: &CertView<'_>) -> bool
         return false;
     }
     if root.next(root.start()).is_some() {
+        return false;
+    }
+    if !has_none(&root) {
+        return false;
+    }
+    if !has_no_met(&root) {
         return false;
     }
     if regs.a != AVal::Const(0) {

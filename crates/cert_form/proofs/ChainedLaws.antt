@@ -1,14 +1,14 @@
--- Nodes of forms 2 and 3: what is judged sound is spelled so.
+-- Nodes of forms 2 to 4: what is judged sound is spelled so.
 use Rattle.std.proofs.Common.{◌≡◌, ◌≤◌, ℕ, ◌+◌, ◌*◌, cond, eqb, List, [], ◌∷◌, ◌++◌, length, refl, sym, ◌∙◌, subst, arith}
 use Rattle.std.specs.Prelude.{◌≢◌, slice_index}
 use Rattle.std.proofs.lemmas.Bool.{ne_eqb}
 use Rattle.std.proofs.lemmas.List.{length-reverse}
 use Rattle.byteorder.specs.Endian.{little_bytes}
 use Rattle.cert_form.specs.Nodes.{said}
-use Rattle.cert_form.specs.Spelling.{value, literal, scratch, tail}
-use Rattle.cert_form.specs.Reading.{short_at, long_at, value_at, literal_at, parent_at, kind_at, tail_length, version_of, chain_count, entries_of}
+use Rattle.cert_form.specs.Spelling.{value, claim, scratch, tail}
+use Rattle.cert_form.specs.Reading.{short_at, long_at, value_at, claim_at, parent_at, kind_at, tail_length, version_of, chain_count, entries_of}
 use Rattle.cert_form.specs.Reading.{scratch_at, chain_place, chain_node_at, node_at, tail_place, node_end}
-use Rattle.cert_form.specs.inner.Standing.{Stands, IsLiteralThere, IsEntryThere, IsTailThere, IsFrontThere}
+use Rattle.cert_form.specs.inner.Standing.{Stands, IsClaimThere, IsEntryThere, IsTailThere, IsFrontThere}
 use Rattle.cert_form.specs.inner.Standing.{IsScratchThere, IsChainThere, IsChainedThere}
 use Rattle.cert_form.proofs.StandLaws.{AreBytes, both, ended, long_stands, short_below}
 use Rattle.cert_form.proofs.ChainLaws.{count}
@@ -27,7 +27,7 @@ pub chained_there : (bytes : List ℕ) (at : ℕ) → AreBytes bytes → version
 chained_there bytes at small form f s l t =
     let place : ℕ = chain_place bytes at in
     let kind : ℕ = slice_index bytes at in
-    let words : List ℕ = cond (eqb (version_of bytes) 3) (scratch (scratch_at bytes at)) [] in
+    let words : List ℕ = cond (eqb (version_of bytes) 2) [] (scratch (scratch_at bytes at)) in
     let values : List ℕ = 0 ∷ little_bytes 2 (short_at bytes (at + 2)) ++ value (value_at bytes (at + 4)) ++ value
     (value_at bytes (at + 10)) in
     let chain : List ℕ = little_bytes 4 (long_at bytes place) in
@@ -58,12 +58,12 @@ in_chain bytes at form = rw (ne_eqb (version_of bytes) 1 form) refl
 
 -- an entry that was judged part by part
 pub entry_there : (bytes : List ℕ) (j : ℕ) → AreBytes bytes → parent_at bytes j ≤ j
-    → IsLiteralThere bytes (16 + 14 * j + 4) → IsEntryThere bytes j
+    → IsClaimThere bytes (16 + 14 * j + 4) → IsEntryThere bytes j
 entry_there bytes j small earlier l =
     let at : ℕ = 16 + 14 * j in
     record {
-      stands = both bytes at (little_bytes 4 (parent_at bytes j)) (at + 4) (at + 4) (literal (literal_at bytes (at + 4))) (at + 14)
+      stands = both bytes at (little_bytes 4 (parent_at bytes j)) (at + 4) (at + 4) (claim (claim_at bytes (at + 4))) (at + 14)
           (long_stands bytes at small (omega (arith, l.stands.ends, l.stands.room)))
-          (ended bytes (at + 4) (literal (literal_at bytes (at + 4))) (at + 4 + 10) (at + 14) l.stands (omega arith)) refl;
-      good = record { earlier = earlier; literal = l.good };
+          (ended bytes (at + 4) (claim (claim_at bytes (at + 4))) (at + 4 + 10) (at + 14) l.stands (omega arith)) refl;
+      good = record { earlier = earlier; claim = l.good };
     }

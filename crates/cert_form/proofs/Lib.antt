@@ -1,4 +1,6 @@
 pub mod ChainLaws
+pub mod ClaimLaws
+pub mod KnownLaws
 pub mod ChainedAgain
 pub mod ChainedLaws
 pub mod ChainedFaults

@@ -117,8 +117,15 @@ not_bad bytes at n end p good tag count (IsBadListed.follows bad) =
     tail_not_bad bytes (at + 17 + 10 * length n.known) n.kind end p.follows good.kind
     (subst (λ k. IsBadTail bytes (kind_number n.kind) k) (omega (arith, count)) (subst (λ t. IsBadTail bytes t (own_end bytes at)) tag bad))
 
-abbrev made : Kind → ℕ → AVal → AVal → List AVal → List Lit → PlainNode
-made kind pc a x scratch known = record { kind = kind; pc = pc; regs = record { a = a; x = x; scratch = scratch }; known = known }
+abbrev made : Kind → ℕ → AVal → AVal → List AVal → List Lit → List ℕ → List (ℕ × ℕ) → PlainNode
+made kind pc a x scratch known out met = record {
+  kind = kind;
+  pc = pc;
+  regs = record { a = a; x = x; scratch = scratch };
+  known = known;
+  out = out;
+  met = met;
+}
 
 again : (bytes : List ℕ) (at : ℕ) (n : PlainNode) (end : ℕ) → Stands bytes at (node n) end → IsNode n → version_of bytes ≡ 1
     → Again bytes at n end
@@ -147,12 +154,14 @@ again bytes at n end stands good form =
     record {
       ends = listed_end bytes at form ∙ omega (arith, end_is, ap tail_length tag, length-tail n.kind, p.follows.ends);
       same =
-          ap (λ v. made v m.pc m.regs.a m.regs.x m.regs.scratch m.known) kind
-          ∙ (ap (λ v. made n.kind v m.regs.a m.regs.x m.regs.scratch m.known) pc
-          ∙ (ap (λ v. made n.kind n.pc v m.regs.x m.regs.scratch m.known) a
-          ∙ (ap (λ v. made n.kind n.pc n.regs.a v m.regs.scratch m.known) x
-          ∙ (ap (λ v. made n.kind n.pc n.regs.a n.regs.x v m.known) (sym good.no_scratch)
-          ∙ ap (λ v. made n.kind n.pc n.regs.a n.regs.x n.regs.scratch v) known))));
+          ap (λ v. made v m.pc m.regs.a m.regs.x m.regs.scratch m.known [] []) kind
+          ∙ (ap (λ v. made n.kind v m.regs.a m.regs.x m.regs.scratch m.known [] []) pc
+          ∙ (ap (λ v. made n.kind n.pc v m.regs.x m.regs.scratch m.known [] []) a
+          ∙ (ap (λ v. made n.kind n.pc n.regs.a v m.regs.scratch m.known [] []) x
+          ∙ (ap (λ v. made n.kind n.pc n.regs.a n.regs.x v m.known [] []) (sym good.no_scratch)
+          ∙ (ap (λ v. made n.kind n.pc n.regs.a n.regs.x n.regs.scratch v [] []) known
+          ∙ (ap (λ v. made n.kind n.pc n.regs.a n.regs.x n.regs.scratch n.known v []) (sym good.none_out)
+          ∙ ap (λ v. made n.kind n.pc n.regs.a n.regs.x n.regs.scratch n.known n.out v) (sym good.none_met)))))));
       few = omega (arith, count, good.few);
       sound = not_bad bytes at n end p good tag count;
     }

@@ -91,6 +91,8 @@ listed_there bytes at small form top a x room own t =
         pc = short_below bytes (at + 1) small;
         values = record { a = a.good; x = x.good; sixteen = refl; scratch = none_good };
         no_scratch = refl;
+        none_out = refl;
+        none_met = refl;
         few = omega (arith, n_ls, top.few);
         literals = All-from_recursion IsLit ls (literals_good bytes end (own_count bytes at) (from_last bytes at own));
       };

@@ -35,7 +35,7 @@ sound_value (suc (suc zero)) w n h small below word number = (refl, (omega arith
 sound_value (suc (suc (suc t))) w n h small below word number = absurd (omega arith)
 
 -- two bytes and a number
-pair_stands : (bytes : List ℕ) (at : ℕ) → AreBytes bytes → at + 6 ≤ length bytes
+pub pair_stands : (bytes : List ℕ) (at : ℕ) → AreBytes bytes → at + 6 ≤ length bytes
     → Stands bytes at (slice_index bytes at ∷ slice_index bytes (at + 1) ∷ little_bytes 4 (long_at bytes (at + 2))) (at + 6)
 pair_stands bytes at small room =
     let t : ℕ = slice_index bytes at in
@@ -126,7 +126,7 @@ literal_there bytes at small room some tag word within =
       good = fields.1;
     }
 
-second_is : (bytes : List ℕ) (at t w p q end : ℕ) → Stands bytes at (t ∷ w ∷ little_bytes 4 p ++ little_bytes 4 q) end → q < 2 ^ 32
+pub second_is : (bytes : List ℕ) (at t w p q end : ℕ) → Stands bytes at (t ∷ w ∷ little_bytes 4 p ++ little_bytes 4 q) end → q < 2 ^ 32
     → long_at bytes (at + 6) ≡ q
 second_is bytes at t w p q end s h = long_is bytes (at + 6) q end (back bytes at (t ∷ w ∷ little_bytes 4 p) (little_bytes 4 q) end s) h
 

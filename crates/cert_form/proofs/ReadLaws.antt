@@ -8,16 +8,21 @@ use Rattle.std.proofs.lemmas.List.{take_more_set, take_all, append_assoc, append
 use Rattle.std.proofs.lemmas.List.FromFn.{length-map-range_with_len, get_or-map-range_with_len}
 use Rattle.cert_state.specs.declared.literal.AVal.{AVal}
 use Rattle.cert_state.specs.declared.literal.AVal.TheVariants.{Unknown}
-use Rattle.cert_form.specs.Nodes.{literals, PlainNode}
+use Rattle.cert_form.specs.declared.node.Claim.{Claim}
+use Rattle.cert_form.specs.declared.node.Claim.TheVariants.{Knows, Out, Met}
+use Rattle.cert_form.specs.Nodes.{literals_in, outs_in, mets_in, on_chain_back, on_chain, said, PlainNode}
 use Rattle.cert_form.specs.Reading.{short_at, place_of, nodes_in, version_of, node_count, chain_count, chain_place, own_count, own_end}
-use Rattle.cert_form.specs.Reading.{literals_to, parent_at, ones, entries_of, literal_at, value_at, node_at, scratch_from, literals_left}
-use Rattle.cert_form.proofs.ChainLaws.{none_at_zero, none_past, count, chain_goes_on}
+use Rattle.cert_form.specs.Reading.{literals_to, parent_at, ones, entries_before, entries_of, claim_at, value_at, node_at, scratch_from}
+use Rattle.cert_form.specs.Reading.{long_at, listed_node, chain_node_at, literals_left, outs_left, mets_left}
+use Rattle.cert_form.proofs.ChainLaws.{none_at_zero, none_past, count, chain_goes_on, last_first}
+use Rattle.cert_form.proofs.ClaimLaws.{in_other_form}
+use Rattle.std.specs.List.{AllByRecursion}
 
 -- the chain of a node stands after its values
 pub chain_place-after : (bytes : List ℕ) (at : ℕ) → at + 16 ≤ chain_place bytes at
 unfolding chain_place
-chain_place-after bytes at = by_test (eqb (version_of bytes) 3) where
-  by_test : (b : Bool) → at + 16 ≤ cond b (at + 18 + 6 * ones (short_at bytes (at + 16)) 16) (at + 16)
+chain_place-after bytes at = by_test (eqb (version_of bytes) 2) where
+  by_test : (b : Bool) → at + 16 ≤ cond b (at + 16) (at + 18 + 6 * ones (short_at bytes (at + 16)) 16)
   by_test true = omega arith
   by_test false = omega arith
 
@@ -75,32 +80,99 @@ slice_get-nodes_in bytes i h =
 pub none_left : (bytes : List ℕ) (at : ℕ) → literals_left bytes at 0 ≡ []
 unfolding literals_left
 none_left bytes at = by_test (eqb (version_of bytes) 1) (nat_le 0 (own_count bytes at)) where
-  by_test : (b d : Bool) → cond b (cond d [] []) (literals (entries_of bytes) 0) ≡ []
+  by_test : (b d : Bool) → cond b (cond d [] []) (literals_in (on_chain (entries_of bytes) 0)) ≡ []
   by_test true true = refl
   by_test true false = refl
-  by_test false d = none_at_zero (reverse (entries_of bytes))
+  by_test false d = ap literals_in (none_at_zero (reverse (entries_of bytes)))
 
--- in forms 2 and 3 a place is the number of an entry
-in_chain : (bytes : List ℕ) (at place : ℕ) → version_of bytes ≢ 1 → literals_left bytes at place ≡ literals (entries_of bytes) place
+-- in the other forms a place is the number of an entry
+pub in_chain : (bytes : List ℕ) (at place : ℕ) → version_of bytes ≢ 1
+    → literals_left bytes at place ≡ literals_in (on_chain (entries_of bytes) place)
 unfolding literals_left
 in_chain bytes at place other =
     ap (λ b. cond b (cond (nat_le place (own_count bytes at)) (literals_to bytes (own_end bytes at) place) [])
-    (literals (entries_of bytes) place))
+    (literals_in (on_chain (entries_of bytes) place)))
     (ne_eqb (version_of bytes) 1 other)
 
--- none is left above all entries
-pub none_left_past : (bytes : List ℕ) (at place : ℕ) → version_of bytes ≢ 1 → chain_count bytes < place → literals_left bytes at place ≡ []
-none_left_past bytes at place other h =
-    in_chain bytes at place other ∙ none_past (reverse (entries_of bytes)) place (omega (arith, count bytes (chain_count bytes)))
+-- nothing stands on the chain of 0, or above all entries
+pub none_at_0 : (bytes : List ℕ) → on_chain (entries_of bytes) 0 ≡ []
+none_at_0 bytes = none_at_zero (reverse (entries_of bytes))
 
--- from an entry on there are its literal and what the parent has
-pub entry_left : (bytes : List ℕ) (at place : ℕ) → version_of bytes ≢ 1 → (place ≡ 0 → ⊥) → place ≤ chain_count bytes
+pub none_above : (bytes : List ℕ) (place : ℕ) → chain_count bytes < place → on_chain (entries_of bytes) place ≡ []
+none_above bytes place h = none_past (reverse (entries_of bytes)) place (omega (arith, h, count bytes (chain_count bytes)))
+
+-- from an entry on there is what it states, and what the parent has
+pub claim_left : (bytes : List ℕ) (place : ℕ) → (place ≡ 0 → ⊥) → place ≤ chain_count bytes
     → parent_at bytes (place - 1) < place - 1 + 1
-    → literals_left bytes at place ≡ literal_at bytes (16 + 14 * (place - 1) + 4) ∷ literals_left bytes at (parent_at bytes (place - 1))
-entry_left bytes at zero other some h g = absurd (some refl)
-entry_left bytes at (suc j) other some h g =
+    → on_chain (entries_of bytes) place ≡ claim_at bytes (16 + 14 * (place - 1) + 4) ∷ on_chain (entries_of bytes) (parent_at bytes (place - 1))
+claim_left bytes zero some h g = absurd (some refl)
+claim_left bytes (suc j) some h g =
     let e : suc j - 1 ≡ j = omega arith in
-    in_chain bytes at (suc j) other
-    ∙ (chain_goes_on bytes (chain_count bytes) j (omega arith) (subst (λ k. parent_at bytes k < k + 1) e g)
-    ∙ (ap (λ ls. literal_at bytes (16 + 14 * j + 4) ∷ ls) (sym (in_chain bytes at (parent_at bytes j) other))
-    ∙ ap (λ k. literal_at bytes (16 + 14 * k + 4) ∷ literals_left bytes at (parent_at bytes k)) (sym e)))
+    chain_goes_on bytes (chain_count bytes) j (omega arith) (subst (λ k. parent_at bytes k < k + 1) e g)
+    ∙ ap (λ k. claim_at bytes (16 + 14 * k + 4) ∷ on_chain (entries_of bytes) (parent_at bytes k)) (sym e)
+
+-- ---- rules that are out and conditions that are met, of which form 4 alone has a word
+
+abbrev IsKnown : Claim → Type 0
+IsKnown (Knows l) = Unit {0}
+IsKnown (Out i) = ⊥
+IsKnown (Met i j) = ⊥
+
+abbrev HasLiterals : List Claim → Type 0
+HasLiterals cs = (outs_in cs ≡ []) × (mets_in cs ≡ [])
+
+none_in : (es : List (ℕ × Claim)) (n : ℕ) → AllByRecursion (λ e. IsKnown e.1) es → HasLiterals (on_chain_back es n)
+none_in [] n all = (refl, refl)
+none_in ((parent, Knows l) ∷ es) n all = by_test (eqb n (suc (length es))) (none_in es parent all.1) (none_in es n all.1) where
+  by_test : (b : Bool) → HasLiterals (on_chain_back es parent) → HasLiterals (on_chain_back es n)
+      → HasLiterals (cond b (Knows l ∷ on_chain_back es parent) (on_chain_back es n))
+  by_test true above other = above
+  by_test false above other = other
+none_in ((parent, Out i) ∷ es) n all = absurd all.0
+none_in ((parent, Met i j) ∷ es) n all = absurd all.0
+
+all_known : (bytes : List ℕ) (c : ℕ) → version_of bytes ≢ 4 → AllByRecursion (λ e. IsKnown e.1) (reverse (entries_before bytes c))
+all_known bytes zero form = tt
+all_known bytes (suc c) form =
+    let here : IsKnown (claim_at bytes (16 + 14 * c + 4)) = subst IsKnown (sym (in_other_form bytes (16 + 14 * c + 4) form)) tt in
+    subst (AllByRecursion (λ (e : ℕ × Claim). IsKnown e.1)) (sym (last_first bytes c)) (here, all_known bytes c form)
+
+none_said : (bytes : List ℕ) (at : ℕ) → version_of bytes ≢ 4 → ((node_at bytes at).out ≡ []) × ((node_at bytes at).met ≡ [])
+unfolding node_at
+none_said bytes at form = by_form (eqb (version_of bytes) 1) where
+  by_form : (b : Bool) → ((cond b (listed_node bytes at) (said (entries_of bytes) (chain_node_at bytes at))).out ≡ [])
+      × ((cond b (listed_node bytes at) (said (entries_of bytes) (chain_node_at bytes at))).met ≡ [])
+  by_form true = (refl, refl)
+  by_form false = none_in (reverse (entries_of bytes)) (chain_node_at bytes at).chain (all_known bytes (chain_count bytes) form)
+
+pub none_out : (bytes : List ℕ) (at : ℕ) → version_of bytes ≢ 4 → (node_at bytes at).out ≡ []
+none_out bytes at form = (none_said bytes at form).0
+
+pub none_met : (bytes : List ℕ) (at : ℕ) → version_of bytes ≢ 4 → (node_at bytes at).met ≡ []
+none_met bytes at form = (none_said bytes at form).1
+
+pub outs_of : (bytes : List ℕ) (at : ℕ) → version_of bytes ≡ 4
+    → (node_at bytes at).out ≡ outs_in (on_chain (entries_of bytes) (long_at bytes (chain_place bytes at)))
+unfolding node_at
+outs_of bytes at form = rw form refl
+
+pub outs_are : (bytes : List ℕ) (place : ℕ) → version_of bytes ≡ 4 → outs_left bytes place ≡ outs_in (on_chain (entries_of bytes) place)
+unfolding outs_left
+outs_are bytes place form = rw form refl
+
+pub no_outs : (bytes : List ℕ) (place : ℕ) → version_of bytes ≢ 4 → outs_left bytes place ≡ []
+unfolding outs_left
+no_outs bytes place form = rw (ne_eqb (version_of bytes) 4 form) refl
+
+pub mets_of : (bytes : List ℕ) (at : ℕ) → version_of bytes ≡ 4
+    → (node_at bytes at).met ≡ mets_in (on_chain (entries_of bytes) (long_at bytes (chain_place bytes at)))
+unfolding node_at
+mets_of bytes at form = rw form refl
+
+pub mets_are : (bytes : List ℕ) (place : ℕ) → version_of bytes ≡ 4 → mets_left bytes place ≡ mets_in (on_chain (entries_of bytes) place)
+unfolding mets_left
+mets_are bytes place form = rw form refl
+
+pub no_mets : (bytes : List ℕ) (place : ℕ) → version_of bytes ≢ 4 → mets_left bytes place ≡ []
+unfolding mets_left
+no_mets bytes place form = rw (ne_eqb (version_of bytes) 4 form) refl

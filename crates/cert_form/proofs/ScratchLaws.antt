@@ -105,34 +105,34 @@ length-scratch_from bytes at bits (suc n) =
 all_bits : (bits : ℕ) → bits < 2 ^ 16 → bits_above bits 16 ≡ 0
 all_bits bits h = omega arith
 
--- the scratch words of a node, in form 3 and in the others
-pub stated_place : (bytes : List ℕ) (at : ℕ) → version_of bytes ≡ 3
+-- the scratch words of a node, in form 2 and in the others
+pub stated_place : (bytes : List ℕ) (at : ℕ) → version_of bytes ≢ 2
     → chain_place bytes at ≡ at + 18 + 6 * ones (short_at bytes (at + 16)) 16
 unfolding chain_place
-stated_place bytes at three = rw three refl
+stated_place bytes at other = rw (ne_eqb (version_of bytes) 2 other) refl
 
-pub stated_at : (bytes : List ℕ) (at : ℕ) → version_of bytes ≡ 3
+pub stated_at : (bytes : List ℕ) (at : ℕ) → version_of bytes ≢ 2
     → scratch_at bytes at ≡ scratch_from bytes (at + 18) (short_at bytes (at + 16)) 16
 unfolding scratch_at
-stated_at bytes at three = rw three refl
+stated_at bytes at other = rw (ne_eqb (version_of bytes) 2 other) refl
 
-pub plain_place : (bytes : List ℕ) (at : ℕ) → version_of bytes ≢ 3 → chain_place bytes at ≡ at + 16
+pub plain_place : (bytes : List ℕ) (at : ℕ) → version_of bytes ≡ 2 → chain_place bytes at ≡ at + 16
 unfolding chain_place
-plain_place bytes at none = rw (ne_eqb (version_of bytes) 3 none) refl
+plain_place bytes at two = rw two refl
 
-pub plain_at : (bytes : List ℕ) (at : ℕ) → version_of bytes ≢ 3 → scratch_at bytes at ≡ nothing_stated
+pub plain_at : (bytes : List ℕ) (at : ℕ) → version_of bytes ≡ 2 → scratch_at bytes at ≡ nothing_stated
 unfolding scratch_at
-plain_at bytes at none = rw (ne_eqb (version_of bytes) 3 none) refl
+plain_at bytes at two = rw two refl
 
-spoken : (bytes : List ℕ) (part : List ℕ) → version_of bytes ≡ 3 → cond (eqb (version_of bytes) 3) part [] ≡ part
-spoken bytes part three = rw three refl
+spoken : (bytes : List ℕ) (part : List ℕ) → version_of bytes ≢ 2 → cond (eqb (version_of bytes) 2) [] part ≡ part
+spoken bytes part other = rw (ne_eqb (version_of bytes) 2 other) refl
 
-unspoken : (bytes : List ℕ) (part : List ℕ) → version_of bytes ≢ 3 → cond (eqb (version_of bytes) 3) part [] ≡ []
-unspoken bytes part none = rw (ne_eqb (version_of bytes) 3 none) refl
+unspoken : (bytes : List ℕ) (part : List ℕ) → version_of bytes ≡ 2 → cond (eqb (version_of bytes) 2) [] part ≡ []
+unspoken bytes part two = rw two refl
 
-pub scratch_there : (bytes : List ℕ) (at : ℕ) → AreBytes bytes → at + 18 ≤ length bytes → version_of bytes ≡ 3
+pub scratch_there : (bytes : List ℕ) (at : ℕ) → AreBytes bytes → at + 18 ≤ length bytes → version_of bytes ≢ 2
     → AreStatedThere bytes (at + 18) (short_at bytes (at + 16)) 16 → IsScratchThere bytes at
-scratch_there bytes at small room three p =
+scratch_there bytes at small room other_form p =
     let bits : ℕ = short_at bytes (at + 16) in
     let vs : List AVal = scratch_from bytes (at + 18) bits 16 in
     let head : Stands bytes (at + 16) (little_bytes 2 bits) (at + 18) =
@@ -140,15 +140,15 @@ scratch_there bytes at small room three p =
     let same : stated_bits vs ≡ bits = p.same (all_bits bits (short_below bytes (at + 16) small)) in
     let whole : Stands bytes (at + 16) (little_bytes 2 bits ++ flat_map if_stated vs) (chain_place bytes at) =
     both bytes (at + 16) (little_bytes 2 bits) (at + 18) (at + 18) (flat_map if_stated vs) (chain_place bytes at) head
-    (ended bytes (at + 18) _ _ (chain_place bytes at) p.stands (sym (stated_place bytes at three))) refl in
-    let spelled : little_bytes 2 bits ++ flat_map if_stated vs ≡ cond (eqb (version_of bytes) 3) (scratch (scratch_at bytes at)) [] =
+    (ended bytes (at + 18) _ _ (chain_place bytes at) p.stands (sym (stated_place bytes at other_form))) refl in
+    let spelled : little_bytes 2 bits ++ flat_map if_stated vs ≡ cond (eqb (version_of bytes) 2) [] (scratch (scratch_at bytes at)) =
     ap (λ b. little_bytes 2 b ++ flat_map if_stated vs) (sym same)
-    ∙ (ap scratch (sym (stated_at bytes at three)) ∙ sym (spoken bytes (scratch (scratch_at bytes at)) three)) in
+    ∙ (ap scratch (sym (stated_at bytes at other_form)) ∙ sym (spoken bytes (scratch (scratch_at bytes at)) other_form)) in
     record {
       stands = other bytes (at + 16) _ _ (chain_place bytes at) whole spelled;
-      sixteen = ap length (stated_at bytes at three) ∙ length-scratch_from bytes (at + 18) bits 16;
-      good = subst (λ (ws : List AVal). All IsValue ws) (sym (stated_at bytes at three)) (All-from_recursion IsValue vs p.good);
-      none = λ two. absurd (omega (arith, two, three));
+      sixteen = ap length (stated_at bytes at other_form) ∙ length-scratch_from bytes (at + 18) bits 16;
+      good = subst (λ (ws : List AVal). All IsValue ws) (sym (stated_at bytes at other_form)) (All-from_recursion IsValue vs p.good);
+      none = λ two. absurd (other_form two);
     }
 
 pub none_good : All IsValue nothing_stated
@@ -160,7 +160,7 @@ none_good = All-from_recursion IsValue nothing_stated (
   ),
 )
 
-pub no_scratch_there : (bytes : List ℕ) (at : ℕ) → at + 16 ≤ length bytes → version_of bytes ≢ 3 → IsScratchThere bytes at
+pub no_scratch_there : (bytes : List ℕ) (at : ℕ) → at + 16 ≤ length bytes → version_of bytes ≡ 2 → IsScratchThere bytes at
 no_scratch_there bytes at room none = record {
   stands = other bytes (at + 16) [] _ (chain_place bytes at)
       (ended bytes (at + 16) [] (at + 16) (chain_place bytes at) (none_stands bytes (at + 16) room) (sym (plain_place bytes at none)))

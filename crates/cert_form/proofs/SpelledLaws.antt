@@ -1,4 +1,4 @@
--- A certificate of form 2 or 3 whose parts were all judged sound is spelled.
+-- A certificate of form 2, 3 or 4 whose parts were all judged sound is spelled.
 use Rattle.std.proofs.Common.{◌≡◌, ℕ, zero, suc, ◌+◌, ◌*◌, ◌<◌, ◌≤◌, List, [], ◌∷◌, ◌++◌, length, drop, map, refl, ap, sym, ◌∙◌, subst}
 use Rattle.std.proofs.Common.{inl, inr, arith}
 use Rattle.std.specs.Prelude.{◌≢◌, ◌⊎◌, Some, slice_get}
@@ -9,7 +9,7 @@ use Rattle.std.proofs.lemmas.List.{append-nil, length-append, length-reverse, ge
 use Rattle.std.proofs.lemmas.List.Elements.{All-from_recursion}
 use Rattle.std.proofs.lemmas.Grind.{flat_map-append}
 use Rattle.byteorder.specs.Endian.{little_bytes}
-use Rattle.cert_state.specs.declared.literal.Lit.{Lit}
+use Rattle.cert_form.specs.declared.node.Claim.{Claim}
 use Rattle.cert_form.specs.declared.node.ChainNode.{ChainNode}
 use Rattle.cert_form.specs.Nodes.{said}
 use Rattle.cert_form.specs.Spelling.{magic, entry, offsets, chain_node, chained, IsEntry, IsChainNode, SpellsSaid}
@@ -45,7 +45,7 @@ slice_get_front (x ∷ xs) ys zero h = refl
 slice_get_front (x ∷ xs) ys (suc i) h = slice_get_front xs ys i (omega arith)
 
 -- the entry of a number
-entry_got : (bytes : List ℕ) (n j : ℕ) (e : ℕ × Lit) → slice_get (entries_before bytes n) j ≡ Some e → (j < n) × (entry_at bytes j ≡ e)
+entry_got : (bytes : List ℕ) (n j : ℕ) (e : ℕ × Claim) → slice_get (entries_before bytes n) j ≡ Some e → (j < n) × (entry_at bytes j ≡ e)
 entry_got bytes zero j e got = absurd cc
 entry_got bytes (suc n) j e got = by_place (cases_lt j n) (entry_got bytes n j e) where
   len : length (entries_before bytes n) ≡ n
@@ -143,7 +143,7 @@ pub chained_spelled : (bytes : List ℕ) → AreBytes bytes → IsTopOfFile byte
 chained_spelled bytes small top form few entries room nodes end =
     let version : ℕ = version_of bytes in
     let count : ℕ = node_count bytes in
-    let es : List (ℕ × Lit) = entries_of bytes in
+    let es : List (ℕ × Claim) = entries_of bytes in
     let cs : List ChainNode = chained_nodes bytes 0 count in
     let n_es : length es ≡ chain_count bytes = length-entries_of bytes in
     let n_cs : length cs ≡ count = length-chained_nodes bytes 0 count in
@@ -182,7 +182,7 @@ chained_spelled bytes small top form few entries room nodes end =
         some = omega (arith, top.some, n_cs);
         few = omega (arith, top.few, n_cs);
         few_entries = omega (arith, few, n_es);
-        entries = λ j e got. let one = entry_got bytes (chain_count bytes) j e got in subst (λ f. IsEntry j f) one.1 (entries j one.0).good;
+        entries = λ j e got. let one = entry_got bytes (chain_count bytes) j e got in subst (λ f. IsEntry version j f) one.1 (entries j one.0).good;
         nodes = All-from_recursion (IsChainNode version es) cs (goods bytes 0 count (λ i h. (nodes.nodes i (omega (arith, h))).good));
       };
       same = says bytes 0 count form;

@@ -13,13 +13,11 @@ use Rattle.cert_form.proofs.ListedAgain.{listed_no_fault, listed_nodes}
 
 pub none_faulty : NoneSpelledIsFaulty
 none_faulty bytes ns e (inl s) other bad = listed_no_fault bytes ns s e other bad
-none_faulty bytes ns e (inr (inl s)) other bad = chained_no_fault 2 bytes s.es s.cs (inl refl) s.spells e bad
-none_faulty bytes ns e (inr (inr s)) other bad = chained_no_fault 3 bytes s.es s.cs (inr refl) s.spells e bad
+none_faulty bytes ns e (inr (version, known, s)) other bad = chained_no_fault version bytes s.es s.cs known s.spells e bad
 
 pub nodes_are : (bytes : List ℕ) (ns : List PlainNode) → Spells bytes ns → nodes_in bytes ≡ ns
 nodes_are bytes ns (inl s) = listed_nodes bytes ns s
-nodes_are bytes ns (inr (inl s)) = chained_nodes 2 bytes s.es s.cs (inl refl) s.spells ∙ sym s.same
-nodes_are bytes ns (inr (inr s)) = chained_nodes 3 bytes s.es s.cs (inr refl) s.spells ∙ sym s.same
+nodes_are bytes ns (inr (version, known, s)) = chained_nodes version bytes s.es s.cs known s.spells ∙ sym s.same
 
 -- a fault that stands, other than want of memory, leaves nothing spelled
 pub only_memory : (bytes : List ℕ) (ns : List PlainNode) (e : FormError) → Spells bytes ns → Faulty e bytes → e ≡ OutOfMemory
@@ -34,8 +32,8 @@ only_memory bytes ns OutOfMemory s bad = refl
 pub one_spelling : OneSpelling
 one_spelling bytes ns ms s t = sym (nodes_are bytes ns s) ∙ nodes_are bytes ms t
 
--- a file with a head has one of the three versions
+-- a file with a head has one of the four versions
 pub not_other : {T : Type 0} (r : Result T FormError) (bytes : List ℕ) → IsTopOfFile bytes
     → IfErr r (λ e. IsOtherVersion bytes → IsToldFirst e bytes)
 not_other (Ok x) bytes top = tt
-not_other (Err e) bytes top = λ other. absurd (omega (arith, top.form, top.known, other.not_1, other.not_2, other.not_3))
+not_other (Err e) bytes top = λ other. absurd (omega (arith, top.form, top.known, other.not_1, other.not_2, other.not_3, other.not_4))

@@ -1,8 +1,7 @@
 -- What was judged sound can be read in place, and is spelled.
-use Rattle.std.proofs.Common.{◌≡◌, ℕ, ◌+◌, ◌*◌, ◌≤◌, List, length, subst, inl, inr, arith}
-use Rattle.std.specs.Prelude.{◌≢◌, ◌⊎◌}
-use Rattle.std.proofs.lemmas.Bool.{cases_lt}
-use Rattle.cert_form.specs.Spelling.{Spells, SpellsSaid}
+use Rattle.std.proofs.Common.{◌≡◌, ℕ, ◌+◌, ◌*◌, ◌≤◌, List, length, inl, inr, arith}
+use Rattle.std.specs.Prelude.{◌≢◌}
+use Rattle.cert_form.specs.Spelling.{Spells}
 use Rattle.cert_form.specs.Reading.{version_of, node_count, chain_count, place_of, nodes_in}
 use Rattle.cert_form.specs.inner.Places.{IsHeadThere, AreNodesThere}
 use Rattle.cert_form.specs.inner.Standing.{IsTopOfFile, AreListedThere, AreChainedThere, AreEntriesThere}
@@ -59,16 +58,8 @@ pub spells_chained : (bytes : List ℕ) → AreBytes bytes → IsTopOfFile bytes
     → place_of bytes (node_count bytes) ≡ length bytes
     → Spells bytes (nodes_in bytes)
 spells_chained bytes small top form few entries room nodes end =
-    by_form (two_or_three (version_of bytes) form top.form top.known)
-    (chained_spelled bytes small top form few entries room nodes end) where
-      two_or_three : (v : ℕ) → v ≢ 1 → 1 ≤ v → v ≤ 3 → (v ≡ 2) ⊎ (v ≡ 3)
-      two_or_three v other low high = elim (cases_lt v 3) [
-        | inl less ↦ inl (omega (arith, other, low, less))
-        | inr more ↦ inr
-            (omega (arith, high, more))
-      ]
-
-      by_form : (version_of bytes ≡ 2) ⊎ (version_of bytes ≡ 3) → SpellsSaid (version_of bytes) bytes (nodes_in bytes)
-          → Spells bytes (nodes_in bytes)
-      by_form (inl two) s = inr (inl (subst (λ v. SpellsSaid v bytes (nodes_in bytes)) two s))
-      by_form (inr three) s = inr (inr (subst (λ v. SpellsSaid v bytes (nodes_in bytes)) three s))
+    inr (
+      version_of bytes,
+      (omega (arith, form, top.form), omega (arith, top.known)),
+      chained_spelled bytes small top form few entries room nodes end,
+    )

@@ -1,20 +1,20 @@
--- A certificate of form 2 or 3 that is spelled: where its entries and nodes stand, and what they are.
+-- A certificate of form 2, 3 or 4 that is spelled: where its entries and nodes stand, and what they are.
 use Rattle.std.proofs.Common.{◌≡◌, ℕ, zero, suc, ◌+◌, ◌*◌, ◌<◌, ◌≤◌, ◌^◌, List, [], ◌∷◌, ◌++◌, length, take, drop, All, refl, ap, sym}
-use Rattle.std.proofs.Common.{◌∙◌, subst, inl, inr, arith}
-use Rattle.std.specs.Prelude.{◌≢◌, ◌⊎◌, Some, slice_get}
+use Rattle.std.proofs.Common.{◌∙◌, subst, arith}
+use Rattle.std.specs.Prelude.{◌≢◌, Some, slice_get}
 use Rattle.std.specs.List.{flat_map}
 use Rattle.std.proofs.lemmas.List.{length-append, take_all, drop_all}
 use Rattle.std.proofs.lemmas.Option.{get_or_from_slice_get, slice_get_within}
 use Rattle.byteorder.specs.Endian.{little_bytes}
-use Rattle.cert_state.specs.declared.literal.Lit.{Lit}
+use Rattle.cert_form.specs.declared.node.Claim.{Claim}
 use Rattle.cert_form.specs.declared.node.ChainNode.{ChainNode}
-use Rattle.cert_form.specs.Spelling.{magic, literal, entry, offsets, chain_node, IsEntry, IsChainNode, SpellsChained}
-use Rattle.cert_form.specs.Reading.{long_at, literal_at, parent_at, entry_at, entries_before, entries_of, version_of, node_count}
+use Rattle.cert_form.specs.Spelling.{magic, claim, entry, offsets, chain_node, IsEntry, IsChainNode, IsChained, SpellsChained}
+use Rattle.cert_form.specs.Reading.{long_at, claim_at, parent_at, entry_at, entries_before, entries_of, version_of, node_count}
 use Rattle.cert_form.specs.Reading.{chain_count, place_of, offset_at}
 use Rattle.cert_form.specs.Faults.{IsBadEntry}
 use Rattle.cert_form.specs.inner.Standing.{Stands}
 use Rattle.cert_form.proofs.StandLaws.{front, back, moved, ended, other, all_stands, long_is}
-use Rattle.cert_form.proofs.PartLaws.{length-literal, literal_is, literal_not_bad}
+use Rattle.cert_form.proofs.ClaimLaws.{length-claim, claim_is, claim_not_bad}
 use Rattle.cert_form.proofs.PlaceLaws.{next_place, first_chained}
 use Rattle.cert_form.proofs.ChainedAgain.{Again, again}
 
@@ -24,14 +24,14 @@ at_place [] i h = absurd (omega (arith, h))
 at_place (x ∷ xs) zero h = (x, refl, refl)
 at_place (x ∷ xs) (suc i) h = at_place xs i (omega arith)
 
-pub length-entries : (es : List (ℕ × Lit)) → length (flat_map entry es) ≡ 14 * length es
+pub length-entries : (es : List (ℕ × Claim)) → length (flat_map entry es) ≡ 14 * length es
 length-entries [] = refl
 length-entries (e ∷ es) =
     omega (
       arith,
       length-append (entry e) (flat_map entry es),
-      length-append (little_bytes 4 e.0) (literal e.1),
-      length-literal e.1,
+      length-append (little_bytes 4 e.0) (claim e.1),
+      length-claim e.1,
       length-entries es,
     )
 
@@ -42,7 +42,7 @@ length-offsets version at (n ∷ ns) =
     omega (arith, length-append (little_bytes 4 at) (offsets version next ns), length-offsets version next ns)
 
 -- the parts of the whole
-pub record Whole (version : ℕ) (bytes : List ℕ) (es : List (ℕ × Lit)) (ns : List ChainNode) : Type 0 where
+pub record Whole (version : ℕ) (bytes : List ℕ) (es : List (ℕ × Claim)) (ns : List ChainNode) : Type 0 where
   pub first : take 4 bytes ≡ magic
   pub form : version_of bytes ≡ version
   pub nodes : node_count bytes ≡ length ns
@@ -52,7 +52,7 @@ pub record Whole (version : ℕ) (bytes : List ℕ) (es : List (ℕ × Lit)) (ns
       (16 + 14 * length es + 4 * length ns)
   pub rest : Stands bytes (16 + 14 * length es + 4 * length ns) (flat_map (chain_node version) ns) (length bytes)
 
-pub whole : (version : ℕ) (bytes : List ℕ) (es : List (ℕ × Lit)) (ns : List ChainNode) → version < 2 ^ 32
+pub whole : (version : ℕ) (bytes : List ℕ) (es : List (ℕ × Claim)) (ns : List ChainNode) → version < 2 ^ 32
     → SpellsChained version bytes es ns → Whole version bytes es ns
 whole version bytes es ns small s =
     let first : ℕ = 16 + 14 * length es + 4 * length ns in
@@ -89,7 +89,7 @@ whole version bytes es ns small s =
 
 -- ---- entries
 
-pub entries_stand : (bytes : List ℕ) (es : List (ℕ × Lit)) (end : ℕ) → Stands bytes 16 (flat_map entry es) end → (j : ℕ) → j ≤ length es
+pub entries_stand : (bytes : List ℕ) (es : List (ℕ × Claim)) (end : ℕ) → Stands bytes 16 (flat_map entry es) end → (j : ℕ) → j ≤ length es
     → Stands bytes (16 + 14 * j) (flat_map entry (drop j es)) end
 entries_stand bytes es end s zero h = moved bytes 16 (16 + 14 * 0) _ end s (omega arith)
 entries_stand bytes es end s (suc j) h =
@@ -99,9 +99,9 @@ entries_stand bytes es end s (suc j) h =
     other bytes (16 + 14 * j) _ _ end before (ap (λ xs. flat_map entry xs) p.1) in
     moved bytes (16 + 14 * j + length (entry p.0)) (16 + 14 * suc j) _ end
     (back bytes (16 + 14 * j) (entry p.0) (flat_map entry (drop (suc j) es)) end split)
-    (omega (arith, length-append (little_bytes 4 p.0.0) (literal p.0.1), length-literal p.0.1))
+    (omega (arith, length-append (little_bytes 4 p.0.0) (claim p.0.1), length-claim p.0.1))
 
-pub entry_stands : (bytes : List ℕ) (es : List (ℕ × Lit)) (end : ℕ) → Stands bytes 16 (flat_map entry es) end → (j : ℕ) (h : j < length es)
+pub entry_stands : (bytes : List ℕ) (es : List (ℕ × Claim)) (end : ℕ) → Stands bytes 16 (flat_map entry es) end → (j : ℕ) (h : j < length es)
     → Stands bytes (16 + 14 * j) (entry (at_place es j h).0) (16 + 14 * j + length (entry (at_place es j h).0))
 entry_stands bytes es end s j h =
     let p = at_place es j h in
@@ -109,29 +109,29 @@ entry_stands bytes es end s j h =
     (other bytes (16 + 14 * j) _ _ end (entries_stand bytes es end s j (omega (arith, h))) (ap (λ xs. flat_map entry xs) p.1))
 
 -- an entry is read, and is not bad
-pub entry_is : (bytes : List ℕ) (j : ℕ) (e : ℕ × Lit) (end : ℕ) → Stands bytes (16 + 14 * j) (entry e) end → IsEntry j e → j < 2 ^ 32
-    → entry_at bytes j ≡ e
-entry_is bytes j e end s good small =
+pub entry_is : (bytes : List ℕ) (version j : ℕ) (e : ℕ × Claim) (end : ℕ) → Stands bytes (16 + 14 * j) (entry e) end
+    → IsEntry version j e → version_of bytes ≡ version → j < 2 ^ 32 → entry_at bytes j ≡ e
+entry_is bytes version j e end s good form small =
     let parent : parent_at bytes j ≡ e.0 = long_is bytes (16 + 14 * j) e.0 _
-    (front bytes (16 + 14 * j) (little_bytes 4 e.0) (literal e.1) end s) (omega (arith, good.earlier, small)) in
-    let lit : literal_at bytes (16 + 14 * j + 4) ≡ e.1 = literal_is bytes (16 + 14 * j + 4) e.1 end
-    (back bytes (16 + 14 * j) (little_bytes 4 e.0) (literal e.1) end s) good.literal in
-    same_pair (entry_at bytes j) e parent lit where
-      same_pair : (a b : ℕ × Lit) → a.0 ≡ b.0 → a.1 ≡ b.1 → a ≡ b
+    (front bytes (16 + 14 * j) (little_bytes 4 e.0) (claim e.1) end s) (omega (arith, good.earlier, small)) in
+    let says : claim_at bytes (16 + 14 * j + 4) ≡ e.1 = claim_is bytes (16 + 14 * j + 4) version e.1 end
+    (back bytes (16 + 14 * j) (little_bytes 4 e.0) (claim e.1) end s) good.claim form in
+    same_pair (entry_at bytes j) e parent says where
+      same_pair : (a b : ℕ × Claim) → a.0 ≡ b.0 → a.1 ≡ b.1 → a ≡ b
       same_pair a b p q = ap (λ k. (k, a.1)) p ∙ ap (λ l. (b.0, l)) q
 
-pub entry_not_bad : (bytes : List ℕ) (j : ℕ) (e : ℕ × Lit) (end : ℕ) → Stands bytes (16 + 14 * j) (entry e) end → IsEntry j e
-    → j < 2 ^ 32 → IsBadEntry bytes j → ⊥
-entry_not_bad bytes j e end s good small (IsBadEntry.parent room bad) =
+pub entry_not_bad : (bytes : List ℕ) (version j : ℕ) (e : ℕ × Claim) (end : ℕ) → Stands bytes (16 + 14 * j) (entry e) end
+    → IsEntry version j e → version_of bytes ≡ version → j < 2 ^ 32 → IsBadEntry bytes j → ⊥
+entry_not_bad bytes version j e end s good form small (IsBadEntry.parent room bad) =
     omega (
       arith,
       bad,
       good.earlier,
       long_is bytes (16 + 14 * j) e.0 _
-          (front bytes (16 + 14 * j) (little_bytes 4 e.0) (literal e.1) end s) (omega (arith, good.earlier, small)),
+          (front bytes (16 + 14 * j) (little_bytes 4 e.0) (claim e.1) end s) (omega (arith, good.earlier, small)),
     )
-entry_not_bad bytes j e end s good small (IsBadEntry.literal bad) =
-    literal_not_bad bytes (16 + 14 * j + 4) e.1 end (back bytes (16 + 14 * j) (little_bytes 4 e.0) (literal e.1) end s) good.literal bad
+entry_not_bad bytes version j e end s good form small (IsBadEntry.claim bad) =
+    claim_not_bad bytes (16 + 14 * j + 4) version e.1 end (back bytes (16 + 14 * j) (little_bytes 4 e.0) (claim e.1) end s) good.claim form bad
 
 take_one_more : {X : Type 0} (xs : List X) (j : ℕ) (x : X) → drop j xs ≡ x ∷ drop (suc j) xs → take (suc j) xs ≡ take j xs ++ x ∷ []
 take_one_more [] zero x e = absurd cc
@@ -139,18 +139,19 @@ take_one_more [] (suc j) x e = absurd cc
 take_one_more (y ∷ xs) zero x e = let same : y ≡ x = cc in ap (λ z. z ∷ []) same
 take_one_more (y ∷ xs) (suc j) x e = ap (λ zs. y ∷ zs) (take_one_more xs j x e)
 
-before_is : (version : ℕ) (bytes : List ℕ) (es : List (ℕ × Lit)) (ns : List ChainNode) → Whole version bytes es ns
+before_is : (version : ℕ) (bytes : List ℕ) (es : List (ℕ × Claim)) (ns : List ChainNode) → Whole version bytes es ns
     → SpellsChained version bytes es ns → (j : ℕ) → j ≤ length es
     → entries_before bytes j ≡ take j es
 before_is version bytes es ns w s zero h = refl
 before_is version bytes es ns w s (suc j) h =
     let less : j < length es = omega (arith, h) in
     let p = at_place es j less in
-    let one = entry_is bytes j p.0 _ (entry_stands bytes es _ w.entries j less) (s.entries j p.0 p.2) (omega (arith, h, s.few_entries)) in
+    let one = entry_is bytes version j p.0 _ (entry_stands bytes es _ w.entries j less) (s.entries j p.0 p.2) w.form
+    (omega (arith, h, s.few_entries)) in
     ap (λ xs. xs ++ entry_at bytes j ∷ []) (before_is version bytes es ns w s j (omega (arith, h)))
     ∙ (ap (λ e. take j es ++ e ∷ []) one ∙ sym (take_one_more es j p.0 p.1))
 
-pub entries_are : (version : ℕ) (bytes : List ℕ) (es : List (ℕ × Lit)) (ns : List ChainNode) → Whole version bytes es ns
+pub entries_are : (version : ℕ) (bytes : List ℕ) (es : List (ℕ × Claim)) (ns : List ChainNode) → Whole version bytes es ns
     → SpellsChained version bytes es ns
     → entries_of bytes ≡ es
 entries_are version bytes es ns w s =
@@ -159,11 +160,10 @@ entries_are version bytes es ns w s =
 
 -- ---- nodes
 
-pub not_1 : (version : ℕ) → (version ≡ 2) ⊎ (version ≡ 3) → (v : ℕ) → v ≡ version → v ≢ 1
-not_1 version (inl two) v e one = omega (arith, two, e, one)
-not_1 version (inr three) v e one = omega (arith, three, e, one)
+pub not_1 : (version : ℕ) → IsChained version → (v : ℕ) → v ≡ version → v ≢ 1
+not_1 version known v e one = omega (arith, known.0, e, one)
 
-node_again : (version : ℕ) (bytes : List ℕ) (es : List (ℕ × Lit)) (ns : List ChainNode) → (version ≡ 2) ⊎ (version ≡ 3)
+node_again : (version : ℕ) (bytes : List ℕ) (es : List (ℕ × Claim)) (ns : List ChainNode) → IsChained version
     → Whole version bytes es ns
     → SpellsChained version bytes es ns → (i : ℕ) (n : ChainNode) → drop i ns ≡ n ∷ drop (suc i) ns → slice_get ns i ≡ Some n
     → Stands bytes (place_of bytes i) (flat_map (chain_node version) (drop i ns)) (length bytes)
@@ -184,7 +184,7 @@ node_again version bytes es ns known w s i n e got stands =
           subst (λ o. IsChainNode version es o) (get_or_from_slice_get ms k m m got) (all k m (slice_get_within ms k m got))
 
 -- each node stands at its place
-pub nodes_stand : (version : ℕ) (bytes : List ℕ) (es : List (ℕ × Lit)) (ns : List ChainNode) → (version ≡ 2) ⊎ (version ≡ 3)
+pub nodes_stand : (version : ℕ) (bytes : List ℕ) (es : List (ℕ × Claim)) (ns : List ChainNode) → IsChained version
     → Whole version bytes es ns
     → SpellsChained version bytes es ns → (i : ℕ) → i ≤ length ns
     → Stands bytes (place_of bytes i) (flat_map (chain_node version) (drop i ns)) (length bytes)
@@ -202,14 +202,14 @@ nodes_stand version bytes es ns known w s (suc i) h =
     (sym one.1.ends ∙ (sym (next_place bytes i) ∙ ap (λ k. place_of bytes k) later))
 
 -- a node of a number, which stands there
-pub record Standing (version : ℕ) (bytes : List ℕ) (es : List (ℕ × Lit)) (ns : List ChainNode) (i : ℕ) : Type 0 where
+pub record Standing (version : ℕ) (bytes : List ℕ) (es : List (ℕ × Claim)) (ns : List ChainNode) (i : ℕ) : Type 0 where
   pub n : ChainNode
   pub got : slice_get ns i ≡ Some n
   pub end : ℕ
   pub stands : Stands bytes (place_of bytes i) (chain_node version n) end
   pub again : Again bytes (place_of bytes i) es n end
 
-pub node_stands : (version : ℕ) (bytes : List ℕ) (es : List (ℕ × Lit)) (ns : List ChainNode) → (version ≡ 2) ⊎ (version ≡ 3)
+pub node_stands : (version : ℕ) (bytes : List ℕ) (es : List (ℕ × Claim)) (ns : List ChainNode) → IsChained version
     → Whole version bytes es ns
     → SpellsChained version bytes es ns → (i : ℕ) → i < length ns → Standing version bytes es ns i
 node_stands version bytes es ns known w s i h =
@@ -218,7 +218,7 @@ node_stands version bytes es ns known w s i h =
     record { n = p.0; got = p.2; end = place_of bytes i + length (chain_node version p.0); stands = one.0; again = one.1 }
 
 -- the last one ends where the bytes do
-pub last_end : (version : ℕ) (bytes : List ℕ) (es : List (ℕ × Lit)) (ns : List ChainNode) → (version ≡ 2) ⊎ (version ≡ 3)
+pub last_end : (version : ℕ) (bytes : List ℕ) (es : List (ℕ × Claim)) (ns : List ChainNode) → IsChained version
     → Whole version bytes es ns
     → SpellsChained version bytes es ns → place_of bytes (length ns) ≡ length bytes
 last_end version bytes es ns known w s =
@@ -226,7 +226,7 @@ last_end version bytes es ns known w s =
     omega (arith, end.ends, ap (λ xs. length (flat_map (chain_node version) xs)) (drop_all (length ns) ns (omega arith)))
 
 -- the table says where
-pub offsets_stand : (version : ℕ) (bytes : List ℕ) (es : List (ℕ × Lit)) (ns : List ChainNode) → (version ≡ 2) ⊎ (version ≡ 3)
+pub offsets_stand : (version : ℕ) (bytes : List ℕ) (es : List (ℕ × Claim)) (ns : List ChainNode) → IsChained version
     → Whole version bytes es ns
     → SpellsChained version bytes es ns → (i : ℕ) → i ≤ length ns
     → Stands bytes (16 + 14 * length es + 4 * i) (offsets version (place_of bytes i) (drop i ns)) (16 + 14 * length es + 4 * length ns)
@@ -251,7 +251,7 @@ offsets_stand version bytes es ns known w s (suc i) h =
     (offsets version (at + length (chain_node version p.0)) (drop (suc i) ns)) _ split)
     (ap (λ k. offsets version k (drop (suc i) ns)) next)) (omega arith)
 
-pub offset_is : (version : ℕ) (bytes : List ℕ) (es : List (ℕ × Lit)) (ns : List ChainNode) → (version ≡ 2) ⊎ (version ≡ 3)
+pub offset_is : (version : ℕ) (bytes : List ℕ) (es : List (ℕ × Claim)) (ns : List ChainNode) → IsChained version
     → Whole version bytes es ns
     → SpellsChained version bytes es ns → (i : ℕ) → i < length ns → offset_at bytes i ≡ place_of bytes i
 offset_is version bytes es ns known w s i h =

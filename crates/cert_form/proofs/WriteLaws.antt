@@ -2,25 +2,28 @@
 use Rattle.std.proofs.Common.{Bool, true, false, inl, inr, cond, eqb, drop, ◌≡◌, ℕ, ◌+◌, ◌<◌, ◌≤◌, List, [], ◌∷◌, ◌++◌, All, length, take}
 use Rattle.std.proofs.Common.{map, get_or, refl, ap, sym, ◌∙◌, subst, arith}
 use Rattle.std.specs.List.{flat_map, AllByRecursion}
-use Rattle.std.proofs.lemmas.List.{length-map, get_or-map, map_more, flat_map_more, take_more, length-append, append_assoc, drop_more}
+use Rattle.std.proofs.lemmas.List.{get_or_default, length-map, get_or-map, map_more, flat_map_more, take_more, length-append, append_assoc, drop_more}
 use Rattle.std.proofs.lemmas.List.Elements.{All-push, All-from_recursion}
-use Rattle.std.specs.Prelude.{◌⊎◌, replicate}
+use Rattle.std.specs.Prelude.{replicate}
 use Rattle.std.proofs.lemmas.Bool.{eqb-true}
 use Rattle.cert_state.specs.declared.literal.Lit.{Lit}
 use Rattle.cert_state.specs.declared.literal.AVal.{AVal}
 use Rattle.cert_state.specs.declared.literal.AVal.TheVariants.{Unknown}
-use Rattle.cert_form.specs.Nodes.{PlainNode, said}
+use Rattle.cert_form.specs.declared.node.Claim.{Claim}
+use Rattle.cert_form.specs.Nodes.{PlainNode, said, said_plainly}
 use Rattle.byteorder.specs.Endian.{little_bytes}
 use Rattle.cert_form.specs.declared.node.ChainNode.{ChainNode}
 use Rattle.cert_form.specs.Reading.{tail_length}
 use Rattle.cert_form.specs.Spelling.{value, scratch, tail, kind_number, chain_node, offsets}
 use Rattle.cert_form.proofs.PartLaws.{length-value}
 use Rattle.cert_form.proofs.TailLaws.{length-tail}
-use Rattle.cert_form.specs.Spelling.{listed, chained, stated_bits, nothing_stated, IsNode, SpellsListed, IsChainNode, SpellsChained, Spells}
+use Rattle.cert_form.specs.Spelling.{listed, chained, stated_bits, nothing_stated, IsNode, SpellsListed, IsChainNode, IsChained, SpellsChained, Spells}
 use Rattle.cert_form.specs.declared.fault.FormError.TheVariants.{BadMagic, BadVersion, Truncated, BadNode, BadCount, Trailing, OutOfMemory}
-use Rattle.cert_form.specs.Writing.{IsMeant, IsChainMeant, AreMeant, AreWritable, AreChainsWritable, version_for}
+use Rattle.cert_form.specs.Writing.{IsMeant, IsChainMeant, AreMeant, AreWritable, AreChainsWritable, all_known, version_for}
+use Rattle.cert_form.specs.Writing.{IsClaimMeant, AreClaimsMeant, AreClaimsWritable}
 use Rattle.cert_form.specs.inner.Standing.{IsPlain}
 use Rattle.cert_form.proofs.ScratchLaws.{none_from_bits}
+use Rattle.cert_form.proofs.KnownLaws.{all_said, entries_known, length-known, length_known}
 
 -- what holds of all that a view shows holds of each
 pub of_item : {X Y : Type 0} (P : Y → Type 0) (f : X → Y) (xs : List X) (i : ℕ) (x : X) → i < length xs → x ≡ get_or xs i x
@@ -44,6 +47,17 @@ pub spelled_more : {X : Type 0} (spell : X → List ℕ) (xs : List X) (i : ℕ)
 spelled_more spell xs i d old now new h so_far one =
     one ∙ (ap (λ (t : List ℕ). t ++ spell (get_or xs i d)) so_far
     ∙ (flat_map_more spell old (take i xs) (get_or xs i d) ∙ ap (λ ys. old ++ flat_map spell ys) (sym (take_more xs i d h))))
+
+-- the same of what is made of each element
+pub mapped_more : {X Y : Type 0} (f : X → Y) (spell : Y → List ℕ) (xs : List X) (i : ℕ) (d : X) (old now new : List ℕ) → i < length xs
+    → now ≡ old ++ flat_map spell (map f (take i xs)) → new ≡ now ++ spell (f (get_or xs i d))
+    → new ≡ old ++ flat_map spell (map f (take (i + 1) xs))
+mapped_more f spell xs i d old now new h so_far one =
+    written_more f spell xs i (get_or xs i d) old now new h (get_or_default xs i d (get_or xs i d) h) so_far one
+
+-- a part and another one are both
+pub two_parts : (old mid new a b : List ℕ) → mid ≡ old ++ a → new ≡ mid ++ b → new ≡ old ++ (a ++ b)
+two_parts old mid new a b first second = second ∙ (ap (λ (t : List ℕ). t ++ b) first ∙ append_assoc old a b)
 
 pub all_more : {X Y : Type 0} (P : Y → Type 0) (f : X → Y) (xs : List X) (i : ℕ) (x : X) → i < length xs → x ≡ get_or xs i x
     → All P (map f (take i xs)) → P (f x) → All P (map f (take (i + 1) xs))
@@ -70,6 +84,8 @@ spelled_listed bytes ns spelled short some few plain meant = record {
     pc = m.pc;
     values = m.values;
     no_scratch = p.no_scratch;
+    none_out = p.none_out;
+    none_met = p.none_met;
     few = p.few;
     literals = m.literals;
   }
@@ -93,15 +109,15 @@ pub listed_in_limits : (bytes : List ℕ) (ns : List PlainNode) → bytes ≡ li
 listed_in_limits bytes ns spelled short some few plain =
     (writable ns (omega (arith, ap length spelled, short)) some few plain, spelled_listed bytes ns spelled short some few plain)
 
--- ---- forms 2 and 3
+-- ---- forms 2 to 4
 
 pub length-chained : (version : ℕ) (n : ChainNode)
-    → length (chain_node version n) ≡ 20 + length (cond (eqb version 3) (scratch n.regs.scratch) []) + tail_length (kind_number n.kind)
+    → length (chain_node version n) ≡ 20 + length (cond (eqb version 2) [] (scratch n.regs.scratch)) + tail_length (kind_number n.kind)
 length-chained version n =
     let a1 : List ℕ = kind_number n.kind ∷ 0 ∷ little_bytes 2 n.pc in
     let a2 : List ℕ = a1 ++ value n.regs.a in
     let a3 : List ℕ = a2 ++ value n.regs.x in
-    let w : List ℕ = cond (eqb version 3) (scratch n.regs.scratch) [] in
+    let w : List ℕ = cond (eqb version 2) [] (scratch n.regs.scratch) in
     let a4 : List ℕ = a3 ++ w in
     let a5 : List ℕ = a4 ++ little_bytes 4 n.chain in
     omega (
@@ -137,38 +153,39 @@ none_stated (n ∷ ns) e = by_test (eqb (stated_bits n.regs.scratch) 0) refl e (
   by_test true t two rest = (eqb-true (stated_bits n.regs.scratch) 0 t, rest two)
   by_test false t two rest = absurd (omega (arith, two))
 
-two_or_three : (ns : List ChainNode) → (version_for ns ≡ 2) ⊎ (version_for ns ≡ 3)
-two_or_three [] = inl refl
-two_or_three (n ∷ ns) = by_test (eqb (stated_bits n.regs.scratch) 0) (two_or_three ns) where
-  by_test : (b : Bool) → (version_for ns ≡ 2) ⊎ (version_for ns ≡ 3) → (cond b (version_for ns) 3 ≡ 2) ⊎ (cond b (version_for ns) 3 ≡ 3)
+chained_for : (ns : List ChainNode) → IsChained (version_for ns)
+chained_for [] = (omega arith, omega arith)
+chained_for (n ∷ ns) = by_test (eqb (stated_bits n.regs.scratch) 0) (chained_for ns) where
+  by_test : (b : Bool) → IsChained (version_for ns) → IsChained (cond b (version_for ns) 3)
   by_test true rest = rest
-  by_test false rest = inr refl
+  by_test false rest = (omega arith, omega arith)
 
-spelled_chained : (bytes : List ℕ) (es : List (ℕ × Lit)) (ns : List ChainNode) → bytes ≡ chained (version_for ns) es ns
+spelled_chained : (bytes : List ℕ) (es : List (ℕ × Lit)) (ns : List ChainNode) → bytes ≡ chained (version_for ns) (all_known es) ns
     → length bytes ≤ 4194304
-    → 1 ≤ length ns → length ns ≤ 16384 → length es ≤ 65536 → AreMeant es ns → SpellsChained (version_for ns) bytes es ns
+    → 1 ≤ length ns → length ns ≤ 16384 → length es ≤ 65536 → AreMeant es ns → SpellsChained (version_for ns) bytes (all_known es) ns
 spelled_chained bytes es ns spelled short some few few_entries meant = record {
   spelled = spelled;
   short = short;
   some = some;
   few = few;
-  few_entries = few_entries;
-  entries = meant.entries;
+  few_entries = omega (arith, few_entries, length-known es);
+  entries = entries_known (version_for ns) es meant.entries;
   nodes = λ k d h. whole (get_or ns k d) (meant.nodes k d h)
       (λ two. All-from_recursion (λ n. stated_bits n.regs.scratch ≡ 0) ns (none_stated ns two) k d h);
 } where
-  whole : (n : ChainNode) → IsChainMeant es n → (version_for ns ≡ 2 → stated_bits n.regs.scratch ≡ 0) → IsChainNode (version_for ns) es n
+  whole : (n : ChainNode) → IsChainMeant es n → (version_for ns ≡ 2 → stated_bits n.regs.scratch ≡ 0)
+      → IsChainNode (version_for ns) (all_known es) n
   whole n m none = record {
     kind = m.kind;
     pc = m.pc;
     values = m.values;
     no_scratch = λ two. no_scratch n.regs.scratch m.values.sixteen (none two);
-    chain = m.chain;
-    few = m.few;
+    chain = omega (arith, m.chain, length-known es);
+    few = omega (arith, m.few, length_known es n.chain);
   }
 
 -- what was written breaks no limit
-writable_chains : (es : List (ℕ × Lit)) (ns : List ChainNode) → length (chained (version_for ns) es ns) ≤ 4194304 → 1 ≤ length ns
+writable_chains : (es : List (ℕ × Lit)) (ns : List ChainNode) → length (chained (version_for ns) (all_known es) ns) ≤ 4194304 → 1 ≤ length ns
     → length ns ≤ 16384 → length es ≤ 65536 → AreChainsWritable es ns
 writable_chains es ns short some few few_entries BadCount (inl none) = absurd (omega (arith, some, none))
 writable_chains es ns short some few few_entries BadCount (inr (inl many)) = absurd (omega (arith, few, many))
@@ -182,17 +199,64 @@ writable_chains es ns short some few few_entries Truncated none = absurd none
 writable_chains es ns short some few few_entries Trailing none = absurd none
 
 -- so bytes that spell entries and nodes within the limits
-pub chained_in_limits : (bytes : List ℕ) (es : List (ℕ × Lit)) (ns : List ChainNode) → bytes ≡ chained (version_for ns) es ns
+pub chained_in_limits : (bytes : List ℕ) (es : List (ℕ × Lit)) (ns : List ChainNode) → bytes ≡ chained (version_for ns) (all_known es) ns
     → length bytes ≤ 4194304 → 1 ≤ length ns → length ns ≤ 16384 → length es ≤ 65536
-    → AreChainsWritable es ns × (AreMeant es ns → SpellsChained (version_for ns) bytes es ns)
+    → AreChainsWritable es ns × (AreMeant es ns → SpellsChained (version_for ns) bytes (all_known es) ns)
 chained_in_limits bytes es ns spelled short some few few_entries = (
   writable_chains es ns (omega (arith, ap length spelled, short)) some few few_entries,
   spelled_chained bytes es ns spelled short some few few_entries,
 )
 
-pub spells_chained : (bytes : List ℕ) (es : List (ℕ × Lit)) (ns : List ChainNode) → SpellsChained (version_for ns) bytes es ns
+pub spells_chained : (bytes : List ℕ) (es : List (ℕ × Lit)) (ns : List ChainNode) → SpellsChained (version_for ns) bytes (all_known es) ns
+    → Spells bytes (map (said_plainly es) ns)
+spells_chained bytes es ns s =
+    inr (version_for ns, chained_for ns, record { es = all_known es; cs = ns; spells = s; same = sym (all_said es ns) })
+
+-- ---- form 4
+
+claims_spelled : (bytes : List ℕ) (es : List (ℕ × Claim)) (ns : List ChainNode) → bytes ≡ chained 4 es ns → length bytes ≤ 4194304
+    → 1 ≤ length ns → length ns ≤ 16384 → length es ≤ 65536 → AreClaimsMeant es ns → SpellsChained 4 bytes es ns
+claims_spelled bytes es ns spelled short some few few_entries meant = record {
+  spelled = spelled;
+  short = short;
+  some = some;
+  few = few;
+  few_entries = few_entries;
+  entries = meant.entries;
+  nodes = λ k d h. whole (get_or ns k d) (meant.nodes k d h);
+} where
+  whole : (n : ChainNode) → IsClaimMeant es n → IsChainNode 4 es n
+  whole n m = record {
+    kind = m.kind;
+    pc = m.pc;
+    values = m.values;
+    no_scratch = λ two. absurd (omega (arith, two));
+    chain = m.chain;
+    few = m.few;
+  }
+
+-- what was written breaks no limit
+claims_writable : (es : List (ℕ × Claim)) (ns : List ChainNode) → length (chained 4 es ns) ≤ 4194304 → 1 ≤ length ns
+    → length ns ≤ 16384 → length es ≤ 65536 → AreClaimsWritable es ns
+claims_writable es ns short some few few_entries BadCount (inl none) = absurd (omega (arith, some, none))
+claims_writable es ns short some few few_entries BadCount (inr (inl many)) = absurd (omega (arith, few, many))
+claims_writable es ns short some few few_entries BadCount (inr (inr (inl many))) = absurd (omega (arith, few_entries, many))
+claims_writable es ns short some few few_entries BadCount (inr (inr (inr big))) = absurd (omega (arith, short, big))
+claims_writable es ns short some few few_entries OutOfMemory _ = refl
+claims_writable es ns short some few few_entries BadNode none = absurd none
+claims_writable es ns short some few few_entries BadMagic none = absurd none
+claims_writable es ns short some few few_entries BadVersion none = absurd none
+claims_writable es ns short some few few_entries Truncated none = absurd none
+claims_writable es ns short some few few_entries Trailing none = absurd none
+
+pub claims_in_limits : (bytes : List ℕ) (es : List (ℕ × Claim)) (ns : List ChainNode) → bytes ≡ chained 4 es ns
+    → length bytes ≤ 4194304 → 1 ≤ length ns → length ns ≤ 16384 → length es ≤ 65536
+    → AreClaimsWritable es ns × (AreClaimsMeant es ns → SpellsChained 4 bytes es ns)
+claims_in_limits bytes es ns spelled short some few few_entries = (
+  claims_writable es ns (omega (arith, ap length spelled, short)) some few few_entries,
+  claims_spelled bytes es ns spelled short some few few_entries,
+)
+
+pub spells_claims : (bytes : List ℕ) (es : List (ℕ × Claim)) (ns : List ChainNode) → SpellsChained 4 bytes es ns
     → Spells bytes (map (said es) ns)
-spells_chained bytes es ns s = by_form (two_or_three ns) where
-  by_form : (version_for ns ≡ 2) ⊎ (version_for ns ≡ 3) → Spells bytes (map (said es) ns)
-  by_form (inl two) = inr (inl (record { es = es; cs = ns; spells = subst (λ v. SpellsChained v bytes es ns) two s; same = refl }))
-  by_form (inr three) = inr (inr (record { es = es; cs = ns; spells = subst (λ v. SpellsChained v bytes es ns) three s; same = refl }))
+spells_claims bytes es ns s = inr (4, (omega arith, omega arith), record { es = es; cs = ns; spells = s; same = refl })

@@ -8,10 +8,12 @@ use Rattle.cert_state.specs.declared.literal.Lit.{Lit}
 use Rattle.cert_state.specs.declared.literal.Lit.TheVariants.{In, Bits, NotBits}
 use Rattle.cert_state.specs.declared.literal.AVal.{AVal}
 use Rattle.cert_state.specs.declared.literal.AVal.TheVariants.{Unknown, Const, Masked}
+use Rattle.cert_form.specs.declared.node.Claim.{Claim}
+use Rattle.cert_form.specs.declared.node.Claim.TheVariants.{Knows, Out, Met}
 use Rattle.cert_form.specs.declared.node.Kind.{Kind}
 use Rattle.cert_form.specs.declared.node.Kind.TheVariants.{Step, Split, Return, Dead}
 use Rattle.cert_form.specs.declared.node.ChainNode.{ChainNode}
-use Rattle.cert_form.specs.Nodes.{PlainNode, said, literals}
+use Rattle.cert_form.specs.Nodes.{PlainNode, said, on_chain, literals_in, outs_in, mets_in}
 use Rattle.cert_form.specs.Spelling.{nothing_stated}
 
 -- the numbers of four bytes and of two
@@ -71,20 +73,30 @@ listed_node bytes at = record {
   pc = short_at bytes (at + 1);
   regs = record { a = value_at bytes (at + 5); x = value_at bytes (at + 11); scratch = nothing_stated };
   known = literals_to bytes (own_end bytes at) (own_count bytes at);
+  out = [];
+  met = [];
 }
 
--- forms 2 and 3: the entry at a position, counted from 0, and those before it
+-- forms 2 to 4: the entry at a position, counted from 0, and those before it; in form 4 the tag 4 says that a
+-- rule is out, and the tag 5 that a condition is met
 abbrev pub parent_at : List ℕ → ℕ → ℕ
 parent_at bytes j = long_at bytes (16 + 14 * j)
 
-abbrev pub entry_at : List ℕ → ℕ → ℕ × Lit
-entry_at bytes j = (parent_at bytes j, literal_at bytes (16 + 14 * j + 4))
+unfoldable pub claim_at : List ℕ → ℕ → Claim
+claim_at bytes at =
+    if version_of bytes == 4 then (if slice_index bytes at == 4 then Out (long_at bytes (at + 2))
+    else if slice_index bytes at == 5 then Met (long_at bytes (at + 2)) (long_at bytes (at + 6))
+    else Knows (literal_at bytes at))
+    else Knows (literal_at bytes at)
 
-abbrev pub entries_before : List ℕ → ℕ → List (ℕ × Lit)
+abbrev pub entry_at : List ℕ → ℕ → ℕ × Claim
+entry_at bytes j = (parent_at bytes j, claim_at bytes (16 + 14 * j + 4))
+
+abbrev pub entries_before : List ℕ → ℕ → List (ℕ × Claim)
 entries_before bytes zero = []
 entries_before bytes (suc j) = entries_before bytes j ++ entry_at bytes j ∷ []
 
-abbrev pub entries_of : List ℕ → List (ℕ × Lit)
+abbrev pub entries_of : List ℕ → List (ℕ × Claim)
 entries_of bytes = entries_before bytes (chain_count bytes)
 
 -- the scratch words that bits state, from the lowest bit on, and the number of those bits
@@ -100,10 +112,10 @@ ones bits (suc n) = bits % 2 + ones (bits / 2) n
 
 -- where the chain of a node stands
 unfoldable pub chain_place : List ℕ → ℕ → ℕ
-chain_place bytes at = if version_of bytes == 3 then at + 18 + 6 * ones (short_at bytes (at + 16)) 16 else at + 16
+chain_place bytes at = if version_of bytes == 2 then at + 16 else at + 18 + 6 * ones (short_at bytes (at + 16)) 16
 
 unfoldable pub scratch_at : List ℕ → ℕ → List AVal
-scratch_at bytes at = if version_of bytes == 3 then scratch_from bytes (at + 18) (short_at bytes (at + 16)) 16 else nothing_stated
+scratch_at bytes at = if version_of bytes == 2 then nothing_stated else scratch_from bytes (at + 18) (short_at bytes (at + 16)) 16
 
 abbrev pub chain_node_at : List ℕ → ℕ → ChainNode
 chain_node_at bytes at = record {
@@ -146,4 +158,11 @@ offset_at bytes i = long_at bytes (16 + 14 * chain_count bytes + 4 * i)
 unfoldable pub literals_left : List ℕ → ℕ → ℕ → List Lit
 literals_left bytes at place =
     if version_of bytes == 1 then (if nat_le place (own_count bytes at) then literals_to bytes (own_end bytes at) place else [])
-    else literals (entries_of bytes) place
+    else literals_in (on_chain (entries_of bytes) place)
+
+-- the same of the rules that are out and of the conditions that are met, which form 4 alone has
+unfoldable pub outs_left : List ℕ → ℕ → List ℕ
+outs_left bytes place = if version_of bytes == 4 then outs_in (on_chain (entries_of bytes) place) else []
+
+unfoldable pub mets_left : List ℕ → ℕ → List (ℕ × ℕ)
+mets_left bytes place = if version_of bytes == 4 then mets_in (on_chain (entries_of bytes) place) else []

@@ -1,4 +1,4 @@
--- The bytes of certificates, in three forms: one spelling for a list of nodes, or for a list of
+-- The bytes of certificates, in four forms: one spelling for a list of nodes, or for a list of
 -- entries of chains and a list of nodes.
 use Rattle.std.specs.Prelude.{◌≡◌, ℕ, ◌+◌, ◌*◌, ◌==◌, ◌^◌, ◌<◌, ◌≤◌, ◌⊎◌, ⊤, if◌then◌else◌, Some, List, [], ◌∷◌, ◌++◌, length, slice_get}
 use Rattle.std.specs.Prelude.{map, replicate}
@@ -9,10 +9,12 @@ use Rattle.cert_state.specs.declared.literal.Lit.TheVariants.{In, Bits, NotBits}
 use Rattle.cert_state.specs.declared.literal.AVal.{AVal}
 use Rattle.cert_state.specs.declared.literal.AVal.TheVariants.{Unknown, Const, Masked}
 use Rattle.cert_state.specs.Literals.{IsLit, AreValues}
+use Rattle.cert_form.specs.declared.node.Claim.{Claim}
+use Rattle.cert_form.specs.declared.node.Claim.TheVariants.{Knows, Out, Met}
 use Rattle.cert_form.specs.declared.node.Kind.{Kind}
 use Rattle.cert_form.specs.declared.node.Kind.TheVariants.{Step, Split, Return, Dead}
 use Rattle.cert_form.specs.declared.node.ChainNode.{ChainNode}
-use Rattle.cert_form.specs.Nodes.{PlainNode, literals, said}
+use Rattle.cert_form.specs.Nodes.{PlainNode, on_chain, said}
 
 -- CCRT
 abbrev pub magic : List ℕ
@@ -69,22 +71,28 @@ if_stated (Masked w m) = value (Masked w m)
 abbrev pub scratch : List AVal → List ℕ
 scratch vs = little_bytes 2 (stated_bits vs) ++ flat_map if_stated vs
 
--- forms 2 and 3: the entries of chains, where each node stands, and the nodes; scratch words are
--- spoken of in form 3 alone
-abbrev pub entry : ℕ × Lit → List ℕ
-entry e = little_bytes 4 e.0 ++ literal e.1
+-- what an entry states has ten bytes: a literal, that a rule is out, or that a condition is met
+abbrev pub claim : Claim → List ℕ
+claim (Knows l) = literal l
+claim (Out i) = 4 ∷ 0 ∷ little_bytes 4 i ++ little_bytes 4 0
+claim (Met i j) = 5 ∷ 0 ∷ little_bytes 4 i ++ little_bytes 4 j
+
+-- forms 2 to 4: the entries of chains, where each node stands, and the nodes; form 2 has no word of
+-- scratch words
+abbrev pub entry : ℕ × Claim → List ℕ
+entry e = little_bytes 4 e.0 ++ claim e.1
 
 abbrev pub chain_node : ℕ → ChainNode → List ℕ
 chain_node version n =
     kind_number n.kind ∷ 0 ∷ little_bytes 2 n.pc ++ value n.regs.a ++ value n.regs.x
-    ++ (if version == 3 then scratch n.regs.scratch else []) ++ little_bytes 4 n.chain ++ tail n.kind
+    ++ (if version == 2 then [] else scratch n.regs.scratch) ++ little_bytes 4 n.chain ++ tail n.kind
 
 -- the positions of nodes of which the first one stands at this position
 abbrev pub offsets : ℕ → ℕ → List ChainNode → List ℕ
 offsets version at [] = []
 offsets version at (n ∷ ns) = little_bytes 4 at ++ offsets version (at + length (chain_node version n)) ns
 
-abbrev pub chained : ℕ → List (ℕ × Lit) → List ChainNode → List ℕ
+abbrev pub chained : ℕ → List (ℕ × Claim) → List ChainNode → List ℕ
 chained version es ns =
     magic ++ little_bytes 4 version ++ little_bytes 4 (length ns) ++ little_bytes 4 (length es) ++ flat_map entry es
     ++ offsets version (16 + 14 * length es + 4 * length ns) ns ++ flat_map (chain_node version) ns
@@ -106,6 +114,8 @@ pub record IsNode (n : PlainNode) : Type 0 where
   pub pc : n.pc < 2 ^ 16
   pub values : AreValues n.regs
   pub no_scratch : n.regs.scratch ≡ nothing_stated
+  pub none_out : n.out ≡ []
+  pub none_met : n.met ≡ []
   pub few : length n.known ≤ 512
   pub literals : All IsLit n.known
 
@@ -116,39 +126,49 @@ pub record SpellsListed (bytes : List ℕ) (ns : List PlainNode) : Type 0 where
   pub few : length ns ≤ 16384
   pub nodes : All IsNode ns
 
+-- only in form 4 an entry may say that a rule is out, or that a condition is met
+abbrev pub IsClaim : ℕ → Claim → Type 0
+IsClaim version (Knows l) = IsLit l
+IsClaim version (Out i) = (version ≡ 4) × (i < 2 ^ 32)
+IsClaim version (Met i j) = (version ≡ 4) × (i < 2 ^ 32) × (j < 2 ^ 32)
+
 -- an entry at a position, counted from 0; its own number is one more
-pub record IsEntry (j : ℕ) (e : ℕ × Lit) : Type 0 where
+pub record IsEntry (version j : ℕ) (e : ℕ × Claim) : Type 0 where
   pub earlier : e.0 ≤ j
-  pub literal : IsLit e.1
+  pub claim : IsClaim version e.1
 
-abbrev pub AreEntries : List (ℕ × Lit) → Type 0
-AreEntries es = (j : ℕ) (e : ℕ × Lit) → slice_get es j ≡ Some e → IsEntry j e
+abbrev pub AreEntries : ℕ → List (ℕ × Claim) → Type 0
+AreEntries version es = (j : ℕ) (e : ℕ × Claim) → slice_get es j ≡ Some e → IsEntry version j e
 
--- a node of form 2 or 3, and the certificate of these entries and nodes
-pub record IsChainNode (version : ℕ) (es : List (ℕ × Lit)) (n : ChainNode) : Type 0 where
+-- a node of form 2, 3 or 4, and the certificate of these entries and nodes
+pub record IsChainNode (version : ℕ) (es : List (ℕ × Claim)) (n : ChainNode) : Type 0 where
   pub kind : IsKind n.kind
   pub pc : n.pc < 2 ^ 16
   pub values : AreValues n.regs
   pub no_scratch : version ≡ 2 → n.regs.scratch ≡ nothing_stated
   pub chain : n.chain ≤ length es
-  pub few : length (literals es n.chain) ≤ 512
+  pub few : length (on_chain es n.chain) ≤ 512
 
-pub record SpellsChained (version : ℕ) (bytes : List ℕ) (es : List (ℕ × Lit)) (ns : List ChainNode) : Type 0 where
+pub record SpellsChained (version : ℕ) (bytes : List ℕ) (es : List (ℕ × Claim)) (ns : List ChainNode) : Type 0 where
   pub spelled : bytes ≡ chained version es ns
   pub short : length bytes ≤ 4194304
   pub some : 1 ≤ length ns
   pub few : length ns ≤ 16384
   pub few_entries : length es ≤ 65536
-  pub entries : AreEntries es
+  pub entries : AreEntries version es
   pub nodes : All (IsChainNode version es) ns
 
 -- the same with entries, where the nodes say this
 pub record SpellsSaid (version : ℕ) (bytes : List ℕ) (ns : List PlainNode) : Type 0 where
-  pub es : List (ℕ × Lit)
+  pub es : List (ℕ × Claim)
   pub cs : List ChainNode
   pub spells : SpellsChained version bytes es cs
   pub same : ns ≡ map (said es) cs
 
--- the bytes are a certificate, in one of the forms, and its nodes say this
+-- the forms whose nodes share literals
+abbrev pub IsChained : ℕ → Type 0
+IsChained version = (2 ≤ version) × (version ≤ 4)
+
+-- the bytes are a certificate, of form 1 or of one of the others, and its nodes say this
 abbrev pub Spells : List ℕ → List PlainNode → Type 0
-Spells bytes ns = SpellsListed bytes ns ⊎ (SpellsSaid 2 bytes ns ⊎ SpellsSaid 3 bytes ns)
+Spells bytes ns = SpellsListed bytes ns ⊎ ((version : ℕ) × IsChained version × SpellsSaid version bytes ns)

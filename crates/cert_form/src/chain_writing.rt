@@ -1,16 +1,18 @@
-//! Certificates written in form 2 or 3.
+//! Certificates written in form 2, 3 or 4.
 ghost use Rattle.std.specs.Prelude.{◌≡◌, ◌≤◌, ◌==◌, ◌++◌, [], if◌then◌else◌, OnOk, IfOk, IfErr, length, map};
 ghost use Rattle.std.specs.List.{flat_map};
-ghost use Rattle.cert_form.specs.Nodes.{said};
-ghost use Rattle.cert_form.specs.Spelling.{entry, chain_node, chained, offsets, scratch, Spells, SpellsChained};
-ghost use Rattle.cert_form.specs.Writing.{AreChainsWritable, AreMeant, ChainsRefused, version_for};
+ghost use Rattle.cert_form.specs.Nodes.{said, said_plainly};
+ghost use Rattle.byteorder.specs.Endian.{little_bytes};
+ghost use Rattle.cert_form.specs.Spelling.{magic, entry, chain_node, chained, offsets, scratch, Spells, SpellsChained};
+ghost use Rattle.cert_form.specs.Writing.{AreChainsWritable, AreClaimsMeant, AreClaimsWritable, AreMeant, ChainsRefused, ClaimsRefused};
+ghost use Rattle.cert_form.specs.Writing.{all_known, version_for};
 
 use crate::fault::FormError;
 use crate::judge::tail_size;
-use crate::node::ChainNode;
+use crate::node::{ChainNode, Claim};
 use crate::part::end_of_scratch;
 use crate::put::{
-    bits_of, put_literal, put_long, put_scratch, put_short, put_tail, put_value, tag_of,
+    bits_of, put_claim, put_literal, put_long, put_scratch, put_short, put_tail, put_value, tag_of,
 };
 use cert_state::{AVal, Lit};
 use std::alloc::{AllocError, Global};
@@ -27,8 +29,9 @@ fn version_of(nodes: &[ChainNode]) -> u32
     2
 }
 
+// Entries that all state literals.
 fn put_entries(out: &mut Vec<u8>, entries: &[(u32, Lit)]) -> Result<(), AllocError>
-    ensures { OnOk result (out.new.items ≡ out.old.items ++ flat_map entry entries.now) }
+    ensures { OnOk result (out.new.items ≡ out.old.items ++ flat_map entry (all_known entries.now)) }
 {
     for e in entries {
         put_long(out, e.0)?;
@@ -37,12 +40,22 @@ fn put_entries(out: &mut Vec<u8>, entries: &[(u32, Lit)]) -> Result<(), AllocErr
     Ok(())
 }
 
-// How many bytes the scratch words take, of which form 3 alone has a word.
+fn put_claims(out: &mut Vec<u8>, entries: &[(u32, Claim)]) -> Result<(), AllocError>
+    ensures { OnOk result (out.new.items ≡ out.old.items ++ flat_map entry entries.now) }
+{
+    for e in entries {
+        put_long(out, e.0)?;
+        put_claim(out, e.1)?;
+    }
+    Ok(())
+}
+
+// How many bytes the scratch words take, of which form 2 has no word.
 fn scratch_size(version: u32, words: &[AVal; 16]) -> usize
-    ensures size { result ≡ length (if version == 3 then scratch words.now else []) }
+    ensures size { result ≡ length (if version == 2 then [] else scratch words.now) }
     ensures few { result ≤ 98 }
 {
-    if version != 3 {
+    if version == 2 {
         return 0;
     }
     end_of_scratch(bits_of(words), 2)
@@ -83,7 +96,7 @@ fn put_chained(out: &mut Vec<u8>, version: u32, n: &ChainNode) -> Result<(), All
     put_short(out, n.pc)?;
     put_value(out, n.regs.a)?;
     put_value(out, n.regs.x)?;
-    if version == 3 {
+    if version != 2 {
         put_scratch(out, &n.regs.scratch)?;
     }
     put_long(out, n.chain)?;
@@ -99,7 +112,20 @@ fn put_all_chained(out: &mut Vec<u8>, version: u32, nodes: &[ChainNode]) -> Resu
     Ok(())
 }
 
-// The whole file of these entries and nodes, in a version.
+// The head of a file, in a version.
+fn put_head(out: &mut Vec<u8>, version: u32, nodes: usize, entries: usize) -> Result<(), AllocError>
+    requires empty { out.old.items ≡ [] }
+    requires few { nodes ≤ 16384 }
+    requires few_entries { entries ≤ 65536 }
+    ensures { OnOk result (out.new.items ≡ magic ++ little_bytes 4 version ++ little_bytes 4 nodes ++ little_bytes 4 entries) }
+{
+    out.extend_from_slice(b"CCRT")?;
+    put_long(out, version)?;
+    put_long(out, nodes as u32)?;
+    put_long(out, entries as u32)
+}
+
+// The whole file of entries that all state literals and of nodes, in a version.
 fn put_file(
     out: &mut Vec<u8>,
     version: u32,
@@ -109,16 +135,31 @@ fn put_file(
     requires empty { out.old.items ≡ [] }
     requires few { length nodes.now ≤ 16384 }
     requires few_entries { length entries.now ≤ 65536 }
-    ensures { OnOk result (out.new.items ≡ chained version entries.now nodes.now) }
+    ensures { OnOk result (out.new.items ≡ chained version (all_known entries.now) nodes.now) }
 {
     let first = 16 + 14 * entries.len() + 4 * nodes.len();
-    out.extend_from_slice(b"CCRT")?;
-    put_long(out, version)?;
-    put_long(out, nodes.len() as u32)?;
-    put_long(out, entries.len() as u32)?;
+    put_head(out, version, nodes.len(), entries.len())?;
     put_entries(out, entries)?;
     put_offsets(out, version, first, nodes)?;
     put_all_chained(out, version, nodes)
+}
+
+// The whole file of these entries and nodes in form 4.
+fn put_claims_file(
+    out: &mut Vec<u8>,
+    entries: &[(u32, Claim)],
+    nodes: &[ChainNode],
+) -> Result<(), AllocError>
+    requires empty { out.old.items ≡ [] }
+    requires few { length nodes.now ≤ 16384 }
+    requires few_entries { length entries.now ≤ 65536 }
+    ensures { OnOk result (out.new.items ≡ chained 4 entries.now nodes.now) }
+{
+    let first = 16 + 14 * entries.len() + 4 * nodes.len();
+    put_head(out, 4, nodes.len(), entries.len())?;
+    put_claims(out, entries)?;
+    put_offsets(out, 4, first, nodes)?;
+    put_all_chained(out, 4, nodes)
 }
 
 /// The entries of chains and the nodes in form 2, or in form 3 where some node states a scratch value. They are
@@ -129,13 +170,13 @@ pub fn write_chained(
     nodes: &[ChainNode],
 ) -> Result<Vec<u8>, FormError>
     // What is written are the bytes of these entries and nodes, which keep the limits.
-    ensures spelled { IfOk result (λ bytes. bytes.items ≡ chained (version_for nodes.now) entries.now nodes.now) }
+    ensures spelled { IfOk result (λ bytes. bytes.items ≡ chained (version_for nodes.now) (all_known entries.now) nodes.now) }
     ensures kept { OnOk result (AreChainsWritable entries.now nodes.now) }
     // It is their certificate, given that parents, chains, literals and values are such.
     ensures written { IfOk result (λ bytes. AreMeant entries.now nodes.now
-        → SpellsChained (version_for nodes.now) bytes.items entries.now nodes.now) }
+        → SpellsChained (version_for nodes.now) bytes.items (all_known entries.now) nodes.now) }
     // It is read as what the nodes say.
-    ensures read { IfOk result (λ bytes. AreMeant entries.now nodes.now → Spells bytes.items (map (said entries.now) nodes.now)) }
+    ensures read { IfOk result (λ bytes. AreMeant entries.now nodes.now → Spells bytes.items (map (said_plainly entries.now) nodes.now)) }
     ensures refused { IfErr result (λ e. ChainsRefused e entries.now nodes.now) }
 {
     if nodes.is_empty() || nodes.len() > 16384 || entries.len() > 65536 {
@@ -144,6 +185,32 @@ pub fn write_chained(
     let version = version_of(nodes);
     let mut out = Vec::new(alloc);
     put_file(&mut out, version, entries, nodes)?;
+    if out.len() > 4194304 {
+        return Err(FormError::BadCount);
+    }
+    Ok(out)
+}
+
+/// Entries of which some may say that a rule is out or a condition met, and the nodes, in form 4. They are refused only for a limit of
+/// the form or for memory.
+pub fn write_claims(
+    alloc: Global,
+    entries: &[(u32, Claim)],
+    nodes: &[ChainNode],
+) -> Result<Vec<u8>, FormError>
+    // What is written are the bytes of these entries and nodes, which keep the limits.
+    ensures spelled { IfOk result (λ bytes. bytes.items ≡ chained 4 entries.now nodes.now) }
+    ensures kept { OnOk result (AreClaimsWritable entries.now nodes.now) }
+    // It is their certificate, given that parents, chains, literals and values are such, and is read as what they say.
+    ensures written { IfOk result (λ bytes. AreClaimsMeant entries.now nodes.now → SpellsChained 4 bytes.items entries.now nodes.now) }
+    ensures read { IfOk result (λ bytes. AreClaimsMeant entries.now nodes.now → Spells bytes.items (map (said entries.now) nodes.now)) }
+    ensures refused { IfErr result (λ e. ClaimsRefused e entries.now nodes.now) }
+{
+    if nodes.is_empty() || nodes.len() > 16384 || entries.len() > 65536 {
+        return Err(FormError::BadCount);
+    }
+    let mut out = Vec::new(alloc);
+    put_claims_file(&mut out, entries, nodes)?;
     if out.len() > 4194304 {
         return Err(FormError::BadCount);
     }

@@ -1,6 +1,6 @@
-//! Whether the parts of a certificate of form 2 or 3 are sound where they lie.
+//! Whether the parts of a certificate of form 2, 3 or 4 are sound where they lie.
 ghost use Rattle.std.specs.Prelude.{◌≡◌, ◌≢◌, ◌≤◌, ◌<◌, ◌+◌, ◌*◌, ◌↔◌, IsTrue, OnOk, IfOk, IfErr, length};
-ghost use Rattle.cert_form.specs.Nodes.{literals};
+ghost use Rattle.cert_form.specs.Nodes.{on_chain};
 ghost use Rattle.cert_form.specs.Faults.{Faulty, HasBadPart, IsBadStated, IsBadChained, IsBadEntry};
 ghost use Rattle.cert_form.specs.Reading.{version_of, node_count, chain_count, entries_of, ones, chain_place, node_end, place_of};
 ghost use Rattle.cert_form.specs.Reading.{offset_at};
@@ -9,7 +9,7 @@ ghost use Rattle.cert_form.specs.inner.Standing.{Fails, HasBadStated, IsStatedTh
 ghost use Rattle.cert_form.specs.inner.Standing.{IsChainThere, IsChainedThere, IsEntryThere, AreEntriesThere, AreChainedThere};
 
 use crate::fault::FormError;
-use crate::judge::{judge_literal, judge_tail, judge_value, tail_size};
+use crate::judge::{judge_claim, judge_tail, judge_value, tail_size};
 use crate::part::{chain_place_of, read_long, read_short};
 
 fn judge_entry(bytes: &[u8], j: usize) -> Result<(), FormError>
@@ -24,7 +24,7 @@ fn judge_entry(bytes: &[u8], j: usize) -> Result<(), FormError>
     if read_long(bytes, at) as usize > j {
         return Err(FormError::BadNode);
     }
-    judge_literal(bytes, at + 4)
+    judge_claim(bytes, at + 4)
 }
 
 // The kind, the position and the values of A and X.
@@ -82,13 +82,13 @@ fn judge_values(bytes: &[u8], bits: u16, from: usize) -> Result<(), FormError>
     Ok(())
 }
 
-// The scratch words, which form 3 alone has.
+// The scratch words, of which form 2 has no word.
 fn judge_scratch(bytes: &[u8], at: usize) -> Result<(), FormError>
     requires { at + 16 ≤ length bytes.now }
     ensures sound { OnOk result (IsScratchThere bytes.now at) }
     ensures fault { IfErr result (λ e. Fails e bytes.now (chain_place bytes.now at) (IsBadChained bytes.now at)) }
 {
-    if read_long(bytes, 4) != 3 {
+    if read_long(bytes, 4) == 2 {
         return Ok(());
     }
     if at + 18 > bytes.len() {
@@ -97,12 +97,12 @@ fn judge_scratch(bytes: &[u8], at: usize) -> Result<(), FormError>
     judge_values(bytes, read_short(bytes, at + 16), at + 18)
 }
 
-// Whether a chain has at most 512 literals.
+// Whether a chain has at most 512 entries.
 fn is_short(bytes: &[u8], chain: u32) -> bool
     requires head { IsHeadThere bytes.now }
     requires form { version_of bytes.now ≢ 1 }
     requires known { chain ≤ chain_count bytes.now }
-    ensures { IsTrue result ↔ length (literals (entries_of bytes.now) chain) ≤ 512 }
+    ensures { IsTrue result ↔ length (on_chain (entries_of bytes.now) chain) ≤ 512 }
 {
     let mut entry = chain as usize;
     for _ in 0..512_usize {
@@ -207,7 +207,7 @@ fn judge_nodes(bytes: &[u8]) -> Result<usize, FormError>
     Ok(at)
 }
 
-/// The bytes of form 2 or 3 after the node count. Nothing here takes memory.
+/// The bytes of form 2, 3 or 4 after the node count. Nothing here takes memory.
 pub(crate) fn judge_all(bytes: &[u8]) -> Result<(), FormError>
     requires there { 12 ≤ length bytes.now }
     requires form { version_of bytes.now ≢ 1 }

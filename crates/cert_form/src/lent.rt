@@ -1,6 +1,7 @@
 //! A node where it lies in the bytes of its certificate.
 ghost use Rattle.cert_form.specs.inner.Places.{IsHeadThere, IsNodeThere};
 
+use crate::chain::{next_literal, next_met, next_out};
 use crate::node::Kind;
 use crate::part::{
     chain_place_of, read_kind, read_literal, read_long, read_short, read_value, scratch_of,
@@ -16,10 +17,10 @@ pub struct NodeView<'a> {
     ghost there: { IsNodeThere bytes.now at },
 }
 
-#[tactic(auto, unfolding(crate::specs::Views::says, crate::specs::Reading::node_at))]
+#[tactic(auto, unfolding(crate::specs::Views::says, crate::specs::Views::outs_from, crate::specs::Views::mets_from, crate::specs::Reading::node_at, crate::specs::Reading::outs_left, crate::specs::Reading::mets_left))]
 impl<'a> NodeView<'a> {
-    ghost use Rattle.std.specs.Prelude.{◌≡◌};
-    ghost use Rattle.cert_form.specs.Views.{says};
+    ghost use Rattle.std.specs.Prelude.{◌≡◌, ◌∷◌, [], MatchOption};
+    ghost use Rattle.cert_form.specs.Views.{mets_from, outs_from, says};
 
     /// What the node does.
     pub fn kind(&self) -> Kind
@@ -42,6 +43,46 @@ impl<'a> NodeView<'a> {
             return read_short(self.bytes, self.at + 1);
         }
         read_short(self.bytes, self.at + 2)
+    }
+
+    /// The place of its chain from which all rules are left that it says to be out.
+    pub fn first_out(&self) -> usize
+        ensures { outs_from self.now result ≡ (says self.now).out }
+    {
+        if read_long(self.bytes, 4) != 4 {
+            return 0;
+        }
+        read_long(self.bytes, chain_place_of(self.bytes, self.at)) as usize
+    }
+
+    /// The first rule that is left from a place on, with the place of the next one.
+    pub fn next_out(&self, at: usize) -> Option<(u32, usize)>
+        ensures { MatchOption result (outs_from self.now at ≡ []) (λ p. outs_from self.now at ≡ p.0 ∷ outs_from self.now p.1) }
+    {
+        if read_long(self.bytes, 4) != 4 {
+            return None;
+        }
+        next_out(self.bytes, at)
+    }
+
+    /// The place of its chain from which all conditions are left that it says to be met.
+    pub fn first_met(&self) -> usize
+        ensures { mets_from self.now result ≡ (says self.now).met }
+    {
+        if read_long(self.bytes, 4) != 4 {
+            return 0;
+        }
+        read_long(self.bytes, chain_place_of(self.bytes, self.at)) as usize
+    }
+
+    /// The first condition that is left from a place on, its rule's place and its own, with the place of the next one.
+    pub fn next_met(&self, at: usize) -> Option<((u32, u32), usize)>
+        ensures { MatchOption result (mets_from self.now at ≡ []) (λ p. mets_from self.now at ≡ p.0 ∷ mets_from self.now p.1) }
+    {
+        if read_long(self.bytes, 4) != 4 {
+            return None;
+        }
+        next_met(self.bytes, at)
     }
 }
 
@@ -81,22 +122,17 @@ impl State for NodeView<'_> {
     }
 
     fn next(&self, at: usize) -> Option<(Lit, usize)> {
+        if read_long(self.bytes, 4) != 1 {
+            return next_literal(self.bytes, at);
+        }
         if at == 0 {
             return None;
         }
-        if read_long(self.bytes, 4) == 1 {
-            let count = read_short(self.bytes, self.at + 3) as usize;
-            if at > count {
-                return None;
-            }
-            let end = self.at + 17 + 10 * count;
-            return Some((read_literal(self.bytes, end - 10 * at), at - 1));
-        }
-        if at > read_long(self.bytes, 12) as usize {
+        let count = read_short(self.bytes, self.at + 3) as usize;
+        if at > count {
             return None;
         }
-        let entry = 16 + 14 * (at - 1);
-        let literal = read_literal(self.bytes, entry + 4);
-        Some((literal, read_long(self.bytes, entry) as usize))
+        let end = self.at + 17 + 10 * count;
+        Some((read_literal(self.bytes, end - 10 * at), at - 1))
     }
 }

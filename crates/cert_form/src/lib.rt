@@ -1,6 +1,7 @@
 //! The bytes of a certificate, and the nodes that they spell.
 #![tactic(auto)]
 
+mod chain;
 mod chain_writing;
 mod chained;
 mod fault;
@@ -14,10 +15,10 @@ mod put;
 mod view;
 mod writing;
 
-pub use chain_writing::write_chained;
+pub use chain_writing::{write_chained, write_claims};
 pub use fault::FormError;
 pub use law::{certificates_have_no_fault, one_spelling};
 pub use lent::NodeView;
-pub use node::{ChainNode, Kind, Node};
+pub use node::{ChainNode, Claim, Kind, Node};
 pub use view::CertView;
 pub use writing::write;

@@ -1,9 +1,9 @@
 //! The parts of a certificate where they lie.
 ghost use Rattle.std.specs.Prelude.{◌≡◌, ◌≤◌, ◌<◌, ◌+◌, ◌*◌, ◌^◌, ℕ, length};
-ghost use Rattle.cert_form.specs.Reading.{long_at, short_at, literal_at, value_at, tail_length, kind_at, ones, scratch_from, chain_place};
+ghost use Rattle.cert_form.specs.Reading.{long_at, short_at, literal_at, claim_at, value_at, tail_length, kind_at, ones, scratch_from, chain_place};
 ghost use Rattle.cert_form.specs.Reading.{scratch_at};
 
-use crate::node::Kind;
+use crate::node::{Claim, Kind};
 use byteorder::{ByteOrder, LittleEndian};
 use cert_state::{AVal, Lit};
 
@@ -34,6 +34,24 @@ pub(crate) fn read_literal(bytes: &[u8], at: usize) -> Lit
         2 => Lit::Bits(word, first, second),
         _ => Lit::NotBits(word, first, second),
     }
+}
+
+// What an entry states, which begins with the tag.
+#[tactic(auto, unfolding(crate::specs::Reading::claim_at))]
+pub(crate) fn read_claim(bytes: &[u8], at: usize) -> Claim
+    requires head { 8 ≤ length bytes.now }
+    requires there { at + 10 ≤ length bytes.now }
+    ensures { result ≡ claim_at bytes.now at }
+{
+    if read_long(bytes, 4) == 4 {
+        if bytes[at] == 4 {
+            return Claim::Out(read_long(bytes, at + 2));
+        }
+        if bytes[at] == 5 {
+            return Claim::Met(read_long(bytes, at + 2), read_long(bytes, at + 6));
+        }
+    }
+    Claim::Knows(read_literal(bytes, at))
 }
 
 #[tactic(auto, unfolding(crate::specs::Reading::value_at))]
@@ -68,7 +86,7 @@ pub(crate) fn read_kind(bytes: &[u8], tag: u8, at: usize) -> Kind
     }
 }
 
-// The scratch words of form 3, of which a value may be stated.
+// The scratch words of form 3 or 4, of which a value may be stated.
 pub(crate) fn read_scratch(bytes: &[u8], bits: u16, from: usize) -> [AVal; 16]
     requires { from + 6 * ones bits 16 ≤ length bytes.now }
     ensures { result ≡ scratch_from bytes.now from bits 16 }
@@ -104,26 +122,26 @@ pub(crate) fn end_of_scratch(bits: u16, from: usize) -> usize
     at
 }
 
-// Where the chain of a node of form 2 or 3 stands.
+// Where the chain of a node of form 2, 3 or 4 stands.
 #[tactic(auto, unfolding(crate::specs::Reading::chain_place))]
 pub(crate) fn chain_place_of(bytes: &[u8], at: usize) -> usize
     requires { chain_place bytes.now at ≤ length bytes.now }
     ensures { result ≡ chain_place bytes.now at }
 {
-    if read_long(bytes, 4) == 3 {
-        return end_of_scratch(read_short(bytes, at + 16), at + 18);
+    if read_long(bytes, 4) == 2 {
+        return at + 16;
     }
-    at + 16
+    end_of_scratch(read_short(bytes, at + 16), at + 18)
 }
 
-// The values of scratch words that a node of form 2 or 3 states.
+// The values of scratch words that a node of form 2, 3 or 4 states.
 #[tactic(auto, unfolding(crate::specs::Reading::chain_place, crate::specs::Reading::scratch_at))]
 pub(crate) fn scratch_of(bytes: &[u8], at: usize) -> [AVal; 16]
     requires { chain_place bytes.now at + 4 ≤ length bytes.now }
     ensures { result ≡ scratch_at bytes.now at }
 {
-    if read_long(bytes, 4) == 3 {
-        return read_scratch(bytes, read_short(bytes, at + 16), at + 18);
+    if read_long(bytes, 4) == 2 {
+        return [AVal::Unknown; 16];
     }
-    [AVal::Unknown; 16]
+    read_scratch(bytes, read_short(bytes, at + 16), at + 18)
 }

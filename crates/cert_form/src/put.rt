@@ -2,9 +2,9 @@
 ghost use Rattle.std.specs.Prelude.{◌≡◌, ◌++◌, ◌∷◌, ◌↔◌, [], IsTrue, OnOk};
 ghost use Rattle.std.specs.List.{flat_map};
 ghost use Rattle.byteorder.specs.Endian.{little_bytes};
-ghost use Rattle.cert_form.specs.Spelling.{kind_number, literal, value, tail, scratch, bit_of, stated_bits, if_stated, nothing_stated};
+ghost use Rattle.cert_form.specs.Spelling.{kind_number, claim, literal, value, tail, scratch, bit_of, stated_bits, if_stated, nothing_stated};
 
-use crate::node::Kind;
+use crate::node::{Claim, Kind};
 use cert_state::{AVal, Lit};
 use std::alloc::AllocError;
 
@@ -48,6 +48,22 @@ pub(crate) fn put_literal(out: &mut Vec<u8>, l: Lit) -> Result<(), AllocError>
     };
     put_fields(out, tag, word, first)?;
     put_long(out, second)
+}
+
+pub(crate) fn put_claim(out: &mut Vec<u8>, stated: Claim) -> Result<(), AllocError>
+    ensures { OnOk result (out.new.items ≡ out.old.items ++ claim stated) }
+{
+    match stated {
+        Claim::Knows(l) => put_literal(out, l),
+        Claim::Out(rule) => {
+            put_fields(out, 4, 0, rule)?;
+            put_long(out, 0)
+        }
+        Claim::Met(rule, condition) => {
+            put_fields(out, 5, 0, rule)?;
+            put_long(out, condition)
+        }
+    }
 }
 
 /// What a kind is told by.

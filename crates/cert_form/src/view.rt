@@ -28,7 +28,7 @@ impl<'a> CertView<'a> {
     ghost use Rattle.cert_form.specs.Spelling.{Spells};
     ghost use Rattle.cert_form.specs.Views.{nodes_of, says};
 
-    /// The nodes that the bytes spell, in any of the three forms. Memory is asked for in form 1 alone.
+    /// The nodes that the bytes spell, in any of the four forms. Memory is asked for in form 1 alone.
     pub fn read(alloc: Global, bytes: &'a [u8]) -> Result<CertView<'a>, FormError>
         // What is read is spelled so.
         ensures found { IfOk result (λ view. Spells bytes.now (nodes_of view)) }
@@ -87,7 +87,7 @@ fn judge_head(bytes: &[u8]) -> Result<(), FormError>
         return Err(FormError::Truncated);
     }
     let version = read_long(bytes, 4);
-    if version == 0 || version > 3 {
+    if version == 0 || version > 4 {
         return Err(FormError::BadVersion);
     }
     if bytes.len() < 12 {

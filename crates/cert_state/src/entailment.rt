@@ -35,7 +35,7 @@ fn excludes(literal: Lit, word: u8, mask: u32, datum: u32) -> bool
     }
 }
 
-// Whether one of the literals does.
+// Whether a literal of the state excludes a datum under a mask.
 pub(crate) fn is_excluded<S: State>(state: &S, word: u8, mask: u32, datum: u32) -> bool
     ensures { IsTrue result ↔ IsExcluded (S.known state.now) word mask datum }
 {

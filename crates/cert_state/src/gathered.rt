@@ -112,7 +112,7 @@ fn is_exact(literal: Lit, word: u8) -> bool
     }
 }
 
-// Whether this is so of each one.
+// Whether each datum of a `NotBits` of the word has no bit outside its mask.
 fn all_exact<S: State>(state: &S, word: u8) -> bool
     ensures { IsTrue result ↔ All (IsExact word) (S.known state.now) }
 {

@@ -23,7 +23,7 @@ pub struct Summary {
     pub zeros: u32,
 }
 
-// The same with one literal more.
+// A summary with one literal more.
 fn add(summary: Summary, word: u8, literal: Lit) -> Summary
     ensures { result ≡ added word literal summary }
 {

@@ -6,34 +6,34 @@ use Rattle.std.proofs.lemmas.Bool.{eq-eqb, ne_eqb, cases_lt, cases_eq}
 use Rattle.std.proofs.lemmas.List.{reverse-append, length-append, length-reverse, append_assoc}
 use Rattle.std.proofs.lemmas.List.Elements.{All-cons, All-nil}
 use Rattle.cert_state.specs.declared.literal.Lit.{Lit}
-use Rattle.cert_form.specs.Nodes.{literals_back, literals}
+use Rattle.cert_form.specs.Nodes.{on_chain_back, literals}
 
-back_here : (e : ℕ × Lit) (bs : List (ℕ × Lit)) (n : ℕ) → n ≡ suc (length bs) → literals_back (e ∷ bs) n ≡ e.1 ∷ literals_back bs e.0
+back_here : (e : ℕ × Lit) (bs : List (ℕ × Lit)) (n : ℕ) → n ≡ suc (length bs) → on_chain_back (e ∷ bs) n ≡ e.1 ∷ on_chain_back bs e.0
 back_here e bs n h = rw (eq-eqb n (suc (length bs)) h) refl
 
-back_before : (e : ℕ × Lit) (bs : List (ℕ × Lit)) (n : ℕ) → n ≤ length bs → literals_back (e ∷ bs) n ≡ literals_back bs n
+back_before : (e : ℕ × Lit) (bs : List (ℕ × Lit)) (n : ℕ) → n ≤ length bs → on_chain_back (e ∷ bs) n ≡ on_chain_back bs n
 back_before e bs n h = rw (ne_eqb n (suc (length bs)) (λ g. omega (arith, h, g))) refl
 
-back_more : (ms bs : List (ℕ × Lit)) (n : ℕ) → n ≤ length bs → literals_back (ms ++ bs) n ≡ literals_back bs n
+back_more : (ms bs : List (ℕ × Lit)) (n : ℕ) → n ≤ length bs → on_chain_back (ms ++ bs) n ≡ on_chain_back bs n
 back_more [] bs n h = refl
 back_more (m ∷ ms) bs n h = back_before m (ms ++ bs) n (omega (arith, h, length-append ms bs)) ∙ back_more ms bs n h
 
-back_past : (bs : List (ℕ × Lit)) (n : ℕ) → length bs < n → literals_back bs n ≡ []
+back_past : (bs : List (ℕ × Lit)) (n : ℕ) → length bs < n → on_chain_back bs n ≡ []
 back_past [] n h = refl
 back_past (b ∷ bs) n h = rw (ne_eqb n (suc (length bs)) (λ g. omega (arith, g))) (back_past bs n (omega arith))
 
-back_none : (bs : List (ℕ × Lit)) → literals_back bs 0 ≡ []
+back_none : (bs : List (ℕ × Lit)) → on_chain_back bs 0 ≡ []
 back_none [] = refl
 back_none (b ∷ bs) = back_before b bs 0 (omega arith) ∙ back_none bs
 
 -- chains stay as they are, the newest entry comes first, and there is none at 0 or past the last
 pub literals_more : (es more : List (ℕ × Lit)) (n : ℕ) → n ≤ length es → literals (es ++ more) n ≡ literals es n
 literals_more es more n h =
-    ap (λ bs. literals_back bs n) (reverse-append es more) ∙ back_more (reverse more) (reverse es) n (omega (arith, h, length-reverse es))
+    ap (λ bs. on_chain_back bs n) (reverse-append es more) ∙ back_more (reverse more) (reverse es) n (omega (arith, h, length-reverse es))
 
 pub literals_push : (es : List (ℕ × Lit)) (c n : ℕ) (l : Lit) → n ≡ suc (length es) → literals (es ++ (c, l) ∷ []) n ≡ l ∷ literals es c
 literals_push es c n l h =
-    ap (λ bs. literals_back bs n) (reverse-append es ((c, l) ∷ [])) ∙ back_here (c, l) (reverse es) n (omega (arith, h, length-reverse es))
+    ap (λ bs. on_chain_back bs n) (reverse-append es ((c, l) ∷ [])) ∙ back_here (c, l) (reverse es) n (omega (arith, h, length-reverse es))
 
 pub literals_past : (es : List (ℕ × Lit)) (n : ℕ) → length es < n → literals es n ≡ []
 literals_past es n h = back_past (reverse es) n (omega (arith, h, length-reverse es))

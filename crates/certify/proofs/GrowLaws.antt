@@ -11,7 +11,7 @@ use Rattle.cert_state.specs.declared.literal.Lit.{Lit}
 use Rattle.cert_form.specs.declared.node.ChainNode.{ChainNode}
 use Rattle.cert_form.specs.declared.node.Kind.{Kind}
 use Rattle.cert_form.specs.declared.node.Kind.TheVariants.{Dead}
-use Rattle.cert_form.specs.Nodes.{PlainNode, literals, said}
+use Rattle.cert_form.specs.Nodes.{PlainNode, literals, said_plainly}
 use Rattle.cert_form.specs.Spelling.{IsKind}
 use Rattle.cert_form.specs.Writing.{IsChainMeant}
 use Rattle.cert_check.specs.Rules.{Keeps}
@@ -58,11 +58,11 @@ slice_get-set_other (x ∷ xs) (suc i) (suc k) y h = slice_get-set_other xs i k 
 pub known_more : (es fs : List (ℕ × Lit)) (n : ℕ) → IsLonger es fs → n ≤ length es → literals fs n ≡ literals es n
 known_more es fs n (m, e) h = ap (λ (xs : List (ℕ × Lit)). literals xs n) e ∙ literals_more es m n h
 
-said_more : (es fs : List (ℕ × Lit)) (n : ChainNode) → IsLonger es fs → n.chain ≤ length es → said fs n ≡ said es n
-said_more es fs n longer h = ap (λ ls. record { kind = n.kind; pc = n.pc; regs = n.regs; known = ls }) (known_more es fs n.chain longer h)
+said_more : (es fs : List (ℕ × Lit)) (n : ChainNode) → IsLonger es fs → n.chain ≤ length es → said_plainly fs n ≡ said_plainly es n
+said_more es fs n longer h = ap (λ ls. record { kind = n.kind; pc = n.pc; regs = n.regs; known = ls; out = []; met = [] }) (known_more es fs n.chain longer h)
 
-pub plain_at : (es : List (ℕ × Lit)) (ns : List ChainNode) (k : ℕ) (n : ChainNode) → slice_get ns k ≡ Some n → slice_get (plain es ns) k ≡ Some (said es n)
-plain_at es ns k n there = slice_get-map (said es) ns k ∙ ap (option_map (said es)) there
+pub plain_at : (es : List (ℕ × Lit)) (ns : List ChainNode) (k : ℕ) (n : ChainNode) → slice_get ns k ≡ Some n → slice_get (plain es ns) k ≡ Some (said_plainly es n)
+plain_at es ns k n there = slice_get-map (said_plainly es) ns k ∙ ap (option_map (said_plainly es)) there
 
 agree_more : (es fs : List (ℕ × Lit)) (ns ms : List ChainNode) → All (IsChainMeant es) ns → IsLonger es fs → IsLonger ns ms
     → Agree (plain fs ms) (plain es ns) 0 (length ns)
@@ -109,6 +109,8 @@ stands_moved ns ms at pc held known same s = record {
   pc_is = s.pc_is;
   regs_are = s.regs_are;
   known_is = s.known_is;
+  none_out = s.none_out;
+  none_met = s.none_met;
 }
 
 abbrev pub own_node : Store → Place → Kind → PlainNode
@@ -121,7 +123,7 @@ module _ (policy : Policy) (p : List Insn) (s t : Store) (is : IsStore s) (is_t 
   same_known : IsLonger s.entries.items t.entries.items → place.chain ≤ length s.entries.items → known_at t place ≡ known_at s place
   same_known longer h = known_more s.entries.items t.entries.items place.chain longer h
 
-  same_node : IsLonger s.entries.items t.entries.items → place.chain ≤ length s.entries.items → said t.entries.items (chain_node_of place kind) ≡ own_node s place kind
+  same_node : IsLonger s.entries.items t.entries.items → place.chain ≤ length s.entries.items → said_plainly t.entries.items (chain_node_of place kind) ≡ own_node s place kind
   same_node longer h = ap (λ ls. node_of place.held place.pc ls kind) (same_known longer h)
 
   pub node_there : (more : List ChainNode) → t.nodes.items ≡ s.nodes.items ++ chain_node_of place kind ∷ more → IsLonger s.entries.items t.entries.items
@@ -140,7 +142,7 @@ module _ (policy : Policy) (p : List Insn) (s t : Store) (is : IsStore s) (is_t 
       record {
         next = number;
         some = omega (arith, one);
-        stands = record { node = own_node s place kind; there = ap (slice_get (plain t.entries.items t.nodes.items)) number ∙ there; pc_is = refl; regs_are = refl; known_is = refl };
+        stands = record { node = own_node s place kind; there = ap (slice_get (plain t.entries.items t.nodes.items)) number ∙ there; pc_is = refl; regs_are = refl; known_is = refl; none_out = refl; none_met = refl };
         grown = record {
           store = is_t;
           entries = longer;
@@ -172,7 +174,7 @@ module _ (policy : Policy) (p : List Insn) (s t : Store) (is : IsStore s) (is_t 
       record {
         next = number_is;
         some = omega (arith, one, some);
-        stands = record { node = own_node s place kind; there = ap (slice_get (plain u.entries.items u.nodes.items)) number_is ∙ there; pc_is = refl; regs_are = refl; known_is = refl };
+        stands = record { node = own_node s place kind; there = ap (slice_get (plain u.entries.items u.nodes.items)) number_is ∙ there; pc_is = refl; regs_are = refl; known_is = refl; none_out = refl; none_met = refl };
         grown = record {
           store = grown.store;
           entries = longer_than s.entries.items t.entries.items u.entries.items first grown.entries;
@@ -226,11 +228,11 @@ module _ (policy : Policy) (p : List Insn) (s t u v w : Store) (place : Place) (
       let len_w : length w.nodes.items ≡ upto = ap length ns ∙ length-set v.nodes.items fork.number (chain_node_of place kind) in
       -- behind the node the nodes are as they were
       let behind : Agree ns_w ns_v (suc i) upto = λ k from to.
-      slice_get-map (said w.entries.items) w.nodes.items k
-      ∙ ap (λ (xs : List ChainNode). option_map (said w.entries.items) (slice_get xs k)) ns
-      ∙ ap (option_map (said w.entries.items)) (slice_get-set_other v.nodes.items fork.number k (chain_node_of place kind) (omega (arith, forked.number, from)))
-      ∙ ap (λ (xs : List (ℕ × Lit)). option_map (said xs) (slice_get v.nodes.items k)) es
-      ∙ sym (slice_get-map (said v.entries.items) v.nodes.items k) in
+      slice_get-map (said_plainly w.entries.items) w.nodes.items k
+      ∙ ap (λ (xs : List ChainNode). option_map (said_plainly w.entries.items) (slice_get xs k)) ns
+      ∙ ap (option_map (said_plainly w.entries.items)) (slice_get-set_other v.nodes.items fork.number k (chain_node_of place kind) (omega (arith, forked.number, from)))
+      ∙ ap (λ (xs : List (ℕ × Lit)). option_map (said_plainly xs) (slice_get v.nodes.items k)) es
+      ∙ sym (slice_get-map (said_plainly v.entries.items) v.nodes.items k) in
       let agree_uv = agree_stores u v a.store b.entries b.nodes in
       let kept_u : IsMeant policy p → KeptIn policy p ns_v (suc i) (length u.nodes.items) = λ meant.
       kept_moved policy p (plain u.entries.items u.nodes.items) ns_v (suc i) (length u.nodes.items)
@@ -259,7 +261,7 @@ module _ (policy : Policy) (p : List Insn) (s t u v w : Store) (place : Place) (
       record {
         next = forked.number;
         some = omega (arith, len_w, len, some_one, some_two);
-        stands = record { node = own_node s place kind; there = ap (slice_get ns_w) forked.number ∙ there; pc_is = refl; regs_are = refl; known_is = refl };
+        stands = record { node = own_node s place kind; there = ap (slice_get ns_w) forked.number ∙ there; pc_is = refl; regs_are = refl; known_is = refl; none_out = refl; none_met = refl };
         grown = record {
           store = is_w;
           entries = longer_sw;

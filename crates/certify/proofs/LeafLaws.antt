@@ -1,6 +1,6 @@
 -- What is known at a return settles the word.
 use Rattle.std.proofs.Common.{◌≡◌, ◌≢◌, ℕ, suc, zero, ◌^◌, ◌<◌, ◌≤◌, List, [], ◌∷◌, sym, refl, ap, subst, ◌∙◌, arith, inl, inr, ◌⊎◌, ⊎_elim, get_or, length}
-use Rattle.std.specs.Prelude.{bit_and, Contains, Any, replicate, slice_index}
+use Rattle.std.specs.Prelude.{bit_and, Contains, Any, Some, replicate, slice_index}
 use Rattle.std.specs.List.{All, AllByRecursion}
 use Rattle.std.proofs.lemmas.List.{get_or-replicate, get_or_past}
 use Rattle.std.proofs.lemmas.List.Elements.{All-from_recursion, recursion_from_All, All-contains, All-nil}
@@ -23,7 +23,8 @@ use Rattle.cert_state.specs.Entailment.{Entails}
 use Rattle.cert_state.proofs.BitLaws.{and_all}
 use Rattle.cert_state.proofs.KnownLaws.{entailed_is_true}
 use Rattle.cert_check.specs.Agree.{IsYesRule, IsNoRule, IsRuleOf, IsYes, RulesAgree, MachineAgrees, ListedAgrees, Agrees}
-use Rattle.cert_check.proofs.Elements.{each_of}
+use Rattle.std.proofs.lemmas.Option.{slice_get-get_or}
+use Rattle.cert_check.proofs.Elements.{contains_at, each_of}
 use Rattle.rule_compile.specs.Shape.{call, IsPlainRule}
 use Rattle.certify.specs.inner.Leaf.{IsOfCalls, SaysThere, IsForeign, IsOfOne, LeafAgrees}
 use Rattle.certify.proofs.PointFacts.{Asks, point_or_not, bounded, single}
@@ -76,11 +77,26 @@ module _ (policy : Policy) (known : List Lit) (v lo hi from to : ℕ) (plain : A
     conditions = subst (λ cs. All (λ (c : Cond). MeetsCond c (argument (call t u) c.index)) cs) (sym (All-contains IsPlainRule policy.rules rule plain has).0) (All-nil _);
   }
 
-  yes_rule : (rule : Rule) → Contains policy.rules rule → Entails known (Bits 0 all_bits rule.nr) → IsYesRule known rule
-  yes_rule rule has h = (h, λ c in_it. absurd (subst (λ cs. Contains cs c → ⊥) (sym (All-contains IsPlainRule policy.rules rule plain has).0) (λ none. omega (arith, none.1)) in_it))
+  yes_rule : (place : ℕ) (rule : Rule) → Contains policy.rules rule → Entails known (Bits 0 all_bits rule.nr) → IsYesRule [] known place rule
+  yes_rule place rule has h = (
+    h,
+    λ own c its. absurd (subst (λ cs. Contains cs c → ⊥) (sym (All-contains IsPlainRule policy.rules rule plain has).0) (λ none. omega (arith, none.1))
+        (contains_at rule.conds.items own c its)),
+  )
 
   abbrev IsNumberOf : Arch → ℕ → Rule → Type 0
   IsNumberOf arch n rule = (token_of rule.arch ≡ token_of arch) × (rule.nr ≡ n)
+
+  -- an element of the rules is left, since none is out
+  rule_of : (arch : Arch) (rule : Rule) → Contains policy.rules rule → token_of rule.arch ≡ token_of arch
+      → (place : ℕ) × IsRuleOf policy [] arch place rule
+  rule_of arch rule (place, within, at) is_for = (
+    place,
+    record {
+      stands = slice_get-get_or policy.rules place rule within ∙ ap Some at;
+      left = record { not_out = λ has. omega (arith, has.1); is_for = is_for };
+    },
+  )
 
   -- a number has a rule, or none
   rule_or_none : (arch : Arch) (n : ℕ) (rules : List Rule) → ((rule : Rule) × Contains rules rule × IsNumberOf arch n rule) ⊎ ((rule : Rule) → Contains rules rule → IsNumberOf arch n rule → ⊥)
@@ -107,8 +123,8 @@ module _ (policy : Policy) (known : List Lit) (v lo hi from to : ℕ) (plain : A
       (says from lo tokens.least numbers.least).foreign
       (λ native. none native.listed.1 (native.listed.0, native.listed.2, native.listed.3) (subst (IsPoint known 1) native.listed.4 tokens.least))
 
-  all_foreign : IsForeign policy known → All (ListedAgrees policy known v) policy.machines
-  all_foreign none = each_of (ListedAgrees policy known v) policy.machines (λ arch has. ⊎_elim
+  all_foreign : IsForeign policy known → All (ListedAgrees policy [] [] known v) policy.machines
+  all_foreign none = each_of (ListedAgrees policy [] [] known v) policy.machines (λ arch has. ⊎_elim
       (λ (at : IsPoint known 1 (token_of arch)). absurd (none arch has at))
       (λ (other : Entails known (NotBits 1 all_bits (token_of arch))). inl other)
       (point_or_not known 1 from to tokens (token_of arch) (token_of-fits arch)))
@@ -135,38 +151,47 @@ module _ (policy : Policy) (known : List Lit) (v lo hi from to : ℕ) (plain : A
     rule_is_small rule has = (All-contains IsPlainRule policy.rules rule plain has).1
 
     -- a rule of a number that is not the word's is known to be another's
-    none_or_word : (rule : Rule) → IsRuleOf policy arch rule → (IsYesRule known rule → ⊥) → IsNoRule known rule ⊎ (rule.word ≡ v)
-    none_or_word rule is not_yes =
-        let small = rule_is_small rule is.stands in
+    none_or_word : (place : ℕ) (rule : Rule) → IsRuleOf policy [] arch place rule → (IsYesRule [] known place rule → ⊥)
+        → IsNoRule [] known place rule ⊎ (rule.word ≡ v)
+    none_or_word place rule is not_yes =
+        let has = contains_at policy.rules place rule is.stands in
+        let small = rule_is_small rule has in
         ⊎_elim
-        (λ (at : IsPoint known 0 rule.nr). inr (matched_word rule rule.nr is.stands is.is_for refl at (native rule.nr (omega (arith, small)))))
+        (λ (at : IsPoint known 0 rule.nr). inr (matched_word rule rule.nr has is.left.is_for refl at (native rule.nr (omega (arith, small)))))
         (λ (other : Entails known (NotBits 0 all_bits rule.nr)). inl (inl other, not_yes))
         (point_or_not known 0 lo hi numbers rule.nr (omega (arith, small)))
 
     -- several numbers
-    several : lo < hi → policy.default_word ≡ v → RulesAgree policy known v arch
+    several : lo < hi → policy.default_word ≡ v → RulesAgree policy [] [] known v arch
     several less default =
-        let none : (rule : Rule) → IsRuleOf policy arch rule → IsYesRule known rule → ⊥ = λ rule is yes.
+        let none : (place : ℕ) (rule : Rule) → IsRuleOf policy [] arch place rule → IsYesRule [] known place rule → ⊥ = λ place rule is yes.
         let p = number_is rule.nr lo yes.0 numbers.least in
         let q = number_is rule.nr hi yes.0 numbers.greatest in
         omega (arith, less, p, q) in
-        inr (none, default, λ rule is. none_or_word rule is (none rule is))
+        inr (record { none_yes = none; default = default; each = λ place rule is. none_or_word place rule is (none place rule is) })
 
     -- one number of the machine's own
-    one : lo ≡ hi → IsNative policy (call (token_of arch) lo) → RulesAgree policy known v arch
+    one : lo ≡ hi → IsNative policy (call (token_of arch) lo) → RulesAgree policy [] [] known v arch
     one same own =
         let range : IsRange known 0 lo lo = subst (IsRange known 0 lo) (sym same) numbers in
         ⊎_elim
         (λ (found : (rule : Rule) × Contains policy.rules rule × IsNumberOf arch lo rule).
         let knows : Entails known (Bits 0 all_bits found.0.nr) = subst (λ n. Entails known (Bits 0 all_bits n)) (sym found.2.1) (single known 0 lo range) in
-        inl (found.0, record { stands = found.1; is_for = found.2.0 }, yes_rule found.0 found.1 knows, matched_word found.0 lo found.1 found.2.0 found.2.1 numbers.least own))
+        let of = rule_of arch found.0 found.1 found.2.0 in
+        inl (record {
+          place = of.0;
+          rule = found.0;
+          is_of = of.1;
+          is_yes = yes_rule of.0 found.0 found.1 knows;
+          word = matched_word found.0 lo found.1 found.2.0 found.2.1 numbers.least own;
+        }))
         (λ (none : (rule : Rule) → Contains policy.rules rule → IsNumberOf arch lo rule → ⊥).
-        let not_yes : (rule : Rule) → IsRuleOf policy arch rule → IsYesRule known rule → ⊥ = λ rule is yes.
-        none rule is.stands (is.is_for, sym (number_is rule.nr lo yes.0 numbers.least)) in
+        let not_yes : (place : ℕ) (rule : Rule) → IsRuleOf policy [] arch place rule → IsYesRule [] known place rule → ⊥ = λ place rule is yes.
+        none rule (contains_at policy.rules place rule is.stands) (is.left.is_for, sym (number_is rule.nr lo yes.0 numbers.least)) in
         let default : policy.default_word ≡ v =
         sym ((says (token_of arch) lo token numbers.least).unmatched own
         (each_of (λ rule. ¬ Matches rule (call (token_of arch) lo)) policy.rules (λ rule has m. none rule has (sym m.machine, sym m.number)))) in
-        inr (not_yes, default, λ rule is. none_or_word rule is (not_yes rule is)))
+        inr (record { none_yes = not_yes; default = default; each = λ place rule is. none_or_word place rule is (not_yes place rule is) }))
         (rule_or_none arch lo policy.rules)
 
     -- where the word is not the default one, a number of the machine's own has a rule
@@ -183,7 +208,7 @@ module _ (policy : Policy) (known : List Lit) (v lo hi from to : ℕ) (plain : A
 
     -- the rules agree, or no number is the machine's own
     rules_agree : OneOrRest lo hi policy.default_word v (token_of arch)
-        → ((token_of arch ≡ token_of X86_64) × Entails known (In 0 0x40000000 all_bits)) ⊎ RulesAgree policy known v arch
+        → ((token_of arch ≡ token_of X86_64) × Entails known (In 0 0x40000000 all_bits)) ⊎ RulesAgree policy [] [] known v arch
     rules_agree h =
         let top = numbers.greatest.0 in
         let order = (numbers.between lo numbers.least).1 in
@@ -211,12 +236,12 @@ module _ (policy : Policy) (known : List Lit) (v lo hi from to : ℕ) (plain : A
         (λ (low : hi ≤ 0x3fffffff). inl (bounded known 0 lo hi numbers 0 0x3fffffff (omega arith) low))
         (cases_lt 0x3fffffff hi)
 
-    machine_agrees : OneOrRest lo hi policy.default_word v (token_of arch) → MachineAgrees policy known v arch
+    machine_agrees : OneOrRest lo hi policy.default_word v (token_of arch) → MachineAgrees policy [] [] known v arch
     machine_agrees h = record { foreign_numbers = x32_word; rules = rules_agree h }
 
   -- each listed machine agrees where the token is one machine's
   listed_agrees : (arch : Arch) → IsRange known 1 (token_of arch) (token_of arch) → OneOrRest lo hi policy.default_word v (token_of arch)
-      → (a : Arch) → Contains policy.machines a → ListedAgrees policy known v a
+      → (a : Arch) → Contains policy.machines a → ListedAgrees policy [] [] known v a
   listed_agrees arch token h a has = ⊎_elim
       (λ (is : token_of arch ≡ token_of a). inr (machine_agrees a has
       (subst (IsPoint known 1) is token.least)
@@ -230,7 +255,7 @@ module _ (policy : Policy) (known : List Lit) (v lo hi from to : ℕ) (plain : A
       (cases_eq (token_of arch) (token_of a))
 
   -- where the word is 0 and the default one, each machine that is possible agrees
-  each_agrees : policy.default_word ≡ v → (a : Arch) → Contains policy.machines a → ListedAgrees policy known v a
+  each_agrees : policy.default_word ≡ v → (a : Arch) → Contains policy.machines a → ListedAgrees policy [] [] known v a
   each_agrees default a listed = ⊎_elim
       (λ (at : IsPoint known 1 (token_of a)). inr (machine_agrees a listed at (inr (inl default))))
       (λ (not : Entails known (NotBits 1 all_bits (token_of a))). inl not)
@@ -244,7 +269,7 @@ leaf_agrees policy known v lo hi from to plain of says numbers tokens h = ⊎_el
     })
     (λ (o : IsOfOne policy known v lo hi). record {
       foreign = inl (o.arch, o.listed, single known 1 (token_of o.arch) o.token);
-      machines = each_of (ListedAgrees policy known v) policy.machines
+      machines = each_of (ListedAgrees policy [] [] known v) policy.machines
           (listed_agrees policy known v lo hi from to plain of says numbers tokens o.arch o.token o.numbers);
     })
     h
@@ -258,10 +283,10 @@ own_is_small policy known v lo hi from to plain of says numbers tokens arch list
 
 -- where the word is 0 and the default one, nothing has to be told apart
 pub zero_agrees : (policy : Policy) (known : List Lit) (v lo hi from to : ℕ) → All IsPlainRule policy.rules → All IsOfCalls known → SaysThere policy known v
-    → IsRange known 0 lo hi → IsRange known 1 from to → v ≡ 0 → policy.default_word ≡ v → Agrees policy known v
+    → IsRange known 0 lo hi → IsRange known 1 from to → v ≡ 0 → policy.default_word ≡ v → Agrees policy [] [] known v
 zero_agrees policy known v lo hi from to plain of says numbers tokens is_zero default = record {
   foreign = inr is_zero;
-  machines = each_of (ListedAgrees policy known v) policy.machines
+  machines = each_of (ListedAgrees policy [] [] known v) policy.machines
       (λ a has. each_agrees policy known v lo hi from to plain of says numbers tokens default a has);
 }
 

@@ -14,3 +14,4 @@ pub mod SizeLaws
 pub mod WholeLaws
 pub mod OwnLaws
 pub mod TableLaws
+pub mod UnlikeLaws

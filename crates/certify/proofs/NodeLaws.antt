@@ -24,7 +24,7 @@ use Rattle.cert_form.specs.declared.node.Kind.{Kind}
 use Rattle.cert_form.specs.declared.node.Kind.TheVariants.{Step, Split, Return, Dead}
 use Rattle.cert_form.specs.Nodes.{PlainNode}
 use Rattle.cert_check.specs.Agree.{Agrees}
-use Rattle.cert_check.specs.Rules.{Edge, Allows, Carries, Covers, EdgeRule, EntailRule, Keeps, ReturnRule, SplitRule, edges, edges_by, no_node, step_edges, word_by}
+use Rattle.cert_check.specs.Rules.{IsOutOn, IsMetBy, Edge, known_on, Allows, Carries, Covers, EdgeRule, EntailRule, Keeps, ReturnRule, SplitRule, edges, edges_by, no_node, step_edges, word_by}
 use Rattle.cert_check.proofs.Elements.{each_of}
 use Rattle.rule_compile.specs.Moves.{Move}
 use Rattle.rule_compile.specs.Moves.{Ends, Goes, Forks}
@@ -38,11 +38,11 @@ use Rattle.certify.specs.inner.Steps.{node_of, NodesKeepAt, NodesKeep}
 -- ---- edges
 
 -- an edge of node i arrives
-abbrev Arrives : List PlainNode → ℕ → PlainNode → Edge → Type 0
-Arrives ns i n e = (i < e.to) × ((m : PlainNode) × (slice_get ns e.to ≡ Some m) × (m.pc ≡ e.pc) × Carries n.known e m)
+abbrev Arrives : Policy → List PlainNode → ℕ → PlainNode → Edge → Type 0
+Arrives policy ns i n e = (i < e.to) × ((m : PlainNode) × (slice_get ns e.to ≡ Some m) × (m.pc ≡ e.pc) × Carries policy n e m)
 
-module _ (p : List Insn) (ns : List PlainNode) (i : ℕ) (n : PlainNode) (insn : Insn) (out : List Edge)
-    (inside : slice_get p n.pc ≡ Some insn) (leave : edges n insn ≡ Some out) (arrive : All (Arrives ns i n) out) where
+module _ (policy : Policy) (p : List Insn) (ns : List PlainNode) (i : ℕ) (n : PlainNode) (insn : Insn) (out : List Edge)
+    (inside : slice_get p n.pc ≡ Some insn) (leave : edges n insn ≡ Some out) (arrive : All (Arrives policy ns i n) out) where
   edge_kept : EdgeRule p ns i n
   edge_kept = record {
     insn = insn;
@@ -52,17 +52,17 @@ module _ (p : List Insn) (ns : List PlainNode) (i : ℕ) (n : PlainNode) (insn :
     lead = λ k d lt. let a = arrive k d lt in (a.0, (a.1.0, a.1.1, a.1.2));
   }
 
-  carried : All (λ e. (m : PlainNode) → slice_get ns e.to ≡ Some m → Carries n.known e m) out
+  carried : All (λ e. (m : PlainNode) → slice_get ns e.to ≡ Some m → Carries policy n e m) out
   carried = λ k d lt m there.
       let a = arrive k d lt in
-      subst (λ x. Carries n.known (get_or out k d) x) (same_Some a.1.0 m (sym a.1.1 ∙ there)) a.1.3
+      subst (λ x. Carries policy n (get_or out k d) x) (same_Some a.1.0 m (sym a.1.1 ∙ there)) a.1.3
 
-  entail_kept : (n.kind ≡ Dead → IsDead n.known) → EntailRule p ns n
+  entail_kept : (n.kind ≡ Dead → IsDead n.known) → EntailRule policy p ns n
   entail_kept dead = record {
     carry = λ i' out' found leave'.
         let same : insn ≡ i' = same_Some insn i' (sym inside ∙ found) in
         let same_out : out ≡ out' = same_Some out out' (sym leave ∙ ap (λ y. edges n y) same ∙ leave') in
-        subst (λ o. All (λ e. (m : PlainNode) → slice_get ns e.to ≡ Some m → Carries n.known e m) o) same_out carried;
+        subst (λ o. All (λ e. (m : PlainNode) → slice_get ns e.to ≡ Some m → Carries policy n e m) o) same_out carried;
     dead = dead;
   }
 
@@ -77,27 +77,38 @@ contains_new ls x = (length ls, omega (arith, length-append ls (x ∷ [])), get_
 same_values : (r s : Regs) → r ≡ s → (j : ℕ) (v : AVal) → slice_get r.scratch j ≡ Some v → Allows v (slice_index_or s.scratch j Unknown)
 same_values r s e j v found = inr (sym (get_or_from_slice_get s.scratch j v Unknown (ap (λ (x : Regs). slice_get x.scratch j) (sym e) ∙ found)))
 
+-- no rule is said to be out, and no condition to be met
+none_out : (policy : Policy) (n : PlainNode) (e : Edge) (m : PlainNode) → m.out ≡ [] → All (IsOutOn policy n e) m.out
+none_out policy n e m o = subst (All (IsOutOn policy n e)) (sym o) (All-nil (IsOutOn policy n e))
+
+none_met : (policy : Policy) (n : PlainNode) (e : Edge) (m : PlainNode) → m.met ≡ [] → All (IsMetBy policy n.met (known_on n e)) m.met
+none_met policy n e m o = subst (All (IsMetBy policy n.met (known_on n e))) (sym o) (All-nil (IsMetBy policy n.met (known_on n e)))
+
 -- nothing new is learned, and one literal is
-carries_same : (known : List Lit) (to pc : ℕ) (regs : Regs) (m : PlainNode) → m.regs ≡ regs → m.known ≡ known
-    → Carries known (record { to = to; pc = pc; fact = None; regs = regs }) m
-carries_same known to pc regs m r k = record {
-  literals = each_of (Entails (known ++ [])) m.known (λ x has. inl (contains_left known [] x (subst (λ ls. Contains ls x) k has)));
+carries_same : (policy : Policy) (n : PlainNode) (to pc : ℕ) (regs : Regs) (m : PlainNode) → m.regs ≡ regs → m.known ≡ n.known → m.out ≡ [] → m.met ≡ []
+    → Carries policy n (record { to = to; pc = pc; fact = None; regs = regs }) m
+carries_same policy n to pc regs m r k o q = record {
+  literals = each_of (Entails (n.known ++ [])) m.known (λ x has. inl (contains_left n.known [] x (subst (λ ls. Contains ls x) k has)));
+  outs = none_out policy n (record { to = to; pc = pc; fact = None; regs = regs }) m o;
+  mets = none_met policy n (record { to = to; pc = pc; fact = None; regs = regs }) m q;
   for_a = inr (ap (λ (s : Regs). s.a) r);
   for_x = inr (ap (λ (s : Regs). s.x) r);
   for_scratch = same_values m.regs regs r;
 }
 
-carries_more : (known : List Lit) (to pc : ℕ) (regs : Regs) (l : Lit) (m : PlainNode) → m.regs ≡ regs → m.known ≡ l ∷ known
-    → Carries known (record { to = to; pc = pc; fact = Some l; regs = regs }) m
-carries_more known to pc regs l m r k = record {
-  literals = each_of (Entails (known ++ l ∷ [])) m.known (λ x has. inl (first_or_rest x (subst (λ ls. Contains ls x) k has)));
+carries_more : (policy : Policy) (n : PlainNode) (to pc : ℕ) (regs : Regs) (l : Lit) (m : PlainNode) → m.regs ≡ regs → m.known ≡ l ∷ n.known
+    → m.out ≡ [] → m.met ≡ [] → Carries policy n (record { to = to; pc = pc; fact = Some l; regs = regs }) m
+carries_more policy n to pc regs l m r k o q = record {
+  literals = each_of (Entails (n.known ++ l ∷ [])) m.known (λ x has. inl (first_or_rest x (subst (λ ls. Contains ls x) k has)));
+  outs = none_out policy n (record { to = to; pc = pc; fact = Some l; regs = regs }) m o;
+  mets = none_met policy n (record { to = to; pc = pc; fact = Some l; regs = regs }) m q;
   for_a = inr (ap (λ (s : Regs). s.a) r);
   for_x = inr (ap (λ (s : Regs). s.x) r);
   for_scratch = same_values m.regs regs r;
 } where
-  first_or_rest : (x : Lit) → Contains (l ∷ known) x → Contains (known ++ l ∷ []) x
-  first_or_rest x (zero, lt, is) = subst (λ y. Contains (known ++ l ∷ []) y) is (contains_new known l)
-  first_or_rest x (suc k, lt, is) = contains_left known (l ∷ []) x (k, omega arith, is)
+  first_or_rest : (x : Lit) → Contains (l ∷ n.known) x → Contains (n.known ++ l ∷ []) x
+  first_or_rest x (zero, lt, is) = subst (λ y. Contains (n.known ++ l ∷ []) y) is (contains_new n.known l)
+  first_or_rest x (suc k, lt, is) = contains_left n.known (l ∷ []) x (k, omega arith, is)
 
 -- ---- the instructions of a filter of calls
 
@@ -167,23 +178,23 @@ module _ (policy : Policy) (p : List Insn) (ns : List PlainNode) (i : ℕ) (insn
   is_as m e = move_as insn pc known held m (move_of_is (operation_of insn.code) insn.k held m e)
 
   -- a node whose edges arrive
-  kept : (kind : Kind) (out : List Edge) → edges (node_of held pc known kind) insn ≡ Some out → All (Arrives ns i (node_of held pc known kind)) out
+  kept : (kind : Kind) (out : List Edge) → edges (node_of held pc known kind) insn ≡ Some out → All (Arrives policy ns i (node_of held pc known kind)) out
       → SplitRule kind → (kind ≡ Dead → IsDead known) → (kind ≡ Return → ReturnRule policy p (node_of held pc known kind))
       → Keeps policy p ns i (node_of held pc known kind)
   kept kind out leave arrive split dead return = record {
-    edge = edge_kept p ns i (node_of held pc known kind) insn out inside leave arrive;
+    edge = edge_kept policy p ns i (node_of held pc known kind) insn out inside leave arrive;
     split = split;
-    entail = entail_kept p ns i (node_of held pc known kind) insn out inside leave arrive dead;
+    entail = entail_kept policy p ns i (node_of held pc known kind) insn out inside leave arrive dead;
     return = return;
   }
 
   arrives_same : (kind : Kind) (to next : ℕ) (now : Option ℕ) → i < to → StandsAt ns to next now known
-      → Arrives ns i (node_of held pc known kind) (record { to = to; pc = next; fact = None; regs = regs_of now })
-  arrives_same kind to next now later at = (later, (at.node, at.there, at.pc_is, carries_same known to next (regs_of now) at.node at.regs_are at.known_is))
+      → Arrives policy ns i (node_of held pc known kind) (record { to = to; pc = next; fact = None; regs = regs_of now })
+  arrives_same kind to next now later at = (later, (at.node, at.there, at.pc_is, carries_same policy (node_of held pc known kind) to next (regs_of now) at.node at.regs_are at.known_is at.none_out at.none_met))
 
   arrives_more : (kind : Kind) (to next : ℕ) (l : Lit) → i < to → StandsAt ns to next held (l ∷ known)
-      → Arrives ns i (node_of held pc known kind) (record { to = to; pc = next; fact = Some l; regs = regs_of held })
-  arrives_more kind to next l later at = (later, (at.node, at.there, at.pc_is, carries_more known to next (regs_of held) l at.node at.regs_are at.known_is))
+      → Arrives policy ns i (node_of held pc known kind) (record { to = to; pc = next; fact = Some l; regs = regs_of held })
+  arrives_more kind to next l later at = (later, (at.node, at.there, at.pc_is, carries_more policy (node_of held pc known kind) to next (regs_of held) l at.node at.regs_are at.known_is at.none_out at.none_met))
 
   all_one : (P : Edge → Type 0) (e : Edge) → P e → All P (e ∷ [])
   all_one P e h = All-cons P e [] h (All-nil P)
@@ -195,15 +206,15 @@ module _ (policy : Policy) (p : List Insn) (ns : List PlainNode) (i : ℕ) (insn
       → StandsAt ns to (pc + 1 + skip) now known → Keeps policy p ns i (node_of held pc known (Step to no_node))
   step_kept skip now to e later at =
       kept (Step to no_node) (record { to = to; pc = pc + 1 + skip; fact = None; regs = regs_of now } ∷ []) (is_as (Some (Goes skip now)) e to)
-      (all_one (Arrives ns i (node_of held pc known (Step to no_node))) (record { to = to; pc = pc + 1 + skip; fact = None; regs = regs_of now }) (arrives_same (Step to no_node) to (pc + 1 + skip) now later at)) tt (λ no_dead. cc) (λ no_return. cc)
+      (all_one (Arrives policy ns i (node_of held pc known (Step to no_node))) (record { to = to; pc = pc + 1 + skip; fact = None; regs = regs_of now }) (arrives_same (Step to no_node) to (pc + 1 + skip) now later at)) tt (λ no_dead. cc) (λ no_return. cc)
 
   two : (kind : Kind) (first second at_first at_second : ℕ) (l m : Lit) → i < first → i < second
       → StandsAt ns first at_first held (l ∷ known) → StandsAt ns second at_second held (m ∷ known)
-      → All (Arrives ns i (node_of held pc known kind))
+      → All (Arrives policy ns i (node_of held pc known kind))
       (record { to = first; pc = at_first; fact = Some l; regs = regs_of held }
       ∷ record { to = second; pc = at_second; fact = Some m; regs = regs_of held } ∷ [])
   two kind first second at_first at_second l m later also a b =
-      all_two (Arrives ns i (node_of held pc known kind)) (record { to = first; pc = at_first; fact = Some l; regs = regs_of held })
+      all_two (Arrives policy ns i (node_of held pc known kind)) (record { to = first; pc = at_first; fact = Some l; regs = regs_of held })
       (record { to = second; pc = at_second; fact = Some m; regs = regs_of held }) (arrives_more kind first at_first l later a) (arrives_more kind second at_second m also b)
 
   fork_kept : (test : Test) (w : ℕ) (first second : ℕ) (l m : Lit) → move_at (operation_of insn.code) insn.k held ≡ Some (Forks test w)
@@ -229,11 +240,11 @@ module _ (policy : Policy) (p : List Insn) (ns : List PlainNode) (i : ℕ) (insn
       (record { to = first; pc = pc; fact = Some l; regs = regs_of held } ∷ record { to = second; pc = pc; fact = Some m; regs = regs_of held } ∷ [])
       refl (two (Split l m first second) first second pc pc l m later also a b) (inl covers) (λ no_dead. cc) (λ no_return. cc)
 
-  return_kept : (v : ℕ) → move_at (operation_of insn.code) insn.k held ≡ Some (Ends v) → Agrees policy known v
+  return_kept : (v : ℕ) → move_at (operation_of insn.code) insn.k held ≡ Some (Ends v) → Agrees policy [] [] known v
       → Keeps policy p ns i (node_of held pc known Return)
   return_kept v e agrees =
       let ends = is_as (Some (Ends v)) e in
-      kept Return [] refl (All-nil (Arrives ns i (node_of held pc known Return))) tt (λ no_dead. cc) (λ _. record {
+      kept Return [] refl (All-nil (Arrives policy ns i (node_of held pc known Return))) tt (λ no_dead. cc) (λ _. record {
         insn = insn;
         inside = inside;
         word = v;
@@ -242,7 +253,7 @@ module _ (policy : Policy) (p : List Insn) (ns : List PlainNode) (i : ℕ) (insn
       })
 
   dead_kept : IsDead known → Keeps policy p ns i (node_of held pc known Dead)
-  dead_kept dead = kept Dead [] refl (All-nil (Arrives ns i (node_of held pc known Dead))) tt (λ _. dead) (λ no_return. cc)
+  dead_kept dead = kept Dead [] refl (All-nil (Arrives policy ns i (node_of held pc known Dead))) tt (λ _. dead) (λ no_return. cc)
 
 pub nodes_keep : NodesKeep
 nodes_keep policy p ns i insn held pc known inside = record {

@@ -15,9 +15,11 @@ use Rattle.cert_form.specs.declared.node.Kind.{Kind}
 use Rattle.cert_form.specs.declared.node.Kind.TheVariants.{Step, Split, Return, Dead}
 use Rattle.cert_form.specs.Reading.{tail_length}
 use Rattle.cert_form.specs.Spelling.{chain_node, chained, entry, if_stated, kind_number, magic, offsets, scratch, stated_bits, value}
-use Rattle.cert_form.specs.Writing.{AreChainsWritable, ChainsRefused, IsChainMeant, version_for}
+use Rattle.cert_form.specs.declared.node.Claim.{Claim}
+use Rattle.cert_form.specs.Writing.{AreChainsWritable, ChainsRefused, IsChainMeant, all_known, version_for}
 use Rattle.cert_form.proofs.PartLaws.{length-value}
 use Rattle.cert_form.proofs.WalkLaws.{length-entries, length-offsets}
+use Rattle.cert_form.proofs.KnownLaws.{length-known}
 use Rattle.cert_form.proofs.WriteLaws.{length-chained}
 use Rattle.certify.specs.declared.plain.store.Store.{Store}
 use Rattle.certify.specs.inner.Store.{IsStore}
@@ -35,9 +37,9 @@ scratch_short : (vs : List AVal) → length vs ≡ 16 → length (scratch vs) �
 scratch_short vs sixteen =
     omega (arith, length-append (little_bytes 2 (stated_bits vs)) (flat_map if_stated vs), all_stated vs, sixteen)
 
-part_short : (b : Bool) (vs : List AVal) → length vs ≡ 16 → length (cond b (scratch vs) []) ≤ 98
-part_short true vs sixteen = scratch_short vs sixteen
-part_short false vs sixteen = omega arith
+part_short : (b : Bool) (vs : List AVal) → length vs ≡ 16 → length (cond b [] (scratch vs)) ≤ 98
+part_short true vs sixteen = omega arith
+part_short false vs sixteen = scratch_short vs sixteen
 
 tail_short : (k : Kind) → tail_length (kind_number k) ≤ 28
 tail_short (Step first second) = omega arith
@@ -47,7 +49,7 @@ tail_short Dead = omega arith
 
 node_short : (es : List (ℕ × Lit)) (version : ℕ) (n : ChainNode) → IsChainMeant es n → length (chain_node version n) ≤ 146
 node_short es version n meant =
-    omega (arith, length-chained version n, part_short (eqb version 3) n.regs.scratch meant.values.sixteen, tail_short n.kind)
+    omega (arith, length-chained version n, part_short (eqb version 2) n.regs.scratch meant.values.sixteen, tail_short n.kind)
 
 nodes_short : (es : List (ℕ × Lit)) (version : ℕ) (ns : List ChainNode) → All (IsChainMeant es) ns → length (flat_map (chain_node version) ns) ≤ 146 * length ns
 nodes_short es version [] all = omega arith
@@ -60,23 +62,25 @@ nodes_short es version (n ∷ ns) all =
     )
 
 file_short : (es : List (ℕ × Lit)) (version : ℕ) (ns : List ChainNode) → All (IsChainMeant es) ns
-    → length (chained version es ns) ≤ 16 + 14 * length es + 150 * length ns
+    → length (chained version (all_known es) ns) ≤ 16 + 14 * length es + 150 * length ns
 file_short es version ns all =
+    let fs : List (ℕ × Claim) = all_known es in
     let h1 : List ℕ = magic ++ little_bytes 4 version in
     let h2 : List ℕ = h1 ++ little_bytes 4 (length ns) in
-    let h3 : List ℕ = h2 ++ little_bytes 4 (length es) in
-    let h4 : List ℕ = h3 ++ flat_map entry es in
-    let at = 16 + 14 * length es + 4 * length ns in
+    let h3 : List ℕ = h2 ++ little_bytes 4 (length fs) in
+    let h4 : List ℕ = h3 ++ flat_map entry fs in
+    let at = 16 + 14 * length fs + 4 * length ns in
     let h5 : List ℕ = h4 ++ offsets version at ns in
     omega (
       arith,
       length-append h5 (flat_map (chain_node version) ns),
       length-append h4 (offsets version at ns),
-      length-append h3 (flat_map entry es),
-      length-append h2 (little_bytes 4 (length es)),
+      length-append h3 (flat_map entry fs),
+      length-append h2 (little_bytes 4 (length fs)),
       length-append h1 (little_bytes 4 (length ns)),
       length-append magic (little_bytes 4 version),
-      length-entries es,
+      length-entries fs,
+      length-known es,
       length-offsets version at ns,
       nodes_short es version ns all,
     )

@@ -10,8 +10,8 @@ use Rattle.cert_state.specs.Literals.{IsLit, IsValue, AreValues}
 use Rattle.cert_form.specs.declared.node.ChainNode.{ChainNode}
 use Rattle.cert_form.specs.declared.node.Kind.{Kind}
 use Rattle.cert_form.specs.Nodes.{literals}
-use Rattle.cert_form.specs.Spelling.{AreEntries, IsEntry, IsKind}
-use Rattle.cert_form.specs.Writing.{IsChainMeant}
+use Rattle.cert_form.specs.Spelling.{IsKind}
+use Rattle.cert_form.specs.Writing.{AreLiteralEntries, IsChainMeant, IsLiteralEntry}
 use Rattle.certify.specs.declared.plain.place.Place.{Place}
 use Rattle.certify.specs.declared.plain.store.Store.{Store}
 use Rattle.certify.specs.inner.Chains.{AreEarlier}
@@ -50,7 +50,7 @@ module _ (s t : Store) (is : IsStore s) where
       → HoldsCall place.held → IsKind kind → t.entries.items ≡ s.entries.items → t.nodes.items ≡ s.nodes.items ++ chain_node_of place kind ∷ []
       → length s.nodes.items < 16384 → IsStore t
   stored_add place kind pc chain few held is_kind es ns room = record {
-    entries = subst AreEntries (sym es) is.entries;
+    entries = subst AreLiteralEntries (sym es) is.entries;
     calls = λ n. subst (λ (xs : List (ℕ × Lit)). All IsOfCalls (literals xs n)) (sym es) (is.calls n);
     nodes = subst (λ (xs : List (ℕ × Lit)). All (IsChainMeant xs) t.nodes.items) (sym es)
         (subst (All (IsChainMeant s.entries.items)) (sym ns)
@@ -72,10 +72,10 @@ module _ (s t : Store) (is : IsStore s) where
   pub stored_learn : (c : ℕ) (l : Lit) → c ≤ length s.entries.items → IsLit l → IsOfCalls l → t.nodes.items ≡ s.nodes.items
       → t.entries.items ≡ s.entries.items ++ (c, l) ∷ [] → length s.entries.items < 2 * length s.nodes.items → IsStore t
   stored_learn c l chain lit call ns es room = record {
-    entries = subst AreEntries (sym es) (λ j e there. ⊎_elim
+    entries = subst AreLiteralEntries (sym es) (λ j e there. ⊎_elim
         (λ (old : slice_get s.entries.items j ≡ Some e). is.entries j e old)
         (λ (new : (j ≡ length s.entries.items) × ((c, l) ≡ e)).
-        subst (λ x. IsEntry j x) new.1 (record { earlier = omega (arith, chain, new.0); literal = lit }))
+        subst (λ x. IsLiteralEntry j x) new.1 (record { earlier = omega (arith, chain, new.0); literal = lit }))
         (slice_get_push s.entries.items (c, l) j e there));
     calls = λ n. subst (λ (xs : List (ℕ × Lit)). All IsOfCalls (literals xs n)) (sym es) (all_push IsOfCalls s.entries.items c l is.calls call n);
     nodes = subst (λ (xs : List (ℕ × Lit)). All (IsChainMeant xs) t.nodes.items) (sym es)
@@ -91,7 +91,7 @@ module _ (s t : Store) (is : IsStore s) where
 pub stored_set : (s t : Store) (is : IsStore s) (number : ℕ) (place : Place) (kind : Kind) → place.pc < 2 ^ 16 → place.chain ≤ length s.entries.items → length (literals s.entries.items place.chain) ≤ 512
     → HoldsCall place.held → IsKind kind → t.entries.items ≡ s.entries.items → t.nodes.items ≡ set s.nodes.items number (chain_node_of place kind) → IsStore t
 stored_set s t is number place kind pc chain few held is_kind es ns = record {
-  entries = subst AreEntries (sym es) is.entries;
+  entries = subst AreLiteralEntries (sym es) is.entries;
   calls = λ n. subst (λ (xs : List (ℕ × Lit)). All IsOfCalls (literals xs n)) (sym es) (is.calls n);
   nodes = subst (λ (xs : List (ℕ × Lit)). All (IsChainMeant xs) t.nodes.items) (sym es)
       (subst (All (IsChainMeant s.entries.items)) (sym ns)

@@ -100,13 +100,13 @@ yes_child s t place l m fork f = record { store = f.store; chain = f.yes_chain; 
 
 -- what one machine's return needs
 pub machine_agrees_there : (policy : Policy) (p : List Insn) (s : Store) (place : Place) (v lo hi : ℕ) (arch : Arch) → IsMeant policy p → IsAtReturn policy p s place v → IsOfMachine policy s place arch
-    → IsRange (known_at s place) 0 lo hi → (lo ≡ hi) ⊎ ((policy.default_word ≡ v) ⊎ ((token_of arch ≡ token_of X86_64) × (0x40000000 ≤ lo))) → Agrees policy (known_at s place) v
+    → IsRange (known_at s place) 0 lo hi → (lo ≡ hi) ⊎ ((policy.default_word ≡ v) ⊎ ((token_of arch ≡ token_of X86_64) × (0x40000000 ≤ lo))) → Agrees policy [] [] (known_at s place) v
 machine_agrees_there policy p s place v lo hi arch meant at of range h =
     leaf_agrees policy (known_at s place) v lo hi (token_of arch) (token_of arch) meant.plain.rules (at.store.calls place.chain) (at.says meant) range of.token
     (inr (record { arch = arch; listed = of.listed; token = of.token; numbers = h }))
 
 pub foreign_agrees_there : (policy : Policy) (p : List Insn) (s : Store) (place : Place) (v lo hi from to : ℕ) → IsMeant policy p → IsAtReturn policy p s place v
-    → IsRange (known_at s place) 0 lo hi → IsRange (known_at s place) 1 from to → IsForeign policy (known_at s place) → Agrees policy (known_at s place) v
+    → IsRange (known_at s place) 0 lo hi → IsRange (known_at s place) 1 from to → IsForeign policy (known_at s place) → Agrees policy [] [] (known_at s place) v
 foreign_agrees_there policy p s place v lo hi from to meant at range tokens none =
     leaf_agrees policy (known_at s place) v lo hi from to meant.plain.rules (at.store.calls place.chain) (at.says meant) range tokens (inl none)
 

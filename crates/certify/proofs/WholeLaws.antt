@@ -34,7 +34,7 @@ empty_store s es ns = record {
   few = omega (arith, ap length ns);
   few_entries = omega (arith, ap length es);
 } where
-  none : (j : ℕ) (e : ℕ × Lit) → slice_get [] j ≡ Some e → Rattle.cert_form.specs.Spelling.IsEntry j e
+  none : (j : ℕ) (e : ℕ × Lit) → slice_get [] j ≡ Some e → Rattle.cert_form.specs.Writing.IsLiteralEntry j e
   none j e h = cc
 
 pub root_way : (policy : Policy) (p : List Insn) (s : Store) → IsAccepted p → s.entries.items ≡ [] → s.nodes.items ≡ []
@@ -64,13 +64,15 @@ valid_whole policy p s t cost first meant es ns made =
         first = ap (slice_get (plain t.entries.items t.nodes.items)) (sym zero_is) ∙ at.there;
         at_first = at.pc_is;
         nothing = at.known_is ∙ ap (λ (xs : List (ℕ × Lit)). literals xs 0) es;
+        none_out = at.none_out;
+        none_met = at.none_met;
         a_is_zero = ap (λ (r : Regs). r.a) at.regs_are;
         x_is_zero = ap (λ (r : Regs). r.x) at.regs_are;
         none_stated = subst (λ (r : Regs). All (λ (v : AVal). v ≡ Unknown) r.scratch) (sym at.regs_are) (All-replicate (λ (v : AVal). v ≡ Unknown) 16 Unknown refl);
       };
       each = λ i n there.
           let within = slice_get_within (plain t.entries.items t.nodes.items) i n there in
-          kept (plain t.entries.items t.nodes.items) (λ k a b. refl) i n (omega (arith, ap length ns)) (omega (arith, within, length-map t.nodes.items (Rattle.cert_form.specs.Nodes.said t.entries.items))) there;
+          kept (plain t.entries.items t.nodes.items) (λ k a b. refl) i n (omega (arith, ap length ns)) (omega (arith, within, length-map t.nodes.items (Rattle.cert_form.specs.Nodes.said_plainly t.entries.items))) there;
     }
 
 pub meant_whole : (t : Store) → IsStore t → AreMeant t.entries.items t.nodes.items

@@ -108,6 +108,18 @@ pub(crate) fn none_between(least: u32, greatest: u32, mask: u32, datum: u32) -> 
     }
 }
 
+// The least number from one on that has the datum under the mask.
+fn least_with(from: u32, mask: u32, datum: u32) -> Option<u32> {
+    let found = least_below(32, u64::from(from), u64::from(mask), u64::from(datum))?;
+    u32::try_from(found).ok()
+}
+
+// The least number above one that has other bits under the mask.
+fn next_under(number: u32, mask: u32) -> Option<u32> {
+    let lowest = mask & mask.wrapping_neg();
+    (number | lowest.wrapping_sub(1)).checked_add(1)
+}
+
 impl WordFacts {
     // The same between two numbers.
     fn between(self, low: u32, high: u32) -> WordFacts {
@@ -387,19 +399,22 @@ impl Known {
         Ok(own)
     }
 
-    /// Whether all literals of a word are true of a number.
-    pub(crate) fn admits(&self, word: u8, number: u32) -> bool {
+    // A literal of a word that is not true of a number, if there is one.
+    fn denial(&self, word: u8, number: u32) -> Option<Lit> {
         let mut place = self.word(word).last;
         for _ in 0..=self.facts.len() {
-            let Some(fact) = self.facts.get(place as usize) else {
-                return true;
-            };
+            let fact = self.facts.get(place as usize)?;
             if !is_true(fact.literal, number) {
-                return false;
+                return Some(fact.literal);
             }
             place = fact.before.last;
         }
-        true
+        None
+    }
+
+    /// Whether all literals of a word are true of a number.
+    pub(crate) fn admits(&self, word: u8, number: u32) -> bool {
+        self.denial(word, number).is_none()
     }
 
     /// The least number of which all literals of a word are true, if it is found soon.
@@ -407,17 +422,30 @@ impl Known {
         let facts = self.word(word);
         let mut number = facts.least;
         for _ in 0..TRIES {
-            let found = least_below(
-                32,
-                u64::from(number),
-                u64::from(facts.mask),
-                u64::from(facts.datum),
-            )?;
-            number = u32::try_from(found).ok()?;
-            if self.admits(word, number) {
-                return Some(number);
+            number = least_with(number, facts.mask, facts.datum)?;
+            match self.denial(word, number) {
+                None => return Some(number),
+                Some(Lit::NotBits(_, mask, _)) => number = next_under(number, mask & !facts.mask)?,
+                Some(_) => return None,
             }
-            number = number.checked_add(1)?;
+        }
+        None
+    }
+
+    /// The greatest such number, if it is found soon.
+    pub(crate) fn last_number(&self, word: u8) -> Option<u32> {
+        let facts = self.word(word);
+        let mut number = facts.greatest;
+        for _ in 0..TRIES {
+            number = !least_with(!number, facts.mask, facts.mask ^ facts.datum)?;
+            match self.denial(word, number) {
+                None => return Some(number),
+                Some(Lit::NotBits(_, mask, _)) => number = !next_under(
+                    !number,
+                    mask & !facts.mask,
+                )?,
+                Some(_) => return None,
+            }
         }
         None
     }

@@ -16,6 +16,7 @@ mod moves;
 mod place;
 mod splits;
 mod store;
+mod unlike;
 mod ways;
 
 use crate::fault::{CertifyError, unwritten};

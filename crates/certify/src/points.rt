@@ -7,7 +7,7 @@ use bpf_interp::verdict;
 use call_record::Record;
 use call_tables::Arch;
 use kernel_check::Accepted;
-use profile::{Cond, Rule};
+use profile::{Cond, Op, Rule};
 
 // Below this number are all numbers of the tables of calls.
 const NUMBERS: u32 = 512;
@@ -36,6 +36,34 @@ fn with(words: &[u32; 16], word: u8, number: u32) -> [u32; 16] {
     let mut other = *words;
     other[(word % 16) as usize] = number;
     other
+}
+
+// The argument of these words.
+fn argument_of(words: &[u32; 16], index: u8) -> u64 {
+    let word = 4 + 2 * (index % 6) as usize;
+    u64::from(words[word + 1]) << 32 | u64::from(words[word])
+}
+
+// An argument that meets a condition: near its value, or another one with its bits.
+fn met(cond: &Cond, argument: u64) -> u64 {
+    match cond.op {
+        Op::Eq | Op::Le | Op::Ge => cond.value,
+        Op::Lt => cond.value.wrapping_sub(1),
+        Op::Ne | Op::Gt => cond.value.wrapping_add(1),
+        Op::MaskedEq => argument & !cond.value | cond.datum,
+    }
+}
+
+// Arguments of which some meet a condition and some do not: its value and those beside it, or another one with its bits,
+// with its lowest bit flipped, and with all of them flipped.
+fn beside(cond: &Cond, argument: u64) -> [u64; 3] {
+    let value = cond.value;
+    if cond.op == Op::MaskedEq {
+        let same = met(cond, argument);
+        [same, same ^ value & value.wrapping_neg(), same ^ value]
+    } else {
+        [value, value.wrapping_sub(1), value.wrapping_add(1)]
+    }
 }
 
 impl Search<'_> {
@@ -103,11 +131,10 @@ impl Search<'_> {
             return found;
         }
         for word in 0..16u8 {
-            let number = self.known.range(word)?.1;
-            if word != TOKEN
-                && self.known.admits(word, number)
-                && !(self.listed && word == NUMBER)
-            {
+            if word == TOKEN || self.listed && word == NUMBER {
+                continue;
+            }
+            if let Some(number) = self.known.last_number(word) {
                 let found = self.tried(&with(words, word, number));
                 if found.is_some() {
                     return found;
@@ -131,18 +158,14 @@ impl Search<'_> {
         None
     }
 
-    // All conditions of a rule met as they stand, and each of them alone.
+    // All conditions of a rule met, and the arguments beside each of them alone.
     fn by_rule(&self, words: &[u32; 16], rule: &Rule) -> Option<Record> {
         let mut all = *words;
         for cond in rule.conds.as_slice() {
-            all = self.with_argument(&all, cond, cond.value);
-            for value in [
-                cond.datum,
-                cond.value,
-                cond.value.wrapping_sub(1),
-                cond.value.wrapping_add(1),
-            ] {
-                let found = self.tried(&self.with_argument(words, cond, value));
+            let argument = argument_of(words, cond.index);
+            all = self.with_argument(&all, cond.index, met(cond, argument));
+            for value in beside(cond, argument) {
+                let found = self.tried(&self.with_argument(words, cond.index, value));
                 if found.is_some() {
                     return found;
                 }
@@ -152,9 +175,9 @@ impl Search<'_> {
     }
 
     // The same words with an argument, as far as its halves may have this value.
-    fn with_argument(&self, words: &[u32; 16], cond: &Cond, value: u64) -> [u32; 16] {
+    fn with_argument(&self, words: &[u32; 16], index: u8, value: u64) -> [u32; 16] {
         let mut other = *words;
-        let word = 4 + 2 * (cond.index % 6);
+        let word = 4 + 2 * (index % 6);
         let low = (value % (1 << 32)) as u32;
         let high = (value >> 32) as u32;
         if self.known.admits(word, low) {

@@ -1,6 +1,7 @@
 -- What is said of a filter and a record, both as bytes: the kernel's check (seccomp(2), and the seccomp_filter page of
 -- the kernel's documentation), and the word that the filter answers.
 use Rattle.std.specs.Prelude.{ℕ, ◌≡◌, ◌≢◌, Bool, true, false, List, [], ◌∷◌, ◌++◌, length, Option, Some, None, Result, IfOk, codes}
+use Rattle.texts.specs.Lines.{line_feed}
 use Rattle.call_record.specs.Text as word
 use Rattle.call_record.specs.Words.{words_of}
 use Rattle.bpf_insn.specs.Bytes.{insns_of, view_fault}
@@ -29,10 +30,6 @@ OneAnswer = (filter rec : List ℕ) (a b : Answer) → IsAnswer filter rec a →
 abbrev pub is_verdict : Answer → Bool
 is_verdict (Verdict v) = true
 is_verdict other = false
-
--- what ends a line
-abbrev pub line_feed : ℕ
-line_feed = 10
 
 -- the line that says it
 abbrev pub line_of : Answer → List ℕ

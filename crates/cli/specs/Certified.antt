@@ -14,7 +14,7 @@ use Rattle.cert_check.specs.Certified.{IsFirst}
 use Rattle.cert_check.specs.declared.fault.CheckError.TheVariants as error
 use Rattle.export.specs.Sink.{WritesMade}
 use Rattle.export.specs.declared.fault.ExportFault.{ExportFault}
-use Rattle.cli.specs.Answer.{line_feed}
+use Rattle.texts.specs.Lines.{line_feed}
 use Rattle.cli.specs.Exported.{IsUnready, LacksMemory, line_of}
 use Rattle.cli.specs.Finding.{IsBundle, IsFinding}
 use Rattle.cli.specs.declared.finding.Finding.TheVariants.{Yes}

@@ -24,7 +24,7 @@ use Rattle.export.specs.declared.fault.ExportFault.{ExportFault}
 use Rattle.export.specs.declared.fault.ExportFault.TheVariants as fault
 use Rattle.command_line.specs.declared.Form.{Form}
 use Rattle.command_line.specs.declared.Form.TheVariants.{Raw, Listing, Certificate}
-use Rattle.cli.specs.Answer.{line_feed}
+use Rattle.texts.specs.Lines.{line_feed}
 use Rattle.cli.specs.Finding.{IsBundle}
 use Rattle.cli.specs.Plain.{HasConditions, HasNoConditions}
 use Rattle.cli.specs.declared.refusal.Unready.{Unready}

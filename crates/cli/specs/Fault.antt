@@ -1,6 +1,6 @@
 -- How a fault of reading a file is told: by its number and its name.
 use Rattle.std.specs.Prelude.{ℕ, List, codes}
-use Rattle.export.specs.Fault.{label_text}
+use Rattle.texts.specs.Labels.{label_text}
 use Rattle.cli.specs.declared.fault.FileFault.{FileFault}
 use Rattle.cli.specs.declared.fault.FileFault.TheVariants.{CannotRead, OutOfMemory}
 

@@ -18,7 +18,7 @@ use Rattle.cert_check.specs.Right.{IsRight}
 use Rattle.export.specs.Sink.{Writes}
 use Rattle.export.specs.declared.fault.ExportFault.{ExportFault}
 use Rattle.export.specs.declared.fault.ExportFault.TheVariants.{Write, OutOfMemory}
-use Rattle.cli.specs.Answer.{line_feed}
+use Rattle.texts.specs.Lines.{line_feed}
 use Rattle.cli.specs.declared.finding.Finding.{Finding}
 use Rattle.cli.specs.declared.finding.Finding.TheVariants.{Yes, No, NoProfile}
 

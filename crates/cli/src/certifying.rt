@@ -58,7 +58,7 @@ fn line_with(alloc: Global, digits: &str, given: Word, said: Word) -> Result<Str
     format!(in alloc; "no record {digits} filter {given} profile {said}\n")
 }
 
-// The same by its bytes.
+// The line that tells a record by its bytes, with two words.
 fn line_text(alloc: Global, bytes: &[u8], given: Word, said: Word) -> Result<String, AllocError>
     ensures { IfOk result (λ line. string_bytes line ≡ conviction_line bytes.now given said) }
 {

@@ -52,7 +52,7 @@ impl Prepared {
         })
     }
 
-    /// The same, checked.
+    /// What was made of the bundle, once the checker has said yes to it.
     pub(crate) fn checked(&self, alloc: Global) -> Result<Checked<'_>, Unready>
         ensures ok { (native : TheArch) (bundle : List ℕ)
             → IsPrepared native bundle self.now.profile self.now.filter.items self.now.certificate.items

@@ -1,16 +1,13 @@
 -- How a fault of writing is told: by number and name, and how many bytes were written.
 use Rattle.std.specs.Prelude.{ℕ, List, ◌++◌, codes}
 use Rattle.std.specs.Fmt.{decimal}
+use Rattle.texts.specs.Labels.{label_text}
 use Rattle.export.specs.declared.fault.ExportFault.{ExportFault}
 use Rattle.export.specs.declared.fault.ExportFault.TheVariants.{Write, OutOfMemory}
 
 abbrev pub label_of : ExportFault → ℕ × List ℕ
 label_of (Write out) = (1, codes "Write")
 label_of OutOfMemory = (9, codes "OutOfMemory")
-
--- a number and a name as text
-abbrev pub label_text : ℕ × List ℕ → List ℕ
-label_text label = decimal label.0 ++ codes " " ++ label.1
 
 -- the text that says it
 abbrev pub text_of : ExportFault → List ℕ

@@ -6,14 +6,12 @@ use Rattle.std.specs.Map.{lookup}
 use Rattle.std.proofs.lemmas.Bool.{lt-ltb, le-ltb}
 use Rattle.std.proofs.lemmas.Option.{slice_get-map}
 use Rattle.call_tables.specs.declared.arch.Arch.{Arch}
-use Rattle.call_record.specs.declared.layout.Record.{Record}
 use Rattle.cert_check.specs.Checked.{profile_of}
-use Rattle.processes.specs.Attached.{Attached}
 use Rattle.processes.specs.First.{by_program}
 use Rattle.processes.specs.Ids.{is_id}
-use Rattle.processes.specs.Kernel.{can_grow, is_fatal, presented, signalled}
+use Rattle.processes.specs.Kernel.{is_fatal, signalled}
 use Rattle.processes.specs.Tasks.{Processes, lives}
-use Rattle.processes.specs.Views.{Containers, SetAt, can_grow_in, lives_in, present_in, same_text}
+use Rattle.processes.specs.Views.{Containers, SetAt, lives_in, same_text}
 use Rattle.lifecycle.specs.declared.command.Reply.TheVariants.{Accepted, Refused}
 use Rattle.lifecycle.specs.declared.command.Status.{Status}
 use Rattle.lifecycle.specs.declared.command.Status.TheVariants.{Created, Running, Stopped}
@@ -45,32 +43,13 @@ lives_by true h = refl
 lives_by false h = let no_way : Stopped ≡ Running = h in absurd (cc)
 
 -- what changes the tasks of a running container, which the kernel has, changes them in the world
-pub runs_on : (change : Processes → Processes) (phase : Phase) (e : Entry) (ps : Option Processes) → (container_by phase e ps).status ≡ Running
+pub runs_on : (change : Processes → Processes) (phase : Phase) (e : Entry) (ps : Option Processes)
+    → (container_by phase e ps).status ≡ Running
     → container_by phase e (option_map change ps) ≡ running (container_by phase e ps) (change (container_by phase e ps).processes)
 runs_on change Made e ps h = let no_way : Created ≡ Running = h in absurd (cc)
 runs_on change Started e None h = let no_way : Stopped ≡ Running = h in absurd (cc)
 runs_on change Started e (Some p) h = refl
 runs_on change Ended e ps h = let no_way : Stopped ≡ Running = h in absurd (cc)
-
--- and what an event of it is answered
-pub answered : (n : ℕ) (r : Record) (a : Attached) (phase : Phase) (e : Entry) (ps : Option Processes) → (container_by phase e ps).status ≡ Running
-    → (present_in n r a ps).0 ≡ (presented n r a (container_by phase e ps).processes).0
-answered n r a Made e ps h = let no_way : Created ≡ Running = h in absurd (cc)
-answered n r a Started e None h = let no_way : Stopped ≡ Running = h in absurd (cc)
-answered n r a Started e (Some p) h = refl
-answered n r a Ended e ps h = let no_way : Stopped ≡ Running = h in absurd (cc)
-
--- a running container may want memory for a call where the kernel may
-pub grows_on : (n : ℕ) (r : Record) (phase : Phase) (e : Entry) (ps : Option Processes) → (container_by phase e ps).status ≡ Running
-    → can_grow_in n r ps ≡ true → can_grow n r (container_by phase e ps).processes ≡ true
-grows_on n r Made e ps h g = let no_way : Created ≡ Running = h in absurd (cc)
-grows_on n r Started e None h g = let no_way : false ≡ true = g in absurd (cc)
-grows_on n r Started e (Some p) h g = g
-grows_on n r Ended e ps h g = let no_way : Stopped ≡ Running = h in absurd (cc)
-
-pub presented_as : (n : ℕ) (r : Record) (a : Attached) (ps : Option Processes) → (present_in n r a ps).1 ≡ option_map (λ p. (presented n r a p).1) ps
-presented_as n r a None = refl
-presented_as n r a (Some p) = refl
 
 -- ---- commands by status
 
@@ -89,7 +68,10 @@ module _ (sig : ℕ) (c : Container) where
       → kill sig c.status c ≡ (Accepted, Some (if fatal then record c { status = Stopped } else c))
   killed_created fatal is h le =
       let after : Bool → Container = λ b. if b then record c { status = Stopped } else c in
-      ap (λ s. kill sig s c) h ∙ (ap (λ (b : Bool). if b then (Refused BadSignal, Some c) else (Accepted, Some (after (is_fatal sig)))) (le-ltb 64 sig le)
+      ap (λ s. kill sig s c) h ∙ (ap (λ (b : Bool). if b then (Refused BadSignal, Some c) else (
+        Accepted,
+        Some (after (is_fatal sig)),
+      )) (le-ltb 64 sig le)
       ∙ ap (λ (b : Bool). (Accepted, Some (after b))) is)
 
   pub killed_running : c.status ≡ Running → sig ≤ 64 → kill sig c.status c ≡ (Accepted, Some (running c (signalled sig c.processes)))
@@ -98,7 +80,8 @@ module _ (sig : ℕ) (c : Container) where
       ap (λ s. kill sig s c) h ∙ ap (λ (b : Bool). if b then (Refused BadSignal, Some c) else (Accepted, Some after)) (le-ltb 64 sig le)
 
 -- a container that was made and is stopped is as one that ended before it was started
-pub ended_as : (phase : Phase) (e : Entry) (ps : Option Processes) → phase ≡ Made → record (container_by phase e ps) { status = Stopped } ≡ container_by Ended e ps
+pub ended_as : (phase : Phase) (e : Entry) (ps : Option Processes) → phase ≡ Made
+    → record (container_by phase e ps) { status = Stopped } ≡ container_by Ended e ps
 ended_as Made e ps h = refl
 ended_as Started e ps h = let no_way : Started ≡ Made = h in absurd (cc)
 ended_as Ended e ps h = let no_way : Ended ≡ Made = h in absurd (cc)
@@ -130,11 +113,13 @@ ids_kept old new id x finds is all = λ q h. by q (same_text id q) refl (sym (ap
     by q true t h = ap is_id (sym (same_is id q t)) ∙ is
     by q false t h = let before : is_some (lookup (same_text q) old) ≡ true = rw t at h in all q before
 
-step_by : (b : Bool) (v w : Option Processes) (x y : Option Entry) → is_some v ≡ started_in x → is_some w ≡ started_in y → is_some (if b then v else w) ≡ started_in (cond b x y)
+step_by : (b : Bool) (v w : Option Processes) (x y : Option Entry) → is_some v ≡ started_in x → is_some w ≡ started_in y
+    → is_some (if b then v else w) ≡ started_in (cond b x y)
 step_by true v w x y own others = own
 step_by false v w x y own others = others
 
-pub step_kept : (k l : Containers) (old new : Entries) (id : List ℕ) (v : Option Processes) (x : Option Entry) → SetAt k l id v → FindsAt old new id x
+pub step_kept : (k l : Containers) (old new : Entries) (id : List ℕ) (v : Option Processes) (x : Option Entry)
+    → SetAt k l id v → FindsAt old new id x
     → is_some v ≡ started_in x → InStep k old → InStep l new
 step_kept k l old new id v x set finds own all = λ q.
     ap is_some (set q) ∙ (step_by (same_text id q) v (k q) x (lookup (same_text q) old) own (all q) ∙ sym (ap started_in (finds q)))
@@ -171,7 +156,8 @@ begun_status : (e : Entry) (ps : Option Processes) → (container_by Started e p
 begun_status e None = refl
 begun_status e (Some p) = refl
 
-pub status_started : (e : Entry) (ps : Option Processes) → e.phase ≡ Started → (container_of e ps).status ≡ (if lives_in ps then Running else Stopped)
+pub status_started : (e : Entry) (ps : Option Processes) → e.phase ≡ Started
+    → (container_of e ps).status ≡ (if lives_in ps then Running else Stopped)
 status_started e ps h = ap (λ p. (container_by p e ps).status) h ∙ begun_status e ps
 
 pub by_start : (b : Bool) → (if b then Running else Stopped) ≡ Created → ⊥
@@ -210,13 +196,15 @@ begins e ps h =
     let both = begins_by e.phase e ps h in
     ap (λ (native : Arch). first_call native (container_of e ps).first) both.1 ∙ ap (first_call (profile_of e.checked).native) both.0
 
-as_by : (phase : Phase) (e : Entry) (ps : Option Processes) (p : Processes) → phase ≡ Made → running (container_by phase e ps) p ≡ container_by Started e (Some p)
+as_by : (phase : Phase) (e : Entry) (ps : Option Processes) (p : Processes) → phase ≡ Made
+    → running (container_by phase e ps) p ≡ container_by Started e (Some p)
 as_by Made e ps p h = refl
 as_by Started e ps p h = let no_way : Started ≡ Made = h in absurd (cc)
 as_by Ended e ps p h = let no_way : Ended ≡ Made = h in absurd (cc)
 
 -- a made container with tasks is one that was started
-pub runs_as : (e : Entry) (ps : Option Processes) (p : Processes) → e.phase ≡ Made → running (container_of e ps) p ≡ container_of (record e { phase = Started }) (Some p)
+pub runs_as : (e : Entry) (ps : Option Processes) (p : Processes) → e.phase ≡ Made
+    → running (container_of e ps) p ≡ container_of (record e { phase = Started }) (Some p)
 runs_as e ps p h = as_by e.phase e ps p h
 
 -- ---- ids
@@ -238,7 +226,8 @@ lacks es id h = by (lookup (same_text id) es) refl
     by (Some x) e = let bad : true ≡ false = sym (ap is_some e) ∙ h in absurd (cc)
 
 -- an id that is kept has a container
-pub taken : (k : Containers) (id : List ℕ) (es : Entries) → is_some (lookup (same_text id) es) ≡ true → (c : Container) × (container_at id (world_from k es) ≡ Some c)
+pub taken : (k : Containers) (id : List ℕ) (es : Entries) → is_some (lookup (same_text id) es) ≡ true
+    → (c : Container) × (container_at id (world_from k es) ≡ Some c)
 taken k id es h = by (lookup (same_text id) es) refl
   where
     by : (o : Option Entry) → lookup (same_text id) es ≡ o → (c : Container) × (container_at id (world_from k es) ≡ Some c)
@@ -250,7 +239,8 @@ pub record Kept (k : Containers) (es : Entries) : Type 0 where
   pub ids : AllIds es
   pub in_step : InStep k es
 
-pub kept_by : {T E P : Type 0} (k : Containers) (r : Result T E) (id : List ℕ) (x : Entry) (old new : Entries) → OnOk r P → (P → FindsAt old new id (Some x))
+pub kept_by : {T E P : Type 0} (k : Containers) (r : Result T E) (id : List ℕ) (x : Entry) (old new : Entries)
+    → OnOk r P → (P → FindsAt old new id (Some x))
     → OnErr r (new ≡ old) → lookup (same_text id) old ≡ None → x.phase ≡ Made → is_id id ≡ true → AllIds old → InStep k old → Kept k new
 kept_by k (Ok v) id x old new ok finds err none phase is ids steps =
     let own : is_some (k id) ≡ started_in (Some x) = steps id ∙ (ap started_in none ∙ sym (ap is_started phase)) in record {

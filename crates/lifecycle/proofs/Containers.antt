@@ -52,7 +52,10 @@ module _ (P : Container → Type 0) where
         either Leaves (nat_lt 64 sig) (Refused BadSignal, Some c) (Accepted, Some (if is_fatal sig then stopped else c)) h
         (either P (is_fatal sig) stopped c (k.stopped c h) h)
     kills sig Running c h =
-        either Leaves (nat_lt 64 sig) (Refused BadSignal, Some c) (Accepted, Some (running c (signalled sig c.processes))) h (k.signal c sig h)
+        either Leaves (nat_lt 64 sig) (Refused BadSignal, Some c) (
+          Accepted,
+          Some (running c (signalled sig c.processes)),
+        ) h (k.signal c sig h)
 
     deletes : (s : Status) (c : Container) → P c → Leaves (delete s c)
     deletes Stopped c h = tt
@@ -87,7 +90,8 @@ module _ (P : Container → Type 0) where
     any F new o (Some c) h = acts F o c h
 
     -- what an order leaves, in its world
-    steps : (F : First) (o : Order) (w : World) (id : List ℕ) → At (container_at id w) → (id_of o ≡ id → Leaves (acted F o (container_at (id_of o) w)))
+    steps : (F : First) (o : Order) (w : World) (id : List ℕ) → At (container_at id w)
+        → (id_of o ≡ id → Leaves (acted F o (container_at (id_of o) w)))
         → At (container_at id (step F o w).1)
     steps F o w id h own = by (same_text (id_of o) id) refl
       where
@@ -95,21 +99,24 @@ module _ (P : Container → Type 0) where
         by true t =
             let is : id_of o ≡ id = same_is (id_of o) id t in
             let r = acted F o (container_at (id_of o) w) in
-            let there : container_at id (put (id_of o) r.1 w) ≡ r.1 = ap (λ q. container_at q (put (id_of o) r.1 w)) (sym is) ∙ found_own (id_of o) r.1 w in
+            let there : container_at id (put (id_of o) r.1 w) ≡ r.1 = ap (λ q. container_at q (put (id_of o) r.1 w)) (sym is)
+            ∙ found_own (id_of o) r.1 w in
             subst At (sym there) (own is)
         by false t =
             let r = acted F o (container_at (id_of o) w) in
             subst At (sym (found_other (id_of o) id t r.1 w)) h
 
     -- What holds of each container as it is created holds of each after any orders.
-    pub holds_after : (F : First) → ((given : Checked) → P (created F given)) → (id : List ℕ) (os : List Order) (w : World) → ((q : List ℕ) → At (container_at q w))
+    pub holds_after : (F : First) → ((given : Checked) → P (created F given)) → (id : List ℕ) (os : List Order) (w : World)
+        → ((q : List ℕ) → At (container_at q w))
         → At (container_at id (run F os w).1)
     holds_after F new id [] w h = h id
     holds_after F new id (o ∷ os) w h =
         holds_after F new id os (step F o w).1 (λ q. steps F o w q (h q) (λ is. any F new o (container_at (id_of o) w) (h (id_of o))))
 
     -- What holds of a container holds of it as long as it is there.
-    pub stays_after : (F : First) (id : List ℕ) (os : List Order) (w : World) → ((n : ℕ) → is_some (container_at id (run F (take n os) w).1) ≡ true)
+    pub stays_after : (F : First) (id : List ℕ) (os : List Order) (w : World)
+        → ((n : ℕ) → is_some (container_at id (run F (take n os) w).1) ≡ true)
         → At (container_at id w) → At (container_at id (run F os w).1)
     stays_after F id [] w there h = h
     stays_after F id (o ∷ os) w there h = stays_after F id os (step F o w).1 (λ n. there (suc n)) (by (container_at id w) refl)

@@ -17,10 +17,12 @@ use Rattle.lifecycle.proofs.Isolation.{same_is}
 
 -- ---- steps
 
-back_by : (id : List ℕ) (o : Option Container) (e : List ℕ × Container) (w : World) (b : Bool) → same_text id e.0 ≡ b → container_at id (e ∷ w) ≡ o → (container_at id w ≡ o → put id o w ≡ w) → put id o (e ∷ w) ≡ e ∷ w
+back_by : (id : List ℕ) (o : Option Container) (e : List ℕ × Container) (w : World) (b : Bool) → same_text id e.0 ≡ b
+    → container_at id (e ∷ w) ≡ o → (container_at id w ≡ o → put id o w ≡ w) → put id o (e ∷ w) ≡ e ∷ w
 back_by id None e w true t h rest = let bad : Some e.1 ≡ None = rw t at h in absurd (cc)
 back_by id None e w false t h rest = rw t (ap (λ (v : World). e ∷ v) (rest (rw t at h)))
-back_by id (Some c) e w true t h rest = let is : Some e.1 ≡ Some c = rw t at h in let same : e.1 ≡ c = cc in rw t (ap (λ (x : Container). (e.0, x) ∷ w) (sym same))
+back_by id (Some c) e w true t h rest = let is : Some e.1 ≡ Some c = rw t at h in let same : e.1 ≡ c = cc in
+    rw t (ap (λ (x : Container). (e.0, x) ∷ w) (sym same))
 back_by id (Some c) e w false t h rest = rw t (ap (λ (v : World). e ∷ v) (rest (rw t at h)))
 
 -- what is there, put back, changes nothing
@@ -45,16 +47,19 @@ unchanged F o w before reply there acts = changed F o w w before before reply th
 -- ---- entries
 
 -- the container with an id is that of its entry
-pub found : (k : Containers) (id : List ℕ) (es : Entries) → container_at id (world_from k es) ≡ option_map (λ e. container_of e (k id)) (lookup (same_text id) es)
+pub found : (k : Containers) (id : List ℕ) (es : Entries) → container_at id (world_from k es)
+    ≡ option_map (λ e. container_of e (k id)) (lookup (same_text id) es)
 found k id [] = refl
 found k id (e ∷ es) = by (same_text id e.0) refl (found k id es)
   where
-    by : (b : Bool) → same_text id e.0 ≡ b → container_at id (world_from k es) ≡ option_map (λ x. container_of x (k id)) (lookup (same_text id) es)
+    by : (b : Bool) → same_text id e.0 ≡ b → container_at id (world_from k es)
+        ≡ option_map (λ x. container_of x (k id)) (lookup (same_text id) es)
         → container_at id (world_from k (e ∷ es)) ≡ option_map (λ x. container_of x (k id)) (lookup (same_text id) (e ∷ es))
     by true t rest = rw t (ap (λ q. Some (container_of e.1 (k q))) (sym (same_is id e.0 t)))
     by false t rest = rw t rest
 
-pub there : (k : Containers) (id : List ℕ) (es : Entries) (e : Entry) → lookup (same_text id) es ≡ Some e → container_at id (world_from k es) ≡ Some (container_of e (k id))
+pub there : (k : Containers) (id : List ℕ) (es : Entries) (e : Entry) → lookup (same_text id) es ≡ Some e
+    → container_at id (world_from k es) ≡ Some (container_of e (k id))
 there k id es e h = found k id es ∙ ap (option_map (λ x. container_of x (k id))) h
 
 pub not_there : (k : Containers) (id : List ℕ) (es : Entries) → lookup (same_text id) es ≡ None → container_at id (world_from k es) ≡ None
@@ -68,12 +73,14 @@ same_world old new es same = ap (λ k. world_from k es) (fun_ext same)
 abbrev pub Lacks : List ℕ → Entries → Type 0
 Lacks id es = lookup (same_text id) es ≡ None
 
-tail_lacks : (id : List ℕ) (e : List ℕ × Entry) (es : Entries) (b : Bool) → same_text id e.0 ≡ b → Lacks id (e ∷ es) → (b ≡ false) × Lacks id es
+tail_lacks : (id : List ℕ) (e : List ℕ × Entry) (es : Entries) (b : Bool) → same_text id e.0 ≡ b
+    → Lacks id (e ∷ es) → (b ≡ false) × Lacks id es
 tail_lacks id e es true t h = let bad : Some e.1 ≡ None = rw t at h in absurd (cc)
 tail_lacks id e es false t h = (refl, rw t at h)
 
 -- where no entry has the id, what the kernel gets for it is not seen
-pub unseen : (old new : Containers) (id : List ℕ) (v : Option Processes) (es : Entries) → SetAt old new id v → Lacks id es → world_from new es ≡ world_from old es
+pub unseen : (old new : Containers) (id : List ℕ) (v : Option Processes) (es : Entries) → SetAt old new id v
+    → Lacks id es → world_from new es ≡ world_from old es
 unseen old new id v [] set h = refl
 unseen old new id v (e ∷ es) set h =
     let t = tail_lacks id e es (same_text id e.0) refl h in
@@ -97,13 +104,16 @@ unfolding IsDistinct
 later e es d = d.1
 
 -- one entry changes, and what the kernel has of its container
-pub written : (old new : Containers) (id : List ℕ) (v : Option Processes) (x y : Entry) (es : Entries) → SetAt old new id v → IsDistinct same_text (keys_of es)
-    → lookup (same_text id) es ≡ Some y → world_from new (set_value (same_text id) es x) ≡ put id (Some (container_of x v)) (world_from old es)
+pub written : (old new : Containers) (id : List ℕ) (v : Option Processes) (x y : Entry) (es : Entries)
+    → SetAt old new id v → IsDistinct same_text (keys_of es)
+    → lookup (same_text id) es ≡ Some y → world_from new (set_value (same_text id) es x)
+    ≡ put id (Some (container_of x v)) (world_from old es)
 written old new id v x y [] set d h = let bad : None ≡ Some y = h in absurd (cc)
 written old new id v x y (e ∷ es) set d h = by (same_text id e.0) refl (written old new id v x y es set (later e es d))
   where
     by : (b : Bool) → same_text id e.0 ≡ b
-        → (lookup (same_text id) es ≡ Some y → world_from new (set_value (same_text id) es x) ≡ put id (Some (container_of x v)) (world_from old es))
+        → (lookup (same_text id) es ≡ Some y → world_from new (set_value (same_text id) es x)
+        ≡ put id (Some (container_of x v)) (world_from old es))
         → world_from new (set_value (same_text id) (e ∷ es) x) ≡ put id (Some (container_of x v)) (world_from old (e ∷ es))
     by true t rest =
         let is : new e.0 ≡ v = set e.0 ∙ ap (λ b. if b then v else old e.0) t in
@@ -130,9 +140,11 @@ module _ {K X : Type 0} (test : K → Bool) (y : X) where
   set_same (e ∷ es) h = same_by e es (test e.0) refl (set_same es) h
 
 -- only what the kernel has of a container changes
-pub told : (old new : Containers) (id : List ℕ) (v : Option Processes) (y : Entry) (es : Entries) → SetAt old new id v → IsDistinct same_text (keys_of es)
+pub told : (old new : Containers) (id : List ℕ) (v : Option Processes) (y : Entry) (es : Entries)
+    → SetAt old new id v → IsDistinct same_text (keys_of es)
     → lookup (same_text id) es ≡ Some y → world_from new es ≡ put id (Some (container_of y v)) (world_from old es)
-told old new id v y es set d h = ap (λ (xs : Entries). world_from new xs) (sym (set_same (same_text id) y es h)) ∙ written old new id v y y es set d h
+told old new id v y es set d h = ap (λ (xs : Entries). world_from new xs) (sym (set_same (same_text id) y es h))
+    ∙ written old new id v y y es set d h
 
 -- an entry goes, and what the kernel has of its container
 pub removed : (old new : Containers) (id : List ℕ) (es : Entries) → SetAt old new id None → IsDistinct same_text (keys_of es)
@@ -151,7 +163,8 @@ removed old new id (e ∷ es) set d = by (same_text id e.0) refl (removed old ne
         ∙ ap (λ (w : World). (e.0, container_of e.1 (old e.0)) ∷ w) rest)
 
 -- a new entry is put last
-pub inserted : (k : Containers) (id : List ℕ) (x : Entry) (es : Entries) → Lacks id es → world_from k (insert_entry same_text es id x) ≡ put id (Some (container_of x (k id))) (world_from k es)
+pub inserted : (k : Containers) (id : List ℕ) (x : Entry) (es : Entries) → Lacks id es
+    → world_from k (insert_entry same_text es id x) ≡ put id (Some (container_of x (k id))) (world_from k es)
 inserted k id x [] h = refl
 inserted k id x (e ∷ es) h =
     let t = tail_lacks id e es (same_text id e.0) refl h in

@@ -44,7 +44,8 @@ abbrev pub Sound : Container → Type 0
 Sound c = Each (KeepsBehind (only c.first)) c.processes.tasks
 
 -- what is left after the first call
-left_sound : (first : Judge) (o : Outcome) (ps : Processes) → Each (KeepsBehind (only first)) ps.tasks → Each (KeepsBehind (only first)) (left_after o ps).tasks
+left_sound : (first : Judge) (o : Outcome) (ps : Processes) → Each (KeepsBehind (only first)) ps.tasks
+    → Each (KeepsBehind (only first)) (left_after o ps).tasks
 left_sound first (Denied v) ps s = signal_keeps_behind (only first) 9 ps s
 left_sound first (Done n) ps s = s
 left_sound first (Failed e) ps s = s
@@ -75,12 +76,14 @@ first_filter_is_oldest F os id c there = each_all (IsOldest c.first) c.processes
 
 -- ---- what is refused
 
-word_last : (r : Record) (newer : List Filter) (f : Filter) → map (λ g. g.judge.word r) (newer ++ f ∷ []) ≡ map (λ g. g.judge.word r) newer ++ f.judge.word r ∷ []
+word_last : (r : Record) (newer : List Filter) (f : Filter)
+    → map (λ g. g.judge.word r) (newer ++ f ∷ []) ≡ map (λ g. g.judge.word r) newer ++ f.judge.word r ∷ []
 word_last r [] f = refl
 word_last r (g ∷ newer) f = ap (λ (ws : List ℕ). g.judge.word r ∷ ws) (word_last r newer f)
 
 -- where the oldest filter refuses, the verdict lets nothing through
-refused : (first : Judge) (t : Process) (r : Record) → KeepsBehind (only first) t → IsRefusal (first.word r) → is_through (verdict_on r t) ≡ false
+refused : (first : Judge) (t : Process) (r : Record) → KeepsBehind (only first) t
+    → IsRefusal (first.word r) → is_through (verdict_on r t) ≡ false
 refused first t r behind refusal =
     let own : Filter = record { load = 0; judge = first } in
     let ws : map (λ f. f.judge.word r) t.filters ≡ map (λ f. f.judge.word r) behind.0 ++ first.word r ∷ [] =
@@ -89,14 +92,16 @@ refused first t r behind refusal =
     subst (λ vs. Contains vs (first.word r)) (sym ws) (Contains-push (map (λ f. f.judge.word r) behind.0) (first.word r)) in
     never (is_through (verdict_on r t)) (λ through. absurd (refusal_stands (map (λ f. f.judge.word r) t.filters) (first.word r) among refusal through))
 
-denied : (t : Process) (r : Record) (a : Attached) (ps : Processes) → is_through (verdict_on r t) ≡ false → (judged (verdict_on r t) t r a ps).0 ≡ Denied (verdict_on r t)
+denied : (t : Process) (r : Record) (a : Attached) (ps : Processes) → is_through (verdict_on r t) ≡ false
+    → (judged (verdict_on r t) t r a ps).0 ≡ Denied (verdict_on r t)
 denied t r a ps h = by (verdict_on r t) (is_through (verdict_on r t)) refl h
   where
     by : (v : ℕ) (b : Bool) → is_through v ≡ b → b ≡ false → (judged v t r a ps).0 ≡ Denied v
     by v true e h = let bad : true ≡ false = h in absurd (cc)
     by v false e h = rw e refl
 
-event_refused : (first : Judge) (n : ℕ) (r : Record) (a : Attached) (ps : Processes) (o : Option Process) → live_task n ps.tasks ≡ o → Each (KeepsBehind (only first)) ps.tasks
+event_refused : (first : Judge) (n : ℕ) (r : Record) (a : Attached) (ps : Processes) (o : Option Process)
+    → live_task n ps.tasks ≡ o → Each (KeepsBehind (only first)) ps.tasks
     → IsRefusal (first.word r) → ((v : ℕ) × ((presented_by o r a ps).0 ≡ Denied v)) ⊎ ((presented_by o r a ps).0 ≡ NoTask)
 event_refused first n r a ps None e s refusal = inr refl
 event_refused first n r a ps (Some t) e s refusal =
@@ -107,13 +112,15 @@ shown_by : (o : Outcome) → ((v : ℕ) × (o ≡ Denied v)) ⊎ (o ≡ NoTask) 
 shown_by o (inl p) = inl (p.0, ap Presented p.1)
 shown_by o (inr p) = inr (ap Presented p)
 
-call_refused : (s : Status) (c : Container) (task : ℕ) (r : Record) (a : Attached) → Sound c → IsRefusal (c.first.word r) → NotCarriedOut (call task r a s c).0
+call_refused : (s : Status) (c : Container) (task : ℕ) (r : Record) (a : Attached) → Sound c
+    → IsRefusal (c.first.word r) → NotCarriedOut (call task r a s c).0
 call_refused Created c task r a s refusal = inr refl
 call_refused Stopped c task r a s refusal = inr refl
 call_refused Running c task r a s refusal =
     shown_by (presented task r a c.processes).0 (event_refused c.first task r a c.processes (live_task task c.processes.tasks) refl s refusal)
 
-start_refused : (native : Arch) (first : Judge) → IsRefusal (first.word (execve_of native)) → IsDeniedStart (start_reply (first_call native first).0)
+start_refused : (native : Arch) (first : Judge) → IsRefusal (first.word (execve_of native))
+    → IsDeniedStart (start_reply (first_call native first).0)
 start_refused native first refusal =
     let t = first_task first in
     let r = execve_of native in
@@ -125,7 +132,8 @@ there_by : (F : First) (orders : List Order) (id : List ℕ) (given : Checked) �
     → (c : Container) × (container_at id (world_after F orders) ≡ Some c) × AsGiven F given c
 there_by F orders id given m = by (container_at id (world_after F orders)) refl
   where
-    by : (o : Option Container) → container_at id (world_after F orders) ≡ o → (c : Container) × (container_at id (world_after F orders) ≡ Some c) × AsGiven F given c
+    by : (o : Option Container) → container_at id (world_after F orders) ≡ o
+        → (c : Container) × (container_at id (world_after F orders) ≡ Some c) × AsGiven F given c
     by None e = let bad : false ≡ true = sym (ap is_some e) ∙ is_there F orders id given m in absurd (cc)
     by (Some c) e = (c, e, as_given F orders id given m c e)
 

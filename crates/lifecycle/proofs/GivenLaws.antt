@@ -63,7 +63,8 @@ module _ (F : First) (id : List ℕ) where
   makes_by (State q) h = let bad : false ≡ true = h in absurd (cc)
   makes_by (Call q task r a) h = let bad : false ≡ true = h in absurd (cc)
 
-  makes : (o : Order) (w : World) → container_at id w ≡ None → is_some (container_at id (step F o w).1) ≡ true → (given : Checked) × (o ≡ Create id given)
+  makes : (o : Order) (w : World) → container_at id w ≡ None → is_some (container_at id (step F o w).1) ≡ true
+      → (given : Checked) × (o ≡ Create id given)
   makes o w none some = by (same_text (id_of o) id) refl
     where
       by : (b : Bool) → same_text (id_of o) id ≡ b → (given : Checked) × (o ≡ Create id given)
@@ -71,7 +72,8 @@ module _ (F : First) (id : List ℕ) where
           let is : id_of o ≡ id = same_is (id_of o) id t in
           let before : container_at (id_of o) w ≡ None = ap (λ q. container_at q w) is ∙ none in
           let r = acted F o (container_at (id_of o) w) in
-          let after : container_at id (put (id_of o) r.1 w) ≡ r.1 = ap (λ q. container_at q (put (id_of o) r.1 w)) (sym is) ∙ found_own (id_of o) r.1 w in
+          let after : container_at id (put (id_of o) r.1 w) ≡ r.1 = ap (λ q. container_at q (put (id_of o) r.1 w)) (sym is)
+          ∙ found_own (id_of o) r.1 w in
           let own : is_some (acted F o None).1 ≡ true = ap (λ x. is_some (acted F o x).1) (sym before) ∙ (sym (ap is_some after) ∙ some) in
           subst (λ q. (given : Checked) × (o ≡ Create q given)) is (makes_by o own)
       by false t =

@@ -22,7 +22,8 @@ unfolding profile_of program_of accepted_insns
 gives c r =
     let is = words-is_record r in
     let word = runs (program_of c) (words r) c.program.accepted is.length_is in
-    let found : verdict_of (program_of c) (words r) ≡ Some word.0 = ap (λ (o : Option (ℕ × ℕ)). option_map (λ (end : ℕ × ℕ). end.0) o) word.2 in
+    let found : verdict_of (program_of c) (words r)
+    ≡ Some word.0 = ap (λ (o : Option (ℕ × ℕ)). option_map (λ (end : ℕ × ℕ). end.0) o) word.2 in
     found ∙ ap Some (c.right (words r) is word.0 found)
 
 pub same_first : by_program ≡ by_profile

@@ -19,11 +19,13 @@ alike a b h (e ∷ w) =
     ap (λ t. if t then Some e.1 else container_at a w) (nat_list_eq_equiv.congr a b e.0 h)
     ∙ ap (λ o. if same_text b e.0 then Some e.1 else o) (alike a b h w)
 
-own_none : (id : List ℕ) (e : List ℕ × Container) (w : World) (b : Bool) → same_text id e.0 ≡ b → container_at id (put id None w) ≡ None → container_at id (put id None (e ∷ w)) ≡ None
+own_none : (id : List ℕ) (e : List ℕ × Container) (w : World) (b : Bool) → same_text id e.0 ≡ b
+    → container_at id (put id None w) ≡ None → container_at id (put id None (e ∷ w)) ≡ None
 own_none id e w true h q = rw h q
 own_none id e w false h q = rw h (rw h q)
 
-own_some : (id : List ℕ) (c : Container) (e : List ℕ × Container) (w : World) (b : Bool) → same_text id e.0 ≡ b → container_at id (put id (Some c) w) ≡ Some c → container_at id (put id (Some c) (e ∷ w)) ≡ Some c
+own_some : (id : List ℕ) (c : Container) (e : List ℕ × Container) (w : World) (b : Bool) → same_text id e.0 ≡ b
+    → container_at id (put id (Some c) w) ≡ Some c → container_at id (put id (Some c) (e ∷ w)) ≡ Some c
 own_some id c e w true h q = rw h (rw h refl)
 own_some id c e w false h q = rw h (rw h q)
 
@@ -34,34 +36,43 @@ found_own id None (e ∷ w) = own_none id e w (same_text id e.0) refl (found_own
 found_own id (Some c) [] = rw (nat_list_eq_equiv.refl id) refl
 found_own id (Some c) (e ∷ w) = own_some id c e w (same_text id e.0) refl (found_own id (Some c) w)
 
-other_none : (a b : List ℕ) → same_text a b ≡ false → (e : List ℕ × Container) (w : World) (t : Bool) → same_text a e.0 ≡ t → container_at b (put a None w) ≡ container_at b w → container_at b (put a None (e ∷ w)) ≡ container_at b (e ∷ w)
+other_none : (a b : List ℕ) → same_text a b ≡ false → (e : List ℕ × Container) (w : World) (t : Bool) → same_text a e.0 ≡ t
+    → container_at b (put a None w) ≡ container_at b w → container_at b (put a None (e ∷ w)) ≡ container_at b (e ∷ w)
 other_none a b n e w true h q = rw h (q ∙ sym (rw (same_both a b e.0 n h) refl))
 other_none a b n e w false h q = rw h (ap (λ o. if same_text b e.0 then Some e.1 else o) q)
 
-other_some : (a b : List ℕ) → same_text a b ≡ false → (c : Container) (e : List ℕ × Container) (w : World) (t : Bool) → same_text a e.0 ≡ t → container_at b (put a (Some c) w) ≡ container_at b w → container_at b (put a (Some c) (e ∷ w)) ≡ container_at b (e ∷ w)
+other_some : (a b : List ℕ) → same_text a b ≡ false → (c : Container) (e : List ℕ × Container) (w : World) (t : Bool)
+    → same_text a e.0 ≡ t → container_at b (put a (Some c) w) ≡ container_at b w
+    → container_at b (put a (Some c) (e ∷ w)) ≡ container_at b (e ∷ w)
 other_some a b n c e w true h q = rw h (rw (same_both a b e.0 n h) refl)
 other_some a b n c e w false h q = rw h (ap (λ o. if same_text b e.0 then Some e.1 else o) q)
 
 -- and nothing else changes
-pub found_other : (a b : List ℕ) → same_text a b ≡ false → (o : Option Container) (w : World) → container_at b (put a o w) ≡ container_at b w
+pub found_other : (a b : List ℕ) → same_text a b ≡ false → (o : Option Container) (w : World)
+    → container_at b (put a o w) ≡ container_at b w
 found_other a b n None [] = refl
 found_other a b n None (e ∷ w) = other_none a b n e w (same_text a e.0) refl (found_other a b n None w)
 found_other a b n (Some c) [] = rw (nat_list_eq_equiv.symm b a, n) refl
 found_other a b n (Some c) (e ∷ w) = other_some a b n c e w (same_text a e.0) refl (found_other a b n (Some c) w)
 
 -- From worlds that agree on a container, the replies to the commands that name it are those of a run of these alone.
-pub isolated : (F : First) (id : List ℕ) (cmds : List Order) (w v : World) → container_at id w ≡ container_at id v → own_replies id cmds (run F cmds w).0 ≡ (run F (own id cmds) v).0
+pub isolated : (F : First) (id : List ℕ) (cmds : List Order) (w v : World) → container_at id w ≡ container_at id v
+    → own_replies id cmds (run F cmds w).0 ≡ (run F (own id cmds) v).0
 isolated F id [] w v e = refl
 isolated F id (cmd ∷ cmds) w v e = by_test (same_text id (id_of cmd)) refl (isolated F id cmds)
   where
-    by_test : (t : Bool) → same_text id (id_of cmd) ≡ t → ((w v : World) → container_at id w ≡ container_at id v → own_replies id cmds (run F cmds w).0 ≡ (run F (own id cmds) v).0) → own_replies id (cmd ∷ cmds) (run F (cmd ∷ cmds) w).0 ≡ (run F (own id (cmd ∷ cmds)) v).0
+    by_test : (t : Bool) → same_text id (id_of cmd) ≡ t → ((w v : World) → container_at id w ≡ container_at id v
+        → own_replies id cmds (run F cmds w).0 ≡ (run F (own id cmds) v).0)
+        → own_replies id (cmd ∷ cmds) (run F (cmd ∷ cmds) w).0 ≡ (run F (own id (cmd ∷ cmds)) v).0
     by_test true h rest =
-        let at : container_at (id_of cmd) w ≡ container_at (id_of cmd) v = sym (alike id (id_of cmd) h w) ∙ (e ∙ alike id (id_of cmd) h v) in
+        let at : container_at (id_of cmd) w ≡ container_at (id_of cmd) v = sym (alike id (id_of cmd) h w)
+        ∙ (e ∙ alike id (id_of cmd) h v) in
         let r = acted F cmd (container_at (id_of cmd) w) in
         let s = acted F cmd (container_at (id_of cmd) v) in
         let same : r ≡ s = ap (acted F cmd) at in
         let next : container_at id (put (id_of cmd) r.1 w) ≡ container_at id (put (id_of cmd) s.1 v) =
-        alike id (id_of cmd) h (put (id_of cmd) r.1 w) ∙ (found_own (id_of cmd) r.1 w ∙ (ap (λ x. x.1) same ∙ (sym (found_own (id_of cmd) s.1 v) ∙ sym (alike id (id_of cmd) h (put (id_of cmd) s.1 v))))) in
+        alike id (id_of cmd) h (put (id_of cmd) r.1 w) ∙ (found_own (id_of cmd) r.1 w
+        ∙ (ap (λ x. x.1) same ∙ (sym (found_own (id_of cmd) s.1 v) ∙ sym (alike id (id_of cmd) h (put (id_of cmd) s.1 v))))) in
         rw h (ap (λ x. x.0 ∷ own_replies id cmds (run F cmds (put (id_of cmd) r.1 w)).0) same ∙ ap (λ xs. s.0 ∷ xs) (rest _ _ next))
     by_test false h rest =
         let away : same_text (id_of cmd) id ≡ false = nat_list_eq_equiv.symm (id_of cmd) id ∙ h in

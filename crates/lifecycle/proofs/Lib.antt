@@ -3,6 +3,7 @@ pub mod Headline
 pub mod Entries
 pub mod StartLemmas
 pub mod CommandLaws
+pub mod SoundLaws
 pub mod Runs
 pub mod Containers
 pub mod GivenLaws

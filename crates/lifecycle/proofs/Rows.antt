@@ -54,7 +54,8 @@ script =
 replies : (F : First) → (run F script two).0 ≡
     Presented NoTask ∷ Accepted ∷ Refused NotCreated ∷ Presented (Done 2) ∷ Presented (Done 0) ∷ Presented (Denied 0x00050001)
     ∷ Presented (Failed 14) ∷ Presented (Failed 22) ∷ Presented (Failed 22) ∷ Presented (Done 0)
-    ∷ Presented (Denied 0x00050001) ∷ Presented (Done 0) ∷ Presented (Denied 0x00050002) ∷ Presented (Done 1) ∷ Presented (Denied 0x00050002)
+    ∷ Presented (Denied 0x00050001) ∷ Presented (Done 0) ∷ Presented (Denied 0x00050002)
+    ∷ Presented (Done 1) ∷ Presented (Denied 0x00050002)
     ∷ Accepted ∷ Presented (Done 2) ∷ Refused NotStopped ∷ Presented (Done 0) ∷ IsIn Stopped ∷ Presented NoTask
     ∷ Presented (Done 2) ∷ Presented (Denied 0) ∷ IsIn Stopped ∷ Refused NoContainer ∷ []
 unfolding x86_64_table aarch64_table strictest_of operation_of is_accepted
@@ -64,8 +65,11 @@ replies F = refl
 abbrev pub denied : List Order
 denied = Start c1 ∷ State c1 ∷ Kill c1 9 ∷ Delete c1 ∷ State c1 ∷ Kill c2 65 ∷ Kill c2 15 ∷ Delete c2 ∷ []
 
-refused : (F : First) → run F denied ((c1, created (allowing (codes "read" ∷ []))) ∷ (c2, created (allowing (codes "read" ∷ []))) ∷ []) ≡
-    (Refused (StartDenied 0x00050001) ∷ IsIn Stopped ∷ Refused NotAlive ∷ Accepted ∷ Refused NoContainer ∷ Refused BadSignal ∷ Accepted ∷ Accepted ∷ [], [])
+refused : (F : First) → run F denied ((c1, created (allowing (codes "read" ∷ []))) ∷ (c2, created (allowing (codes "read" ∷ []))) ∷ []) ≡ (
+  Refused (StartDenied 0x00050001) ∷ IsIn Stopped ∷ Refused NotAlive ∷ Accepted ∷ Refused NoContainer
+      ∷ Refused BadSignal ∷ Accepted ∷ Accepted ∷ [],
+  [],
+)
 unfolding x86_64_table strictest_of operation_of is_accepted
 refused F = refl
 
@@ -76,6 +80,7 @@ goes_on =
     ∷ Kill c1 15 ∷ State c1 ∷ asks c1 2 (codes "read") ∷ []
 
 went_on : (F : First) → (run F goes_on ((c1, created (judging X86_64 [] 0 1)) ∷ [])).0 ≡
-    Accepted ∷ Presented (Done 2) ∷ Presented (Done 0) ∷ IsIn Running ∷ Accepted ∷ IsIn Running ∷ Accepted ∷ IsIn Stopped ∷ Presented NoTask ∷ []
+    Accepted ∷ Presented (Done 2) ∷ Presented (Done 0) ∷ IsIn Running ∷ Accepted ∷ IsIn Running
+    ∷ Accepted ∷ IsIn Stopped ∷ Presented NoTask ∷ []
 unfolding x86_64_table strictest_of operation_of is_accepted
 went_on F = refl

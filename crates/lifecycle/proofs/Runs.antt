@@ -17,7 +17,8 @@ use Rattle.lifecycle.specs.Worlds.{First, World}
 use Rattle.lifecycle.proofs.Headline.{same_run}
 use Rattle.lifecycle.proofs.Isolation.{isolated}
 
-run-append : (F : First) (os : List Order) (w : World) (o : Order) → run F (os ++ o ∷ []) w ≡ ((run F os w).0 ++ (step F o (run F os w).1).0 ∷ [], (step F o (run F os w).1).1)
+run-append : (F : First) (os : List Order) (w : World) (o : Order)
+    → run F (os ++ o ∷ []) w ≡ ((run F os w).0 ++ (step F o (run F os w).1).0 ∷ [], (step F o (run F os w).1).1)
 run-append F [] w o = refl
 run-append F (x ∷ os) w o =
     let s = step F x w in
@@ -28,7 +29,8 @@ orders-append [] c = refl
 orders-append (x ∷ cs) c = ap (λ (os : List Order). order_of x ∷ os) (orders-append cs c)
 
 -- one more command
-pub run_more : (F : First) (cs : List Command) (i : ℕ) (cmd : Command) (w v u : World) (rs : List Reply) (r : Reply) → i < length cs → get_or cs i cmd ≡ cmd
+pub run_more : (F : First) (cs : List Command) (i : ℕ) (cmd : Command) (w v u : World) (rs : List Reply) (r : Reply)
+    → i < length cs → get_or cs i cmd ≡ cmd
     → IsRun F (orders_of (take i cs)) w rs v → (r, u) ≡ step F (order_of cmd) v → IsRun F (orders_of (take (i + 1) cs)) w (rs ++ r ∷ []) u
 run_more F cs i cmd w v u rs r lt is before last =
     let more : take (i + 1) cs ≡ take i cs ++ cmd ∷ [] = take_more cs i cmd lt ∙ ap (λ (c : Command). take i cs ++ c ∷ []) is in
@@ -47,7 +49,8 @@ pub alone : (F : First) (os : List Order) (w : World) (rs : List Reply) (v : Wor
 alone F os w rs v e = λ id. ap (λ (p : List Reply × World). own_replies id os p.0) (sym e) ∙ isolated F id os w w refl
 
 -- what is known of the commands so far, by the number of replies
-pub finished : (cs : List Command) (n i : ℕ) (w : World) (rs : List Reply) (u v : World) → n ≡ i → v ≡ u → IsRun by_program (orders_of (take i cs)) w rs u
+pub finished : (cs : List Command) (n i : ℕ) (w : World) (rs : List Reply) (u v : World) → n ≡ i
+    → v ≡ u → IsRun by_program (orders_of (take i cs)) w rs u
     → IsRun by_profile (orders_of (take n cs)) w rs v
 finished cs n i w rs u v count world before =
     with_profiles (orders_of (take n cs)) w rs v

@@ -45,7 +45,8 @@ first_row Aarch64 = refl
 first_row LinuxX86_64 = refl
 first_row LinuxAarch64 = refl
 
-ends_by : (native : Arch) (first : Judge) (e : Ends) → let ps = ended_by_verdict e (first_task first) (admitted native first) in lives ps ≡ false → signalled 9 ps ≡ ps
+ends_by : (native : Arch) (first : Judge) (e : Ends) → let ps = ended_by_verdict e (first_task first) (admitted native first) in
+    lives ps ≡ false → signalled 9 ps ≡ ps
 ends_by native first Nothing h = let bad : true ≡ false = h in absurd (cc)
 ends_by native first Task h = refl
 ends_by native first Group h = refl
@@ -61,7 +62,8 @@ through_by native first word v true h =
 through_by native first word v false h = ends_by native first (ends_of word)
 
 -- where it is denied and its task has ended by that, there is nothing left to end
-pub denied_ends : (native : Arch) (first : Judge) (v : ℕ) → (first_call native first).0 ≡ Denied v → lives (first_call native first).1 ≡ false
+pub denied_ends : (native : Arch) (first : Judge) (v : ℕ) → (first_call native first).0 ≡ Denied v
+    → lives (first_call native first).1 ≡ false
     → signalled 9 (first_call native first).1 ≡ (first_call native first).1
 denied_ends native first v =
     let word = verdict_on (execve_of native) (first_task first) in
@@ -77,13 +79,16 @@ began k l m id checked r o first is answer second =
     ap (λ (x : Record). present_in 1 x NoBytes (l id)) is
     ∙ ap (present_in 1 (execve_of (profile_of checked).native) NoBytes) (own_id k l id (Some (begun_with checked)) first) in (
       answer ∙ ap (λ (x : Outcome × Option Processes). x.0) both,
-      set_twice k l m id (Some (begun_with checked)) (Some p.1) first (λ q. second q ∙ ap (λ (x : Outcome × Option Processes). if same_text id q then x.1 else l q) both),
+      set_twice k l m id (Some (begun_with checked)) (Some p.1) first (λ q. second q
+          ∙ ap (λ (x : Outcome × Option Processes). if same_text id q then x.1 else l q) both),
     )
 
 -- and what is left of it
-pub left : (k m n : Containers) (id : List ℕ) (o : Outcome) (p : Answer) → o ≡ p.0 → SetAt k m id (Some p.1) → SetAt m n id (option_map (left_after o) (m id))
+pub left : (k m n : Containers) (id : List ℕ) (o : Outcome) (p : Answer) → o ≡ p.0 → SetAt k m id (Some p.1)
+    → SetAt m n id (option_map (left_after o) (m id))
     → SetAt k n id (Some (left_after p.0 p.1))
 left k m n id o p is first second =
     let value : option_map (left_after o) (m id) ≡ Some (left_after p.0 p.1) =
     ap (λ (x : Outcome). option_map (left_after x) (m id)) is ∙ ap (option_map (left_after p.0)) (own_id k m id (Some p.1) first) in
-    set_twice k m n id (Some p.1) (Some (left_after p.0 p.1)) first (λ q. second q ∙ ap (λ (v : Option Processes). if same_text id q then v else m q) value)
+    set_twice k m n id (Some p.1) (Some (left_after p.0 p.1)) first (λ q. second q
+    ∙ ap (λ (v : Option Processes). if same_text id q then v else m q) value)

@@ -84,14 +84,16 @@ agree_all judges top [] a = λ k d h. absurd (omega arith)
 agree_all judges top (f ∷ fs) a = All-cons (λ (g : Filter). g.judge ≡ judges g.load) f fs a.0 (agree_all judges top fs a.2)
 
 same_filter : (f g : Filter) → f.load ≡ g.load → f.judge ≡ g.judge → f ≡ g
-same_filter f g load judge = ap (λ (n : ℕ). record { load = n; judge = f.judge }) load ∙ ap (λ (j : Judge). record { load = g.load; judge = j }) judge
+same_filter f g load judge = ap (λ (n : ℕ). record { load = n; judge = f.judge }) load
+    ∙ ap (λ (j : Judge). record { load = g.load; judge = j }) judge
 
 pub loads_tell_filters : LoadsTellFilters
 loads_tell_filters F os id c there t u f g in_t in_u in_f in_g same =
     let told = (steady_after F os id c there).told in
     let top = c.processes.loads in
     let all : All (Agrees told.judges top) c.processes.tasks = each_all (Agrees told.judges top) c.processes.tasks told.agree in
-    let known : (v : Process) → Contains c.processes.tasks v → (h : Filter) → Contains v.filters h → h.judge ≡ told.judges h.load = λ v in_v h in_h.
+    let known : (v : Process) → Contains c.processes.tasks v → (h : Filter) → Contains v.filters h
+    → h.judge ≡ told.judges h.load = λ v in_v h in_h.
     All-contains (λ (x : Filter). x.judge ≡ told.judges x.load) v.filters h
     (agree_all told.judges top v.filters (All-contains (Agrees told.judges top) c.processes.tasks v all in_v)) in_h in
     same_filter f g same (known t in_t f in_f ∙ (ap told.judges same ∙ sym (known u in_u g in_g)))
@@ -109,20 +111,28 @@ module _ (m : ℕ) (t : Process) where
   abbrev pub LaterAt : Option Container → Type 0
   LaterAt o = At (Later m t.filters) o
 
-  start_later : (s : Status) (c : Container) → c.status ≡ s → Steady c → live_task m c.processes.tasks ≡ Some t → Leaves (Later m t.filters) (start s c)
+  start_later : (s : Status) (c : Container) → c.status ≡ s → Steady c → live_task m c.processes.tasks ≡ Some t
+      → Leaves (Later m t.filters) (start s c)
   start_later Created c is h e =
       let bad : None ≡ Some t = sym (ap (live_task m) (h.waits is)) ∙ e in absurd (cc)
   start_later Running c is h e = same_later m t c e
   start_later Stopped c is h e = same_later m t c e
 
-  kill_later : (sig : ℕ) (s : Status) (c : Container) → Steady c → live_task m c.processes.tasks ≡ Some t → Leaves (Later m t.filters) (kill sig s c)
+  kill_later : (sig : ℕ) (s : Status) (c : Container) → Steady c → live_task m c.processes.tasks ≡ Some t
+      → Leaves (Later m t.filters) (kill sig s c)
   kill_later sig Stopped c h e = same_later m t c e
   kill_later sig Created c h e =
       let stopped : Container = record c { status = Stopped } in
-      either (Leaves (Later m t.filters)) (nat_lt 64 sig) (Refused BadSignal, Some c) (Accepted, Some (if is_fatal sig then stopped else c)) (same_later m t c e)
+      either (Leaves (Later m t.filters)) (nat_lt 64 sig) (Refused BadSignal, Some c) (
+        Accepted,
+        Some (if is_fatal sig then stopped else c),
+      ) (same_later m t c e)
       (either (Later m t.filters) (is_fatal sig) stopped c (same_later m t c e) (same_later m t c e))
   kill_later sig Running c h e =
-      either (Leaves (Later m t.filters)) (nat_lt 64 sig) (Refused BadSignal, Some c) (Accepted, Some (running c (signalled sig c.processes))) (same_later m t c e)
+      either (Leaves (Later m t.filters)) (nat_lt 64 sig) (Refused BadSignal, Some c) (
+        Accepted,
+        Some (running c (signalled sig c.processes)),
+      ) (same_later m t c e)
       (λ u f. kept_by_signal sig c.processes m t u h.order h.told e f)
 
   delete_later : (s : Status) (c : Container) → live_task m c.processes.tasks ≡ Some t → Leaves (Later m t.filters) (delete s c)
@@ -130,15 +140,20 @@ module _ (m : ℕ) (t : Process) where
   delete_later Created c e = same_later m t c e
   delete_later Running c e = same_later m t c e
 
-  call_later : (id : List ℕ) (n : ℕ) (r : Record) (a : Attached) (s : Status) (c : Container) → Steady c → goes_on_after (Call id n r a) m s c.processes ≡ Some t
+  call_later : (id : List ℕ) (n : ℕ) (r : Record) (a : Attached) (s : Status) (c : Container) → Steady c
+      → goes_on_after (Call id n r a) m s c.processes ≡ Some t
       → Leaves (Later m t.filters) (call n r a s c)
   call_later id n r a Running c h e = λ u f. kept_by_event n r a c.processes m t u h.order h.told e f
   call_later id n r a Created c h e = same_later m t c e
   call_later id n r a Stopped c h e = same_later m t c e
 
-  acts_later : (F : First) (o : Order) (c : Container) → Steady c → goes_on_after o m c.status c.processes ≡ Some t → Leaves (Later m t.filters) (acted F o (Some c))
+  acts_later : (F : First) (o : Order) (c : Container) → Steady c → goes_on_after o m c.status c.processes ≡ Some t
+      → Leaves (Later m t.filters) (acted F o (Some c))
   acts_later F (Create id given) c h e =
-      either (Leaves (Later m t.filters)) (is_id id) (Refused IdTaken, Some c) (Refused BadId, Some c) (same_later m t c e) (same_later m t c e)
+      either (Leaves (Later m t.filters)) (is_id id) (Refused IdTaken, Some c) (
+        Refused BadId,
+        Some c,
+      ) (same_later m t c e) (same_later m t c e)
   acts_later F (Start id) c h e = start_later c.status c refl h e
   acts_later F (Kill id sig) c h e = kill_later sig c.status c h e
   acts_later F (Delete id) c h e = delete_later c.status c e
@@ -155,7 +170,8 @@ old_filters_stay F os o id c d m t u there after is live = by (same_text id (id_
         let own : goes_on_after o m c.status c.processes ≡ Some t = rw h at is in
         let before : container_at (id_of o) w ≡ Some c = ap (λ q. container_at q w) same ∙ there in
         let r = acted F o (container_at (id_of o) w) in
-        let found : container_at id (put (id_of o) r.1 w) ≡ r.1 = ap (λ q. container_at q (put (id_of o) r.1 w)) (sym same) ∙ found_own (id_of o) r.1 w in
+        let found : container_at id (put (id_of o) r.1 w) ≡ r.1 = ap (λ q. container_at q (put (id_of o) r.1 w)) (sym same)
+        ∙ found_own (id_of o) r.1 w in
         let left : (acted F o (Some c)).1 ≡ Some d = ap (λ x. (acted F o x).1) (sym before) ∙ (sym found ∙ after) in
         let at : LaterAt m t (Some d) = subst (LaterAt m t) left (acts_later m t F o c (steady_after F os id c there) own) in
         at u live

@@ -6,6 +6,7 @@ pub mod Own
 pub mod Runs
 pub mod Promises
 pub mod Entries
+pub mod Sound
 pub mod Views
 pub mod Growth
 pub mod inner

@@ -63,9 +63,11 @@ pub record MadeBy (F : First) (orders : List Order) (id : List ℕ) (given : Che
 pub record FirstIsGiven : Type 0 where
   pub made : (F : First) (orders : List Order) (id : List ℕ) (c : Container) → container_at id (world_after F orders) ≡ Some c
       → (given : Checked) × MadeBy F orders id given
-  pub first : (F : First) (orders : List Order) (id : List ℕ) (c : Container) (given : Checked) → container_at id (world_after F orders) ≡ Some c
+  pub first : (F : First) (orders : List Order) (id : List ℕ) (c : Container) (given : Checked)
+      → container_at id (world_after F orders) ≡ Some c
       → MadeBy F orders id given → c.first ≡ F given
-  pub native : (F : First) (orders : List Order) (id : List ℕ) (c : Container) (given : Checked) → container_at id (world_after F orders) ≡ Some c
+  pub native : (F : First) (orders : List Order) (id : List ℕ) (c : Container) (given : Checked)
+      → container_at id (world_after F orders) ≡ Some c
       → MadeBy F orders id given → c.processes.native ≡ (profile_of given).native
 
 -- ---- the oldest filter
@@ -77,7 +79,8 @@ IsOldest judge t = (newer : List Filter) × (t.filters ≡ newer ++ record { loa
 -- The filter that a container was created with is the oldest of each of its tasks.
 abbrev pub FirstFilterIsOldest : Type 0
 FirstFilterIsOldest =
-    (F : First) (orders : List Order) (id : List ℕ) (c : Container) → container_at id (world_after F orders) ≡ Some c → All (IsOldest c.first) c.processes.tasks
+    (F : First) (orders : List Order) (id : List ℕ) (c : Container) → container_at id (world_after F orders) ≡ Some c
+    → All (IsOldest c.first) c.processes.tasks
 
 -- ---- the filters that a task has
 
@@ -104,7 +107,8 @@ OldFiltersStay =
 abbrev pub LoadsTellFilters : Type 0
 LoadsTellFilters =
     (F : First) (orders : List Order) (id : List ℕ) (c : Container) → container_at id (world_after F orders) ≡ Some c
-    → (t u : Process) (f g : Filter) → Contains c.processes.tasks t → Contains c.processes.tasks u → Contains t.filters f → Contains u.filters g
+    → (t u : Process) (f g : Filter) → Contains c.processes.tasks t → Contains c.processes.tasks u
+    → Contains t.filters f → Contains u.filters g
     → f.load ≡ g.load → f ≡ g
 
 -- ---- what a profile refuses

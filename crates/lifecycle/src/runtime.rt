@@ -5,6 +5,7 @@ ghost use Rattle.processes.specs.Ids.{is_id};
 ghost use Rattle.processes.specs.Kernel.{is_fatal};
 ghost use Rattle.processes.specs.Views.{lives_in, same_text};
 ghost use Rattle.lifecycle.specs.Entries.{started_at};
+ghost use Rattle.lifecycle.specs.Sound.{SoundIn, SoundIn-prop};
 
 use crate::command::{Reply, Status};
 use crate::entry::{Entry, Phase, come_to, forget};
@@ -24,6 +25,14 @@ pub struct Runtime<'a, K: Kernel> {
     pub(crate) alloc: Global,
     ghost ids: { (q : List ℕ) → is_some (lookup (same_text q) entries.entries) ≡ true → is_id q ≡ true },
     ghost in_step: { (q : List ℕ) → is_some (K.processes kernel q) ≡ started_at entries.entries q },
+    ghost sound: { (q : List ℕ) → SoundIn (K.processes kernel q) } by { Prim.hlevel SoundIn-prop },
+}
+
+// What is kept of a container, under its id.
+#[derive(Drop)]
+struct Kept<'a> {
+    name: Id,
+    entry: Entry<'a>,
 }
 
 // A container that is there.
@@ -45,7 +54,7 @@ impl<'a, K: Kernel> Runtime<'a, K> {
     ghost use Rattle.lifecycle.specs.Steps.{step};
     ghost use Rattle.lifecycle.specs.Views.{world_of};
     ghost use Rattle.lifecycle.specs.Worlds.{ids_of};
-    ghost use Rattle.lifecycle.specs.inner.Found.{IsFound};
+    ghost use Rattle.lifecycle.specs.inner.Found.{IsFound, IsKept};
 
     /// A runtime with no containers.
     pub fn new(alloc: Global, kernel: K) -> Self
@@ -166,16 +175,17 @@ impl<'a, K: Kernel> Runtime<'a, K> {
         ensures growth { let given = attached_of (option_map (λ a. a.now) attached.entry) in
             OnErr result (MayGrow (Call id.now task rec.now given) (world_of self.old)) }
     {
-        let Some(Found { name, status, .. }) = self.find(id) else {
+        let Some(Kept { name, entry }) = self.kept(id) else {
             return Ok(Reply::Refused(Refusal::NoContainer));
         };
-        match status {
-            Status::Created => Ok(Reply::Presented(Outcome::NoTask)),
-            Status::Running => {
+        match entry.phase {
+            Phase::Made => Ok(Reply::Presented(Outcome::NoTask)),
+            Phase::Started => {
+                // Where no task of group 1 lives, none does: the kernel finds no task then.
                 let outcome = self.kernel.present(&name, task, rec, attached)?;
                 Ok(Reply::Presented(outcome))
             }
-            Status::Stopped => Ok(Reply::Presented(Outcome::NoTask)),
+            Phase::Ended => Ok(Reply::Presented(Outcome::NoTask)),
         }
     }
 
@@ -187,15 +197,24 @@ impl<'a, K: Kernel> Runtime<'a, K> {
         Some(id.as_str())
     }
 
-    // The container with this id.
-    fn find(&self, id: &str) -> Option<Found<'a>>
-        ensures some { IfSome result (λ f. IsFound f id.now self.now.entries.entries (K.processes self.now.kernel id.now)) }
+    // What is kept of the container with this id.
+    fn kept(&self, id: &str) -> Option<Kept<'a>>
+        ensures some { IfSome result (λ f. IsKept f id.now self.now.entries.entries) }
         ensures none { IfNone result (lookup (same_text id.now) self.now.entries.entries ≡ None) }
     {
         // `len` knows that no id stands twice, as the contract says.
         let _ = self.entries.len();
         let name = Id::read(id)?;
         let entry = *self.entries.get(&name)?;
+        Some(Kept { name, entry })
+    }
+
+    // The container with this id.
+    fn find(&self, id: &str) -> Option<Found<'a>>
+        ensures some { IfSome result (λ f. IsFound f id.now self.now.entries.entries (K.processes self.now.kernel id.now)) }
+        ensures none { IfNone result (lookup (same_text id.now) self.now.entries.entries ≡ None) }
+    {
+        let Kept { name, entry } = self.kept(id)?;
         let status = match entry.phase {
             Phase::Made => Status::Created,
             Phase::Started => self.begun_status(&name),

@@ -39,15 +39,20 @@ names_word (Some LoadWord) n i insn h s =
     let second = both (nat_lt insn.k 64) (insn.k % 4 == 0) first.0 in
     let lt : insn.k < 64 = less insn.k 64 second.0 in
     elim s [ inl le ↦ omega arith | inr odd ↦ odd ((Decides-eqb (insn.k % 4) 0).0 second.1) ]
-names_word (Some LoadScratch) n i insn h s = let lt : insn.k < 16 = less insn.k 16 (both (nat_lt insn.k 16) (nat_lt (i + 1) n) h).0 in let le : 16 ≤ insn.k = s in omega arith
-names_word (Some LoadScratchX) n i insn h s = let lt : insn.k < 16 = less insn.k 16 (both (nat_lt insn.k 16) (nat_lt (i + 1) n) h).0 in let le : 16 ≤ insn.k = s in omega arith
-names_word (Some Store) n i insn h s = let lt : insn.k < 16 = less insn.k 16 (both (nat_lt insn.k 16) (nat_lt (i + 1) n) h).0 in let le : 16 ≤ insn.k = s in omega arith
-names_word (Some StoreX) n i insn h s = let lt : insn.k < 16 = less insn.k 16 (both (nat_lt insn.k 16) (nat_lt (i + 1) n) h).0 in let le : 16 ≤ insn.k = s in omega arith
+names_word (Some LoadScratch) n i insn h s = let lt : insn.k < 16 = less insn.k 16 (both (nat_lt insn.k 16) (nat_lt (i + 1) n) h).0 in
+    let le : 16 ≤ insn.k = s in omega arith
+names_word (Some LoadScratchX) n i insn h s = let lt : insn.k < 16 = less insn.k 16 (both (nat_lt insn.k 16) (nat_lt (i + 1) n) h).0 in
+    let le : 16 ≤ insn.k = s in omega arith
+names_word (Some Store) n i insn h s = let lt : insn.k < 16 = less insn.k 16 (both (nat_lt insn.k 16) (nat_lt (i + 1) n) h).0 in
+    let le : 16 ≤ insn.k = s in omega arith
+names_word (Some StoreX) n i insn h s = let lt : insn.k < 16 = less insn.k 16 (both (nat_lt insn.k 16) (nat_lt (i + 1) n) h).0 in
+    let le : 16 ≤ insn.k = s in omega arith
 names_word (Some op) n i insn h s = absurd s
 
 stays_in : (o : Option Operation) (n i : ℕ) (insn : Insn) → is_sound o n i insn ≡ true → LeadsOut o n i insn → ⊥
 stays_in None n i insn h s = absurd s
-stays_in (Some Jump) n i insn h s = let lt : i + 1 + insn.k < n = less (i + 1 + insn.k) n h in let le : n ≤ i + 1 + insn.k = s in omega arith
+stays_in (Some Jump) n i insn h s = let lt : i + 1 + insn.k < n = less (i + 1 + insn.k) n h in
+    let le : n ≤ i + 1 + insn.k = s in omega arith
 stays_in (Some (Branch test c)) n i insn h s =
     let parts = both (nat_lt (i + 1 + insn.jt) n) (nat_lt (i + 1 + insn.jf) n) h in
     let taken : i + 1 + insn.jt < n = less (i + 1 + insn.jt) n parts.0 in
@@ -55,7 +60,8 @@ stays_in (Some (Branch test c)) n i insn h s =
     elim s [ inl le ↦ omega arith | inr le ↦ omega arith ]
 stays_in (Some op) n i insn h s = absurd s
 
-not_last : (o : Option Operation) (n i : ℕ) (insn : Insn) → is_sound o n i insn ≡ true → (o ≡ Some ReturnK → ⊥) → (o ≡ Some ReturnA → ⊥) → i + 1 < n
+not_last : (o : Option Operation) (n i : ℕ) (insn : Insn) → is_sound o n i insn ≡ true
+    → (o ≡ Some ReturnK → ⊥) → (o ≡ Some ReturnA → ⊥) → i + 1 < n
 not_last None n i insn h a b = absurd (cc)
 not_last (Some ReturnK) n i insn h a b = absurd (a refl)
 not_last (Some ReturnA) n i insn h a b = absurd (b refl)
@@ -73,7 +79,8 @@ not_last (Some (Branch test c)) n i insn h a b =
     let lt : i + 1 + insn.jt < n = less (i + 1 + insn.jt) n parts.0 in omega arith
 not_last (Some op) n i insn h a b = less (i + 1) n h
 
-shifts : (n i : ℕ) (insn : Insn) (o : Operation) → ((o ≡ ShiftLeft) ⊎ (o ≡ ShiftRight)) → is_sound (Some o) n i insn ≡ true → 32 ≤ insn.k → ⊥
+shifts : (n i : ℕ) (insn : Insn) (o : Operation) → ((o ≡ ShiftLeft) ⊎ (o ≡ ShiftRight))
+    → is_sound (Some o) n i insn ≡ true → 32 ≤ insn.k → ⊥
 shifts n i insn o (inl e) h le =
     let g : is_sound (Some ShiftLeft) n i insn ≡ true = subst (λ (x : Operation). is_sound (Some x) n i insn ≡ true) e h in
     let lt : insn.k < 32 = less insn.k 32 (both (nat_lt insn.k 32) (nat_lt (i + 1) n) g).0 in omega arith
@@ -81,13 +88,18 @@ shifts n i insn o (inr e) h le =
     let g : is_sound (Some ShiftRight) n i insn ≡ true = subst (λ (x : Operation). is_sound (Some x) n i insn ≡ true) e h in
     let lt : insn.k < 32 = less insn.k 32 (both (nat_lt insn.k 32) (nat_lt (i + 1) n) g).0 in omega arith
 
-sound : (p : List Insn) (i : ℕ) (insn : Insn) → is_sound (operation_of insn.code) (length p) i insn ≡ true → (k : Cause) → k ≢ Scratch → CauseAt k p i insn → ⊥
+sound : (p : List Insn) (i : ℕ) (insn : Insn) → is_sound (operation_of insn.code) (length p) i insn ≡ true
+    → (k : Cause) → k ≢ Scratch → CauseAt k p i insn → ⊥
 sound p i insn h Code ne s = listed (operation_of insn.code) (length p) i insn h s
 sound p i insn h Load ne s = names_word (operation_of insn.code) (length p) i insn h s
 sound p i insn h Shift ne s =
     elim s.0 [
-      | inl e ↦ let g : is_sound (Some ShiftLeft) (length p) i insn ≡ true = subst (λ (x : Option Operation). is_sound x (length p) i insn ≡ true) e h in shifts (length p) i insn ShiftLeft (inl refl) g s.1
-      | inr e ↦ let g : is_sound (Some ShiftRight) (length p) i insn ≡ true = subst (λ (x : Option Operation). is_sound x (length p) i insn ≡ true) e h in shifts (length p) i insn ShiftRight (inr refl) g s.1
+      | inl e ↦ let g : is_sound (Some ShiftLeft) (length p) i insn
+          ≡ true = subst (λ (x : Option Operation). is_sound x (length p) i insn ≡ true) e h in
+          shifts (length p) i insn ShiftLeft (inl refl) g s.1
+      | inr e ↦ let g : is_sound (Some ShiftRight) (length p) i insn
+          ≡ true = subst (λ (x : Option Operation). is_sound x (length p) i insn ≡ true) e h in
+          shifts (length p) i insn ShiftRight (inr refl) g s.1
     ]
 sound p i insn h Target ne s = stays_in (operation_of insn.code) (length p) i insn h s
 sound p i insn h End ne s =
@@ -95,13 +107,15 @@ sound p i insn h End ne s =
     let last : i + 1 ≡ length p = s.0 in omega arith
 sound p i insn h Scratch ne s = ne refl
 
-sound_at : (n : ℕ) (p : List Insn) (i j : ℕ) (insn : Insn) → is_sound_from n i p ≡ true → slice_get p j ≡ Some insn → is_sound (operation_of insn.code) n (i + j) insn ≡ true
+sound_at : (n : ℕ) (p : List Insn) (i j : ℕ) (insn : Insn) → is_sound_from n i p ≡ true → slice_get p j ≡ Some insn
+    → is_sound (operation_of insn.code) n (i + j) insn ≡ true
 sound_at n [] i j insn h e = absurd (cc)
 sound_at n (x ∷ p) i zero insn h e =
     let same : x ≡ insn = cc in
     let here = (both (is_sound (operation_of x.code) n i x) (is_sound_from n (i + 1) p) h).0 in
     let at : i ≡ i + 0 = omega arith in
-    subst (λ (y : Insn). is_sound (operation_of y.code) n (i + 0) y ≡ true) same (subst (λ m. is_sound (operation_of x.code) n m x ≡ true) at here)
+    subst (λ (y : Insn). is_sound (operation_of y.code) n (i + 0) y
+    ≡ true) same (subst (λ m. is_sound (operation_of x.code) n m x ≡ true) at here)
 sound_at n (x ∷ p) i (suc j) insn h e =
     let rest = (both (is_sound (operation_of x.code) n i x) (is_sound_from n (i + 1) p) h).1 in
     let at : i + 1 + j ≡ i + suc j = omega arith in
@@ -126,13 +140,16 @@ search_at : (p : List Insn) (i : ℕ) (insn : Insn) (written : List ℕ) → sli
 search_at [] i insn written e = absurd (cc)
 search_at (x ∷ p) zero insn written e =
     let same : x ≡ insn = cc in
-    subst (λ (y : Insn). reads_on (operation_of x.code) x written (λ skip all. reads_unwritten p skip all) ≡ reads_on (operation_of y.code) y written (λ skip all. reads_unwritten p skip all)) same refl
+    subst (λ (y : Insn). reads_on (operation_of x.code) x written (λ skip all. reads_unwritten p skip all)
+    ≡ reads_on (operation_of y.code) y written (λ skip all. reads_unwritten p skip all)) same refl
 search_at (x ∷ p) (suc i) insn written e = search_at p i insn written e
 
-search_past : (p : List Insn) (i skip : ℕ) (written : List ℕ) → reads_unwritten (drop (suc i) p) skip written ≡ reads_unwritten p (suc (i + skip)) written
+search_past : (p : List Insn) (i skip : ℕ) (written : List ℕ)
+    → reads_unwritten (drop (suc i) p) skip written ≡ reads_unwritten p (suc (i + skip)) written
 search_past [] i skip written = refl
 search_past (x ∷ p) zero skip written = let e : skip ≡ 0 + skip = omega arith in ap (λ m. reads_unwritten p m written) e
-search_past (x ∷ p) (suc i) skip written = let e : suc (i + skip) ≡ suc i + skip = omega arith in search_past p i skip written ∙ ap (λ m. reads_unwritten p m written) e
+search_past (x ∷ p) (suc i) skip written = let e : suc (i + skip) ≡ suc i + skip = omega arith in
+    search_past p i skip written ∙ ap (λ m. reads_unwritten p m written) e
 
 -- what is known of the search where an instruction leads to
 abbrev pub Quiet : List Insn → ℕ → ℕ → Type 0
@@ -183,22 +200,29 @@ no_scratch p i h s =
     reads_by true c e g = cc
     reads_by false c e g = cc
 
-    reads_here : (o : Option Operation) (insn : Insn) (written : List ℕ) (rest : ℕ → List ℕ → Bool) → ((o ≡ Some LoadScratch) ⊎ (o ≡ Some LoadScratchX))
+    reads_here : (o : Option Operation) (insn : Insn) (written : List ℕ) (rest : ℕ → List ℕ → Bool)
+        → ((o ≡ Some LoadScratch) ⊎ (o ≡ Some LoadScratchX))
         → is_written insn.k written ≡ false → reads_on o insn written rest ≡ false → ⊥
     reads_here o insn written rest (inl e) un g =
-        let f : reads_on (Some LoadScratch) insn written rest ≡ false = subst (λ (x : Option Operation). reads_on x insn written rest ≡ false) e g in reads_by (is_written insn.k written) (rest 0 written) un f
+        let f : reads_on (Some LoadScratch) insn written rest
+        ≡ false = subst (λ (x : Option Operation). reads_on x insn written rest ≡ false) e g in
+        reads_by (is_written insn.k written) (rest 0 written) un f
     reads_here o insn written rest (inr e) un g =
-        let f : reads_on (Some LoadScratchX) insn written rest ≡ false = subst (λ (x : Option Operation). reads_on x insn written rest ≡ false) e g in reads_by (is_written insn.k written) (rest 0 written) un f
+        let f : reads_on (Some LoadScratchX) insn written rest
+        ≡ false = subst (λ (x : Option Operation). reads_on x insn written rest ≡ false) e g in
+        reads_by (is_written insn.k written) (rest 0 written) un f
 
 not_true : (b : Bool) → not b ≡ true → b ≡ false
 not_true true h = cc
 not_true false h = refl
 
-any_cause : (p : List Insn) → is_sound_from (length p) 0 p ≡ true → reads_unwritten p 0 [] ≡ false → (i : ℕ) (k : Cause) → HasCause p i k → ⊥
+any_cause : (p : List Insn) → is_sound_from (length p) 0 p ≡ true → reads_unwritten p 0 [] ≡ false
+    → (i : ℕ) (k : Cause) → HasCause p i k → ⊥
 any_cause p h quiet i Scratch s = no_scratch p i quiet s
 any_cause p h quiet i k s =
     let zero_more : 0 + i ≡ i = omega arith in
-    sound p i s.0 (subst (λ m. is_sound (operation_of s.0.code) (length p) m s.0 ≡ true) zero_more (sound_at (length p) p 0 i s.0 h s.1)) k (λ e. cc) s.2
+    sound p i s.0 (subst (λ m. is_sound (operation_of s.0.code) (length p) m s.0
+    ≡ true) zero_more (sound_at (length p) p 0 i s.0 h s.1)) k (λ e. cc) s.2
 
 test_accepts : (p : List Insn) → is_accepted p ≡ true → IsAccepted p
 unfolding is_accepted
@@ -223,18 +247,22 @@ and_true a b p q = rw (p, q) refl
 abbrev pub Nothing : List Insn → ℕ → Insn → Type 0
 Nothing p i insn = (k : Cause) → CauseAt k p i insn → ⊥
 
-goes_on : (o : Option Operation) (p : List Insn) (i : ℕ) (insn : Insn) → operation_of insn.code ≡ o → (o ≡ Some ReturnK → ⊥) → (o ≡ Some ReturnA → ⊥)
+goes_on : (o : Option Operation) (p : List Insn) (i : ℕ) (insn : Insn) → operation_of insn.code ≡ o
+    → (o ≡ Some ReturnK → ⊥) → (o ≡ Some ReturnA → ⊥)
     → Nothing p i insn → i < length p → nat_lt (i + 1) (length p) ≡ true
 goes_on o p i insn e a b none lt =
     is_less (i + 1) (length p) (λ le. none End (omega arith, λ r. elim r [ inl q ↦ a (sym e ∙ q) | inr q ↦ b (sym e ∙ q) ]))
 
-leads_in : (o : Option Operation) (p : List Insn) (i : ℕ) (insn : Insn) → operation_of insn.code ≡ o → Nothing p i insn → LeadsOut o (length p) i insn → ⊥
+leads_in : (o : Option Operation) (p : List Insn) (i : ℕ) (insn : Insn) → operation_of insn.code ≡ o
+    → Nothing p i insn → LeadsOut o (length p) i insn → ⊥
 leads_in o p i insn e none s = none Target (subst (λ (x : Option Operation). LeadsOut x (length p) i insn) (sym e) s)
 
-named : (o : Option Operation) (p : List Insn) (i : ℕ) (insn : Insn) → operation_of insn.code ≡ o → Nothing p i insn → NamesNoWord o insn.k → ⊥
+named : (o : Option Operation) (p : List Insn) (i : ℕ) (insn : Insn) → operation_of insn.code ≡ o
+    → Nothing p i insn → NamesNoWord o insn.k → ⊥
 named o p i insn e none s = none Load (subst (λ (x : Option Operation). NamesNoWord x insn.k) (sym e) s)
 
-complete : (o : Option Operation) (p : List Insn) (i : ℕ) (insn : Insn) → operation_of insn.code ≡ o → Nothing p i insn → i < length p → is_sound o (length p) i insn ≡ true
+complete : (o : Option Operation) (p : List Insn) (i : ℕ) (insn : Insn) → operation_of insn.code ≡ o
+    → Nothing p i insn → i < length p → is_sound o (length p) i insn ≡ true
 complete None p i insn e none lt = absurd (none Code e)
 complete (Some ReturnK) p i insn e none lt = refl
 complete (Some ReturnA) p i insn e none lt = refl
@@ -255,9 +283,15 @@ complete (Some Store) p i insn e none lt =
 complete (Some StoreX) p i insn e none lt =
     and_true (nat_lt insn.k 16) (nat_lt (i + 1) (length p)) (is_less insn.k 16 (λ le. named (Some StoreX) p i insn e none le)) (goes_on (Some StoreX) p i insn e (λ q. cc) (λ q. cc) none lt)
 complete (Some ShiftLeft) p i insn e none lt =
-    and_true (nat_lt insn.k 32) (nat_lt (i + 1) (length p)) (is_less insn.k 32 (λ le. none Shift (inl e, le))) (goes_on (Some ShiftLeft) p i insn e (λ q. cc) (λ q. cc) none lt)
+    and_true (nat_lt insn.k 32) (nat_lt (i + 1) (length p)) (is_less insn.k 32 (λ le. none Shift (
+      inl e,
+      le,
+    ))) (goes_on (Some ShiftLeft) p i insn e (λ q. cc) (λ q. cc) none lt)
 complete (Some ShiftRight) p i insn e none lt =
-    and_true (nat_lt insn.k 32) (nat_lt (i + 1) (length p)) (is_less insn.k 32 (λ le. none Shift (inr e, le))) (goes_on (Some ShiftRight) p i insn e (λ q. cc) (λ q. cc) none lt)
+    and_true (nat_lt insn.k 32) (nat_lt (i + 1) (length p)) (is_less insn.k 32 (λ le. none Shift (
+      inr e,
+      le,
+    ))) (goes_on (Some ShiftRight) p i insn e (λ q. cc) (λ q. cc) none lt)
 complete (Some Jump) p i insn e none lt = is_less (i + 1 + insn.k) (length p) (λ le. leads_in (Some Jump) p i insn e none le)
 complete (Some (Branch test c)) p i insn e none lt =
     and_true (nat_lt (i + 1 + insn.jt) (length p)) (nat_lt (i + 1 + insn.jf) (length p))
@@ -265,13 +299,15 @@ complete (Some (Branch test c)) p i insn e none lt =
     (is_less (i + 1 + insn.jf) (length p) (λ le. leads_in (Some (Branch test c)) p i insn e none (inr le)))
 complete (Some op) p i insn e none lt = goes_on (Some op) p i insn e (λ q. cc) (λ q. cc) none lt
 
-complete_from : (whole : List Insn) (p : List Insn) (i : ℕ) → i + length p ≡ length whole → ((j : ℕ) (insn : Insn) → slice_get p j ≡ Some insn → Nothing whole (i + j) insn) → is_sound_from (length whole) i p ≡ true
+complete_from : (whole : List Insn) (p : List Insn) (i : ℕ) → i + length p ≡ length whole
+    → ((j : ℕ) (insn : Insn) → slice_get p j ≡ Some insn → Nothing whole (i + j) insn) → is_sound_from (length whole) i p ≡ true
 complete_from whole [] i size none = refl
 complete_from whole (x ∷ p) i size none =
     let at : i + 0 ≡ i = omega arith in
     and_true (is_sound (operation_of x.code) (length whole) i x) (is_sound_from (length whole) (i + 1) p)
     (complete (operation_of x.code) whole i x refl (subst (λ m. Nothing whole m x) at (none 0 x refl)) (omega arith))
-    (complete_from whole p (i + 1) (omega arith) (λ j insn found. let more : i + suc j ≡ i + 1 + j = omega arith in subst (λ m. Nothing whole m insn) more (none (suc j) insn found)))
+    (complete_from whole p (i + 1) (omega arith) (λ j insn found. let more : i + suc j ≡ i + 1 + j = omega arith in
+    subst (λ m. Nothing whole m insn) more (none (suc j) insn found)))
 
 -- Where a path reads an unwritten word, Scratch stands.
 
@@ -299,13 +335,16 @@ hand_written p i next insn written at to path = λ w un.
 abbrev pub Found : List Insn → ℕ → List Insn → Type 0
 Found p i rest = (skip : ℕ) (written : List ℕ) → AllElse p (i + 1 + skip) written → reads_unwritten rest skip written ≡ true → HasScratch p
 
-writes_none : (insn : Insn) (o : Option Operation) → operation_of insn.code ≡ o → (o ≡ Some Store → ⊥) → (o ≡ Some StoreX → ⊥) → (w : ℕ) → WritesWord insn w → ⊥
+writes_none : (insn : Insn) (o : Option Operation) → operation_of insn.code ≡ o → (o ≡ Some Store → ⊥)
+    → (o ≡ Some StoreX → ⊥) → (w : ℕ) → WritesWord insn w → ⊥
 writes_none insn o e a b w writes = elim writes.0 [ inl q ↦ a (sym e ∙ q) | inr q ↦ b (sym e ∙ q) ]
 
-leads : (insn : Insn) (o : Option Operation) (i next : ℕ) → operation_of insn.code ≡ o → LeadsTo o i insn next → LeadsTo (operation_of insn.code) i insn next
+leads : (insn : Insn) (o : Option Operation) (i next : ℕ) → operation_of insn.code ≡ o
+    → LeadsTo o i insn next → LeadsTo (operation_of insn.code) i insn next
 leads insn o i next e to = subst (λ (x : Option Operation). LeadsTo x i insn next) (sym e) to
 
-found_at : (o : Option Operation) (p rest : List Insn) (i : ℕ) (insn : Insn) (written : List ℕ) → operation_of insn.code ≡ o → slice_get p i ≡ Some insn
+found_at : (o : Option Operation) (p rest : List Insn) (i : ℕ) (insn : Insn) (written : List ℕ)
+    → operation_of insn.code ≡ o → slice_get p i ≡ Some insn
     → AllElse p i written → Found p i rest → reads_on o insn written (λ skip all. reads_unwritten rest skip all) ≡ true → HasScratch p
 found_at (Some LoadScratch) p rest i insn written e at path more h = by (is_written insn.k written) refl h
   where
@@ -336,24 +375,28 @@ found_at None p rest i insn written e at path more h =
 found_at (Some op) p rest i insn written e at path more h =
     more 0 written (hand p i (i + 1 + 0) insn written at (writes_none insn (Some op) e (λ q. cc) (λ q. cc)) (leads insn (Some op) i (i + 1 + 0) e (omega arith)) path) h
 
-found_from : (p rest : List Insn) (n pc : ℕ) (written : List ℕ) → ((j : ℕ) → slice_get rest j ≡ slice_get p (n + j)) → AllElse p (n + pc) written
+found_from : (p rest : List Insn) (n pc : ℕ) (written : List ℕ)
+    → ((j : ℕ) → slice_get rest j ≡ slice_get p (n + j)) → AllElse p (n + pc) written
     → reads_unwritten rest pc written ≡ true → HasScratch p
 found_from p [] n pc written same path h = absurd (cc)
 found_from p (x ∷ rest) n (suc pc) written same path h =
     let at : n + suc pc ≡ n + 1 + pc = omega arith in
     found_from p rest (n + 1) pc written (shifted p x rest n same) (subst (λ m. AllElse p m written) at path) h
   where
-    shifted : (p : List Insn) (x : Insn) (rest : List Insn) (n : ℕ) → ((j : ℕ) → slice_get (x ∷ rest) j ≡ slice_get p (n + j)) → (j : ℕ) → slice_get rest j ≡ slice_get p (n + 1 + j)
+    shifted : (p : List Insn) (x : Insn) (rest : List Insn) (n : ℕ) → ((j : ℕ) → slice_get (x ∷ rest) j ≡ slice_get p (n + j))
+        → (j : ℕ) → slice_get rest j ≡ slice_get p (n + 1 + j)
     shifted p x rest n same j = let e : n + suc j ≡ n + 1 + j = omega arith in same (suc j) ∙ ap (λ m. slice_get p m) e
 found_from p (x ∷ rest) n zero written same path h =
     let at : n + 0 ≡ n = omega arith in
     let here : slice_get p n ≡ Some x = ap (λ m. slice_get p m) (sym at) ∙ sym (same 0) in
     found_at (operation_of x.code) p rest n x written refl here (subst (λ m. AllElse p m written) at path)
-    (λ skip all path_on g. found_from p rest (n + 1) skip all (λ j. let e : n + suc j ≡ n + 1 + j = omega arith in same (suc j) ∙ ap (λ m. slice_get p m) e) path_on g) h
+    (λ skip all path_on g. found_from p rest (n + 1) skip all (λ j. let e : n + suc j ≡ n + 1 + j = omega arith in
+    same (suc j) ∙ ap (λ m. slice_get p m) e) path_on g) h
 
 quiet_by : (p : List Insn) (b : Bool) → reads_unwritten p 0 [] ≡ b → ((i : ℕ) → HasCause p i Scratch → ⊥) → not b ≡ true
 quiet_by p true h none =
-    let s = found_from p p 0 0 [] (λ j. let e : j ≡ 0 + j = omega arith in ap (λ m. slice_get p m) e) (λ w un. let e : 0 ≡ 0 + 0 = omega arith in subst (λ m. Unwritten p w m) e at_first) h in
+    let s = found_from p p 0 0 [] (λ j. let e : j ≡ 0 + j = omega arith in
+    ap (λ m. slice_get p m) e) (λ w un. let e : 0 ≡ 0 + 0 = omega arith in subst (λ m. Unwritten p w m) e at_first) h in
     absurd (none s.0 s.1)
 quiet_by p false h none = refl
 
@@ -363,16 +406,19 @@ accepted_tests p a =
     and_true (nat_le 1 (length p) && nat_le (length p) max_insns) (is_sound_from (length p) 0 p && not (reads_unwritten p 0 []))
     (and_true (nat_le 1 (length p)) (nat_le (length p) max_insns) (le-leb 1 (length p) a.some) (le-leb (length p) max_insns a.limit))
     (and_true (is_sound_from (length p) 0 p) (not (reads_unwritten p 0 []))
-    (complete_from p p 0 (omega arith) (λ j insn found. let at : j ≡ 0 + j = omega arith in subst (λ m. Nothing p m insn) at (λ k s. a.no_cause j k (insn, found, s))))
+    (complete_from p p 0 (omega arith) (λ j insn found. let at : j ≡ 0 + j = omega arith in
+    subst (λ m. Nothing p m insn) at (λ k s. a.no_cause j k (insn, found, s))))
     (quiet_by p (reads_unwritten p 0 []) refl (λ i. a.no_cause i Scratch)))
 
 pub accepts_exactly : (p : List Insn) → (is_accepted p ≡ true) ↔ IsAccepted p
 accepts_exactly p = (test_accepts p, accepted_tests p)
 
-attached_by : (bytes : List ℕ) (b : Bool) → view_fault bytes ≡ None → is_accepted (insns_of bytes) ≡ b → attached_of (Some bytes) ≡ (if b then Taken (insns_of bytes) else Refused)
+attached_by : (bytes : List ℕ) (b : Bool) → view_fault bytes ≡ None → is_accepted (insns_of bytes) ≡ b
+    → attached_of (Some bytes) ≡ (if b then Taken (insns_of bytes) else Refused)
 attached_by bytes b fault e = rw (fault, e) refl
 
-pub attached_taken : (bytes : List ℕ) → view_fault bytes ≡ None → IsAccepted (insns_of bytes) → attached_of (Some bytes) ≡ Taken (insns_of bytes)
+pub attached_taken : (bytes : List ℕ) → view_fault bytes ≡ None → IsAccepted (insns_of bytes)
+    → attached_of (Some bytes) ≡ Taken (insns_of bytes)
 attached_taken bytes fault a = attached_by bytes true fault (accepted_tests (insns_of bytes) a)
 
 pub attached_refused : (bytes : List ℕ) → view_fault bytes ≡ None → (IsAccepted (insns_of bytes) → ⊥) → attached_of (Some bytes) ≡ Refused

@@ -28,10 +28,21 @@ either P false x y p q = q
 abbrev pub SurvivesEnds : (Processes → Type 0) → Type 0
 SurvivesEnds K = (test : Process → Bool) (e : End) (ps : Processes) → K ps → K (with_tasks ps (end_where test e ps.tasks))
 
+-- and so does what they lead to where none of group 1 is left
+abbrev pub SurvivesStops : (Processes → Type 0) → Type 0
+SurvivesStops K = (test : Process → Bool) (e : End) (ps : Processes) → K ps → K (ended test e ps)
+
+-- what survives ends of some tasks survives those of all others after them
+pub stops_too : (K : Processes → Type 0) → SurvivesEnds K → SurvivesStops K
+stops_too K ends test e ps s =
+    let after = with_tasks ps (end_where test e ps.tasks) in
+    let kept : K after = ends test e ps s in
+    either K (lives after) after (with_tasks after (end_where (λ t. true) (end.Signal 9) after.tasks)) kept (ends (λ t. true) (end.Signal 9) after kept)
+
 -- it is there, and whatever task t can change by presenting r leaves it
 pub record Survives (K : Processes → Type 0) (t : Process) (r : Record) (ps : Processes) : Type 0 where
   pub same : K ps
-  pub ends : SurvivesEnds K
+  pub ends : SurvivesStops K
   pub fork : K (with_next (forked t) ps).1
   pub thread : K (with_next (cloned t) ps).1
   pub image : is_through (verdict_on r t) ≡ true → row_of ps.native r ≡ Execve → K (with_tasks ps (executed t ps.tasks))
@@ -42,20 +53,14 @@ module _ (K : Processes → Type 0) where
   abbrev pub KeptBy : Answer → Type 0
   KeptBy p = K p.1
 
-  pub end_keeps : SurvivesEnds K → (test : Process → Bool) (e : End) (ps : Processes) → K ps → K (ended test e ps)
-  end_keeps ends test e ps s =
-      let after = with_tasks ps (end_where test e ps.tasks) in
-      let kept : K after = ends test e ps s in
-      either K (lives after) after (with_tasks after (end_where (λ t. true) (end.Signal 9) after.tasks)) kept (ends (λ t. true) (end.Signal 9) after kept)
-
-  kill_keeps : SurvivesEnds K → (target sig : ℕ) (ps : Processes) → K ps → KeptBy (killed target sig ps)
+  kill_keeps : SurvivesStops K → (target sig : ℕ) (ps : Processes) → K ps → KeptBy (killed target sig ps)
   kill_keeps ends target sig ps s =
       let last : Answer = (Done 0, ended (is_in_group target) (end.Signal sig) ps) in
       let third : Answer = if (target == 1) || not (is_fatal sig) then (Done 0, ps) else last in
       let second : Answer = if not (group_lives target ps.tasks) then (Failed 3, ps) else third in
       either KeptBy (nat_lt 64 sig) (Failed 22, ps) second s
       (either KeptBy (not (group_lives target ps.tasks)) (Failed 3, ps) third s
-      (either KeptBy ((target == 1) || not (is_fatal sig)) (Done 0, ps) last s (end_keeps ends (is_in_group target) (end.Signal sig) ps s)))
+      (either KeptBy ((target == 1) || not (is_fatal sig)) (Done 0, ps) last s (ends (is_in_group target) (end.Signal sig) ps s)))
 
   unless_keeps : (o : Option Process) (ps after : Processes) → K ps → (o ≡ None → K after) → KeptBy (unless_conflict o ps (Done 0, after))
   unless_keeps (Some u) ps after s q = s
@@ -73,20 +78,21 @@ module _ (K : Processes → Type 0) where
         (either KeptBy (nat_le (2 ^ 32 - 1) ps.loads) (Failed 12, ps) last s.same
         (unless_keeps (first_conflict for_all t ps) ps after s.same (s.load for_all p)))
 
-    row_keeps : is_through (verdict_on r t) ≡ true → (a : Attached) (row : Row) → row_of ps.native r ≡ row → KeptBy (carried_out row t r a ps)
+    row_keeps : is_through (verdict_on r t) ≡ true → (a : Attached) (row : Row)
+        → row_of ps.native r ≡ row → KeptBy (carried_out row t r a ps)
     row_keeps h a NewTask e = either KeptBy (nat_lt ps.made 1024) (with_next (forked t) ps) (Failed 11, ps) s.fork s.same
     row_keeps h a NewThread e = either KeptBy (nat_lt ps.made 1024) (with_next (cloned t) ps) (Failed 11, ps) s.thread s.same
     row_keeps h a Execve e = s.image h e
-    row_keeps h a Exit e = end_keeps s.ends _ _ ps s.same
-    row_keeps h a ExitGroup e = end_keeps s.ends _ _ ps s.same
+    row_keeps h a Exit e = s.ends _ _ ps s.same
+    row_keeps h a ExitGroup e = s.ends _ _ ps s.same
     row_keeps h a Kill e = kill_keeps s.ends (arg r 0) (arg r 1) ps s.same
     row_keeps h a (Load for_all) e = load_keeps for_all a
     row_keeps h a row e = s.same
 
     verdict_keeps : (e : Ends) → K (ended_by_verdict e t ps)
     verdict_keeps Nothing = s.same
-    verdict_keeps Task = end_keeps s.ends _ _ ps s.same
-    verdict_keeps Group = end_keeps s.ends _ _ ps s.same
+    verdict_keeps Task = s.ends _ _ ps s.same
+    verdict_keeps Group = s.ends _ _ ps s.same
 
     judged_keeps : (a : Attached) (v : ℕ) → verdict_on r t ≡ v → (b : Bool) → is_through v ≡ b
         → KeptBy (if b then carried_out (row_of ps.native r) t r a ps else (Denied v, ended_by_verdict (ends_of v) t ps))
@@ -94,28 +100,31 @@ module _ (K : Processes → Type 0) where
     judged_keeps a v is false h = verdict_keeps (ends_of v)
 
   -- What survives whatever a task can do is kept by what it does.
-  pub judged_stays : (t : Process) (r : Record) (ps : Processes) → Survives K t r ps → (a : Attached) → KeptBy (judged (verdict_on r t) t r a ps)
+  pub judged_stays : (t : Process) (r : Record) (ps : Processes) → Survives K t r ps
+      → (a : Attached) → KeptBy (judged (verdict_on r t) t r a ps)
   judged_stays t r ps s a = judged_keeps t r ps s a (verdict_on r t) refl (is_through (verdict_on r t)) refl
 
-  by_caller : (n : ℕ) (r : Record) (a : Attached) (ps : Processes) → K ps → ((t : Process) → live_task n ps.tasks ≡ Some t → Survives K t r ps)
+  by_caller : (n : ℕ) (r : Record) (a : Attached) (ps : Processes) → K ps
+      → ((t : Process) → live_task n ps.tasks ≡ Some t → Survives K t r ps)
       → (o : Option Process) → live_task n ps.tasks ≡ o → KeptBy (presented_by o r a ps)
   by_caller n r a ps s each None e = s
   by_caller n r a ps s each (Some t) e = judged_stays t r ps (each t e) a
 
   -- and by an event
-  pub event_keeps : (n : ℕ) (r : Record) (a : Attached) (ps : Processes) → K ps → ((t : Process) → live_task n ps.tasks ≡ Some t → Survives K t r ps)
+  pub event_keeps : (n : ℕ) (r : Record) (a : Attached) (ps : Processes) → K ps
+      → ((t : Process) → live_task n ps.tasks ≡ Some t → Survives K t r ps)
       → K (presented n r a ps).1
   event_keeps n r a ps s each = by_caller n r a ps s each (live_task n ps.tasks) refl
 
   -- and what survives ends by a signal from outside
-  pub signal_keeps : SurvivesEnds K → (sig : ℕ) (ps : Processes) → K ps → K (signalled sig ps)
-  signal_keeps ends sig ps s = either K (is_fatal sig) (ended (is_in_group 1) (end.Signal sig) ps) ps (end_keeps ends (is_in_group 1) (end.Signal sig) ps s) s
+  pub signal_keeps : SurvivesStops K → (sig : ℕ) (ps : Processes) → K ps → K (signalled sig ps)
+  signal_keeps ends sig ps s = either K (is_fatal sig) (ended (is_in_group 1) (end.Signal sig) ps) ps (ends (is_in_group 1) (end.Signal sig) ps s) s
 
 -- The machine of a container stays.
 pub native_stays : (n : ℕ) (r : Record) (a : Attached) (ps : Processes) → (presented n r a ps).1.native ≡ ps.native
 native_stays n r a ps = event_keeps (λ qs. qs.native ≡ ps.native) n r a ps refl (λ t e. record {
   same = refl;
-  ends = λ test by qs h. h;
+  ends = stops_too (λ qs. qs.native ≡ ps.native) (λ test by qs h. h);
   fork = refl;
   thread = refl;
   image = λ h row. refl;
@@ -123,4 +132,5 @@ native_stays n r a ps = event_keeps (λ qs. qs.native ≡ ps.native) n r a ps re
 })
 
 pub native_stays_signalled : (sig : ℕ) (ps : Processes) → (signalled sig ps).native ≡ ps.native
-native_stays_signalled sig ps = signal_keeps (λ qs. qs.native ≡ ps.native) (λ test by qs h. h) sig ps refl
+native_stays_signalled sig ps = signal_keeps (λ qs. qs.native
+    ≡ ps.native) (stops_too (λ qs. qs.native ≡ ps.native) (λ test by qs h. h)) sig ps refl

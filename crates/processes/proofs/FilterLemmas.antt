@@ -22,7 +22,8 @@ few (f ∷ fs) =
     let e : total_size (f ∷ fs) ≡ length f.program + 4 + total_size fs = sum_by-cons (λ (g : Loaded). length g.program + 4) f fs in omega arith
 
 -- the words taken one after the other, from the oldest filter on
-pub fold_words : (word : Loaded → ℕ) (fs : List Loaded) → fold (λ older f. strictest_of (word f ∷ older ∷ [])) allow (reverse fs) ≡ strictest_of (map word fs)
+pub fold_words : (word : Loaded → ℕ) (fs : List Loaded) → fold (λ older f. strictest_of (word f ∷ older ∷ [])) allow (reverse fs)
+    ≡ strictest_of (map word fs)
 unfolding strictest_of
 fold_words word [] = refl
 fold_words word (f ∷ fs) =
@@ -46,12 +47,14 @@ how_many (f ∷ fs) = let rest : length (loads_of fs) ≡ length fs = how_many f
 
 -- the load numbers that are left of the newer are those of what is left
 pub oldest_part : (older newer : List Loaded) (k : ℕ) → k ≡ length newer - length older
-    → pointwise nat_eq (loads_of older) (loads_of (take (length newer - k) (drop k newer))) ≡ is_oldest_part (loads_of older) (loads_of newer)
+    → pointwise nat_eq (loads_of older) (loads_of (take (length newer - k) (drop k newer)))
+    ≡ is_oldest_part (loads_of older) (loads_of newer)
 oldest_part older newer k h =
     let a : length (loads_of newer) ≡ length newer = how_many newer in
     let b : length (loads_of older) ≡ length older = how_many older in
     let e : k ≡ length (loads_of newer) - length (loads_of older) = omega arith in
-    let whole : take (length newer - k) (drop k newer) ≡ drop k newer = take_all (length newer - k) (drop k newer) (omega (arith, length-drop k newer)) in
+    let whole : take (length newer - k) (drop k newer)
+    ≡ drop k newer = take_all (length newer - k) (drop k newer) (omega (arith, length-drop k newer)) in
     ap (λ loads. pointwise nat_eq (loads_of older) loads) (ap loads_of whole ∙ (drop_loads k newer ∙ ap (λ m. drop m (loads_of newer)) e))
 
 -- what the store says of the filters is what the lists have

@@ -25,34 +25,37 @@ use Rattle.processes.specs.Kernel.{carried_out, cloned, conflicts, ended_by_verd
 use Rattle.processes.specs.Kernel.{is_oldest_part, is_sibling, judged, loaded, loads_of, presented, presented_by, renewed}
 use Rattle.processes.specs.Kernel.{signalled, takes, verdict_on}
 use Rattle.processes.specs.Attached.{Attached}
-use Rattle.processes.proofs.Changes.{Survives, either, event_keeps, judged_stays, signal_keeps}
+use Rattle.processes.proofs.Changes.{Survives, SurvivesStops, either, event_keeps, judged_stays, signal_keeps, stops_too}
 use Rattle.processes.proofs.Laws.{behind_one, each_map, each_push, end_each, found, image_each}
 use Rattle.processes.proofs.Numbers.{Ascends, InOrder, above}
 
 -- ---- lists of tasks
 
-each_to : (P Q : Process → Type 0) → ((u : Process) → P u → Q u) → (ts : List Process) → Each P ts → Each Q ts
+pub each_to : (P Q : Process → Type 0) → ((u : Process) → P u → Q u) → (ts : List Process) → Each P ts → Each Q ts
 each_to P Q h [] p = tt
 each_to P Q h (t ∷ ts) p = (h t p.0, each_to P Q h ts p.1)
 
-each_both : (P Q : Process → Type 0) (ts : List Process) → Each P ts → Each Q ts → Each (λ u. P u × Q u) ts
+pub each_both : (P Q : Process → Type 0) (ts : List Process) → Each P ts → Each Q ts → Each (λ u. P u × Q u) ts
 each_both P Q [] p q = tt
 each_both P Q (t ∷ ts) p q = ((p.0, q.0), each_both P Q ts p.1 q.1)
 
-each_any : (P : Process → Type 0) → ((u : Process) → P u) → (ts : List Process) → Each P ts
+pub each_any : (P : Process → Type 0) → ((u : Process) → P u) → (ts : List Process) → Each P ts
 each_any P h [] = tt
 each_any P h (t ∷ ts) = (h t, each_any P h ts)
 
-meets_by : (test : Process → Bool) (t u : Process) (ts : List Process) (b : Bool) → test t ≡ b → (find test ts ≡ Some u → test u ≡ true) → find test (t ∷ ts) ≡ Some u → test u ≡ true
-meets_by test t u ts true h rest e = let is : Some t ≡ Some u = rw h at e in let same : t ≡ u = cc in subst (λ (x : Process). test x ≡ true) same h
+meets_by : (test : Process → Bool) (t u : Process) (ts : List Process) (b : Bool) → test t ≡ b
+    → (find test ts ≡ Some u → test u ≡ true) → find test (t ∷ ts) ≡ Some u → test u ≡ true
+meets_by test t u ts true h rest e = let is : Some t ≡ Some u = rw h at e in let same : t ≡ u = cc in
+    subst (λ (x : Process). test x ≡ true) same h
 meets_by test t u ts false h rest e = rest (rw h at e)
 
 -- who is found meets the test
-meets : (test : Process → Bool) (ts : List Process) (u : Process) → find test ts ≡ Some u → test u ≡ true
+pub meets : (test : Process → Bool) (ts : List Process) (u : Process) → find test ts ≡ Some u → test u ≡ true
 meets test [] u e = let bad : None ≡ Some u = e in absurd (cc)
 meets test (t ∷ ts) u e = meets_by test t u ts (test t) refl (meets test ts u) e
 
-none_by : (test : Process → Bool) (t : Process) (ts : List Process) (b : Bool) → test t ≡ b → (find test ts ≡ None → Each (λ u. test u ≡ false) ts)
+none_by : (test : Process → Bool) (t : Process) (ts : List Process) (b : Bool) → test t ≡ b
+    → (find test ts ≡ None → Each (λ u. test u ≡ false) ts)
     → find test (t ∷ ts) ≡ None → Each (λ u. test u ≡ false) (t ∷ ts)
 none_by test t ts true h rest e = let bad : Some t ≡ None = rw h at e in absurd (cc)
 none_by test t ts false h rest e = (h, rest (rw h at e))
@@ -127,7 +130,8 @@ pub record Told (ps : Processes) : Type 0 where
 abbrev pub more : (ℕ → Judge) → ℕ → Judge → ℕ → Judge
 more judges top judge k = if k == top + 1 then judge else judges k
 
-old_by : (judges : ℕ → Judge) (top k : ℕ) (judge : Judge) (b : Bool) → (k == top + 1) ≡ b → k ≤ top → judges k ≡ (if b then judge else judges k)
+old_by : (judges : ℕ → Judge) (top k : ℕ) (judge : Judge) (b : Bool) → (k == top + 1) ≡ b
+    → k ≤ top → judges k ≡ (if b then judge else judges k)
 old_by judges top k judge true h le = let same : k ≡ top + 1 = eqb-true k (top + 1) h in absurd (omega arith)
 old_by judges top k judge false h le = refl
 
@@ -140,13 +144,18 @@ grows judges top judge (f ∷ fs) a =
 new_is : (judges : ℕ → Judge) (top : ℕ) (judge : Judge) → judge ≡ more judges top judge (top + 1)
 new_is judges top judge = rw (same_number (top + 1) (top + 1) refl) refl
 
-agrees_ends : (judges : ℕ → Judge) (top : ℕ) (test : Process → Bool) (e : End) (ts : List Process) → Each (Agrees judges top) ts → Each (Agrees judges top) (end_where test e ts)
+agrees_ends : (judges : ℕ → Judge) (top : ℕ) (test : Process → Bool) (e : End) (ts : List Process)
+    → Each (Agrees judges top) ts → Each (Agrees judges top) (end_where test e ts)
 agrees_ends judges top test e ts s = end_each (Agrees judges top) (λ last u a. a) test e ts s
 
-told_ends : (test : Process → Bool) (e : End) (ps : Processes) → Told ps → Told (with_tasks ps (end_where test e ps.tasks))
-told_ends test e ps told = record { judges = told.judges; agree = agrees_ends told.judges ps.loads test e ps.tasks told.agree }
+told_ends : SurvivesStops Told
+told_ends = stops_too Told (λ test e ps told. record {
+  judges = told.judges;
+  agree = agrees_ends told.judges ps.loads test e ps.tasks told.agree;
+})
 
-told_loaded : (for_all : Bool) (p : List Insn) (t : Process) (ps : Processes) (told : Told ps) → Agrees told.judges ps.loads t → Told (loaded for_all p t ps)
+told_loaded : (for_all : Bool) (p : List Insn) (t : Process) (ps : Processes) (told : Told ps)
+    → Agrees told.judges ps.loads t → Told (loaded for_all p t ps)
 told_loaded for_all p t ps told own =
     let judges = more told.judges ps.loads (program_judge p) in
     let first : Filter = record { load = ps.loads + 1; judge = program_judge p } in
@@ -155,7 +164,10 @@ told_loaded for_all p t ps told own =
     record {
       judges = judges;
       agree = each_map (Agrees told.judges ps.loads) (Agrees judges (ps.loads + 1)) (λ u. if takes for_all t u then record u { filters = first ∷ t.filters } else u)
-          (λ u a. either (Agrees judges (ps.loads + 1)) (takes for_all t u) (record u { filters = first ∷ t.filters }) u all (grows told.judges ps.loads (program_judge p) u.filters a))
+          (λ u a. either (Agrees judges (ps.loads + 1)) (takes for_all t u) (record u {
+            filters = first
+                ∷ t.filters;
+          }) u all (grows told.judges ps.loads (program_judge p) u.filters a))
           ps.tasks told.agree;
     }
 
@@ -196,7 +208,8 @@ drop_agree judges top (suc k) [] a = a
 drop_agree judges top (suc k) (f ∷ fs) a = drop_agree judges top k fs a.2
 
 -- filters of the same load numbers are the same
-same_filters : (judges : ℕ → Judge) (top : ℕ) (xs ys : List Filter) → Agree judges top xs → Agree judges top ys → map (λ f. f.load) xs ≡ map (λ f. f.load) ys → xs ≡ ys
+same_filters : (judges : ℕ → Judge) (top : ℕ) (xs ys : List Filter) → Agree judges top xs → Agree judges top ys
+    → map (λ f. f.load) xs ≡ map (λ f. f.load) ys → xs ≡ ys
 same_filters judges top [] [] a b e = refl
 same_filters judges top [] (y ∷ ys) a b e = absurd (cc)
 same_filters judges top (x ∷ xs) [] a b e = absurd (cc)
@@ -204,7 +217,8 @@ same_filters judges top (x ∷ xs) (y ∷ ys) a b e =
     let load : x.load ≡ y.load = cc in
     let left : map (λ f. f.load) xs ≡ map (λ f. f.load) ys = cc in
     let judge : x.judge ≡ y.judge = a.0 ∙ (ap judges load ∙ sym b.0) in
-    let first : x ≡ y = ap (λ (n : ℕ). record { load = n; judge = x.judge }) load ∙ ap (λ (j : Judge). record { load = y.load; judge = j }) judge in
+    let first : x ≡ y = ap (λ (n : ℕ). record { load = n; judge = x.judge }) load
+    ∙ ap (λ (j : Judge). record { load = y.load; judge = j }) judge in
     let rest : xs ≡ ys = same_filters judges top xs ys a.2 b.2 left in
     ap (λ (f : Filter). f ∷ xs) first ∙ ap (λ (fs : List Filter). y ∷ fs) rest
 
@@ -230,8 +244,8 @@ AllKeep m old qs = Each (Keeps m old) qs.tasks
 over : (m : ℕ) (old : List Filter) (e : End) (u : Process) → Keeps m old u → Keeps m old (record u { end = Some e })
 over m old e u k = λ is live. let bad : false ≡ true = live in absurd (cc)
 
-keep_ends : (m : ℕ) (old : List Filter) (test : Process → Bool) (e : End) (ps : Processes) → AllKeep m old ps → AllKeep m old (with_tasks ps (end_where test e ps.tasks))
-keep_ends m old test e ps s = end_each (Keeps m old) (over m old) test e ps.tasks s
+keep_ends : (m : ℕ) (old : List Filter) → SurvivesStops (AllKeep m old)
+keep_ends m old = stops_too (AllKeep m old) (λ test e ps s. end_each (Keeps m old) (over m old) test e ps.tasks s)
 
 only_keeps : (m : ℕ) (t u : Process) → Only m t u → Keeps m t.filters u
 only_keeps m t u only = λ is live. ([], ap (λ (x : Process). x.filters) (only is live))
@@ -240,7 +254,8 @@ only_keeps m t u only = λ is live. ([], ap (λ (x : Process). x.filters) (only 
 abbrev pub Known : (ℕ → Judge) → ℕ → ℕ → Process → Process → Bool → Process → Type 0
 Known judges top m t c for_all u = Only m t u × (Only c.number c u × (Agrees judges top u × (for_all ≡ true → conflicts c u ≡ false)))
 
-sibling_by : (judges : ℕ → Judge) (top : ℕ) (c u : Process) → Only c.number c u → Agrees judges top u → Agrees judges top c → conflicts c u ≡ false
+sibling_by : (judges : ℕ → Judge) (top : ℕ) (c u : Process) → Only c.number c u → Agrees judges top u
+    → Agrees judges top c → conflicts c u ≡ false
     → is_in_group c.group u ≡ true → is_live u ≡ true → (b : Bool) → is_task c.number u ≡ b → StandsBehind u.filters c.filters
 sibling_by judges top c u only a b free member live true h =
     ([], ap (λ (x : Process). x.filters) (sym (only (eqb-true u.number c.number h) live)))
@@ -253,7 +268,8 @@ sibling_by judges top c u only a b free member live false h = by (is_oldest_part
         let bad : true ≡ false = sym taken ∙ free in absurd (cc)
 
 -- who gets the caller's list has it behind the new filter
-taker : (judges : ℕ → Judge) (top m : ℕ) (t c u : Process) (for_all : Bool) → Agrees judges top c → Known judges top m t c for_all u → takes for_all c u ≡ true → StandsBehind u.filters c.filters
+taker : (judges : ℕ → Judge) (top m : ℕ) (t c u : Process) (for_all : Bool) → Agrees judges top c → Known judges top m t c for_all u
+    → takes for_all c u ≡ true → StandsBehind u.filters c.filters
 taker judges top m t c u false own k h =
     let parts = and_parts (is_task c.number u) (is_live u) h in
     ([], ap (λ (x : Process). x.filters) (sym (k.1.0 (eqb-true u.number c.number parts.0) parts.1)))
@@ -261,7 +277,8 @@ taker judges top m t c u true own k h =
     let parts = and_parts (is_in_group c.group u) (is_live u) h in
     sibling_by judges top c u k.1.0 k.1.1.0 own (k.1.1.1 refl) parts.0 parts.1 (is_task c.number u) refl
 
-given_by : (judges : ℕ → Judge) (top m : ℕ) (t c u : Process) (for_all : Bool) (f : Filter) → Agrees judges top c → Known judges top m t c for_all u
+given_by : (judges : ℕ → Judge) (top m : ℕ) (t c u : Process) (for_all : Bool) (f : Filter)
+    → Agrees judges top c → Known judges top m t c for_all u
     → (b : Bool) → takes for_all c u ≡ b → Keeps m t.filters (if b then record u { filters = f ∷ c.filters } else u)
 given_by judges top m t c u for_all f own k true h = λ is live.
     let same : u ≡ t = k.0 is live in
@@ -269,9 +286,11 @@ given_by judges top m t c u for_all f own k true h = λ is live.
     behind_one t.filters c.filters f behind
 given_by judges top m t c u for_all f own k false h = only_keeps m t u k.0
 
-free_by : (for_all : Bool) (c : Process) (ps : Processes) → first_conflict for_all c ps ≡ None → Each (λ u. for_all ≡ true → conflicts c u ≡ false) ps.tasks
+free_by : (for_all : Bool) (c : Process) (ps : Processes) → first_conflict for_all c ps ≡ None
+    → Each (λ u. for_all ≡ true → conflicts c u ≡ false) ps.tasks
 free_by false c ps e = each_any (λ u. false ≡ true → conflicts c u ≡ false) (λ u h. absurd (cc)) ps.tasks
-free_by true c ps e = each_to (λ u. conflicts c u ≡ false) (λ u. true ≡ true → conflicts c u ≡ false) (λ u h _. h) ps.tasks (none_meets (conflicts c) ps.tasks e)
+free_by true c ps e = each_to (λ u. conflicts c u ≡ false) (λ u. true ≡ true
+    → conflicts c u ≡ false) (λ u h _. h) ps.tasks (none_meets (conflicts c) ps.tasks e)
 
 module _ (ps : Processes) (p : InOrder ps) (told : Told ps) (m : ℕ) (t : Process) (is : live_task m ps.tasks ≡ Some t) where
   only : Each (Only m t) ps.tasks
@@ -285,14 +304,16 @@ module _ (ps : Processes) (p : InOrder ps) (told : Told ps) (m : ℕ) (t : Proce
       let number : t.number ≡ m = is_number m t (meets (test_of m) ps.tasks t is) in
       let le : t.number ≤ ps.made = found (λ u. u.number ≤ ps.made) (test_of m) ps.tasks (within 0 ps.made ps.tasks p) t is in omega arith
 
-  survives : (n : ℕ) (r : Record) (c : Process) → live_task n ps.tasks ≡ Some c → (executes r ps c && (c.group == m)) ≡ false → Survives (AllKeep m t.filters) c r ps
+  survives : (n : ℕ) (r : Record) (c : Process) → live_task n ps.tasks ≡ Some c
+      → (executes r ps c && (c.group == m)) ≡ false → Survives (AllKeep m t.filters) c r ps
   survives n r c e other = record {
     same = as_before;
     ends = keep_ends m t.filters;
     fork = each_push (Keeps m t.filters) ps.tasks (forked c (ps.made + 1)) as_before (λ number live. absurd (no_new (ps.made + 1) refl number));
     thread = each_push (Keeps m t.filters) ps.tasks (cloned c (ps.made + 1)) as_before (λ number live. absurd (no_new (ps.made + 1) refl number));
     image = λ through row. image_each (Keeps m t.filters) (over m t.filters) c
-        (λ number live. let bad : true ≡ false = sym (rw (through, row, same_number c.group m number) refl) ∙ other in absurd (cc)) ps.tasks as_before;
+        (λ number live. let bad : true ≡ false = sym (rw (through, row, same_number c.group m number) refl) ∙ other in
+        absurd (cc)) ps.tasks as_before;
     load = λ for_all q none.
         let P = Agrees told.judges ps.loads in
         let own : P c = found P (test_of n) ps.tasks told.agree c e in
@@ -331,14 +352,16 @@ executed_keeps m c ts e =
     each_map (λ u. Unit {0}) (Keeps m c.filters) (λ u. if is_task c.group u then renewed c else u) (λ u x. renewed_by m c u e (is_task c.group u) refl) kept
     (each_any (λ u. Unit {0}) (λ u. tt) kept)
 
-carried : (r : Record) (a : Attached) (ps : Processes) (c : Process) → executes r ps c ≡ true → (judged (verdict_on r c) c r a ps).1 ≡ with_tasks ps (executed c ps.tasks)
+carried : (r : Record) (a : Attached) (ps : Processes) (c : Process) → executes r ps c ≡ true
+    → (judged (verdict_on r c) c r a ps).1 ≡ with_tasks ps (executed c ps.tasks)
 carried r a ps c h =
     let parts = and_parts (is_through (verdict_on r c)) (is_execve (row_of ps.native r)) h in
     let v = verdict_on r c in
     ap (λ (b : Bool). (if b then carried_out (row_of ps.native r) c r a ps else (Denied v, ended_by_verdict (ends_of v) c ps)).1) parts.0
     ∙ ap (λ (row : Row). (carried_out row c r a ps).1) (row_by (row_of ps.native r) parts.1)
 
-after_by : (n : ℕ) (r : Record) (a : Attached) (ps : Processes) (m : ℕ) (t : Process) → InOrder ps → Told ps → (o : Option Process) → live_task n ps.tasks ≡ o
+after_by : (n : ℕ) (r : Record) (a : Attached) (ps : Processes) (m : ℕ) (t : Process) → InOrder ps
+    → Told ps → (o : Option Process) → live_task n ps.tasks ≡ o
     → goes_on_by o r m ps ≡ Some t → AllKeep m t.filters (presented_by o r a ps).1
 after_by n r a ps m t p told None e is = as_before ps p told m t is
 after_by n r a ps m t p told (Some c) e is = by (executes r ps c && (c.group == m)) refl
@@ -355,13 +378,15 @@ after_by n r a ps m t p told (Some c) e is = by (executes r ps c && (c.group == 
         let number : live_task m ps.tasks ≡ Some t = rw h at is in
         judged_stays (AllKeep m t.filters) c r ps (survives ps p told m t number n r c e h) a
 
-kept_by : (m : ℕ) (old : List Filter) (qs : Processes) (u : Process) → AllKeep m old qs → live_task m qs.tasks ≡ Some u → StandsBehind old u.filters
+kept_by : (m : ℕ) (old : List Filter) (qs : Processes) (u : Process) → AllKeep m old qs
+    → live_task m qs.tasks ≡ Some u → StandsBehind old u.filters
 kept_by m old qs u all e =
     let test : test_of m u ≡ true = meets (test_of m) qs.tasks u e in
     found (Keeps m old) (test_of m) qs.tasks all u e (is_number m u test) (lives_too m u test)
 
 -- Who goes on under a number after an event has its old filters there, behind newer ones or none.
-pub kept_by_event : (n : ℕ) (r : Record) (a : Attached) (ps : Processes) (m : ℕ) (t u : Process) → InOrder ps → Told ps → goes_on n r m ps ≡ Some t
+pub kept_by_event : (n : ℕ) (r : Record) (a : Attached) (ps : Processes) (m : ℕ) (t u : Process)
+    → InOrder ps → Told ps → goes_on n r m ps ≡ Some t
     → live_task m (presented n r a ps).1.tasks ≡ Some u → StandsBehind t.filters u.filters
 kept_by_event n r a ps m t u p told is after =
     kept_by m t.filters (presented n r a ps).1 u (after_by n r a ps m t p told (live_task n ps.tasks) refl is) after

@@ -12,9 +12,10 @@ use Rattle.processes.specs.Tasks.{Judge, Filter, admitted, Process, Processes, i
 use Rattle.processes.specs.Tasks.{end_where, with_tasks, ended}
 use Rattle.processes.specs.Kernel.{forked, cloned, is_sibling, renewed, executed, loaded, presented, signalled, takes}
 use Rattle.processes.specs.Attached.{Attached}
-use Rattle.processes.proofs.Changes.{Survives, either, event_keeps, signal_keeps}
+use Rattle.processes.proofs.Changes.{Survives, SurvivesStops, either, event_keeps, signal_keeps, stops_too}
 
-pub each_map : (P Q : Process → Type 0) (f : Process → Process) → ((t : Process) → P t → Q (f t)) → (ts : List Process) → Each P ts → Each Q (map f ts)
+pub each_map : (P Q : Process → Type 0) (f : Process → Process) → ((t : Process) → P t → Q (f t))
+    → (ts : List Process) → Each P ts → Each Q (map f ts)
 each_map P Q f h [] p = tt
 each_map P Q f h (t ∷ ts) p = (h t p.0, each_map P Q f h ts p.1)
 
@@ -45,7 +46,8 @@ all_end e [] = tt
 all_end e (t ∷ ts) = (ends e t, all_end e ts)
 
 settled_by : (ps : Processes) (b : Bool) → lives ps ≡ b
-    → let out = if b then ps else with_tasks ps (end_where (λ t. true) (end.Signal 9) ps.tasks) in lives out ≡ false → Each HasEnded out.tasks
+    → let out = if b then ps else with_tasks ps (end_where (λ t. true) (end.Signal 9) ps.tasks) in
+    lives out ≡ false → Each HasEnded out.tasks
 settled_by ps true h stopped = let bad : true ≡ false = rw h at stopped in absurd (cc)
 settled_by ps false h stopped = all_end (end.Signal 9) ps.tasks
 
@@ -54,14 +56,16 @@ pub stops_all : (test : Process → Bool) (e : End) (ps : Processes) → lives (
 stops_all test e ps = settled_by (with_tasks ps (end_where test e ps.tasks)) (lives (with_tasks ps (end_where test e ps.tasks))) refl
 
 -- What an end leaves of a task, ends leave of each,
-pub end_each : (P : Process → Type 0) → ((e : End) (u : Process) → P u → P (record u { end = Some e })) → (test : Process → Bool) (e : End) (ts : List Process)
+pub end_each : (P : Process → Type 0) → ((e : End) (u : Process) → P u → P (record u { end = Some e }))
+    → (test : Process → Bool) (e : End) (ts : List Process)
     → Each P ts → Each P (end_where test e ts)
 end_each P ends test e ts s =
     each_map P P (λ u. if test u then end_by e u else u)
     (λ u p. either P (test u) (end_by e u) u (either P (is_live u) (record u { end = Some e }) u (ends e u p) p) p) ts s
 
 -- and a new image of what the caller goes on as
-pub image_each : (P : Process → Type 0) → ((e : End) (u : Process) → P u → P (record u { end = Some e })) → (t : Process) → P (renewed t) → (ts : List Process)
+pub image_each : (P : Process → Type 0) → ((e : End) (u : Process) → P u → P (record u { end = Some e }))
+    → (t : Process) → P (renewed t) → (ts : List Process)
     → Each P ts → Each P (executed t ts)
 image_each P ends t own ts s =
     let left = end_where (is_sibling t) (end.Signal 9) ts in
@@ -74,10 +78,12 @@ image_each P ends t own ts s =
 pub behind_one : (old fs : List Filter) (f : Filter) → StandsBehind old fs → StandsBehind old (f ∷ fs)
 behind_one old fs f s = (f ∷ s.0, ap (λ (xs : List Filter). f ∷ xs) s.1)
 
-where_keeps : (old : List Filter) (test : Process → Bool) (e : End) (ts : List Process) → Each (KeepsBehind old) ts → Each (KeepsBehind old) (end_where test e ts)
+where_keeps : (old : List Filter) (test : Process → Bool) (e : End) (ts : List Process)
+    → Each (KeepsBehind old) ts → Each (KeepsBehind old) (end_where test e ts)
 where_keeps old test e ts s = end_each (KeepsBehind old) (λ last u p. p) test e ts s
 
-loaded_keeps : (old : List Filter) (for_all : Bool) (p : List Insn) (t : Process) (ps : Processes) → KeepsBehind old t → Each (KeepsBehind old) ps.tasks → Each (KeepsBehind old) (loaded for_all p t ps).tasks
+loaded_keeps : (old : List Filter) (for_all : Bool) (p : List Insn) (t : Process) (ps : Processes) → KeepsBehind old t
+    → Each (KeepsBehind old) ps.tasks → Each (KeepsBehind old) (loaded for_all p t ps).tasks
 loaded_keeps old for_all p t ps k s =
     each_map (KeepsBehind old) (KeepsBehind old) _
     (λ u q. either (KeepsBehind old) (takes for_all t u) _ u (behind_one old t.filters _ k) q) ps.tasks s
@@ -92,15 +98,19 @@ pub found : (P : Process → Type 0) (test : Process → Bool) (ts : List Proces
 found P test [] s u e = let bad : None ≡ Some u = e in absurd (cc)
 found P test (t ∷ ts) s u e = found_by P test t ts (test t) refl s.0 u (found P test ts s.1 u) e
 
+ends_keep : (old : List Filter) → SurvivesStops (λ qs. Each (KeepsBehind old) qs.tasks)
+ends_keep old = stops_too (λ qs. Each (KeepsBehind old) qs.tasks) (λ test last qs q. where_keeps old test last qs.tasks q)
+
 -- What is behind the filters of every task stays behind them, whatever a task presents.
-pub keeps_behind : (old : List Filter) (n : ℕ) (r : Record) (a : Attached) (ps : Processes) → Each (KeepsBehind old) ps.tasks → Each (KeepsBehind old) (presented n r a ps).1.tasks
+pub keeps_behind : (old : List Filter) (n : ℕ) (r : Record) (a : Attached) (ps : Processes) → Each (KeepsBehind old) ps.tasks
+    → Each (KeepsBehind old) (presented n r a ps).1.tasks
 keeps_behind old n r a ps s = event_keeps (λ qs. Each (KeepsBehind old) qs.tasks) n r a ps s by
   where
     by : (t : Process) → live_task n ps.tasks ≡ Some t → Survives (λ qs. Each (KeepsBehind old) qs.tasks) t r ps
     by t e =
         let k = found (KeepsBehind old) (λ u. is_task n u && is_live u) ps.tasks s t e in record {
           same = s;
-          ends = λ test last qs q. where_keeps old test last qs.tasks q;
+          ends = ends_keep old;
           fork = each_push (KeepsBehind old) ps.tasks (forked t (ps.made + 1)) s k;
           thread = each_push (KeepsBehind old) ps.tasks (cloned t (ps.made + 1)) s k;
           image = λ through row. image_each (KeepsBehind old) (λ last u p. p) t k ps.tasks s;
@@ -108,12 +118,14 @@ keeps_behind old n r a ps s = event_keeps (λ qs. Each (KeepsBehind old) qs.task
         }
 
 -- and whatever signal comes from outside
-pub signal_keeps_behind : (old : List Filter) (sig : ℕ) (ps : Processes) → Each (KeepsBehind old) ps.tasks → Each (KeepsBehind old) (signalled sig ps).tasks
+pub signal_keeps_behind : (old : List Filter) (sig : ℕ) (ps : Processes) → Each (KeepsBehind old) ps.tasks
+    → Each (KeepsBehind old) (signalled sig ps).tasks
 signal_keeps_behind old sig ps s =
-    signal_keeps (λ qs. Each (KeepsBehind old) qs.tasks) (λ test last qs q. where_keeps old test last qs.tasks q) sig ps s
+    signal_keeps (λ qs. Each (KeepsBehind old) qs.tasks) (ends_keep old) sig ps s
 
 -- and a container begins with its first filter there
-pub first_is_behind : (native : Arch) (judge : Judge) → Each (KeepsBehind (record { load = 0; judge = judge } ∷ [])) (admitted native judge).tasks
+pub first_is_behind : (native : Arch) (judge : Judge)
+    → Each (KeepsBehind (record { load = 0; judge = judge } ∷ [])) (admitted native judge).tasks
 first_is_behind native judge = (([], refl), tt)
 
 pub first_filter_stays : FirstFilterStays

@@ -1,10 +1,12 @@
 pub mod AttachedLaws
+pub mod NumberLaws
 pub mod FilterLemmas
 pub mod Lists
 pub mod Changes
 pub mod Laws
 pub mod Numbers
 pub mod KeptLaws
+pub mod GroupLaws
 pub mod ImageLemmas
 pub mod LoadLemmas
 pub mod Rows

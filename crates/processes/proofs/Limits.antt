@@ -15,7 +15,8 @@ use Rattle.processes.specs.Kernel.{presented}
 use Rattle.processes.specs.Attached.Attached.{NoBytes}
 use Rattle.processes.proofs.Rows.{call, judging, answers, plain, started, fresh, allow_all, Line}
 
-one_more : (answers (plain 1 (codes "fork") ∷ plain 1 (codes "fork") ∷ (1, call X86_64 (codes "clone") 0x10000 0, None) ∷ []) (record started { made = 1023 })).0
+one_more : (answers (plain 1 (codes "fork") ∷ plain 1 (codes "fork") ∷ (1, call X86_64 (codes "clone") 0x10000 0, None)
+    ∷ []) (record started { made = 1023 })).0
     ≡ Done 1024 ∷ Failed 11 ∷ Failed 11 ∷ []
 unfolding x86_64_table strictest_of operation_of is_accepted
 one_more = refl
@@ -32,7 +33,8 @@ seven : (answers (load ∷ load ∷ load ∷ load ∷ load ∷ load ∷ load ∷
 unfolding x86_64_table strictest_of operation_of is_accepted
 seven = refl
 
-last_load : (answers ((1, call X86_64 (codes "seccomp") 1 0, allow_all) ∷ (1, call X86_64 (codes "seccomp") 1 1, allow_all) ∷ []) (record started { loads = 2 ^ 32 - 2 })).0
+last_load : (answers ((1, call X86_64 (codes "seccomp") 1 0, allow_all) ∷ (1, call X86_64 (codes "seccomp") 1 1, allow_all)
+    ∷ []) (record started { loads = 2 ^ 32 - 2 })).0
     ≡ Done 0 ∷ Failed 12 ∷ []
 unfolding x86_64_table strictest_of operation_of is_accepted
 last_load = refl
@@ -43,7 +45,8 @@ images_of ps = map (λ t. t.images) ps.tasks
 abbrev pub with_images : ℕ → Processes → Processes
 with_images n ps = record ps { tasks = map {A = Process} (λ t. record t { images = n }) ps.tasks }
 
-stays : images_of (answers (plain 1 (codes "execve") ∷ plain 1 (codes "execve") ∷ []) (with_images (2 ^ 64 - 2) started)).1 ≡ (2 ^ 64 - 1) ∷ []
+stays : images_of (answers (plain 1 (codes "execve") ∷ plain 1 (codes "execve") ∷ []) (with_images (2 ^ 64 - 2) started)).1
+    ≡ (2 ^ 64 - 1) ∷ []
 unfolding x86_64_table strictest_of operation_of is_accepted
 stays = refl
 
@@ -52,7 +55,8 @@ begins : (presented 1 (execve_of X86_64) NoBytes fresh).0 ≡ Done 0
 unfolding x86_64_table strictest_of
 begins = refl
 
-begins_there : (presented 1 (execve_of Aarch64) NoBytes (admitted Aarch64 (judging Aarch64 ((codes "execve", 0x00050026) ∷ []) 0 1))).0 ≡ Denied 0x00050026
+begins_there : (presented 1 (execve_of Aarch64) NoBytes (admitted Aarch64 (judging Aarch64 ((codes "execve", 0x00050026) ∷ []) 0 1))).0
+    ≡ Denied 0x00050026
 unfolding aarch64_table strictest_of
 begins_there = refl
 
@@ -61,6 +65,7 @@ just_fits : (answers ((1, call X86_64 (codes "seccomp") 1 0, allow_all) ∷ []) 
 unfolding x86_64_table strictest_of operation_of is_accepted
 just_fits = refl
 
-one_too_many : (answers ((1, call X86_64 (codes "seccomp") 1 0, allow_all) ∷ []) (admitted X86_64 (judging X86_64 [] 0 32764))).0 ≡ Failed 12 ∷ []
+one_too_many : (answers ((1, call X86_64 (codes "seccomp") 1 0, allow_all) ∷ []) (admitted X86_64 (judging X86_64 [] 0 32764))).0
+    ≡ Failed 12 ∷ []
 unfolding x86_64_table strictest_of operation_of is_accepted
 one_too_many = refl

@@ -13,7 +13,7 @@ use Rattle.processes.specs.Tasks.{ascends, Process, Processes, is_live, is_task,
 use Rattle.processes.specs.Kernel.{forked, cloned, is_sibling, renewed, executed, loaded, takes, signalled, presented}
 use Rattle.processes.specs.Attached.{Attached}
 use Rattle.processes.specs.Laws.{Each, NumbersAscend}
-use Rattle.processes.proofs.Changes.{SurvivesEnds, either, event_keeps, signal_keeps}
+use Rattle.processes.proofs.Changes.{SurvivesStops, either, event_keeps, signal_keeps, stops_too}
 
 -- the numbers ascend, above one number and up to another
 abbrev pub Ascends : ℕ → List Process → ℕ → Type 0
@@ -26,7 +26,8 @@ InOrder ps = Ascends 0 ps.tasks ps.made
 pub to_order : (low : ℕ) (ts : List Process) (top : ℕ) → IsTrue (ascends low ts top) → Ascends low ts top
 to_order low [] top h = leb-true low top h
 to_order low (t ∷ ts) top h =
-    let parts = and_parts (nat_lt low t.number) (ascends t.number ts top) h in (ltb-true low t.number parts.0, to_order t.number ts top parts.1)
+    let parts = and_parts (nat_lt low t.number) (ascends t.number ts top) h in
+    (ltb-true low t.number parts.0, to_order t.number ts top parts.1)
 
 pub from_order : (low : ℕ) (ts : List Process) (top : ℕ) → Ascends low ts top → IsTrue (ascends low ts top)
 from_order low [] top p = le-leb low top p
@@ -36,11 +37,13 @@ lower : (low less top : ℕ) (ts : List Process) → less ≤ low → Ascends lo
 lower low less top [] h p = omega arith
 lower low less top (t ∷ ts) h p = let q : low < t.number = p.0 in let r : less < t.number = omega arith in (r, p.1)
 
-pub same_map : (f : Process → Process) → ((t : Process) → (f t).number ≡ t.number) → (low top : ℕ) (ts : List Process) → Ascends low ts top → Ascends low (map f ts) top
+pub same_map : (f : Process → Process) → ((t : Process) → (f t).number ≡ t.number) → (low top : ℕ) (ts : List Process)
+    → Ascends low ts top → Ascends low (map f ts) top
 same_map f h low top [] p = p
 same_map f h low top (t ∷ ts) p = rw (h t) (p.0, same_map f h t.number top ts p.1)
 
-fewer_if : (b : Bool) (t : Process) (rest : List Process) (low top : ℕ) → low < t.number → Ascends t.number rest top → Ascends low (if b then t ∷ rest else rest) top
+fewer_if : (b : Bool) (t : Process) (rest : List Process) (low top : ℕ) → low < t.number
+    → Ascends t.number rest top → Ascends low (if b then t ∷ rest else rest) top
 fewer_if true t rest low top h p = (h, p)
 fewer_if false t rest low top h p = let less : low ≤ t.number = omega arith in lower t.number low top rest less p
 
@@ -50,21 +53,25 @@ fewer test low top (t ∷ ts) p = fewer_if (test t) t (filter test ts) low top p
 
 one_more : (low top : ℕ) (ts : List Process) (u : Process) → u.number ≡ top + 1 → Ascends low ts top → Ascends low (ts ++ u ∷ []) (top + 1)
 one_more low top [] u e p =
-    let h : low ≤ top = p in let below : low < u.number = rw e (omega arith) in let within : u.number ≤ top + 1 = rw e (omega arith) in (below, within)
+    let h : low ≤ top = p in let below : low < u.number = rw e (omega arith) in
+    let within : u.number ≤ top + 1 = rw e (omega arith) in (below, within)
 one_more low top (t ∷ ts) u e p = (p.0, one_more t.number top ts u e p.1)
 
 same_end : (e : End) (t : Process) → (end_by e t).number ≡ t.number
 same_end e t = either (λ (u : Process). u.number ≡ t.number) (is_live t) (record t { end = Some e }) t refl refl
 
-where_ordered : (test : Process → Bool) (e : End) (low top : ℕ) (ts : List Process) → Ascends low ts top → Ascends low (end_where test e ts) top
+where_ordered : (test : Process → Bool) (e : End) (low top : ℕ) (ts : List Process)
+    → Ascends low ts top → Ascends low (end_where test e ts) top
 where_ordered test e low top ts p =
     same_map (λ t. if test t then end_by e t else t)
     (λ t. either (λ (u : Process). u.number ≡ t.number) (test t) (end_by e t) t (same_end e t) refl) low top ts p
 
-pub where_kept : (test : Process → Bool) (e : End) (old new : List Process) (top : ℕ) → new ≡ end_where test e old → IsTrue (ascends 0 old top) → IsTrue (ascends 0 new top)
+pub where_kept : (test : Process → Bool) (e : End) (old new : List Process) (top : ℕ) → new ≡ end_where test e old
+    → IsTrue (ascends 0 old top) → IsTrue (ascends 0 new top)
 where_kept test e old new top same h = rw same (from_order 0 (end_where test e old) top (where_ordered test e 0 top old (to_order 0 old top h)))
 
-pub next_kept : (old new : List Process) (u : Process) (top : ℕ) → new ≡ old ++ u ∷ [] → u.number ≡ top + 1 → IsTrue (ascends 0 old top) → IsTrue (ascends 0 new (top + 1))
+pub next_kept : (old new : List Process) (u : Process) (top : ℕ) → new ≡ old ++ u ∷ [] → u.number ≡ top + 1
+    → IsTrue (ascends 0 old top) → IsTrue (ascends 0 new (top + 1))
 next_kept old new u top same next h = rw same (from_order 0 (old ++ u ∷ []) (top + 1) (one_more 0 top old u next (to_order 0 old top h)))
 
 number_by : (t u : Process) (b : Bool) → (u.number == t.group) ≡ b → (if b then renewed t else u).number ≡ u.number
@@ -82,8 +89,8 @@ loaded_ordered : (for_all : Bool) (q : List Insn) (t : Process) (ps : Processes)
 loaded_ordered for_all q t ps p =
     same_map _ (λ u. either (λ (v : Process). v.number ≡ u.number) (takes for_all t u) _ u refl refl) 0 ps.made ps.tasks p
 
-ends_ordered : SurvivesEnds InOrder
-ends_ordered test e ps p = where_ordered test e 0 ps.made ps.tasks p
+ends_ordered : SurvivesStops InOrder
+ends_ordered = stops_too InOrder (λ test e ps p. where_ordered test e 0 ps.made ps.tasks p)
 
 -- Whatever a task presents, tasks stay in the order of their numbers,
 pub stays_in_order : (n : ℕ) (r : Record) (a : Attached) (ps : Processes) → InOrder ps → InOrder (presented n r a ps).1
@@ -106,7 +113,8 @@ above low top (t ∷ ts) p = (p.0, higher ts (above t.number top ts p.1))
   where
     higher : (us : List Process) → Each (λ u. t.number < u.number) us → Each (λ u. low < u.number) us
     higher [] q = tt
-    higher (u ∷ us) q = let first : low < t.number = p.0 in let next : t.number < u.number = q.0 in let both : low < u.number = omega arith in (both, higher us q.1)
+    higher (u ∷ us) q = let first : low < t.number = p.0 in let next : t.number < u.number = q.0 in
+        let both : low < u.number = omega arith in (both, higher us q.1)
 
 -- the one that is found has no greater number than any other that meets the test
 abbrev pub IsLeast : (Process → Bool) → Process → List Process → Type 0
@@ -129,13 +137,16 @@ least_by test t u ts true h p rest e =
 least_by test t u ts false h p rest e =
     ((λ m. let bad : true ≡ false = sym m ∙ h in absurd (cc)), rest (rw h at e))
 
-pub first_is_least : (test : Process → Bool) (low top : ℕ) (ts : List Process) (u : Process) → Ascends low ts top → find test ts ≡ Some u → IsLeast test u ts
+pub first_is_least : (test : Process → Bool) (low top : ℕ) (ts : List Process) (u : Process)
+    → Ascends low ts top → find test ts ≡ Some u → IsLeast test u ts
 first_is_least test low top [] u p e = tt
-first_is_least test low top (t ∷ ts) u p e = least_by test t u ts (test t) refl (above t.number top ts p.1) (first_is_least test t.number top ts u p.1) e
+first_is_least test low top (t
+    ∷ ts) u p e = least_by test t u ts (test t) refl (above t.number top ts p.1) (first_is_least test t.number top ts u p.1) e
 
 pub numbers_ascend : NumbersAscend
 numbers_ascend = record {
   begin = λ native judge. refl;
-  event = λ n r a ps h. let q = presented n r a ps in from_order 0 q.1.tasks q.1.made (stays_in_order n r a ps (to_order 0 ps.tasks ps.made h));
+  event = λ n r a ps h. let q = presented n r a ps in
+      from_order 0 q.1.tasks q.1.made (stays_in_order n r a ps (to_order 0 ps.tasks ps.made h));
   signal = λ sig ps h. from_order 0 (signalled sig ps).tasks (signalled sig ps).made (signal_ordered sig ps (to_order 0 ps.tasks ps.made h));
 }

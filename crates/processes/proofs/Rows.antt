@@ -123,7 +123,8 @@ error_2 = Some (6 ∷ 0 ∷ 0 ∷ 0 ∷ 2 ∷ 0 ∷ 5 ∷ 0 ∷ [])
 abbrev pub plain : ℕ → List ℕ → Line
 plain n name = (n, call X86_64 name 0 0, None)
 
-threads : (answers ((1, call X86_64 (codes "clone") 0x10000 0, None) ∷ (2, call X86_64 (codes "getpid") 0 0, None) ∷ (2, call X86_64 (codes "gettid") 0 0, None) ∷ []) started).0 ≡ Done 2 ∷ Done 1 ∷ Done 2 ∷ []
+threads : (answers ((1, call X86_64 (codes "clone") 0x10000 0, None) ∷ (2, call X86_64 (codes "getpid") 0 0, None)
+    ∷ (2, call X86_64 (codes "gettid") 0 0, None) ∷ []) started).0 ≡ Done 2 ∷ Done 1 ∷ Done 2 ∷ []
 unfolding x86_64_table strictest_of operation_of is_accepted
 threads = refl
 

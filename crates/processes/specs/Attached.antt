@@ -75,6 +75,11 @@ abbrev pub attached_of : Option (List ℕ) → Attached
 attached_of None = NoBytes
 attached_of (Some bytes) = if is_filter bytes then Taken (insns_of bytes) else Refused
 
+abbrev pub is_taken : Attached → Bool
+is_taken NoBytes = false
+is_taken Refused = false
+is_taken (Taken program) = true
+
 -- the test is true exactly where the kernel accepts the program
 abbrev pub TestIsRight : Type 0
 TestIsRight = (p : List Insn) → IsTrue (is_accepted p) ↔ IsAccepted p

@@ -17,7 +17,7 @@ use Rattle.processes.specs.declared.row.Row.{Row}
 use Rattle.processes.specs.declared.row.Row.TheVariants.{NewTask, NewThread, Execve, Exit, ExitGroup, Kill, GetPid, GetTid}
 use Rattle.processes.specs.declared.row.Row.TheVariants.{GetParent, Load, NoLoad, Plain, Missing}
 use Rattle.processes.specs.Calls as calls
-use Rattle.processes.specs.Attached.{Attached}
+use Rattle.processes.specs.Attached.{Attached, is_taken}
 use Rattle.processes.specs.Attached.Attached.{NoBytes, Refused, Taken}
 use Rattle.processes.specs.Tasks.{program_judge, Process, Processes, is_live, is_task, is_in_group, live_task, group_lives}
 use Rattle.processes.specs.Tasks.{end_where, with_tasks, ended}
@@ -62,9 +62,12 @@ abbrev pub with_next : (ℕ → Process) → Processes → Answer
 with_next make ps =
     (Done (ps.made + 1), record ps { made = ps.made + 1; tasks = ps.tasks ++ make (ps.made + 1) ∷ [] })
 
--- where fewer than 1024 were made
+-- fewer than 1024 were made
+abbrev pub has_room : Processes → Bool
+has_room ps = nat_lt ps.made 1024
+
 abbrev pub with_new : (ℕ → Process) → Processes → Answer
-with_new make ps = if nat_lt ps.made 1024 then with_next make ps else (Failed eagain, ps)
+with_new make ps = if has_room ps then with_next make ps else (Failed eagain, ps)
 
 -- A new image: the other tasks of the group end by signal 9, and the caller goes on as the task that
 -- has the group's number.
@@ -192,18 +195,17 @@ presented_by (Some t) r a ps = judged (verdict_on r t) t r a ps
 abbrev pub presented : ℕ → Record → Attached → Processes → Answer
 presented n r a ps = presented_by (live_task n ps.tasks) r a ps
 
--- rows for which the kernel may take memory
-abbrev pub may_grow : Row → Bool
-may_grow NewTask = true
-may_grow NewThread = true
-may_grow (Load for_all) = true
-may_grow NoLoad = true
-may_grow row = false
+-- calls for which the kernel may take memory: a new task where there is room for it, and a load of bytes that are taken
+abbrev pub may_grow : Row → Attached → Processes → Bool
+may_grow NewTask a ps = has_room ps
+may_grow NewThread a ps = has_room ps
+may_grow (Load for_all) a ps = is_taken a
+may_grow row a ps = false
 
 -- the verdict let a call through for which the kernel may take memory
-abbrev pub grows_by : Option Process → Record → Processes → Bool
-grows_by None r ps = false
-grows_by (Some t) r ps = is_through (verdict_on r t) && may_grow (calls.row_of ps.native r)
+abbrev pub grows_by : Option Process → Record → Attached → Processes → Bool
+grows_by None r a ps = false
+grows_by (Some t) r a ps = is_through (verdict_on r t) && may_grow (calls.row_of ps.native r) a ps
 
-abbrev pub can_grow : ℕ → Record → Processes → Bool
-can_grow n r ps = grows_by (live_task n ps.tasks) r ps
+abbrev pub can_grow : ℕ → Record → Attached → Processes → Bool
+can_grow n r a ps = grows_by (live_task n ps.tasks) r a ps

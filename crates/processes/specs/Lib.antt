@@ -2,6 +2,7 @@ pub mod Ids
 pub mod Tasks
 pub mod Calls
 pub mod Stores
+pub mod Kept
 pub mod Attached
 pub mod Kernel
 pub mod Begin

@@ -1,12 +1,17 @@
 -- What a store of filters says of the filters that a handle stands for.
 use Rattle.std.specs.Prelude.{ℕ, ◌+◌, Bool, true, false, List, [], ◌∷◌, map, sum_by}
+use Rattle.std.specs.List.{list_all}
 use Rattle.bpf_insn.specs.declared.instruction.Insn.{Insn}
-use Rattle.processes.specs.Tasks.{Filter, program_judge}
+use Rattle.processes.specs.Tasks.{Filter, Process, program_judge}
 
 -- there is a filter
 abbrev pub has_filter : List Filter → Bool
 has_filter [] = false
 has_filter (f ∷ fs) = true
+
+-- every task has a filter
+abbrev pub is_rooted : List Process → Bool
+is_rooted tasks = list_all (λ t. has_filter t.filters) tasks
 
 -- the count of each with 4 more, in instructions: for how many they count beside a further filter
 abbrev pub size_beside : List Filter → ℕ

@@ -31,9 +31,9 @@ abbrev pub present_in : ℕ → Record → Attached → Option Processes → Out
 present_in n r a None = (NoTask, None)
 present_in n r a (Some ps) = let p = presented n r a ps in (p.0, Some p.1)
 
-abbrev pub can_grow_in : ℕ → Record → Option Processes → Bool
-can_grow_in n r None = false
-can_grow_in n r (Some ps) = can_grow n r ps
+abbrev pub can_grow_in : ℕ → Record → Attached → Option Processes → Bool
+can_grow_in n r a None = false
+can_grow_in n r a (Some ps) = can_grow n r a ps
 
 -- a task of group 1 lives in it
 abbrev pub lives_in : Option Processes → Bool

@@ -1,4 +1,4 @@
 -- Mirrors of private code.
 pub mod Loads
 pub mod Table
-pub mod Containers
+pub mod Numbers

@@ -1,7 +1,8 @@
 //! One container: its tasks, and how they come to be and end.
 ghost use Rattle.std.specs.Prelude.{◌≡◌, IsTrue};
 ghost use Rattle.processes.specs.Tasks.{ascends};
-ghost use Rattle.processes.specs.inner.Table.{all_of, is_rooted};
+ghost use Rattle.processes.specs.Kept.{all_of};
+ghost use Rattle.processes.specs.Stores.{is_rooted};
 
 use crate::errno::{EAGAIN, EINVAL, ESRCH};
 use crate::outcome::{End, Outcome, TaskView};
@@ -33,12 +34,13 @@ impl<S: Store> Container<S> {
     ghost use Rattle.std.specs.Prelude.{◌<◌, Some, None, IfOk, OnErr, slice_get, true, vec_len};
     ghost use Rattle.kernel_check.specs.Lent.{accepted_insns};
     ghost use Rattle.processes.specs.declared.task.Task.{Task as Kept};
-    ghost use Rattle.processes.specs.Kernel.{cloned, forked, killed, signalled, with_new, with_next};
+    ghost use Rattle.processes.specs.Kernel.{cloned, forked, has_room, killed, signalled, with_new, with_next};
     ghost use Rattle.processes.specs.Stores.{has_filter};
     ghost use Rattle.processes.specs.Tasks.{admitted, ended, lives, program_judge};
     ghost use Rattle.processes.specs.Views.{view_of_task};
-    ghost use Rattle.processes.specs.inner.Containers.{processes_of};
-    ghost use Rattle.processes.specs.inner.Table.{is_meant, process_of};
+    ghost use Rattle.processes.specs.Table.{processes_of};
+    ghost use Rattle.processes.specs.Kept.{process_of};
+    ghost use Rattle.processes.specs.inner.Table.{is_meant};
 
     /// A container with task 1 alone, and this program as its only filter.
     pub(crate) fn begun(
@@ -118,6 +120,7 @@ impl<S: Store> Container<S> {
         ensures ok { IfOk result (λ o. (t : Kept S.Handle) → slice_get self.old.tasks.items at ≡ Some t
             → (o, processes_of self.new) ≡ with_new (forked (process_of (S.filters_of self.old.store) t)) (processes_of self.old)) }
         ensures err { OnErr result (processes_of self.new ≡ processes_of self.old) }
+        ensures growth { OnErr result (has_room (processes_of self.old) ≡ true) }
     {
         if self.made >= MOST_TASKS {
             return Ok(Outcome::Failed(EAGAIN));
@@ -134,6 +137,7 @@ impl<S: Store> Container<S> {
         ensures ok { IfOk result (λ o. (t : Kept S.Handle) → slice_get self.old.tasks.items at ≡ Some t
             → (o, processes_of self.new) ≡ with_new (cloned (process_of (S.filters_of self.old.store) t)) (processes_of self.old)) }
         ensures err { OnErr result (processes_of self.new ≡ processes_of self.old) }
+        ensures growth { OnErr result (has_room (processes_of self.old) ≡ true) }
     {
         if self.made >= MOST_TASKS {
             return Ok(Outcome::Failed(EAGAIN));

@@ -3,7 +3,8 @@ ghost use Rattle.std.specs.Prelude.{ℕ, ◌≡◌, ◌<◌, IsTrue, List, Some,
 ghost use Rattle.processes.specs.declared.task.Task.{Task as Kept};
 ghost use Rattle.processes.specs.Kernel.{renewed, take_over};
 ghost use Rattle.processes.specs.Tasks.{Filter, ascends};
-ghost use Rattle.processes.specs.inner.Table.{all_of, bare_of, process_of};
+ghost use Rattle.processes.specs.Kept.{all_of, process_of};
+ghost use Rattle.processes.specs.inner.Table.{bare_of};
 
 use crate::container::Container;
 use crate::outcome::End;
@@ -44,8 +45,8 @@ impl<S: Store> Container<S> {
     ghost use Rattle.processes.specs.declared.task.Task.{Task as Kept};
     ghost use Rattle.processes.specs.Kernel.{executed};
     ghost use Rattle.processes.specs.Tasks.{with_tasks};
-    ghost use Rattle.processes.specs.inner.Containers.{processes_of};
-    ghost use Rattle.processes.specs.inner.Table.{process_of};
+    ghost use Rattle.processes.specs.Table.{processes_of};
+    ghost use Rattle.processes.specs.Kept.{process_of};
 
     /// A new image for the task at a place. The other live tasks of its group end.
     pub(crate) fn execute(&mut self, at: usize)

@@ -27,8 +27,8 @@ pub trait Kernel {
 
     /// A task presents a record, perhaps with a program attached.
     ///
-    /// Memory is taken only for a call that makes a task or may load a filter, and that the task's
-    /// filters let through.
+    /// Memory is taken only for a call that the task's filters let through and that makes a task, or loads a program
+    /// that the kernel accepts.
     fn present(
         &mut self,
         id: &Id,
@@ -42,7 +42,8 @@ pub trait Kernel {
             OnOk result (SetAt (processes self.old) (processes self.new) id.now
             (present_in task rec.now given (processes self.old id.now)).1) }
         ensures err { OnErr result (Same (processes self.old) (processes self.new)) }
-        ensures growth { OnErr result (can_grow_in task rec.now (processes self.old id.now) ≡ true) };
+        ensures growth { let given = attached_of (option_map (λ a. a.now) attached.entry) in
+            OnErr result (can_grow_in task rec.now given (processes self.old id.now) ≡ true) };
 
     /// A signal from outside to all tasks of group 1, of which one lives.
     fn signal(&mut self, id: &Id, sig: u64)

@@ -1,6 +1,7 @@
 //! The modelled kernel: the tasks of each container, and what a call does to them.
 #![tactic(auto)]
 
+mod calls;
 mod container;
 mod errno;
 mod filters;
@@ -22,7 +23,8 @@ pub use filters::OwnLists;
 pub use id::Id;
 pub use kernel::Kernel;
 pub use law::{
-    attached_programs_are_checked, first_filter_stays, none_outlives_group_1, numbers_ascend,
+    attached_programs_are_checked, first_filter_stays, groups_stay_led, none_outlives_group_1,
+    numbers_ascend,
 };
 pub use outcome::{End, Outcome, TaskView};
 pub use store::Store;

@@ -5,7 +5,8 @@ ghost use Rattle.processes.specs.Attached.{attached_of};
 ghost use Rattle.processes.specs.Attached.Attached.{Refused, Taken};
 ghost use Rattle.processes.specs.Kernel.{conflicts};
 ghost use Rattle.processes.specs.Tasks.{Filter, is_live};
-ghost use Rattle.processes.specs.inner.Table.{all_of, bare_of, given, is_taker, process_of};
+ghost use Rattle.processes.specs.Kept.{all_of, process_of};
+ghost use Rattle.processes.specs.inner.Table.{bare_of, given, is_taker};
 
 use crate::container::Container;
 use crate::errno::{EFAULT, EINVAL, ENOMEM};
@@ -112,16 +113,17 @@ fn give_all<H: Drop>(tasks: &mut Vec<Task<H>>, takers: Which, handles: Vec<H>)
 }
 
 impl<S: Store> Container<S> {
-    ghost use Rattle.std.specs.Prelude.{◌≡◌, ◌+◌, ◌-◌, ◌^◌, ◌<◌, ◌≤◌, Bool, Some, IfOk, OnErr, length, option_map, slice_get, vec_len};
+    ghost use Rattle.std.specs.Prelude.{◌≡◌, ◌+◌, ◌-◌, ◌^◌, ◌<◌, ◌≤◌, Bool, Some, IfOk, OnErr, length, option_map, slice_get, true, vec_len};
     ghost use Rattle.kernel_check.specs.Lent.{accepted_insns};
-    ghost use Rattle.processes.specs.Attached.{attached_of};
+    ghost use Rattle.processes.specs.Attached.{attached_of, is_taken};
     ghost use Rattle.processes.specs.Attached.Attached.{Taken};
     ghost use Rattle.processes.specs.Tasks.{Process};
     ghost use Rattle.processes.specs.Stores.{size_beside};
     ghost use Rattle.processes.specs.declared.task.Task.{Task as One};
     ghost use Rattle.processes.specs.Kernel.{load, takes, with_filter};
-    ghost use Rattle.processes.specs.inner.Containers.{processes_of};
-    ghost use Rattle.processes.specs.inner.Table.{is_taker, process_of};
+    ghost use Rattle.processes.specs.Table.{processes_of};
+    ghost use Rattle.processes.specs.Kept.{process_of};
+    ghost use Rattle.processes.specs.inner.Table.{is_taker};
 
     // The next load: a further filter for the task at a place, or for all live tasks of its group.
     fn add_filter(
@@ -195,6 +197,8 @@ impl<S: Store> Container<S> {
             IfOk result (λ o. (t : One S.Handle) → slice_get self.old.tasks.items at ≡ Some t
             → (o, processes_of self.new) ≡ load for_all (process_of (S.filters_of self.old.store) t) given (processes_of self.old)) }
         ensures err { OnErr result (processes_of self.new ≡ processes_of self.old) }
+        ensures growth { let given = attached_of (option_map (λ a. a.now) attached.entry) in
+            OnErr result (is_taken given ≡ true) }
     {
         let Some(bytes) = attached else {
             return Ok(Outcome::Failed(EFAULT));

@@ -15,8 +15,8 @@ impl<S: Store> Container<S> {
     ghost use Rattle.processes.specs.Calls.{row_of};
     ghost use Rattle.processes.specs.declared.task.Task.{Task as One};
     ghost use Rattle.processes.specs.Kernel.{can_grow, carried_out, ended_by_verdict, may_grow, presented};
-    ghost use Rattle.processes.specs.inner.Containers.{processes_of};
-    ghost use Rattle.processes.specs.inner.Table.{process_of};
+    ghost use Rattle.processes.specs.Table.{processes_of};
+    ghost use Rattle.processes.specs.Kept.{process_of};
 
     // A call of the task at a place that the verdict let through.
     fn carry_out(
@@ -32,7 +32,8 @@ impl<S: Store> Container<S> {
             → (o, processes_of self.new) ≡ carried_out (row_of self.old.native rec.now)
             (process_of (S.filters_of self.old.store) t) rec.now given (processes_of self.old)) }
         ensures err { OnErr result (processes_of self.new ≡ processes_of self.old) }
-        ensures growth { OnErr result (may_grow (row_of self.old.native rec.now) ≡ true) }
+        ensures growth { let given = attached_of (option_map (λ a. a.now) attached.entry) in
+            OnErr result (may_grow (row_of self.old.native rec.now) given (processes_of self.old) ≡ true) }
     {
         let caller = &self.tasks[at];
         let (number, group, parent) = (caller.number, caller.group, caller.parent);
@@ -91,7 +92,8 @@ impl<S: Store> Container<S> {
             IfOk result (λ o. (o, processes_of self.new)
             ≡ presented task rec.now given (processes_of self.old)) }
         ensures err { OnErr result (processes_of self.new ≡ processes_of self.old) }
-        ensures growth { OnErr result (can_grow task rec.now (processes_of self.old) ≡ true) }
+        ensures growth { let given = attached_of (option_map (λ a. a.now) attached.entry) in
+            OnErr result (can_grow task rec.now given (processes_of self.old) ≡ true) }
     {
         let Some(at) = live_index(&self.tasks, task) else {
             return Ok(Outcome::NoTask);

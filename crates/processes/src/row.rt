@@ -1,7 +1,8 @@
 //! The rows of the table of calls: what the kernel knows of a record before any task is looked at.
-ghost use Rattle.std.specs.Prelude.{◌≡◌, option_copied};
-ghost use Rattle.processes.specs.Calls.{call_beside, entries, named_calls, prctl_row, row_by, row_of, seccomp_row};
+ghost use Rattle.std.specs.Prelude.{◌≡◌};
+ghost use Rattle.processes.specs.Calls.{prctl_row, row_by, row_of, seccomp_row};
 
+use crate::calls::Call;
 use crate::flags::FilterFlags;
 use bitflags::Flags;
 use call_record::Record;
@@ -18,54 +19,6 @@ const PR_SET_SECCOMP: u64 = 22;
 
 // What seccomp is to do: filter.
 const MODE_FILTER: u64 = 2;
-
-/// The calls that the kernel tells from one another.
-#[derive(Clone, Copy)]
-pub enum Call {
-    /// fork and vfork.
-    Fork,
-    /// clone.
-    Clone,
-    /// execve.
-    Execve,
-    /// exit.
-    Exit,
-    /// exit_group.
-    ExitGroup,
-    /// kill.
-    Kill,
-    /// getpid.
-    GetPid,
-    /// gettid.
-    GetTid,
-    /// getppid.
-    GetParent,
-    /// seccomp.
-    Seccomp,
-    /// prctl.
-    Prctl,
-    /// A call that the kernel lacks, though the machine's table has it.
-    Lacking,
-    /// Any other call that the machine has.
-    Plain,
-}
-
-/// The names of these calls.
-pub(crate) const NAMED: &[(&str, Call)] = &[
-    ("fork", Call::Fork),
-    ("vfork", Call::Fork),
-    ("clone", Call::Clone),
-    ("execve", Call::Execve),
-    ("exit", Call::Exit),
-    ("exit_group", Call::ExitGroup),
-    ("kill", Call::Kill),
-    ("getpid", Call::GetPid),
-    ("gettid", Call::GetTid),
-    ("getppid", Call::GetParent),
-    ("seccomp", Call::Seccomp),
-    ("prctl", Call::Prctl),
-    ("clone3", Call::Lacking),
-];
 
 /// A row of the table of calls.
 #[derive(Clone, Copy)]
@@ -99,26 +52,6 @@ pub enum Row {
     Plain,
     /// The kernel has no such call.
     Missing,
-}
-
-// The call beside the first such name.
-fn find_call(mut table: &[(&str, Call)], name: &str) -> Call
-    ensures { result ≡ call_beside (entries table.entry.now) name.now }
-{
-    while let [entry, rest @ ..] = table {
-        if entry.0 == name {
-            return entry.1;
-        }
-        table = rest;
-    }
-    Call::Plain
-}
-
-// The call of this name.
-fn call_named(name: &str) -> Call
-    ensures { result ≡ call_beside named_calls name.now }
-{
-    find_call(NAMED, name)
 }
 
 // The row of a seccomp call.
@@ -183,8 +116,8 @@ pub(crate) fn row_of(native: Arch, rec: &Record) -> Row
     if rec.arch != native.token() {
         return Row::Missing;
     }
-    match native.name(rec.nr) {
-        None => Row::Missing,
-        Some(name) => row_by(call_named(name), rec),
+    if native.name(rec.nr).is_none() {
+        return Row::Missing;
     }
+    row_by(Call::numbered(native, rec.nr), rec)
 }

@@ -1,7 +1,8 @@
 //! One task.
 ghost use Rattle.std.specs.Prelude.{◌≡◌, List};
 ghost use Rattle.processes.specs.Tasks.{Filter, end_by, is_live};
-ghost use Rattle.processes.specs.inner.Table.{bare_of, process_of};
+ghost use Rattle.processes.specs.Kept.{process_of};
+ghost use Rattle.processes.specs.inner.Table.{bare_of};
 
 use crate::outcome::End;
 

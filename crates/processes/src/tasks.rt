@@ -2,7 +2,8 @@
 ghost use Rattle.std.specs.Prelude.{◌≡◌, ◌==◌, ◌&&◌, ◌<◌, IfSome, List, find, if◌then◌else◌, length, option_and_then, option_map, position, slice_get};
 ghost use Rattle.std.specs.List.{list_any};
 ghost use Rattle.processes.specs.Tasks.{Filter, end_by, end_where, group_lives, is_in_group, is_live, is_task, live_task};
-ghost use Rattle.processes.specs.inner.Table.{all_of, bare_of, is_meant, process_of};
+ghost use Rattle.processes.specs.Kept.{all_of, process_of};
+ghost use Rattle.processes.specs.inner.Table.{bare_of, is_meant};
 
 use crate::outcome::End;
 use crate::task::{Task, end_by, is_live};

@@ -1,6 +1,7 @@
 -- Why a bundle is refused, and how it is told.
 use Rattle.std.specs.Prelude.{ℕ, List, [], ◌++◌, Option, Some, None, codes}
 use Rattle.std.specs.Fmt.{decimal}
+use Rattle.texts.specs.Labels.{label_text}
 use Rattle.profile_json.specs.declared.fault.ProfileError.{ProfileError}
 use Rattle.profile_json.specs.declared.fault.ProfileError.TheVariants as e
 use Rattle.profile_json.specs.CallName.{printed}
@@ -98,4 +99,4 @@ details_of e.OutOfMemory = []
 
 -- the text that says it
 abbrev pub text_of : ProfileError → List ℕ
-text_of error = decimal (label_of error).0 ++ codes " " ++ (label_of error).1 ++ details_of error
+text_of error = label_text (label_of error) ++ details_of error

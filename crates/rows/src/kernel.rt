@@ -23,9 +23,9 @@ pub mod bench;
 pub mod direct;
 pub mod orders;
 pub mod repeats;
+pub mod replies;
 pub mod running;
 pub mod scripts;
-pub mod texts;
 
 use crate::kernel::bench::{Bench, made_of};
 use crate::kernel::direct::tell_kernel;

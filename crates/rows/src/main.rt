@@ -1,12 +1,13 @@
-//! Worked examples of the crates and of the program, read from files and printed with their answers.
+//! Worked examples of the crates and of the program, read from files that hold their answers, which are compared with those
+//! that come.
 //!
-//! The files stand in `data/`. The file `stdout` has the same lines with the answers that the rules give, written by
-//! hand or worked out apart from this program, and the gate compares the two: who adds a line to a file adds it there too,
-//! with its answer.
+//! The files stand in `data/`. Right under a line that asks stand its answers, each on a line `= ANSWER`: those that the
+//! rules give, written by hand or worked out apart from this program. The words after the program's name are names of
+//! files. Of each is told how many of its answers are as expected, and above that line each other answer with its place,
+//! beside the one that was wanted (src/answers.rt). The file `stdout` has the counts, and the gate compares the two.
 //!
-//! The words after the program's name are names of files. Each line of a file is printed as it stands. What is asked
-//! by it is answered on the lines after it, which begin by four spaces. A file whose name ends in `.blocks` has blocks for
-//! the kernel (src/kernel.rt). In a file whose name ends in `.rows` a line is one of these.
+//! A file whose name ends in `.blocks` has blocks for the kernel (src/kernel.rt). In a file whose name ends in `.rows` a
+//! line is an answer or one of these.
 //!
 //! - An empty line, or one that begins with `#`: nothing is asked.
 //!
@@ -56,11 +57,13 @@
 //! - `certify MACHINE BUNDLE FILTER` asks for the evidence on a filter: a certificate, and what the check says of it, or
 //!   the line of a call record on which filter and bundle differ, or why there is neither.
 //! - `nodes FILE` reads a certificate: how many nodes it has, or its fault. `written FILE OTHER` and `chained FILE
-//!   OTHER` write its nodes, as a list or with a chain for each node's literals, and say whether these are OTHER's bytes.
+//!   OTHER` write its nodes, as a list or with a chain for each node's literals, and say whether these are OTHER's bytes;
+//!   `claimed FILE OTHER` the same in form 4, with the rules that are out and the conditions that are met behind a node's
+//!   literals.
 //! - `long-chain COUNT` reads a certificate of one node with a chain of so many literals.
 //! - `nodes-flipped FILE` reads a certificate with each of its bits flipped alone, and counts the answers.
 //! - `made-up SEED COUNT` draws so many small profiles and filters of up to eight instructions, makes eight certificates of
-//!   each accepted one by changing its nodes, in all forms, and counts the answers. Where one is yes, the filter is run on a
+//!   each accepted one by changing its nodes, in forms 1 to 3, and counts the answers. Where one is yes, the filter is run on a
 //!   grid of records, and its words are compared with the profile's.
 //! - `check-beginnings`, `check-flipped-filter`, `check-flipped-certificate` and then `MACHINE BUNDLE FILTER CERTIFICATE`
 //!   run the check with each beginning of the certificate, or with each bit of the filter or certificate flipped alone.
@@ -70,6 +73,7 @@
 //! In a text `\n` is a line feed, `\r` a carriage return, and `<3 TEXT>` three times TEXT, in which `@` counts from 0.
 #![tactic(auto)]
 
+mod answers;
 mod bundles;
 mod bytes;
 mod calls;
@@ -98,6 +102,7 @@ mod tell;
 mod text;
 mod verdicts;
 
+use crate::answers::{compared, questions};
 use crate::bundles::Bundles;
 use crate::filters::Filters;
 use crate::input::{input_rows, is_input};
@@ -178,7 +183,7 @@ fn lines_of(alloc: Global, text: &str) -> Result<Vec<&str>> {
     Ok(lines)
 }
 
-// The lines of a file with their answers. Rows of standard input are printed with the session above them.
+// The questions of a file, each with the answers that come. Rows of standard input are told with the session above them.
 fn answered(alloc: Global, text: &str) -> Result<String> {
     let mut out = String::new(alloc);
     let mut bench = Bench::new(alloc);
@@ -197,6 +202,17 @@ fn answered(alloc: Global, text: &str) -> Result<String> {
     Ok(out)
 }
 
+// How many answers of a file are as expected, after those that are not.
+fn judged(alloc: Global, name: &str, file: &str) -> Result<String> {
+    let asked = questions(alloc, file)?;
+    let answers = if name.ends_with(".blocks") {
+        kernel::answered(alloc, asked.as_str())?
+    } else {
+        answered(alloc, asked.as_str())?
+    };
+    compared(alloc, name, file, answers.as_str())
+}
+
 fn main(rt: HostRuntime) -> Result<()> {
     let mut words = env::args(&rt)?.skip(1).peekable();
     if words.next_if(|word| word.as_str() == "growths").is_some() {
@@ -212,13 +228,8 @@ fn main(rt: HostRuntime) -> Result<()> {
         return growths::forks(&rt, words.next(), words.next(), words.next());
     }
     for name in words {
-        let text = fs::read_to_string(&rt, name.as_str())?;
-        let answers = if name.ends_with(".blocks") {
-            kernel::answered(rt.alloc(), text.as_str())?
-        } else {
-            answered(rt.alloc(), text.as_str())?
-        };
-        rt.print(answers)?;
+        let file = fs::read_to_string(&rt, name.as_str())?;
+        rt.print(judged(rt.alloc(), name.as_str(), file.as_str())?)?;
     }
     Ok(())
 }

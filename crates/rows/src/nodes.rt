@@ -7,7 +7,9 @@ use crate::tally::Tally;
 use crate::tell::tell;
 use crate::text::narrow;
 use anyhow::{Context, Result};
-use cert_form::{CertView, ChainNode, Kind, Node, NodeView, write, write_chained};
+use cert_form::{
+    CertView, ChainNode, Claim, Kind, Node, NodeView, write, write_chained, write_claims,
+};
 use cert_state::{AVal, Lit, Regs, State};
 use std::alloc::Global;
 
@@ -30,6 +32,11 @@ pub fn answer(
         "chained" => {
             let (name, other) = rest.split_once(' ').context("two files")?;
             let written = chained(alloc, &nodes_of(alloc, shelf.bytes_of(name)?)?)?;
+            tell_alike(out, alloc, &written, shelf.bytes_of(other)?)?;
+        }
+        "claimed" => {
+            let (name, other) = rest.split_once(' ').context("two files")?;
+            let written = claimed(alloc, shelf.bytes_of(name)?)?;
             tell_alike(out, alloc, &written, shelf.bytes_of(other)?)?;
         }
         "long-chain" => tell_long(out, alloc, rest)?,
@@ -139,4 +146,66 @@ fn add_chain(entries: &mut Vec<(u32, Lit)>, lits: &[Lit]) -> Result<u32> {
         parent = u32::try_from(entries.len())?;
     }
     Ok(parent)
+}
+
+// The rules that a node says to be out, of which there are 512 at most.
+fn outs_of(alloc: Global, node: &NodeView<'_>) -> Result<Vec<u32>> {
+    let mut outs = Vec::new(alloc);
+    let mut at = node.first_out();
+    for _ in 0..512 {
+        let Some((place, next)) = node.next_out(at) else {
+            break;
+        };
+        outs.push(place)?;
+        at = next;
+    }
+    Ok(outs)
+}
+
+// The conditions that a node says to be met, of which there are 512 at most.
+fn mets_of(alloc: Global, node: &NodeView<'_>) -> Result<Vec<(u32, u32)>> {
+    let mut mets = Vec::new(alloc);
+    let mut at = node.first_met();
+    for _ in 0..512 {
+        let Some((place, next)) = node.next_met(at) else {
+            break;
+        };
+        mets.push(place)?;
+        at = next;
+    }
+    Ok(mets)
+}
+
+// The nodes of a certificate, written in form 4 with a chain for what each node says: its literals, then the rules that
+// are out, then the conditions that are met.
+fn claimed(alloc: Global, bytes: &[u8]) -> Result<Vec<u8>> {
+    let view = CertView::read(alloc, bytes)?;
+    let mut entries = Vec::new(alloc);
+    let mut nodes = Vec::new(alloc);
+    for i in 0..view.len() {
+        let node = view.node(i);
+        let mut chain = 0;
+        for literal in literals_of(alloc, &node)? {
+            chain = add_claim(&mut entries, chain, Claim::Knows(literal))?;
+        }
+        for place in outs_of(alloc, &node)? {
+            chain = add_claim(&mut entries, chain, Claim::Out(place))?;
+        }
+        for (rule, own) in mets_of(alloc, &node)? {
+            chain = add_claim(&mut entries, chain, Claim::Met(rule, own))?;
+        }
+        nodes.push(ChainNode {
+            kind: node.kind(),
+            pc: node.pc(),
+            regs: node.regs(),
+            chain,
+        })?;
+    }
+    Ok(write_claims(alloc, &entries, &nodes)?)
+}
+
+// Adds an entry behind another, and gives its number.
+fn add_claim(entries: &mut Vec<(u32, Claim)>, parent: u32, claim: Claim) -> Result<u32> {
+    entries.push((parent, claim))?;
+    Ok(u32::try_from(entries.len())?)
 }

@@ -1,11 +1,12 @@
 //! Lines of answers.
 
+use crate::answers::MARK;
 use anyhow::Result;
 use std::fmt::{Display, Write};
 
 /// Adds a line.
 pub fn tell(out: &mut String, answer: impl Display + Drop) -> Result<()> {
-    writeln!(out, "    {answer}")?;
+    writeln!(out, "{MARK}{answer}")?;
     Ok(())
 }
 

@@ -62,9 +62,15 @@ impl Blocks {
         }
     }
 
-    // The block of these rules. Where it would be long, the first half of them is tried before the
-    // second.
+    // The block of these rules. Rules with the word of what is gone on at without them make no
+    // difference. Where the block would be long, the first half of them is tried before the second.
     fn add(&mut self, alloc: Global, rules: &[Open], other: &Leaf) -> Result<Leaf, AllocError> {
+        if rules
+            .iter()
+            .all(|open| other.is_like(&Leaf::Word(open.answer)))
+        {
+            return Ok(*other);
+        }
         let before = self.blocks.len();
         self.room = RANGES.saturating_mul(rules.len().saturating_add(1));
         if let Some(leaf) = self.decide(alloc, rules, other, STEPS)? {

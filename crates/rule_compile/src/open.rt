@@ -9,7 +9,7 @@ use std::alloc::{AllocError, Global};
 /// A question of a rule. Those of one rule stand together.
 #[derive(Clone, Copy, PartialEq, Eq)]
 pub(crate) struct Open {
-    /// Whether it is the first one of its rule.
+    /// Whether the question is the first one of its rule.
     pub(crate) begins: bool,
     /// The word of the rule.
     pub(crate) answer: Word,
@@ -19,7 +19,7 @@ pub(crate) struct Open {
 /// What rules come to.
 #[derive(Drop)]
 pub(crate) enum Rest {
-    /// One of them holds, and this is its word.
+    /// One of the rules holds, and this is its word.
     Met(Word),
     /// What is left to ask of those that may hold.
     Open(Vec<Open>),
@@ -31,7 +31,7 @@ struct Questions {
     open: Vec<Open>,
     /// Where the last rule begins.
     start: usize,
-    /// Whether it does not hold.
+    /// Whether the last rule does not hold.
     failed: bool,
 }
 

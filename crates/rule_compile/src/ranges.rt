@@ -92,7 +92,7 @@ impl Range {
         self.leaf.is_like(&other.leaf)
     }
 
-    /// Whether this is one number.
+    /// Whether the range is one number.
     pub(crate) fn is_single(&self) -> bool
         ensures { IsTrue result ↔ (self.now.first ≡ self.now.last) }
     {

@@ -7,11 +7,12 @@ use Rattle.std.specs.Str.{bytes_eq}
 use Rattle.std.proofs.lemmas.Bool.{both_ways, cond-true}
 use Rattle.std.proofs.lemmas.Option.{none-some, same_Some, some_pair_parts}
 use Rattle.std.proofs.lemmas.Slice.Eq.{bytes_eq-Decides}
+use Rattle.texts.specs.Numbers.{decimal_at}
 use Rattle.script.specs.Numbers.{AreBytes, IsNumber}
 use Rattle.script.specs.Grammar.{AreArguments, AreProgram}
 use Rattle.script.specs.Pairs.{is_paired, spelled_bytes}
-use Rattle.script.specs.inner.Reading.{arguments_at, decimal_at, mark, next_at, number_at, program_at}
-use Rattle.script.proofs.Options.{bind_some, map_some, tested}
+use Rattle.script.specs.inner.Reading.{arguments_at, mark, next_at, number_at, program_at}
+use Rattle.texts.proofs.Options.{bind_some, map_some, tested}
 use Rattle.script.proofs.NumberLaws.{number_at-is, number_at-some}
 use Rattle.script.proofs.PairLaws.{bytes-paired, paired-bytes, spelled-some}
 

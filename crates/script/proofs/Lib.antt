@@ -1,4 +1,3 @@
-mod Options
 mod Pieces
 mod NumberLaws
 mod PairLaws

@@ -8,11 +8,12 @@ use Rattle.std.proofs.lemmas.Option.{none-some, same_Some}
 use Rattle.std.proofs.lemmas.List.Splits.{join_with_byte-slice_split}
 use Rattle.call_tables.specs.declared.arch.Arch.{Arch}
 use Rattle.script.specs.Orders.{Order}
-use Rattle.script.specs.Grammar.{AreFieldsOf, IsOrder, LineIs, is_field, lacks, max_line, space}
-use Rattle.script.specs.Lines.{LinesAre, line_feed, lines_of}
+use Rattle.script.specs.Grammar.{AreFieldsOf, IsOrder, LineIs, is_field, lacks, max_line}
+use Rattle.script.specs.Lines.{LinesAre, lines_of}
+use Rattle.texts.specs.Lines.{line_feed, space}
 use Rattle.script.specs.Laws.{OneOrder, OneReading}
 use Rattle.script.specs.inner.Reading.{fields_at, fields_from, max_fields, order_at, order_from, pieces}
-use Rattle.script.proofs.Options.{bind_some, tested}
+use Rattle.texts.proofs.Options.{bind_some, tested}
 use Rattle.script.proofs.Pieces.{cut, cut-joined, pieces-lack}
 use Rattle.script.proofs.OrderLaws.{length-fields-le, order_from-is, order_from-some}
 

@@ -1,63 +1,15 @@
 -- A text is read as a number exactly where it is one.
-use Rattle.std.proofs.Common.{◌≡◌, ℕ, ◌<◌, ◌^◌, Bool, true, false, cond, List, ◌++◌, refl, ap, sym, ◌∙◌, inl, inr, subst}
+use Rattle.std.proofs.Common.{◌≡◌, ℕ, ◌<◌, ◌^◌, true, cond, List, ◌++◌, refl, ap, ◌∙◌, inl, inr, subst}
 use Rattle.std.specs.Prelude.{Option, Some, None, nat_lt, codes}
 use Rattle.std.specs.Char.{is_ascii_digit}
-use Rattle.std.specs.Str.Parse.{digits_value}
-use Rattle.std.proofs.lemmas.Bool.{cond-true, lt-ltb, ltb-true}
-use Rattle.std.proofs.lemmas.Option.{same_Some}
-use Rattle.bpf_asm.specs.Digits.{are_digits, has_leading_zero, is_hexadecimal_digit}
-use Rattle.bpf_asm.specs.inner.Reading.{behind}
-use Rattle.bpf_asm.proofs.Splits.{behind_sound}
-use Rattle.script.specs.Numbers.{IsDecimal, IsNumber, IsWritten}
-use Rattle.script.specs.inner.Reading.{decimal_at, hexadecimal_at, marked_number, number_at, number_of, word_at}
-use Rattle.script.proofs.Options.{bind_some, tested}
-
--- a number that is below a bound
-sized : (bound v n : ℕ) → cond {A = Option ℕ} (nat_lt v bound) (Some v) None ≡ Some n → (v ≡ n) × (n < bound)
-sized bound v n h =
-    let t = tested (nat_lt v bound) (Some v) n h in
-    let same : v ≡ n = same_Some v n t.1 in
-    (same, subst (λ m. m < bound) same (ltb-true v bound t.0))
-
-unsized : (bound v n : ℕ) → v ≡ n → n < bound → cond {A = Option ℕ} (nat_lt v bound) (Some v) None ≡ Some n
-unsized bound v n same small =
-    cond-true (nat_lt v bound) (Some v) None (lt-ltb v bound (subst (λ m. m < bound) (sym same) small)) ∙ ap Some same
-
-number_of-some : (radix n : ℕ) (ds : List ℕ) → number_of radix ds ≡ Some n
-    → (has_leading_zero ds ≡ false) × (digits_value radix ds ≡ n) × (n < 2 ^ 64)
-unfolding number_of
-number_of-some radix n ds h = by_zero (has_leading_zero ds) h where
-  by_zero : (z : Bool) → cond {A = Option ℕ} z None (cond (nat_lt (digits_value radix ds) (2 ^ 64)) (Some (digits_value radix ds)) None) ≡ Some n
-      → (z ≡ false) × (digits_value radix ds ≡ n) × (n < 2 ^ 64)
-  by_zero true g = absurd (cc)
-  by_zero false g = let s = sized (2 ^ 64) (digits_value radix ds) n g in (refl, s.0, s.1)
-
-number_of-is : (radix n : ℕ) (ds : List ℕ) → has_leading_zero ds ≡ false → digits_value radix ds ≡ n → n < 2 ^ 64
-    → number_of radix ds ≡ Some n
-unfolding number_of
-number_of-is radix n ds lead value small = rw lead (unsized (2 ^ 64) (digits_value radix ds) n value small)
-
-decimal_at-some : (text : List ℕ) (n : ℕ) → decimal_at text ≡ Some n → (n < 2 ^ 64) × IsDecimal text n
-unfolding decimal_at
-decimal_at-some text n h =
-    let t = tested (are_digits is_ascii_digit text) (number_of 10 text) n h in
-    let v = number_of-some 10 n text t.1 in
-    (v.2, record { digits = t.0; shortest = v.0; value = v.1 })
-
-decimal_at-is : (text : List ℕ) (n : ℕ) → n < 2 ^ 64 → IsDecimal text n → decimal_at text ≡ Some n
-unfolding decimal_at
-decimal_at-is text n small w = rw w.digits (number_of-is 10 n text w.shortest w.value small)
-
-hexadecimal_at-some : (ds : List ℕ) (n : ℕ) → hexadecimal_at ds ≡ Some n → (n < 2 ^ 64) × IsWritten is_hexadecimal_digit 16 ds n
-unfolding hexadecimal_at
-hexadecimal_at-some ds n h =
-    let t = tested (are_digits is_hexadecimal_digit ds) (number_of 16 ds) n h in
-    let v = number_of-some 16 n ds t.1 in
-    (v.2, record { digits = t.0; shortest = v.0; value = v.1 })
-
-hexadecimal_at-is : (ds : List ℕ) (n : ℕ) → n < 2 ^ 64 → IsWritten is_hexadecimal_digit 16 ds n → hexadecimal_at ds ≡ Some n
-unfolding hexadecimal_at
-hexadecimal_at-is ds n small w = rw w.digits (number_of-is 16 n ds w.shortest w.value small)
+use Rattle.texts.specs.Digits.{are_digits}
+use Rattle.texts.specs.Splits.{behind}
+use Rattle.texts.specs.Numbers.{IsDecimal}
+use Rattle.texts.proofs.Splits.{behind_sound}
+use Rattle.texts.proofs.NumberLaws.{decimal_at-is, decimal_at-some, hexadecimal_at-is, hexadecimal_at-some, sized, unsized}
+use Rattle.texts.proofs.Options.{bind_some}
+use Rattle.script.specs.Numbers.{IsNumber}
+use Rattle.script.specs.inner.Reading.{marked_number, number_at, word_at}
 
 pub number_at-some : (text : List ℕ) (n : ℕ) → number_at text ≡ Some n → IsNumber text n
 unfolding number_at

@@ -11,7 +11,7 @@ use Rattle.script.specs.Orders.{Order, Create, Start, Delete, State, Kill, Call}
 use Rattle.script.specs.Grammar.{AreCall, AreFieldsOf}
 use Rattle.script.specs.inner.Reading.{arguments_at, call_at, number_at, order_from, order_of_more, order_of_three, order_of_two}
 use Rattle.script.specs.inner.Reading.{program_at, what_at}
-use Rattle.script.proofs.Options.{bind_some, chosen, map_some, tested}
+use Rattle.texts.proofs.Options.{bind_some, chosen, map_some, tested}
 use Rattle.script.proofs.NumberLaws.{number_at-is, number_at-some}
 use Rattle.script.proofs.WhatLaws.{what_at-is, what_at-some}
 use Rattle.script.proofs.ArgumentLaws.{Given, arguments_at-is, arguments_at-some, length-given-le, length-program-le, program-stops}

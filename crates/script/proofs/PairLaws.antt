@@ -6,7 +6,7 @@ use Rattle.std.specs.List.{list_all}
 use Rattle.std.specs.Char.{digit_value}
 use Rattle.std.proofs.lemmas.Bool.{and_from, and_parts, eq-eqb, eqb-true}
 use Rattle.std.proofs.lemmas.List.{take_all}
-use Rattle.bpf_asm.specs.Digits.{are_digits, is_hexadecimal_digit}
+use Rattle.texts.specs.Digits.{are_digits, is_hexadecimal_digit}
 use Rattle.script.specs.Numbers.{AreBytes}
 use Rattle.script.specs.Pairs.{is_paired, spelled_bytes}
 

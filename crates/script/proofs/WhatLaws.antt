@@ -1,24 +1,24 @@
 -- A text is read as a call exactly where it is one.
 use Rattle.std.proofs.Common.{◌≡◌, ℕ, Bool, true, false, cond, List, [], ◌∷◌, ◌++◌, refl, ap, sym, ◌∙◌, inl, inr, subst}
-use Rattle.std.specs.Prelude.{Option, Some, None, codes}
+use Rattle.std.specs.Prelude.{◌⊎◌, Option, Some, None, codes}
 use Rattle.std.specs.Option.{option_map}
 use Rattle.std.specs.List.{list_all}
 use Rattle.std.specs.Str.{bytes_eq}
 use Rattle.std.proofs.lemmas.Bool.{and_parts}
+use Rattle.std.proofs.lemmas.Option.{same_Some}
 use Rattle.std.proofs.lemmas.Slice.Eq.{bytes_eq-Decides}
 use Rattle.call_tables.specs.declared.arch.Arch.{Arch}
 use Rattle.call_tables.specs.declared.arch.Arch.TheVariants.{X86_64, Aarch64, LinuxX86_64, LinuxAarch64}
 use Rattle.call_tables.specs.declared.arch.Family.{Family}
 use Rattle.call_tables.specs.declared.arch.Family.TheVariants.{Chosen, Whole}
 use Rattle.call_tables.specs.Machines.{aarch64_table, x86_64_table, linux_x86_64_table, linux_aarch64_table}
-use Rattle.call_tables.specs.Arch.{table_of, word_of, family_of, x86_64_of, aarch64_of}
+use Rattle.call_tables.specs.Arch.{table_of, word_of, family_of, machine_called}
 use Rattle.call_tables.specs.Table.{Table, number_in}
-use Rattle.call_tables.proofs.ArchLaws.{family_of-x86_64_of, family_of-aarch64_of}
-use Rattle.bpf_asm.specs.inner.Reading.{behind}
-use Rattle.bpf_asm.proofs.Splits.{behind_sound}
+use Rattle.texts.specs.Splits.{split_at}
+use Rattle.texts.proofs.Options.{bind_some, chosen, map_some, tested}
+use Rattle.texts.proofs.Splits.{split_at_sound}
 use Rattle.script.specs.Grammar.{IsForeign, IsWhat, colon, lacks}
-use Rattle.script.specs.inner.Reading.{◌>>=◌, numbered_at, foreign, foreign_at, native_or, what_at, word_at}
-use Rattle.script.proofs.Options.{map_some}
+use Rattle.script.specs.inner.Reading.{called, foreign_at, native_or, numbered, same_family, what_at, word_at}
 use Rattle.script.proofs.NumberLaws.{word_at-is, word_at-some}
 
 -- No call's name has a colon.
@@ -83,36 +83,40 @@ foreign-some family arch text ds p of spelled h =
     let P : Arch × ℕ → Type 0 = λ q. IsForeign family text q.0 q.1 in
     subst P m.2 (record { digits = ds; of_family = of; spelled = spelled; number = w.0; small = w.1 })
 
--- behind the beginning of its word, where what stands there makes the text a word and a number
-numbered_at-some : (family : Family) (text rest : List ℕ) (p : Arch × ℕ)
-    → ((ds : List ℕ) → rest ≡ codes "x86-64:" ++ ds → text ≡ word_of (x86_64_of family) ++ colon ∷ ds)
-    → ((ds : List ℕ) → rest ≡ codes "aarch64:" ++ ds → text ≡ word_of (aarch64_of family) ++ colon ∷ ds)
-    → numbered_at family rest ≡ Some p → IsForeign family text p.0 p.1
-unfolding numbered_at
-numbered_at-some family text rest p here there h = by_marks (behind (codes "x86-64:") rest) (behind (codes "aarch64:") rest) refl refl h where
-  by_marks : (o q : Option (List ℕ)) → behind (codes "x86-64:") rest ≡ o → behind (codes "aarch64:") rest ≡ q → foreign family o q ≡ Some p
-      → IsForeign family text p.0 p.1
-  by_marks (Some ds) q e f g =
-      foreign-some family (x86_64_of family) text ds p (family_of-x86_64_of family) (here ds (behind_sound (codes "x86-64:") rest ds e)) g
-  by_marks None (Some ds) e f g =
-      foreign-some family (aarch64_of family) text ds p (family_of-aarch64_of family) (there ds (behind_sound (codes "aarch64:") rest ds f)) g
-  by_marks None None e f g = absurd (cc)
+-- a machine that a word calls, and that another word calls else
+called_some : (own arch : Arch) (word : List ℕ) (rest : Option Arch) → (rest ≡ Some arch → word ≡ word_of arch)
+    → cond (bytes_eq word (word_of own)) (Some own) rest ≡ Some arch → word ≡ word_of arch
+called_some own arch word rest more h = by_side (chosen (bytes_eq word (word_of own)) (Some own) rest arch h) where
+  by_side : ((bytes_eq word (word_of own) ≡ true) × (Some own ≡ Some arch)) ⊎ ((bytes_eq word (word_of own) ≡ false) × (rest ≡ Some arch))
+      → word ≡ word_of arch
+  by_side (inl g) = (bytes_eq-Decides word (word_of own)).0 g.0 ∙ ap word_of (same_Some own arch g.1)
+  by_side (inr g) = more g.1
+
+machine_called-some : (word : List ℕ) (arch : Arch) → machine_called word ≡ Some arch → word ≡ word_of arch
+unfolding machine_called
+machine_called-some word arch h =
+    called_some X86_64 arch word _ (called_some Aarch64 arch word _ (called_some LinuxX86_64 arch word _
+    (called_some LinuxAarch64 arch word None (λ e. absurd (cc))))) h
+
+same_family-is : (family other : Family) → same_family family other ≡ true → family ≡ other
+same_family-is Chosen Chosen h = refl
+same_family-is Whole Whole h = refl
+same_family-is family other h = absurd (cc)
 
 foreign_at-some : (family : Family) (text : List ℕ) (p : Arch × ℕ) → foreign_at family text ≡ Some p → IsForeign family text p.0 p.1
 unfolding foreign_at
-foreign_at-some Chosen text p h = numbered_at-some Chosen text text p (λ ds e. e) (λ ds e. e) h
-foreign_at-some Whole text p h = by_mark (behind (codes "linux-") text) refl h where
-  by_mark : (o : Option (List ℕ)) → behind (codes "linux-") text ≡ o → o >>= numbered_at Whole ≡ Some p → IsForeign Whole text p.0 p.1
-  by_mark (Some rest) e g =
-      let front : text ≡ codes "linux-" ++ rest = behind_sound (codes "linux-") text rest e in
-      numbered_at-some Whole text rest p
-      (λ ds f. front ∙ ap (λ x. codes "linux-" ++ x) f)
-      (λ ds f. front ∙ ap (λ x. codes "linux-" ++ x) f) g
-  by_mark None e g = absurd (cc)
+foreign_at-some family text p h =
+    let cut = bind_some (split_at colon text) (called family) p h in
+    let found = bind_some (machine_called cut.0.0) (numbered family cut.0.1) p cut.2 in
+    let own = tested (same_family (family_of found.0) family) (option_map (λ (nr : ℕ). (found.0, nr)) (word_at cut.0.1)) p found.2 in
+    let word : cut.0.0 ≡ word_of found.0 = machine_called-some cut.0.0 found.0 found.1 in
+    let spelled : text ≡ word_of found.0 ++ colon ∷ cut.0.1 =
+    (split_at_sound colon text cut.0 cut.1).0 ∙ ap (λ w. w ++ colon ∷ cut.0.1) word in
+    foreign-some family found.0 text cut.0.1 p (same_family-is (family_of found.0) family own.0) spelled own.1
 
 foreign_at-spelled : (arch : Arch) (ds : List ℕ)
     → foreign_at (family_of arch) (word_of arch ++ colon ∷ ds) ≡ option_map (λ (nr : ℕ). (arch, nr)) (word_at ds)
-unfolding foreign_at numbered_at
+unfolding foreign_at machine_called
 foreign_at-spelled X86_64 ds = refl
 foreign_at-spelled Aarch64 ds = refl
 foreign_at-spelled LinuxX86_64 ds = refl

@@ -2,6 +2,7 @@
 use Rattle.std.specs.Prelude.{ℕ, ◌≡◌, ◌==◌, ◌≤◌, ◌<◌, ◌^◌, ◌⊎◌, Bool, true, not, ◌&&◌, List, [], ◌∷◌, ◌++◌, length, Option, Some}
 use Rattle.std.specs.Prelude.{None, codes, IsUtf8}
 use Rattle.std.specs.List.{join_with_byte, list_all}
+use Rattle.texts.specs.Lines.{space}
 use Rattle.call_tables.specs.declared.arch.Arch.{Arch}
 use Rattle.call_tables.specs.declared.arch.Family.{Family}
 use Rattle.call_tables.specs.Arch.{table_of, word_of, family_of}
@@ -12,9 +13,6 @@ use Rattle.script.specs.Orders.{Order, Create, Start, Delete, State, Kill, Call}
 -- the most bytes of a line, its line feed not counted
 abbrev pub max_line : ℕ
 max_line = 70000
-
-abbrev pub space : ℕ
-space = 32
 
 abbrev pub colon : ℕ
 colon = 58

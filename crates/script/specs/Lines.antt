@@ -1,12 +1,10 @@
 -- The lines of a text, and what they order.
 use Rattle.std.specs.Prelude.{ℕ, ◌≡◌, true, List, [], ◌∷◌, Option}
 use Rattle.std.specs.List.{join_with_byte, list_all}
+use Rattle.texts.specs.Lines.{line_feed}
 use Rattle.call_tables.specs.declared.arch.Arch.{Arch}
 use Rattle.script.specs.Orders.{Order}
 use Rattle.script.specs.Grammar.{LineIs, lacks}
-
-abbrev pub line_feed : ℕ
-line_feed = 10
 
 -- the parts of a text between its line feeds, one at least
 pub record Parts (text : List ℕ) (first : List ℕ) (more : List (List ℕ)) : Type 0 where

@@ -1,7 +1,7 @@
 -- Bytes read from hexadecimal digits.
 use Rattle.std.specs.Prelude.{ℕ, ◌+◌, ◌*◌, ◌%◌, ◌==◌, Bool, ◌&&◌, List, [], ◌∷◌, length}
 use Rattle.std.specs.Char.{digit_value}
-use Rattle.bpf_asm.specs.Digits.{are_digits, is_hexadecimal_digit}
+use Rattle.texts.specs.Digits.{are_digits, is_hexadecimal_digit}
 
 -- digits in pairs, one pair at least
 unfoldable pub is_paired : List ℕ → Bool

@@ -1,10 +1,10 @@
 //! Bytes as hexadecimal digits.
 ghost use Rattle.std.specs.Prelude.{◌≡◌, true};
 ghost use Rattle.std.specs.Char.{digit_value};
-ghost use Rattle.bpf_asm.specs.Digits.{is_hexadecimal_digit};
+ghost use Rattle.texts.specs.Digits.{is_hexadecimal_digit};
 ghost use Rattle.script.specs.Pairs.{is_paired};
 
-use crate::numbers::is_hexadecimal;
+use texts::is_hexadecimal;
 
 // The value of a digit.
 fn digit(byte: u8) -> u8

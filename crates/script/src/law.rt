@@ -1,3 +1,4 @@
+//! Laws of scripts: a text is read in one way at most.
 ghost use Rattle.script.specs.Laws.{OneOrder, OneReading};
 
 /// A line is one order at most.

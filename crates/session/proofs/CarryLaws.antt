@@ -22,7 +22,8 @@ pub carried : (bundles : Bundles) (order : script.Order) (c : Order) (w w' : Wor
     → (r, w') ≡ step by_program c w → CarriesOut bundles order w w' (Ok (Some r))
 carried bundles order c w w' r is e = record { command = Some c; is = is; done = e; kept = tt }
 
-pub not_carried : (bundles : Bundles) (order : script.Order) (c : Order) (w w' : World) (fault : AllocError) → Commands bundles order (Some c)
+pub not_carried : (bundles : Bundles) (order : script.Order) (c : Order) (w w' : World) (fault : AllocError)
+    → Commands bundles order (Some c)
     → w' ≡ w → CarriesOut bundles order w w' (Err fault)
 not_carried bundles order c w w' fault is e = record { command = Some c; is = is; done = tt; kept = e }
 

@@ -4,9 +4,10 @@ use Rattle.std.specs.Prelude.{Option, ◌==◌}
 use Rattle.std.specs.Io.KnownBytes.{Appends, Consumes, IsAtEnd, Keeps}
 use Rattle.std.proofs.KnownBytes.{Appends-nil, Consumes-kept, Consumes-nil, Consumes-trans}
 use Rattle.std.proofs.lemmas.List.{append-nil}
+use Rattle.texts.specs.Lines.{line_feed}
 use Rattle.processes.specs.First.{by_profile, by_program}
 use Rattle.lifecycle.specs.Orders.{Order}
-use Rattle.script.specs.Lines.{line_feed, lines_of}
+use Rattle.script.specs.Lines.{lines_of}
 use Rattle.session.specs.declared.bundles.Bundles.{Bundles}
 use Rattle.session.specs.Answer.{answer_of, counted}
 use Rattle.session.specs.Commands.{CommandIs, CommandsAre}
@@ -42,7 +43,8 @@ read_lines bundles left left' text lines cs taken cut are = record {
 }
 
 read_last : (bundles : Bundles) (left left' : Option (List ℕ)) (text : List ℕ) (lines : List (List ℕ)) (b : ℕ) (part : List ℕ) (cs : List (Option Order))
-    → Consumes left left' text → IsCut text lines (b ∷ part) → CommandsAre bundles (lines ++ (b ∷ part) ∷ []) cs → HasRead bundles lines_of left left' cs
+    → Consumes left left' text → IsCut text lines (b ∷ part) → CommandsAre bundles (lines ++ (b ∷ part) ∷ []) cs
+    → HasRead bundles lines_of left left' cs
 read_last bundles left left' text lines b part cs taken cut are = record {
   text = text;
   taken = taken;
@@ -54,7 +56,8 @@ read_last bundles left left' text lines b part cs taken cut are = record {
 
 -- What was written.
 
-profiled : (held held' : Option (List ℕ)) (cs : List (Option Order)) → Appends held held' (answer_of by_program cs) → Appends held held' (answer_of by_profile cs)
+profiled : (held held' : Option (List ℕ)) (cs : List (Option Order)) → Appends held held' (answer_of by_program cs)
+    → Appends held held' (answer_of by_profile cs)
 profiled held held' cs h = subst (λ (t : List ℕ). Appends held held' t) (by_profiles cs) h
 
 writing : (bundles : Bundles) (left left' held held' : Option (List ℕ)) (part : List ℕ) (cs : List (Option Order)) (out : ℕ)
@@ -94,7 +97,8 @@ nothing_came bundles s left held world kept count out = record {
 module _ (bundles : Bundles) (s : Standing) (left left' held h : Option (List ℕ)) (come : HasCome bundles s left left' held h) where
   -- a byte of a line
   pub came_byte : (t : Standing) (left'' : Option (List ℕ)) (byte : ℕ) → Consumes left' left'' (byte ∷ []) → (byte == line_feed) ≡ false
-      → t.world ≡ s.world → ((part : List ℕ) → s.kept ≡ kept_of part → t.kept ≡ kept_of (part ++ byte ∷ [])) → t.count ≡ s.count → t.out ≡ s.out
+      → t.world ≡ s.world → ((part : List ℕ) → s.kept ≡ kept_of part → t.kept ≡ kept_of (part ++ byte ∷ []))
+      → t.count ≡ s.count → t.out ≡ s.out
       → HasCome bundles t left left'' held h
   came_byte t left'' byte taken other world kept count out = record {
     text = come.text ++ byte ∷ [];
@@ -144,7 +148,8 @@ module _ (bundles : Bundles) (s : Standing) (left left' held h : Option (List �
 
     whole : (c : Option Order) → CommandIs bundles come.part c → HasReadWhole bundles left left'' (come.commands ++ c ∷ [])
     whole c is =
-        inl (read_ended bundles left left'' (come.text ++ line_feed ∷ []) (come.lines ++ come.part ∷ []) [] (come.commands ++ c ∷ []) all_taken
+        inl (read_ended bundles left left'' (come.text ++ line_feed ∷ []) (come.lines
+        ++ come.part ∷ []) [] (come.commands ++ c ∷ []) all_taken
         (cut-line come.text come.lines come.part come.cut)
         (are-more bundles come.lines come.part come.commands c come.stands.are is))
 
@@ -157,7 +162,8 @@ module _ (bundles : Bundles) (s : Standing) (left left' held h : Option (List �
     line_not_carried h' line b = lacking bundles left left'' held h' come.part come.commands line b (whole b.command b.is)
 
   -- the source failed
-  pub stops_reading : (left'' : Option (List ℕ)) (line : ℕ) → Keeps left' left'' → line ≡ counted (s.count + 1) → StopsReading bundles left left'' held h line
+  pub stops_reading : (left'' : Option (List ℕ)) (line : ℕ) → Keeps left' left'' → line ≡ counted (s.count + 1)
+      → StopsReading bundles left left'' held h line
   stops_reading left'' line kept told = (
     come.commands,
     read_ended bundles left left'' come.text come.lines come.part come.commands (Consumes-kept left left' left'' come.text come.taken kept) come.cut come.stands.are,

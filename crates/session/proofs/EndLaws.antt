@@ -33,11 +33,13 @@ module _ {S : Type 0} (sheld : S → Option (List ℕ)) (failures : S → ℕ) (
     always (Ok n) P p = p
     always (Err e) P p = tt
 
-    by_command : (c : Option Order) → Commands bundles order c → Replies c w w' (Some reply) → AnswersLine sheld failures bundles line number w w' old new result
+    by_command : (c : Option Order) → Commands bundles order c → Replies c w w' (Some reply)
+        → AnswersLine sheld failures bundles line number w w' old new result
     by_command None ordered e = absurd e
     by_command (Some c) ordered e =
         let same : reply_line id reply ≡ reply_line (id_of c) (step by_program c w).0 =
-        ap (λ i. reply_line i reply) (named ∙ sym (names bundles order c ordered)) ∙ ap (λ (p : Reply × World). reply_line (id_of c) p.0) e in
+        ap (λ i. reply_line i reply) (named ∙ sym (names bundles order c ordered))
+        ∙ ap (λ (p : Reply × World). reply_line (id_of c) p.0) e in
         let after : w' ≡ (step by_program c w).1 = ap (λ (p : Reply × World). p.1) e in
         record {
           command = Some c;

@@ -29,10 +29,12 @@ kept_is bundles part c h = record {
 }
 
 -- one byte more, where there is room
-pub kept-more : (part items : List ℕ) (byte : ℕ) → items ≡ kept_of part → length items ≤ 70000 → items ++ byte ∷ [] ≡ kept_of (part ++ byte ∷ [])
+pub kept-more : (part items : List ℕ) (byte : ℕ) → items ≡ kept_of part → length items ≤ 70000
+    → items ++ byte ∷ [] ≡ kept_of (part ++ byte ∷ [])
 kept-more part items byte e few =
     let short : length part ≤ 70000 = omega (arith, length-take 70001 part, ap length e) in
-    let all : kept_of (part ++ byte ∷ []) ≡ part ++ byte ∷ [] = kept_all (part ++ byte ∷ []) (omega (arith, length-append part (byte ∷ []))) in
+    let all : kept_of (part ++ byte ∷ []) ≡ part ++ byte ∷ [] = kept_all (part
+    ++ byte ∷ []) (omega (arith, length-append part (byte ∷ []))) in
     ap (λ (t : List ℕ). t ++ byte ∷ []) (e ∙ kept_all part (omega arith)) ∙ sym all
 
 -- and where there is none

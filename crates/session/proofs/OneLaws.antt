@@ -21,7 +21,8 @@ same_words a b nr arch ip args = cc
 
 one_record : (arch : Arch) (nr : ℕ) (args : List ℕ) (a b : Record) → IsRecordOf arch nr args a → IsRecordOf arch nr args b → a ≡ b
 one_record arch nr args a b h g =
-    same_from_words a b (same_words a b (h.number ∙ sym g.number) (h.machine ∙ sym g.machine) (h.address ∙ sym g.address) (h.arguments ∙ sym g.arguments))
+    same_from_words a b (same_words a b (h.number ∙ sym g.number) (h.machine ∙ sym g.machine) (h.address
+    ∙ sym g.address) (h.arguments ∙ sym g.arguments))
 
 -- an order is one command
 one_command : (bundles : Bundles) (o : script.Order) (a b : Option Order) → Commands bundles o a → Commands bundles o b → a ≡ b
@@ -44,7 +45,8 @@ AllOrdered bundles [] [] = Unit {0}
 AllOrdered bundles (o ∷ os) (c ∷ cs) = OrderedIs bundles o c × AllOrdered bundles os cs
 AllOrdered bundles os cs = ⊥
 
-all_one : (bundles : Bundles) (os : List (Option script.Order)) (a b : List (Option Order)) → AllOrdered bundles os a → AllOrdered bundles os b → a ≡ b
+all_one : (bundles : Bundles) (os : List (Option script.Order)) (a b : List (Option Order))
+    → AllOrdered bundles os a → AllOrdered bundles os b → a ≡ b
 all_one bundles [] [] [] h g = refl
 all_one bundles [] [] (y ∷ b) h g = absurd g
 all_one bundles [] (x ∷ a) b h g = absurd h

@@ -61,14 +61,16 @@ module _ (bundles : Bundles) (s : Standing) (held h : Option (List ℕ)) (lines 
     is = is_part c is;
     n = length (answer_of by_program cs) + m;
     written = subst (λ (t : List ℕ). Appends held h' t)
-        (sym (ap (λ (t : List ℕ). take (length (answer_of by_program cs) + m) t) (grown c) ∙ take-append-add (answer_of by_program cs) (line_of c) m))
+        (sym (ap (λ (t : List ℕ). take (length (answer_of by_program cs) + m) t) (grown c)
+        ∙ take-append-add (answer_of by_program cs) (line_of c) m))
         (Appends-trans held h h' (answer_of by_program cs) (take m (line_of c)) st.written written);
     behind = omega arith;
     short = let all = ap length (grown c) ∙ length-append (answer_of by_program cs) (line_of c) in omega arith;
     told = told ∙ total c m;
   }
 
-  pub ran_out : (c : Option Order) (line : ℕ) → CommandIs bundles s.kept c → line ≡ counted (s.count + 1) → RunsOut bundles held h part cs line
+  pub ran_out : (c : Option Order) (line : ℕ) → CommandIs bundles s.kept c
+      → line ≡ counted (s.count + 1) → RunsOut bundles held h part cs line
   ran_out c line is told = record {
     command = c;
     is = is_part c is;

@@ -1,6 +1,7 @@
 -- How a fault of a script is told: by number and name, and by the line or the count of bytes.
 use Rattle.std.specs.Prelude.{ℕ, List, ◌++◌, codes}
 use Rattle.std.specs.Fmt.{decimal}
+use Rattle.texts.specs.Labels.{label_text}
 use Rattle.session.specs.declared.fault.ScriptFault.{ScriptFault}
 use Rattle.session.specs.declared.fault.ScriptFault.TheVariants.{Read, Write, Memory}
 
@@ -16,4 +17,4 @@ place_of (Memory line) = codes "line " ++ decimal line
 
 -- the text that says it
 abbrev pub text_of : ScriptFault → List ℕ
-text_of fault = decimal (label_of fault).0 ++ codes " " ++ (label_of fault).1 ++ codes " " ++ place_of fault
+text_of fault = label_text (label_of fault) ++ codes " " ++ place_of fault

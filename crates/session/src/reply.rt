@@ -3,42 +3,17 @@ ghost use Rattle.std.specs.Prelude.{◌≡◌, ◌≤◌, ◌+◌, ◌++◌, ◌
 ghost use Rattle.arrayvec.specs.ArrayVec.{array_vec_len};
 ghost use Rattle.serde_json.specs.View.{view};
 ghost use Rattle.serde_json.specs.Written.{compact_text};
-ghost use Rattle.export.specs.Fault.{label_text};
 ghost use Rattle.export.specs.Sink.{Writes, WritesMade};
 ghost use Rattle.lifecycle.specs.Fault as refusal;
-ghost use Rattle.script.specs.Lines.{line_feed};
+ghost use Rattle.texts.specs.Lines.{line_feed};
 ghost use Rattle.session.specs.Replies.{no_command_line, outcome_text, reply_line, state_of, status_name};
 
-use arrayvec::ArrayVec;
 use export::{ExportFault, Sink, write_all};
-use itoa::{Buffer, Integer};
 use lifecycle::{Refusal, Reply, Status};
 use processes::Outcome;
 use serde_json::{Value, json};
 use std::alloc::{AllocError, Global};
-
-const ROOM: usize = 64;
-
-// A line that takes no memory.
-type Line = ArrayVec<u8, ROOM>;
-
-// Adds bytes to a line that has room for them.
-fn put(line: &mut Line, bytes: &[u8])
-    requires { array_vec_len line.old + length bytes.now ≤ 64 }
-    ensures items { line.new.items ≡ line.old.items ++ bytes.now }
-    ensures len { array_vec_len line.new ≡ array_vec_len line.old + length bytes.now }
-{
-    let _ = line.try_extend_from_slice(bytes);
-}
-
-// Adds a number's digits.
-fn put_number<N: Integer>(line: &mut Line, number: N)
-    requires { array_vec_len line.old ≤ 24 }
-    ensures items { line.new.items ≡ line.old.items ++ N.text number }
-    ensures len { array_vec_len line.new ≤ array_vec_len line.old + N.MAX_STR_LEN }
-{
-    put(line, Buffer::new().format(number).as_bytes());
-}
+use texts::{Line, put, put_label, put_number};
 
 // Adds what became of a call.
 fn put_outcome(line: &mut Line, outcome: Outcome)
@@ -62,17 +37,6 @@ fn put_outcome(line: &mut Line, outcome: Outcome)
         }
         Outcome::NoTask => put(line, b"no task"),
     }
-}
-
-// Adds the number and the name of a refusal.
-fn put_label(line: &mut Line, number: u32, name: &str)
-    requires { array_vec_len line.old + length name.now ≤ 24 }
-    ensures items { line.new.items ≡ line.old.items ++ label_text (number, name.now) }
-    ensures len { array_vec_len line.new ≤ array_vec_len line.old + length name.now + 11 }
-{
-    put_number(line, number);
-    put(line, b" ");
-    put(line, name.as_bytes());
 }
 
 // Adds the word by which a start was refused.

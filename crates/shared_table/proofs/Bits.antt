@@ -66,7 +66,8 @@ packed_bit test first (suc n) (suc b) h =
     let own : bit (test first) ≤ 1 = bit_small (test first) in
     let power : 2 ^ suc b ≡ 2 * 2 ^ b = pow-suc 2 b ∙ omega arith in
     let half : whole / 2 ≡ m = omega arith in
-    let down : whole / 2 ^ suc b ≡ m / 2 ^ b = ap (λ k. whole / k) power ∙ sym (div-div-eq-div-mul whole 2 (2 ^ b)) ∙ ap (λ k. k / 2 ^ b) half in
+    let down : whole / 2 ^ suc b ≡ m / 2 ^ b = ap (λ k. whole / k) power
+    ∙ sym (div-div-eq-div-mul whole 2 (2 ^ b)) ∙ ap (λ k. k / 2 ^ b) half in
     let same : first + 1 + b ≡ first + suc b = omega arith in
     ap (λ k. k % 2) down ∙ packed_bit test (first + 1) n b (omega arith) ∙ ap (λ k. bit (test k)) same
 

@@ -87,7 +87,8 @@ way_past nodes i h =
     let long : length (ways_from [] nodes) ≡ 0 + length nodes = length_ways [] nodes in
     get_or_past (ways_from [] nodes) i [] (omega arith)
 
-ways_push : (ways : List Way) (ns : List Node) (n : Node) → ways_from ways (ns ++ n ∷ []) ≡ ways_from ways ns ++ own_way (ways_from ways ns) n ∷ []
+ways_push : (ways : List Way) (ns : List Node) (n : Node) → ways_from ways (ns ++ n ∷ [])
+    ≡ ways_from ways ns ++ own_way (ways_from ways ns) n ∷ []
 unfolding own_way
 ways_push ways [] n = refl
 ways_push ways (m ∷ ns) n = ways_push (ways ++ ((length ways, m.program) ∷ way_below ways m.below) ∷ []) ns n
@@ -96,10 +97,12 @@ ways_push ways (m ∷ ns) n = ways_push (ways ++ ((length ways, m.program) ∷ w
 pub way_before : (nodes : List Node) (n : Node) (i : ℕ) → i < length nodes → way_from (nodes ++ n ∷ []) i ≡ way_from nodes i
 way_before nodes n i h =
     let long : length (ways_from [] nodes) ≡ 0 + length nodes = length_ways [] nodes in
-    ap (λ ways. way_at ways i) (ways_push [] nodes n) ∙ get_or-append (ways_from [] nodes) (own_way (ways_from [] nodes) n ∷ []) [] i (omega arith)
+    ap (λ ways. way_at ways i) (ways_push [] nodes n)
+    ∙ get_or-append (ways_from [] nodes) (own_way (ways_from [] nodes) n ∷ []) [] i (omega arith)
 
 -- and has its own
-pub way_last : (nodes : List Node) (n : Node) → way_from (nodes ++ n ∷ []) (length nodes) ≡ (length nodes, n.program) ∷ way_below (ways_from [] nodes) n.below
+pub way_last : (nodes : List Node) (n : Node) → way_from (nodes ++ n ∷ []) (length nodes)
+    ≡ (length nodes, n.program) ∷ way_below (ways_from [] nodes) n.below
 unfolding own_way
 way_last nodes n =
     let long : length (ways_from [] nodes) ≡ length nodes = length_ways [] nodes ∙ omega arith in
@@ -247,7 +250,8 @@ part_here arch i j nodes n tree found long = elim (cases_eq i j) [
     here : way_from nodes i ≡ (i, n.program) ∷ way_below (ways_from [] nodes) n.below
     here = way_is arch nodes i n tree found
 
-    apart : j ≢ i → (o : Option Node) → slice_get nodes j ≡ o → pointwise nat_eq (loads_in (filters_on (way_from nodes j))) (loads_in (filters_on (way_from nodes i))) ≡ false
+    apart : j ≢ i → (o : Option Node) → slice_get nodes j ≡ o
+        → pointwise nat_eq (loads_in (filters_on (way_from nodes j))) (loads_in (filters_on (way_from nodes i))) ≡ false
     apart ne None e =
         let past : length nodes ≤ j = slice_get_none nodes j e in
         let nothing : way_from nodes j ≡ [] = way_past nodes j past in

@@ -36,5 +36,6 @@ unfolding strictest_of
 allowed_at_once r way h = rw (each_allows r way h) refl
 
 -- where no filter is left, the strictest word so far is that of all
-pub ended : (r : Record) (way : Way) (word all : ℕ) → way ≡ [] → strictest_of (word ∷ words_on r way) ≡ all → strictest_of (word ∷ allow ∷ []) ≡ all
+pub ended : (r : Record) (way : Way) (word all : ℕ) → way ≡ [] → strictest_of (word ∷ words_on r way) ≡ all
+    → strictest_of (word ∷ allow ∷ []) ≡ all
 ended r way word all none h = strictest_of-alone word ∙ ap (λ (w : Way). strictest_of (word ∷ words_on r w)) (sym none) ∙ h

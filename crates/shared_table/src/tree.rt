@@ -195,7 +195,7 @@ impl Store for Tree {
     }
 }
 
-// So many handles of one place.
+// Handles of one place, so many.
 fn places_at(alloc: Global, at: u32, count: usize) -> Result<Vec<Place>, AllocError>
     ensures same { IfOk result (λ places. All (λ place. place.at ≡ at) places.items) }
     ensures count { IfOk result (λ places. vec_len places ≡ count) }

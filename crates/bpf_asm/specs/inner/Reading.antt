@@ -4,7 +4,9 @@ use Rattle.std.specs.Prelude.{Result, Ok, Err, codes, is_some}
 use Rattle.std.specs.Option.{option_map}
 use Rattle.std.specs.Char.{is_ascii_digit}
 use Rattle.std.specs.Str.{bytes_eq}
-use Rattle.std.specs.Str.Parse.{digits_value}
+use Rattle.texts.specs.Digits.{are_digits, is_hexadecimal_digit}
+use Rattle.texts.specs.Numbers.{number_of}
+use Rattle.texts.specs.Splits.{behind, split_at}
 use Rattle.bpf_insn.specs.declared.code.Operation.{Operation}
 use Rattle.bpf_insn.specs.declared.code.Operation.TheVariants as operations
 use Rattle.bpf_insn.specs.declared.code.Operand.TheVariants.{K, X}
@@ -21,22 +23,10 @@ use Rattle.bpf_asm.specs.declared.arguments.Part.{Part}
 use Rattle.bpf_asm.specs.declared.arguments.Part.TheVariants.{RegisterA, RegisterX, Address, Scratch, Constant, Decimal, Hexadecimal}
 use Rattle.bpf_asm.specs.declared.arguments.Arguments.{Arguments}
 use Rattle.bpf_asm.specs.declared.arguments.Arguments.TheVariants.{Nothing, One, Three, Four}
-use Rattle.bpf_asm.specs.Digits.{are_digits, has_leading_zero, is_hexadecimal_digit}
 
 infixl 10 ◌>>=◌
 abbrev pub ◌>>=◌ : {A B : Type 0} → Option A → (A → Option B) → Option B
 o >>= f = option_and_then f o
-
--- a text at the first such byte in it
-abbrev pub split_at : ℕ → List ℕ → Option (List ℕ × List ℕ)
-split_at byte [] = None
-split_at byte (b ∷ text) = if b == byte then Some ([], text) else option_map (λ parts. (b ∷ parts.0, parts.1)) (split_at byte text)
-
--- what follows such a text at the front
-abbrev pub behind : List ℕ → List ℕ → Option (List ℕ)
-behind [] text = Some text
-behind (c ∷ front) [] = None
-behind (c ∷ front) (b ∷ text) = if b == c then behind front text else None
 
 -- what stands before such a byte at the end
 abbrev pub ahead_of : ℕ → List ℕ → Option (List ℕ)
@@ -44,15 +34,11 @@ ahead_of byte [] = None
 ahead_of byte (b ∷ []) = if b == byte then Some [] else None
 ahead_of byte (b ∷ c ∷ text) = option_map (λ front. b ∷ front) (ahead_of byte (c ∷ text))
 
--- the number that digits write, where it has no leading zero and 32 bits hold it
-unfoldable pub number_of : ℕ → List ℕ → Option ℕ
-number_of radix ds =
-    if has_leading_zero ds then None
-    else if nat_lt (digits_value radix ds) (2 ^ 32) then Some (digits_value radix ds) else None
-
+-- what a text is in decimal, if it is digits alone: their number, or none where they are no good
 unfoldable pub decimal_at : List ℕ → Option (Option ℕ)
 decimal_at text = if are_digits is_ascii_digit text then Some (number_of 10 text) else None
 
+-- the same in hexadecimal, behind `0x`
 unfoldable pub hexadecimal_at : List ℕ → Option (Option ℕ)
 hexadecimal_at text = do
   ds ← behind (codes "0x") text
@@ -143,7 +129,7 @@ insn_with code jt jf k = None
 
 -- the same, where each number is good and within its width
 abbrev pub insn_of : Fields → Option Insn
-insn_of f = insn_with (within 16 f.code) (within 8 f.jt) (within 8 f.jf) f.k
+insn_of f = insn_with (within 16 f.code) (within 8 f.jt) (within 8 f.jf) (within 32 f.k)
 
 abbrev pub first_part : List ℕ → Option (List ℕ × List ℕ) → List ℕ
 first_part line None = line

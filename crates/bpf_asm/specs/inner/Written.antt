@@ -1,15 +1,15 @@
 -- The pieces of a line with the digits that stand there, and what is read of them.
 use Rattle.std.specs.Prelude.{ℕ, ◌≡◌, true, List, [], ◌∷◌, Option, Some, None, ⊤, codes}
+use Rattle.texts.specs.Digits.{are_digits}
+use Rattle.texts.specs.Numbers.{number_of}
 use Rattle.bpf_insn.specs.Code.{code_of}
 use Rattle.bpf_asm.specs.declared.arguments.Part.{Part}
 use Rattle.bpf_asm.specs.declared.arguments.Part.TheVariants as parts
 use Rattle.bpf_asm.specs.declared.arguments.Arguments.{Arguments}
 use Rattle.bpf_asm.specs.declared.arguments.Arguments.TheVariants.{Nothing, One, Three, Four}
 use Rattle.bpf_asm.specs.declared.line.Fields.{Fields}
-use Rattle.bpf_asm.specs.Digits.{are_digits}
 use Rattle.bpf_asm.specs.Forms.{Address, Code, Constant, Decimal, Digits, Field, Form, Hexadecimal, Jf, Jt, K, Notation, Number}
 use Rattle.bpf_asm.specs.Forms.{Piece, RegisterA, RegisterX, Scratch, base_of, is_digit_of, notation_in, number_text, pieces_of}
-use Rattle.bpf_asm.specs.inner.Reading.{number_of}
 
 pub data Written : Type 0 where
   OfA : Written

@@ -17,19 +17,19 @@ use Rattle.cert_check.specs.Rules as rules
 pub record ReturnsAt (policy : Policy) (i : Insn) (n : PlainNode) : Type 0 where
   pub word : ℕ
   pub known : word_by (operation_of i.code) n.regs i ≡ Some word
-  pub agrees : Agrees policy n.known word
+  pub agrees : Agrees policy n.out n.met n.known word
 
 -- the node of an edge, if it is there, says no more than the edge carries
-abbrev pub CarriesTo : List PlainNode → PlainNode → rules.Edge → Type 0
-CarriesTo ns n e = (m : PlainNode) → slice_get ns e.to ≡ Some m → Carries n.known e m
+abbrev pub CarriesTo : Policy → List PlainNode → PlainNode → rules.Edge → Type 0
+CarriesTo policy ns n e = (m : PlainNode) → slice_get ns e.to ≡ Some m → Carries policy n e m
 
 -- the error names the first rule that node i breaks
 abbrev pub IsBrokenAt : Policy → List Insn → List PlainNode → ℕ → PlainNode → CheckError → Type 0
 IsBrokenAt policy p ns i n (Edge j) = (j ≡ i) × (EdgeRule p ns i n → ⊥)
 IsBrokenAt policy p ns i n (Split j) = (j ≡ i) × EdgeRule p ns i n × (SplitRule n.kind → ⊥)
-IsBrokenAt policy p ns i n (Entail j) = (j ≡ i) × EdgeRule p ns i n × SplitRule n.kind × (EntailRule p ns n → ⊥)
+IsBrokenAt policy p ns i n (Entail j) = (j ≡ i) × EdgeRule p ns i n × SplitRule n.kind × (EntailRule policy p ns n → ⊥)
 IsBrokenAt policy p ns i n (Return j) =
-    (j ≡ i) × EdgeRule p ns i n × SplitRule n.kind × EntailRule p ns n × ((n.kind ≡ kind.Return → ReturnRule policy p n) → ⊥)
+    (j ≡ i) × EdgeRule p ns i n × SplitRule n.kind × EntailRule policy p ns n × ((n.kind ≡ kind.Return → ReturnRule policy p n) → ⊥)
 IsBrokenAt policy p ns i n _ = ⊥
 
 -- each node before this one keeps its rules

@@ -1,7 +1,7 @@
 -- Questions that may be open, as the code answers them.
-use Rattle.std.specs.Prelude.{◌≡◌, ◌≢◌, ◌↔◌, ℕ, ◌+◌, ◌*◌, ◌^◌, ◌<◌, ◌⊎◌, ⊤, true, false, Bool, IsTrue, List, Option, IfSome, Contains, slice_index_or}
+use Rattle.std.specs.Prelude.{◌≡◌, ◌≢◌, ◌↔◌, ℕ, ◌+◌, ◌*◌, ◌^◌, ◌<◌, ◌⊎◌, ⊤, true, false, Bool, IsTrue}
+use Rattle.std.specs.Prelude.{List, Option, Some, IfSome, Contains, slice_get, slice_index_or}
 use Rattle.call_tables.specs.declared.arch.Arch.{Arch}
-use Rattle.call_tables.specs.Arch.{token_of}
 use Rattle.profile.specs.declared.conditions.Op.{Op}
 use Rattle.profile.specs.declared.conditions.Op.TheVariants.{Ne, Eq, MaskedEq}
 use Rattle.profile.specs.declared.conditions.Cond.{Cond}
@@ -11,7 +11,7 @@ use Rattle.cert_state.specs.declared.literal.Lit.TheVariants.{Bits, NotBits}
 use Rattle.cert_state.specs.Literals.{all_bits}
 use Rattle.cert_state.specs.Points.{IsRange}
 use Rattle.cert_state.specs.Entailment.{Entails}
-use Rattle.cert_check.specs.Agree.{IsYes, IsNo, IsYesRule, IsNoRule}
+use Rattle.cert_check.specs.Agree.{IsYes, IsNo, IsYesRule, IsNoRule, IsRefuted, IsLeft, SomeIsNo, AllAreYes}
 use Rattle.cert_check.specs.declared.judged.Judged.{Judged}
 use Rattle.cert_check.specs.declared.judged.Judged.TheVariants.{Yes, No, Open}
 use Rattle.cert_check.specs.declared.judged.Number.{Number}
@@ -43,18 +43,28 @@ pub record AreEnds (known : List Lit) (j low high : ℕ) : Type 0 where
   pub low_is : low ≡ least + 2 ^ 32 * least_above
   pub high_is : high ≡ greatest + 2 ^ 32 * greatest_above
 
--- all of the conditions are yes, and one of them is no
+-- all of the conditions are yes
 abbrev pub AreYes : List Lit → List Cond → Type 0
 AreYes known conds = (c : Cond) → Contains conds c → IsYes known c
-
-abbrev pub SomeIsNo : List Lit → List Cond → Type 0
-SomeIsNo known conds = (c : Cond) × Contains conds c × IsNo known c
 
 -- of the first conditions each is yes, or one is open, and none is no
 pub record ConditionsSoFar (known : List Lit) (conds : List Cond) (n : ℕ) (all_yes : Bool) : Type 0 where
   pub yes_so_far : all_yes ≡ true → (k : ℕ) (d : Cond) → k < n → IsYes known (slice_index_or conds k d)
   pub not_all : all_yes ≡ false → (c : Cond) × Contains conds c × (IsYes known c → ⊥)
   pub none_no : (k : ℕ) (d : Cond) → k < n → IsNo known (slice_index_or conds k d) → ⊥
+
+-- a condition of the rule at a place is yes, or is said to be met; it is no, and is not
+abbrev pub IsYesOrMet : List (ℕ × ℕ) → List Lit → ℕ → ℕ → Cond → Type 0
+IsYesOrMet met known place own c = Contains met (place, own) ⊎ IsYes known c
+
+abbrev pub IsNoNorMet : List (ℕ × ℕ) → List Lit → ℕ → ℕ → Cond → Type 0
+IsNoNorMet met known place own c = (Contains met (place, own) → ⊥) × IsNo known c
+
+-- the same of the first conditions of the rule at a place
+pub record LeftSoFar (met : List (ℕ × ℕ)) (known : List Lit) (place : ℕ) (conds : List Cond) (n : ℕ) (all_yes : Bool) : Type 0 where
+  pub yes_so_far : all_yes ≡ true → (k : ℕ) (d : Cond) → k < n → IsYesOrMet met known place k (slice_index_or conds k d)
+  pub not_all : all_yes ≡ false → AllAreYes met known place conds → ⊥
+  pub none_no : (k : ℕ) (d : Cond) → k < n → IsNoNorMet met known place k (slice_index_or conds k d) → ⊥
 
 -- what is known of a number is so
 abbrev pub IsKnownNumber : List Lit → ℕ → Number → Type 0
@@ -69,20 +79,38 @@ AreKnownNumbers known numbers = (n : ℕ) (d : Option Number) → n < 512 → If
 abbrev pub IsAnswered : List Lit → Answered → Type 0
 IsAnswered known answered = IsJudged (AreYes known answered.conds.now) (SomeIsNo known answered.conds.now) answered.judged
 
--- a rule says another word than v, and is not no
-abbrev pub IsOther : List Lit → ℕ → Rule → Type 0
-IsOther known v rule = (IsNoRule known rule → ⊥) × (rule.word ≢ v)
+-- a rule at a place says another word than v, and is not no
+abbrev pub IsOther : List (ℕ × ℕ) → List Lit → ℕ → ℕ → Rule → Type 0
+IsOther met known v place rule = (IsNoRule met known place rule → ⊥) × (rule.word ≢ v)
 
--- how a rule bears on the word v
-abbrev pub Bears : List Lit → ℕ → Rule → Bearing → Type 0
-Bears known v rule Settles = IsYesRule known rule × (rule.word ≡ v)
-Bears known v rule Agrees = (IsYesRule known rule → rule.word ≢ v) × (IsNoRule known rule ⊎ (rule.word ≡ v))
-Bears known v rule Differs = IsOther known v rule
+-- how the rule at a place bears on the word v
+abbrev pub Bears : List (ℕ × ℕ) → List Lit → ℕ → ℕ → Rule → Bearing → Type 0
+Bears met known v place rule Settles = IsYesRule met known place rule × (rule.word ≡ v)
+Bears met known v place rule Agrees = (IsYesRule met known place rule → rule.word ≢ v) × (IsNoRule met known place rule ⊎ (rule.word ≡ v))
+Bears met known v place rule Differs = IsOther met known v place rule
 
--- of the first rules, those of the machine: none is yes with the word v; none is another, or one is
-pub record RulesSoFar (known : List Lit) (v : ℕ) (arch : Arch) (rules : List Rule) (n : ℕ) (others : Bool) : Type 0 where
-  pub none_sure : (k : ℕ) (d : Rule) → k < n → token_of (slice_index_or rules k d).arch ≡ token_of arch → IsYesRule known (slice_index_or rules k d)
+-- a rule that is left, other than the word v
+pub record AnotherIsLeft (out : List ℕ) (met : List (ℕ × ℕ)) (known : List Lit) (v : ℕ) (arch : Arch) (rules : List Rule) : Type 0 where
+  pub place : ℕ
+  pub rule : Rule
+  pub stands : slice_get rules place ≡ Some rule
+  pub left : IsLeft out arch place rule
+  pub other : IsOther met known v place rule
+
+-- of the first rules, those that are left for the machine: none is yes with the word v; none is another, or one is
+pub record RulesSoFar (out : List ℕ) (met : List (ℕ
+    × ℕ)) (known : List Lit) (v : ℕ) (arch : Arch) (rules : List Rule) (n : ℕ) (others : Bool) : Type 0 where
+  pub none_sure : (k : ℕ) (d : Rule) → k < n → IsLeft out arch k (slice_index_or rules k d)
+      → IsYesRule met known k (slice_index_or rules k d)
       → (slice_index_or rules k d).word ≢ v
-  pub settled : others ≡ false → (k : ℕ) (d : Rule) → k < n → token_of (slice_index_or rules k d).arch ≡ token_of arch
-      → IsNoRule known (slice_index_or rules k d) ⊎ ((slice_index_or rules k d).word ≡ v)
-  pub another : others ≡ true → (rule : Rule) × Contains rules rule × (token_of rule.arch ≡ token_of arch) × IsOther known v rule
+  pub settled : others ≡ false → (k : ℕ) (d : Rule) → k < n → IsLeft out arch k (slice_index_or rules k d)
+      → IsNoRule met known k (slice_index_or rules k d) ⊎ ((slice_index_or rules k d).word ≡ v)
+  pub another : others ≡ true → AnotherIsLeft out met known v arch rules
+
+-- the rule at a place, where it is said to be out there and is not here, is refuted
+abbrev pub IsOutThen : List ℕ → List ℕ → List Lit → ℕ → Rule → Type 0
+IsOutThen here there known place rule = Contains there place → Contains here place ⊎ IsRefuted known rule
+
+-- so are the first rules
+abbrev pub AreOutSoFar : List ℕ → List ℕ → List Lit → List Rule → ℕ → Type 0
+AreOutSoFar here there known rules n = (k : ℕ) (d : Rule) → k < n → IsOutThen here there known k (slice_index_or rules k d)

@@ -7,10 +7,10 @@ use Rattle.cert_state.specs.Literals.{IsLit, IsValue}
 use Rattle.cert_form.specs.declared.fault.FormError.{FormError}
 use Rattle.cert_form.specs.declared.fault.FormError.TheVariants.{BadMagic, BadVersion, Truncated, BadNode, BadCount, Trailing, OutOfMemory}
 use Rattle.cert_form.specs.Faults.{IsBadStated, IsBadListed}
-use Rattle.cert_form.specs.Nodes.{PlainNode, literals}
-use Rattle.cert_form.specs.Spelling.{magic, value, literal, tail, kind_number, entry, chain_node, node, scratch, if_stated, stated_bits}
-use Rattle.cert_form.specs.Spelling.{nothing_stated, IsKind, IsEntry, IsChainNode, IsNode}
-use Rattle.cert_form.specs.Reading.{short_at, long_at, value_at, literal_at, kind_at, tail_length, version_of, node_count, chain_count}
+use Rattle.cert_form.specs.Nodes.{PlainNode, on_chain}
+use Rattle.cert_form.specs.Spelling.{magic, value, literal, claim, tail, kind_number, entry, chain_node, node, scratch, if_stated, stated_bits}
+use Rattle.cert_form.specs.Spelling.{nothing_stated, IsKind, IsClaim, IsEntry, IsChainNode, IsNode}
+use Rattle.cert_form.specs.Reading.{short_at, long_at, value_at, literal_at, claim_at, kind_at, tail_length, version_of, node_count, chain_count}
 use Rattle.cert_form.specs.Reading.{entry_at, entries_of, scratch_from, scratch_at, ones, chain_place, chain_node_at, node_end, place_of}
 use Rattle.cert_form.specs.Reading.{offset_at, own_count, listed_node}
 
@@ -38,6 +38,10 @@ pub record IsLiteralThere (bytes : List ℕ) (at : ℕ) : Type 0 where
   pub stands : Stands bytes at (literal (literal_at bytes at)) (at + 10)
   pub good : IsLit (literal_at bytes at)
 
+pub record IsClaimThere (bytes : List ℕ) (at : ℕ) : Type 0 where
+  pub stands : Stands bytes at (claim (claim_at bytes at)) (at + 10)
+  pub good : IsClaim (version_of bytes) (claim_at bytes at)
+
 -- the tail of a node of this kind
 pub record IsTailThere (bytes : List ℕ) (tag at : ℕ) : Type 0 where
   pub stands : Stands bytes at (tail (kind_at bytes tag at)) (at + tail_length tag)
@@ -52,7 +56,7 @@ pub record IsStatedThere (bytes : List ℕ) (at : ℕ) : Type 0 where
 abbrev pub HasBadStated : List ℕ → ℕ → ℕ → Type 0
 HasBadStated bytes from bits = (k : ℕ) × (k < ones bits 16) × IsBadStated bytes (from + 6 * k)
 
--- the stated scratch words of a node of form 3, in bits from the lowest on, and their values
+-- the stated scratch words of a node of form 3 or 4, in bits from the lowest on, and their values
 abbrev pub bits_above : ℕ → ℕ → ℕ
 bits_above bits zero = bits
 bits_above bits (suc n) = bits_above (bits / 2) n
@@ -62,7 +66,7 @@ pub record AreStatedThere (bytes : List ℕ) (at bits n : ℕ) : Type 0 where
   pub same : bits_above bits n ≡ 0 → stated_bits (scratch_from bytes at bits n) ≡ bits
   pub good : AllByRecursion IsValue (scratch_from bytes at bits n)
 
--- the parts of a node of form 2 or 3 in their order: up to the values, the scratch words, the chain
+-- the parts of a node of form 2, 3 or 4 in their order: up to the values, the scratch words, the chain
 pub record IsFrontThere (bytes : List ℕ) (at : ℕ) : Type 0 where
   pub kind : slice_index bytes at ≤ 3
   pub stands : Stands bytes at (slice_index bytes at ∷ 0 ∷ little_bytes 2 (short_at bytes (at + 2)) ++ value
@@ -71,7 +75,7 @@ pub record IsFrontThere (bytes : List ℕ) (at : ℕ) : Type 0 where
   pub x : IsValue (value_at bytes (at + 10))
 
 pub record IsScratchThere (bytes : List ℕ) (at : ℕ) : Type 0 where
-  pub stands : Stands bytes (at + 16) (if version_of bytes == 3 then scratch (scratch_at bytes at) else []) (chain_place bytes at)
+  pub stands : Stands bytes (at + 16) (if version_of bytes == 2 then [] else scratch (scratch_at bytes at)) (chain_place bytes at)
   pub sixteen : length (scratch_at bytes at) ≡ 16
   pub good : All IsValue (scratch_at bytes at)
   pub none : version_of bytes ≡ 2 → scratch_at bytes at ≡ nothing_stated
@@ -79,7 +83,7 @@ pub record IsScratchThere (bytes : List ℕ) (at : ℕ) : Type 0 where
 pub record IsChainThere (bytes : List ℕ) (at : ℕ) : Type 0 where
   pub room : chain_place bytes at + 4 ≤ length bytes
   pub chain : long_at bytes (chain_place bytes at) ≤ chain_count bytes
-  pub few : length (literals (entries_of bytes) (long_at bytes (chain_place bytes at))) ≤ 512
+  pub few : length (on_chain (entries_of bytes) (long_at bytes (chain_place bytes at))) ≤ 512
 
 pub record IsChainedThere (bytes : List ℕ) (at : ℕ) : Type 0 where
   pub stands : Stands bytes at (chain_node (version_of bytes) (chain_node_at bytes at)) (node_end bytes at)
@@ -87,9 +91,9 @@ pub record IsChainedThere (bytes : List ℕ) (at : ℕ) : Type 0 where
 
 pub record IsEntryThere (bytes : List ℕ) (j : ℕ) : Type 0 where
   pub stands : Stands bytes (16 + 14 * j) (entry (entry_at bytes j)) (16 + 14 * j + 14)
-  pub good : IsEntry j (entry_at bytes j)
+  pub good : IsEntry (version_of bytes) j (entry_at bytes j)
 
--- all entries, and all nodes of form 2 or 3 with their places in the table
+-- all entries, and all nodes of form 2, 3 or 4 with their places in the table
 abbrev pub AreEntriesThere : List ℕ → Type 0
 AreEntriesThere bytes = (j : ℕ) → j < chain_count bytes → IsEntryThere bytes j
 
@@ -132,11 +136,13 @@ pub record IsTopOfFile (bytes : List ℕ) : Type 0 where
   pub room : 12 ≤ length bytes
   pub first : take 4 bytes ≡ magic
   pub form : 1 ≤ version_of bytes
-  pub known : version_of bytes ≤ 3
+  pub known : version_of bytes ≤ 4
   pub some : 1 ≤ node_count bytes
   pub few : node_count bytes ≤ 16384
 
--- what form 1 can say: no scratch value is stated, and the literals are few
+-- what form 1 can say: no scratch value is stated, no rule is out, no condition is met, and the literals are few
 pub record IsPlain (n : PlainNode) : Type 0 where
   pub no_scratch : n.regs.scratch ≡ nothing_stated
+  pub none_out : n.out ≡ []
+  pub none_met : n.met ≡ []
   pub few : length n.known ≤ 512

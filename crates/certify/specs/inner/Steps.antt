@@ -18,7 +18,7 @@ use Rattle.certify.specs.inner.Made.{regs_of, StandsAt}
 
 -- the node of a place
 abbrev pub node_of : Option ℕ → ℕ → List Lit → Kind → PlainNode
-node_of held pc known kind = record { kind = kind; pc = pc; regs = regs_of held; known = known }
+node_of held pc known kind = record { kind = kind; pc = pc; regs = regs_of held; known = known; out = []; met = [] }
 
 -- of node i at an instruction of the program, by what it is
 pub record NodesKeepAt (policy : Policy) (p : List Insn) (ns : List PlainNode) (i : ℕ) (insn : Insn) (held : Option ℕ) (pc : ℕ) (known : List Lit) : Type 0 where
@@ -31,7 +31,7 @@ pub record NodesKeepAt (policy : Policy) (p : List Insn) (ns : List PlainNode) (
   pub split : (l m : Lit) (first second : ℕ) → Covers l m → i < first → i < second
       → StandsAt ns first pc held (l ∷ known) → StandsAt ns second pc held (m ∷ known)
       → Keeps policy p ns i (node_of held pc known (Split l m first second))
-  pub return : (v : ℕ) → move_at (operation_of insn.code) insn.k held ≡ Some (Ends v) → Agrees policy known v
+  pub return : (v : ℕ) → move_at (operation_of insn.code) insn.k held ≡ Some (Ends v) → Agrees policy [] [] known v
       → Keeps policy p ns i (node_of held pc known Return)
   pub dead : IsDead known → Keeps policy p ns i (node_of held pc known Dead)
 

@@ -8,7 +8,7 @@ use Rattle.cert_form.specs.declared.node.ChainNode.{ChainNode}
 use Rattle.cert_form.specs.declared.node.Kind.{Kind}
 use Rattle.cert_form.specs.declared.node.Kind.TheVariants.{Dead}
 use Rattle.cert_form.specs.Nodes.{literals}
-use Rattle.cert_form.specs.Spelling.{AreEntries}
+use Rattle.cert_form.specs.Writing.{AreLiteralEntries}
 use Rattle.cert_form.specs.Writing.{IsChainMeant}
 use Rattle.certify.specs.declared.plain.place.Place.{Place}
 use Rattle.certify.specs.declared.plain.store.Store.{Store}
@@ -20,7 +20,7 @@ use Rattle.certify.specs.inner.Made.{KeptIn, StandsAt, plain, regs_of}
 
 -- the entries and the nodes are such, and few: at most two entries for each node
 pub record IsStore (s : Store) : Type 0 where
-  pub entries : AreEntries s.entries.items
+  pub entries : AreLiteralEntries s.entries.items
   pub calls : (n : ℕ) → All IsOfCalls (literals s.entries.items n)
   pub nodes : All (IsChainMeant s.entries.items) s.nodes.items
   pub few : length s.nodes.items ≤ 16384

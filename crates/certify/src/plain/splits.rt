@@ -1,5 +1,5 @@
 //! A return, at which the calls that lead there are told apart until the profile says one word of them.
-ghost use Rattle.std.specs.Prelude.{◌≡◌, ◌≤◌, ◌<◌, ◌+◌, ◌-◌, ◌/◌, length, slice_get, IfErr, IfOk, IfSome, IsTrue, ◌↔◌, Contains};
+ghost use Rattle.std.specs.Prelude.{◌≡◌, ◌≤◌, ◌<◌, ◌+◌, ◌-◌, ◌/◌, [], length, slice_get, IfErr, IfOk, IfSome, IsTrue, ◌↔◌, Contains};
 ghost use Rattle.call_tables.specs.declared.arch.Arch.TheVariants.{X86_64};
 ghost use Rattle.call_tables.specs.Arch.{token_of};
 ghost use Rattle.bpf_insn.specs.Program.{insns};
@@ -8,6 +8,7 @@ ghost use Rattle.cert_check.specs.Agree.{Agrees};
 ghost use Rattle.cert_state.specs.Entailment.{IsDead};
 ghost use Rattle.certify.specs.declared.fault.CertifyError.TheVariants.{OutOfMemory};
 ghost use Rattle.certify.specs.inner.Counts.{HasRoom, halves_cost, inside, return_cost};
+ghost use Rattle.certify.specs.inner.Leaf.{SaysThere};
 ghost use Rattle.certify.specs.inner.Meant.{IsMeant};
 ghost use Rattle.certify.specs.inner.Ways.{AreOutBefore, IsAtReturn, IsEnough, IsOfMachine, IsOnlyToken, IsReturnOf};
 ghost use Rattle.certify.specs.inner.Store.{IsMadeAt, IsPlace, IsStore, known_at};
@@ -15,6 +16,7 @@ ghost use Rattle.certify.specs.inner.Store.{IsMadeAt, IsPlace, IsStore, known_at
 use crate::fault::CertifyError;
 use crate::plain::place::Place;
 use crate::plain::store::Store;
+use crate::plain::unlike::is_unlike;
 use bpf_insn::Program;
 use call_tables::Arch;
 use cert_form::Kind;
@@ -47,19 +49,23 @@ pub(crate) fn dead(
 // The node of a return whose word the profile says.
 fn ends(
     store: &mut Store,
-    _profile: &Profile,
+    profile: &Profile,
     _program: &Program<'_>,
     place: Place,
-    _word: u32,
+    word: u32,
 ) -> Result<u32, CertifyError>
     requires store { IsStore store.old }
     requires place { IsPlace store.old (insns _program.now) place }
-    requires stands { IsReturnOf (insns _program.now) place _word }
-    requires agrees { IsMeant _profile.now (insns _program.now) → Agrees _profile.now (known_at store.old place) _word }
-    requires room { IsMeant _profile.now (insns _program.now) → length store.old.nodes.items < 16384 }
-    ensures made { IfOk result (IsMadeAt _profile.now (insns _program.now) place store.old store.new 1) }
-    ensures never { IsMeant _profile.now (insns _program.now) → IfErr result (λ e. e ≡ OutOfMemory) }
+    requires stands { IsReturnOf (insns _program.now) place word }
+    requires says { IsMeant profile.now (insns _program.now) → SaysThere profile.now (known_at store.old place) word }
+    requires agrees { IsMeant profile.now (insns _program.now) → Agrees profile.now [] [] (known_at store.old place) word }
+    requires room { IsMeant profile.now (insns _program.now) → length store.old.nodes.items < 16384 }
+    ensures made { IfOk result (IsMadeAt profile.now (insns _program.now) place store.old store.new 1) }
+    ensures never { IsMeant profile.now (insns _program.now) → IfErr result (λ e. e ≡ OutOfMemory) }
 {
+    if is_unlike(store, profile, place, word) {
+        return Err(CertifyError::Undecided(u32::from(place.pc)));
+    }
     store.add(place, Kind::Return)
 }
 

@@ -5,7 +5,7 @@ ghost use Rattle.cert_form.specs.Spelling.{IsKind};
 ghost use Rattle.cert_state.specs.declared.literal.Lit.TheVariants.{NotBits};
 ghost use Rattle.cert_state.specs.Entailment.{Entails};
 ghost use Rattle.cert_state.specs.Literals.{IsLit};
-ghost use Rattle.cert_state.specs.Points.{HasNoPoint, IsRange};
+ghost use Rattle.cert_state.specs.Points.{HasNoPoint, IsPoint, IsRange};
 ghost use Rattle.certify.specs.declared.fault.CertifyError.TheVariants.{OutOfMemory};
 ghost use Rattle.certify.specs.inner.Leaf.{IsOfCalls};
 ghost use Rattle.certify.specs.inner.Made.{regs_of};
@@ -130,6 +130,25 @@ impl Store {
             number: chain,
         };
         entails(&known, &Lit::NotBits(1, u32::MAX, token))
+    }
+
+    /// Whether a word may be a number, by the literals of a chain.
+    pub(crate) fn admits(&self, chain: u32, word: u8, number: u32) -> bool
+        requires store { IsStore self.now }
+        requires chain { chain ≤ length self.now.entries.items }
+        ensures { IsTrue result → IsPoint (literals self.now.entries.items chain) word number }
+    {
+        let known = Chain {
+            entries: &self.entries,
+            number: chain,
+        };
+        let Some((_low, _high)) = range(&known, word) else {
+            return false;
+        };
+        if entails(&known, &Lit::NotBits(word, u32::MAX, number)) {
+            return false;
+        }
+        true
     }
 
     /// Puts the node of a place into one that is there.

@@ -1,27 +1,14 @@
--- The kernel's tasks, as the code keeps them.
+-- Which tasks the code means, and what it gives them.
 use Rattle.std.specs.Prelude.{◌&&◌, Bool, true, not, if◌then◌else◌, List, [], map}
 use Rattle.processes.specs.declared.task.Task.{Task}
 use Rattle.processes.specs.declared.tasks.Which.{Which}
 use Rattle.processes.specs.declared.tasks.Which.TheVariants as which
-use Rattle.std.specs.List.{list_all}
-use Rattle.processes.specs.Stores.{has_filter}
+use Rattle.processes.specs.Kept.{process_of}
 use Rattle.processes.specs.Tasks.{Filter, Process, is_live, is_task, is_in_group}
-
--- a task, with the filters that its handle stands for
-abbrev pub process_of : {H : Type 0} → (H → List Filter) → Task H → Process
-process_of seen t =
-    record { number = t.number; group = t.group; parent = t.parent; images = t.images; end = t.end; filters = seen t.filters }
 
 -- a task without its filters
 abbrev pub bare_of : {H : Type 0} → Task H → Process
 bare_of t = process_of (λ f. []) t
-
-abbrev pub all_of : {H : Type 0} → (H → List Filter) → List (Task H) → List Process
-all_of seen tasks = map (process_of seen) tasks
-
--- every task has a filter
-abbrev pub is_rooted : List Process → Bool
-is_rooted tasks = list_all (λ t. has_filter t.filters) tasks
 
 -- which tasks are meant
 abbrev pub is_meant : Which → Process → Bool

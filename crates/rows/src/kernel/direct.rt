@@ -3,7 +3,7 @@
 use crate::kernel::bench::Bench;
 use crate::kernel::orders::{Order, written_out};
 use crate::kernel::repeats::Repeats;
-use crate::kernel::texts::{outcome_text, view_text};
+use crate::kernel::replies::{outcome_text, view_text};
 use crate::tell::tell;
 use crate::text::{number, record};
 use anyhow::{Context, Result, bail};

@@ -4,7 +4,7 @@ ghost use Rattle.std.specs.Prelude.{ℕ, ◌≡◌, List, None};
 use crate::kernel::bench::{Bench, Made};
 use crate::kernel::orders::{Order, written_out};
 use crate::kernel::repeats::Repeats;
-use crate::kernel::texts::reply_text;
+use crate::kernel::replies::reply_text;
 use crate::tell::tell;
 use crate::text::number;
 use anyhow::{Context, Result};

@@ -1,35 +1,22 @@
 -- How a line is read.
-use Rattle.std.specs.Prelude.{ℕ, ◌==◌, ◌^◌, nat_lt, if◌then◌else◌, List, [], ◌∷◌, ◌++◌, length, Option, Some, None, option_and_then, codes}
+use Rattle.std.specs.Prelude.{ℕ, ◌==◌, ◌^◌, nat_lt, Bool, true, false, if◌then◌else◌, List, [], ◌∷◌, ◌++◌, length, Option, Some, None, option_and_then, codes}
 use Rattle.std.specs.Option.{option_map}
 use Rattle.std.specs.List.{slice_split}
-use Rattle.std.specs.Char.{is_ascii_digit}
 use Rattle.std.specs.Str.{bytes_eq}
-use Rattle.std.specs.Str.Parse.{digits_value}
+use Rattle.texts.specs.Numbers.{decimal_at, hexadecimal_at}
+use Rattle.texts.specs.Splits.{behind, split_at}
 use Rattle.call_tables.specs.declared.arch.Arch.{Arch}
 use Rattle.call_tables.specs.declared.arch.Family.{Family}
 use Rattle.call_tables.specs.declared.arch.Family.TheVariants.{Chosen, Whole}
-use Rattle.call_tables.specs.Arch.{table_of, family_of, x86_64_of, aarch64_of}
+use Rattle.call_tables.specs.Arch.{table_of, family_of, machine_called}
 use Rattle.call_tables.specs.Table.{number_in}
-use Rattle.bpf_asm.specs.Digits.{are_digits, has_leading_zero, is_hexadecimal_digit}
-use Rattle.bpf_asm.specs.inner.Reading.{behind}
+use Rattle.script.specs.Grammar.{colon}
 use Rattle.script.specs.Pairs.{is_paired, spelled_bytes}
 use Rattle.script.specs.Orders.{Order, Create, Start, Delete, State, Kill, Call}
 
 infixl 10 ◌>>=◌
 abbrev pub ◌>>=◌ : {A B : Type 0} → Option A → (A → Option B) → Option B
 o >>= f = option_and_then f o
-
--- the number that digits write, where it has no leading zero and so many bits hold it
-unfoldable pub number_of : ℕ → List ℕ → Option ℕ
-number_of radix ds =
-    if has_leading_zero ds then None
-    else if nat_lt (digits_value radix ds) (2 ^ 64) then Some (digits_value radix ds) else None
-
-unfoldable pub decimal_at : List ℕ → Option ℕ
-decimal_at text = if are_digits is_ascii_digit text then number_of 10 text else None
-
-unfoldable pub hexadecimal_at : List ℕ → Option ℕ
-hexadecimal_at ds = if are_digits is_hexadecimal_digit ds then number_of 16 ds else None
 
 -- the option is what follows `0x`
 abbrev pub marked_number : Option (List ℕ) → List ℕ → Option ℕ
@@ -45,22 +32,21 @@ word_at text = do
   n ← number_at text
   if nat_lt n (2 ^ 32) then Some n else None
 
--- what follows the beginning of the words of a family's machines
-abbrev pub after_mark : Family → List ℕ → Option (List ℕ)
-after_mark Chosen text = Some text
-after_mark Whole text = behind (codes "linux-") text
+abbrev pub same_family : Family → Family → Bool
+same_family Chosen Chosen = true
+same_family Whole Whole = true
+same_family family other = false
 
--- a call of a machine by its number; the options are what follows the words of the family's machines
-abbrev pub foreign : Family → Option (List ℕ) → Option (List ℕ) → Option (Arch × ℕ)
-foreign family (Some ds) other = option_map (λ nr. (x86_64_of family, nr)) (word_at ds)
-foreign family None (Some ds) = option_map (λ nr. (aarch64_of family, nr)) (word_at ds)
-foreign family None None = None
+-- a machine of the family and a number
+abbrev pub numbered : Family → List ℕ → Arch → Option (Arch × ℕ)
+numbered family digits arch = if same_family (family_of arch) family then option_map (λ nr. (arch, nr)) (word_at digits) else None
 
-unfoldable pub numbered_at : Family → List ℕ → Option (Arch × ℕ)
-numbered_at family rest = foreign family (behind (codes "x86-64:") rest) (behind (codes "aarch64:") rest)
+abbrev pub called : Family → List ℕ × List ℕ → Option (Arch × ℕ)
+called family parts = machine_called parts.0 >>= numbered family parts.1
 
+-- a call by its machine's word, a colon and its number
 unfoldable pub foreign_at : Family → List ℕ → Option (Arch × ℕ)
-foreign_at family text = after_mark family text >>= numbered_at family
+foreign_at family text = split_at colon text >>= called family
 
 abbrev pub native_or : Arch → Option ℕ → List ℕ → Option (Arch × ℕ)
 native_or native (Some nr) text = Some (native, nr)

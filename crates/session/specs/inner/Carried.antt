@@ -46,7 +46,8 @@ pub record CarriesOut (bundles : Bundles) (order : script.Order) (w w' : World) 
   pub kept : OnErr result (w' ≡ w)
 
 -- a line was carried out and answered, by so many bytes
-pub record AnswersLine {S : Type 0} (held : S → Option (List ℕ)) (failures : S → ℕ) (bundles : Bundles) (line : List ℕ) (number : ℕ) (w w' : World) (old new : S) (result : Result ℕ ExportFault) : Type 0 where
+pub record AnswersLine {S : Type 0} (held : S → Option (List ℕ)) (failures : S
+    → ℕ) (bundles : Bundles) (line : List ℕ) (number : ℕ) (w w' : World) (old new : S) (result : Result ℕ ExportFault) : Type 0 where
   pub command : Option Order
   pub is : CommandIs bundles line command
   pub written : WritesMade held failures old new (answer_line by_program number command w) result

@@ -1,8 +1,8 @@
 -- A text as the lines that were ended in it, and what stands behind them.
 use Rattle.std.specs.Prelude.{ℕ, ◌≡◌, ◌+◌, ◌++◌, true, List, [], ◌∷◌, take}
 use Rattle.std.specs.List.{list_all}
+use Rattle.texts.specs.Lines.{line_feed}
 use Rattle.script.specs.Grammar.{lacks, max_line}
-use Rattle.script.specs.Lines.{line_feed}
 
 -- each line with its line feed
 abbrev pub ended : List (List ℕ) → List ℕ

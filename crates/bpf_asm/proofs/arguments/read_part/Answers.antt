@@ -1,7 +1,7 @@
 use Rattle.std.proofs.Common.{◌∙◌, sym, refl, rules, lit<}
 use Rattle.std.specs.Prelude.{[], ◌∷◌, None}
 use Rattle.std.proofs.lemmas.Str.Pattern.{strip_prefix_char}
-use Rattle.bpf_asm.proofs.Splits.{behind_absent}
+use Rattle.texts.proofs.Splits.{behind_absent}
 use Rattle.bpf_asm.proofs.Parts.{part_at-number}
 use Rattle.bpf_asm.proofs.arguments.read_part.Goals as goal
 

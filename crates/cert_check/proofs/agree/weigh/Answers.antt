@@ -1,6 +1,4 @@
-use Rattle.std.proofs.Common.{◌≡◌, Bool, true, false, not, subst, inl, List}
-use Rattle.profile.specs.declared.conditions.Cond.{Cond}
-use Rattle.cert_check.specs.inner.Judged.{AreYes, IsJudged, SomeIsNo}
+use Rattle.std.proofs.Common.{◌≡◌, Bool, true, false, not, inl}
 use Rattle.cert_check.proofs.agree.weigh.Goals as goal
 
 -- a test has one answer
@@ -14,9 +12,3 @@ returns-then-not-number-clause-bearing g c =
       λ holds _. absurd (apart c.args.number.own c.if-not-number.true (number.0.1 holds.0)),
       inl (inl (number.1.0 c.if-number.true), λ holds. apart c.args.number.own c.if-not-number.true (number.0.1 holds.0)),
     )
-
-pub judge_rule-judged-requires-clause-conds : goal.judge_rule-judged-requires-clause-conds
-judge_rule-judged-requires-clause-conds g c =
-    let known = g.S.State.known c.args.facts.now.state.now in
-    subst (λ (cs : List Cond). IsJudged (AreYes known cs) (SomeIsNo known cs) c.answer_of-answer.result.judged)
-    c.answer_of-answer.ensures.conds c.answer_of-answer.ensures.answer

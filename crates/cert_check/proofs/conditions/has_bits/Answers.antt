@@ -12,8 +12,11 @@ returns-then-not-entails g c =
     let datum_above = c.halves-datum.ensures.high in
     let next : c.low_word-word.result + 1 ≡ 5 + 2 * j = omega (arith, word) in
     let high : Bits (c.low_word-word.result + 1) c.halves-mask.result.1 c.halves-datum.result.1
-    ≡ Bits (5 + 2 * j) (c.args.mask / 2 ^ 32) (c.args.datum / 2 ^ 32) = cc in
-    (λ t. let e : false ≡ true = t in cc, λ h. let e : false ≡ true = c.if-not-entails.ensures.1 (subst (Entails known) (sym high) h.0) in cc)
+    ≡ Bits (5 + 2 * j) (c.args.mask / 2 ^ 32) (c.args.datum / 2 ^ 32) = cc in (
+      λ t. let e : false ≡ true = t in cc,
+      λ h. let e : false
+          ≡ true = c.if-not-entails.ensures.1 (subst (Entails known) (sym high) h.0) in cc,
+    )
 
 pub returns : goal.returns
 returns g c =

@@ -19,7 +19,8 @@ returns-in-MaskedEq g c =
     let cond = c.args.cond.now in
     let P : Op → Type 0 = λ op.
     IsJudged (IsYesBy op known cond.index cond.value cond.datum)
-    (IsNoBy op known cond.index cond.value cond.datum × (IsYesBy op known cond.index cond.value cond.datum → ⊥)) c.judge_bits-in-MaskedEq.result in
+    (IsNoBy op known cond.index cond.value cond.datum × (IsYesBy op known cond.index cond.value cond.datum
+    → ⊥)) c.judge_bits-in-MaskedEq.result in
     subst P (sym c.in-MaskedEq.is) c.judge_bits-in-MaskedEq.ensures
 
 pub returns-in-Ne : goal.returns-in-Ne

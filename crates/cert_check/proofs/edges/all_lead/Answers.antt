@@ -15,5 +15,6 @@ returns-then-leads c =
 
 pub returns-else-leads : goal.returns-else-leads
 returns-else-leads c =
-    rw c.in-Two.is (all_none (Leads (nodes_of c.args.view.now) c.args.i) (edge_of c.in-Two.first) (edge_of c.in-Two.second ∷ []) c.leads-in-Two.result
+    rw c.in-Two.is (all_none (Leads (nodes_of c.args.view.now) c.args.i) (edge_of c.in-Two.first) (edge_of c.in-Two.second
+    ∷ []) c.leads-in-Two.result
     (λ t. cc) (λ l. let e : false ≡ true = c.if-leads.ensures.1 l in cc))

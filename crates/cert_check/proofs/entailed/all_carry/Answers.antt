@@ -26,14 +26,14 @@ carries_to-requires-in-Two-2 c =
 
 pub returns-in-One : goal.returns-in-One
 returns-in-One c =
-    rw c.in-One.is (all_one (CarriesTo (nodes_of c.args.view.now) (says c.args.node.now)) (edge_of c.in-One.way) c.carries_to.result c.carries_to.ensures)
+    rw c.in-One.is (all_one (CarriesTo c.args.profile.now (nodes_of c.args.view.now) (says c.args.node.now)) (edge_of c.in-One.way) c.carries_to.result c.carries_to.ensures)
 
 pub returns-then-not-carries_to : goal.returns-then-not-carries_to
 returns-then-not-carries_to c =
-    rw c.in-Two.is (all_none (CarriesTo (nodes_of c.args.view.now) (says c.args.node.now)) (edge_of c.in-Two.first) (edge_of c.in-Two.second ∷ []) false
+    rw c.in-Two.is (all_none (CarriesTo c.args.profile.now (nodes_of c.args.view.now) (says c.args.node.now)) (edge_of c.in-Two.first) (edge_of c.in-Two.second ∷ []) false
     (λ t. let e : false ≡ true = t in cc) (λ l. let e : false ≡ true = c.if-not-carries_to.ensures.1 l in cc))
 
 pub returns-else-not-carries_to : goal.returns-else-not-carries_to
 returns-else-not-carries_to c =
-    rw c.in-Two.is (all_two (CarriesTo (nodes_of c.args.view.now) (says c.args.node.now)) (edge_of c.in-Two.first) (edge_of c.in-Two.second)
+    rw c.in-Two.is (all_two (CarriesTo c.args.profile.now (nodes_of c.args.view.now) (says c.args.node.now)) (edge_of c.in-Two.first) (edge_of c.in-Two.second)
     c.carries_to-in-Two-2.result (c.if-not-carries_to.ensures.0 refl) c.carries_to-in-Two-2.ensures)

@@ -5,7 +5,8 @@ use Rattle.cert_form.specs.Views.{nodes_of, says}
 use Rattle.cert_check.specs.declared.fault.CheckError.TheVariants.{Edge, Entail, Return, Split}
 use Rattle.cert_check.specs.Rules.{SplitRule, edges}
 use Rattle.cert_check.specs.inner.Ways.{edge_list}
-use Rattle.cert_check.proofs.NodeLaws.{found_at, no_insn, no_edges, return_from, return_back, edge_from, edge_back, there, entail_from, entail_back}
+use Rattle.cert_check.proofs.NodeLaws.{found_at, no_insn, no_edges, return_from, return_back}
+use Rattle.cert_check.proofs.NodeLaws.{edge_from, edge_back, there, entail_from, entail_back}
 use Rattle.cert_check.proofs.nodes.check_node.Goals as goal
 
 pub returns-in_default : goal.returns-in_default
@@ -86,8 +87,13 @@ returns-then-not-entail_is_kept c =
     let lead = c.if-not-all_lead.ensures.0 refl in
     let edge = edge_from policy p ns i n insn at out leave lead in
     let split = subst SplitRule c.kind.ensures (c.if-not-split_is_kept.ensures.0 refl) in
-    found_at policy p ns i n (Err (Entail i)) c.node-node.ensures
-    (refl, edge, split, λ rule. let e : false ≡ true = c.if-not-entail_is_kept.ensures.1 (entail_back policy p ns i n insn at out leave rule) in cc)
+    found_at policy p ns i n (Err (Entail i)) c.node-node.ensures (
+      refl,
+      edge,
+      split,
+      λ rule. let e : false
+          ≡ true = c.if-not-entail_is_kept.ensures.1 (entail_back policy p ns i n insn at out leave rule) in cc,
+    )
 
 pub returns-then-not-return_is_kept : goal.returns-then-not-return_is_kept
 returns-then-not-return_is_kept c =
@@ -104,8 +110,14 @@ returns-then-not-return_is_kept c =
     let edge = edge_from policy p ns i n insn at out leave lead in
     let split = subst SplitRule c.kind.ensures (c.if-not-split_is_kept.ensures.0 refl) in
     let entail = entail_from policy p ns i n insn at out leave (c.if-not-entail_is_kept.ensures.0 refl) in
-    found_at policy p ns i n (Err (Return i)) c.node-node.ensures
-    (refl, edge, split, entail, λ rule. let e : false ≡ true = c.if-not-return_is_kept.ensures.1 (return_back policy p ns i n insn at rule) in cc)
+    found_at policy p ns i n (Err (Return i)) c.node-node.ensures (
+      refl,
+      edge,
+      split,
+      entail,
+      λ rule. let e : false
+          ≡ true = c.if-not-return_is_kept.ensures.1 (return_back policy p ns i n insn at rule) in cc,
+    )
 
 pub returns : goal.returns
 returns c =
@@ -123,4 +135,9 @@ returns c =
     let split = subst SplitRule c.kind.ensures (c.if-not-split_is_kept.ensures.0 refl) in
     let entail = entail_from policy p ns i n insn at out leave (c.if-not-entail_is_kept.ensures.0 refl) in
     found_at policy p ns i n (Ok tt) c.node-node.ensures
-    (record { edge = edge; split = split; entail = entail; return = return_from policy p ns i n insn at (c.if-not-return_is_kept.ensures.0 refl) })
+    (record {
+      edge = edge;
+      split = split;
+      entail = entail;
+      return = return_from policy p ns i n insn at (c.if-not-return_is_kept.ensures.0 refl);
+    })

@@ -10,7 +10,8 @@ pub returns-in_err-check_node : goal.returns-in_err-check_node
 returns-in_err-check_node c =
     let cause : IsFound c.args.profile.now (accepted_insns c.args.accepted.now) (nodes_of c.args.view.now) c.in_err-check_node.field-0.0 =
     found_first c.args.profile.now (accepted_insns c.args.accepted.now) (nodes_of c.args.view.now) c.loop-i.i c.in_err-check_node.field-0.0
-    (c.if-not-root_is_kept.ensures.0 refl) (let size = c.len-i-end.ensures in omega (arith, size, c.loop-i-test.true)) c.loop-i.invariant c.in_err-check_node.ensures in
+    (c.if-not-root_is_kept.ensures.0 refl) (let size = c.len-i-end.ensures in
+    omega (arith, size, c.loop-i-test.true)) c.loop-i.invariant c.in_err-check_node.ensures in
     search (rules, cause)
 
 pub loop-i-preserved : goal.loop-i-preserved

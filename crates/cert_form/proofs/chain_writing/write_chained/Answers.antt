@@ -1,17 +1,17 @@
 use Rattle.std.proofs.Common.{◌≡◌, length, ap, sym, ◌∙◌, arith}
 use Rattle.std.proofs.lemmas.Bool.{eqb-false}
 use Rattle.cert_form.specs.Spelling.{chained, SpellsChained}
-use Rattle.cert_form.specs.Writing.{AreChainsWritable, AreMeant, version_for}
+use Rattle.cert_form.specs.Writing.{AreChainsWritable, AreMeant, all_known, version_for}
 use Rattle.cert_form.proofs.WriteLaws.{chained_in_limits, spells_chained}
 use Rattle.cert_form.proofs.chain_writing.write_chained.Goals as goal
 
 pub returns-clause-spelled : goal.returns-clause-spelled
-returns-clause-spelled c = c.in_ok-put_file.ensures ∙ ap (λ v. chained v c.args.entries.now c.args.nodes.now) c.version_of-version.ensures
+returns-clause-spelled c = c.in_ok-put_file.ensures ∙ ap (λ v. chained v (all_known c.args.entries.now) c.args.nodes.now) c.version_of-version.ensures
 
 -- what is written keeps the limits, and is the certificate of what is meant
 in_limits : (c : goal.Else-len-gt4194304) → AreChainsWritable c.args.entries.now c.args.nodes.now
     × (AreMeant c.args.entries.now c.args.nodes.now
-    → SpellsChained (version_for c.args.nodes.now) c.put_file.new.out.items c.args.entries.now c.args.nodes.now)
+    → SpellsChained (version_for c.args.nodes.now) c.put_file.new.out.items (all_known c.args.entries.now) c.args.nodes.now)
 in_limits c =
     let ns = c.args.nodes.now in
     chained_in_limits c.put_file.new.out.items c.args.entries.now ns (returns-clause-spelled c)

@@ -1,23 +1,23 @@
 use Rattle.std.proofs.Common.{◌≡◌, ◌≤◌, ◌<◌, ◌+◌, ◌-◌, ℕ, zero, suc, IsTrue, eqb, length, refl, ap, arith}
 use Rattle.std.proofs.lemmas.Bool.{eqb-true}
-use Rattle.cert_form.specs.Nodes.{literals}
+use Rattle.cert_form.specs.Nodes.{on_chain}
 use Rattle.cert_form.specs.Reading.{chain_count, entries_of, parent_at}
-use Rattle.cert_form.proofs.ChainLaws.{some_literal, no_literal}
+use Rattle.cert_form.proofs.ChainLaws.{some_claim, no_claim}
 use Rattle.cert_form.proofs.chained.is_short.Goals as goal
 
 pub returns-then-entry-eq0 : goal.returns-then-entry-eq0
 returns-then-entry-eq0 c =
     let bytes = c.args.bytes.now in
-    let none = ap (λ k. length (literals (entries_of bytes) k)) c.if-entry-eq0.true in
-    (λ _. omega (arith, c.loop.invariant.steps, none, ap length (no_literal bytes (chain_count bytes)), c.loop-test.true), λ _. refl)
+    let none = ap (λ k. length (on_chain (entries_of bytes) k)) c.if-entry-eq0.true in
+    (λ _. omega (arith, c.loop.invariant.steps, none, ap length (no_claim bytes (chain_count bytes)), c.loop-test.true), λ _. refl)
 
 pub loop-preserved : goal.loop-preserved
 loop-preserved c =
     let bytes = c.args.bytes.now in
     let earlier : parent_at bytes (c.loop.entry - 1) < c.loop.entry - 1 + 1 =
     c.requires.head.earlier c.requires.form (c.loop.entry - 1) (omega (arith, c.if-entry-eq0.false, c.loop.invariant.known)) in
-    let one = some_literal bytes (chain_count bytes) c.loop.entry c.if-entry-eq0.false c.loop.invariant.known earlier in
-    let same = ap (λ k. length (literals (entries_of bytes) k)) c.read_long-entry.ensures in
+    let one = some_claim bytes (chain_count bytes) c.loop.entry c.if-entry-eq0.false c.loop.invariant.known earlier in
+    let same = ap (λ k. length (on_chain (entries_of bytes) k)) c.read_long-entry.ensures in
     record {
       steps = omega (arith, c.loop.invariant.steps, one, same);
       known = omega (arith, c.read_long-entry.ensures, earlier, c.if-entry-eq0.false, c.loop.invariant.known);
@@ -33,19 +33,19 @@ pub returns : goal.returns
 returns c =
     let bytes = c.args.bytes.now in
     let count : ℕ = chain_count bytes in
-    ends c.loop.entry (length (literals (entries_of bytes) c.args.chain))
+    ends c.loop.entry (length (on_chain (entries_of bytes) c.args.chain))
     (λ e. omega (
       arith,
       c.loop.invariant.steps,
-      ap (λ k. length (literals (entries_of bytes) k)) e,
-      ap length (no_literal bytes count),
+      ap (λ k. length (on_chain (entries_of bytes) k)) e,
+      ap length (no_claim bytes count),
       c.loop-test.false,
       c.loop.auto.counter-end,
     ))
     (λ some. omega (
       arith,
       c.loop.invariant.steps,
-      some_literal bytes count c.loop.entry some c.loop.invariant.known
+      some_claim bytes count c.loop.entry some c.loop.invariant.known
           (c.requires.head.earlier c.requires.form (c.loop.entry - 1) (omega (arith, some, c.loop.invariant.known))),
       c.loop-test.false,
     ))

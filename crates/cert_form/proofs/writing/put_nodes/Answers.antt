@@ -21,6 +21,8 @@ pub loop-n-preserved : goal.loop-n-preserved
 loop-n-preserved c =
     let one : IsPlain (plain c.n-item.result) = record {
       no_scratch = c.if-not-states_nothing.ensures.0 refl;
+      none_out = refl;
+      none_met = refl;
       few = omega (arith, c.len.ensures, c.if-len-gt512.false);
     } in
     record {

@@ -1,7 +1,7 @@
 use Rattle.std.proofs.Common.{[], ◌∷◌}
 use Rattle.std.specs.Prelude.{codes}
+use Rattle.texts.specs.Lines.{line_feed}
 use Rattle.call_record.specs.Text.{text_of}
-use Rattle.cli.specs.Answer.{line_feed}
 use Rattle.cli.specs.Certified.{digits_line}
 use Rattle.cli.proofs.EvidenceLaws.{formatted, seven_parts}
 use Rattle.cli.proofs.certifying.line_with.Goals as goal

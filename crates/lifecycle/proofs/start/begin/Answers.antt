@@ -11,7 +11,8 @@ use Rattle.lifecycle.proofs.start.begin.Goals.{In-Ok}
 pub settle-requires : goal.settle-requires
 settle-requires g c = λ v denied.
     let k = g.K.Kernel.processes in
-    let native : c.execve_record-first.result ≡ execve_of (profile_of c.args.checked).native = c.execve_record-first.ensures ∙ ap execve_of (c.native.ensures ∙ ap (λ p. p.native) c.profile.ensures) in
+    let native : c.execve_record-first.result ≡ execve_of (profile_of c.args.checked).native = c.execve_record-first.ensures
+    ∙ ap execve_of (c.native.ensures ∙ ap (λ p. p.native) c.profile.ensures) in
     let facts = began (k c.args.kernel.now) (k c.admit.new.self) (k c.present.new.self) c.args.id.now c.args.checked c.execve_record-first.result c.in-Ok.outcome
     c.in_ok-admit.ensures.ok native c.in-Ok.ensures.outcome c.in-Ok.ensures.ok in (
       (first_call (profile_of c.args.checked).native (by_program c.args.checked)).1,
@@ -22,7 +23,8 @@ settle-requires g c = λ v denied.
 pub returns-in-Ok-clause-reply : goal.returns-in-Ok-clause-reply
 returns-in-Ok-clause-reply g c =
     let k = g.K.Kernel.processes in
-    let native : c.execve_record-first.result ≡ execve_of (profile_of c.args.checked).native = c.execve_record-first.ensures ∙ ap execve_of (c.native.ensures ∙ ap (λ p. p.native) c.profile.ensures) in
+    let native : c.execve_record-first.result ≡ execve_of (profile_of c.args.checked).native = c.execve_record-first.ensures
+    ∙ ap execve_of (c.native.ensures ∙ ap (λ p. p.native) c.profile.ensures) in
     let facts = began (k c.args.kernel.now) (k c.admit.new.self) (k c.present.new.self) c.args.id.now c.args.checked c.execve_record-first.result c.in-Ok.outcome
     c.in_ok-admit.ensures.ok native c.in-Ok.ensures.outcome c.in-Ok.ensures.ok in
     c.settle.ensures.reply ∙ ap start_reply facts.0
@@ -30,7 +32,8 @@ returns-in-Ok-clause-reply g c =
 pub returns-in-Ok-clause-ok : goal.returns-in-Ok-clause-ok
 returns-in-Ok-clause-ok g c =
     let k = g.K.Kernel.processes in
-    let native : c.execve_record-first.result ≡ execve_of (profile_of c.args.checked).native = c.execve_record-first.ensures ∙ ap execve_of (c.native.ensures ∙ ap (λ p. p.native) c.profile.ensures) in
+    let native : c.execve_record-first.result ≡ execve_of (profile_of c.args.checked).native = c.execve_record-first.ensures
+    ∙ ap execve_of (c.native.ensures ∙ ap (λ p. p.native) c.profile.ensures) in
     let facts = began (k c.args.kernel.now) (k c.admit.new.self) (k c.present.new.self) c.args.id.now c.args.checked c.execve_record-first.result c.in-Ok.outcome
     c.in_ok-admit.ensures.ok native c.in-Ok.ensures.outcome c.in-Ok.ensures.ok in
     left (k c.args.kernel.now) (k c.present.new.self) (k c.settle.new.kernel) c.args.id.now c.in-Ok.outcome

@@ -4,7 +4,7 @@ use Rattle.std.proofs.lemmas.Option.{get_or_from_slice_get}
 use Rattle.processes.specs.declared.task.Task.{Task}
 use Rattle.processes.specs.Kernel.{renewed}
 use Rattle.processes.specs.Tasks.{ascends, is_task}
-use Rattle.processes.specs.inner.Table.{all_of, process_of}
+use Rattle.processes.specs.Kept.{all_of, process_of}
 use Rattle.processes.proofs.ImageLemmas.{bare_order, leader_over, mover_nowhere, mover_over}
 use Rattle.processes.proofs.image.take_over.Goals as goal
 
@@ -24,7 +24,13 @@ returns-in-Some g c = λ seen t h.
     let rest = c.remove-caller.new.self.items in
     let same : c.index-caller.result.now ≡ t = c.index-caller.ensures ∙ get_or_from_slice_get old c.args.at t c.index-caller.result.now h in
     let out : c.remove-caller.result ≡ t = c.remove-caller.ensures.value ∙ get_or_from_slice_get old c.args.at t c.remove-caller.result h in
-    let found : find (is_task t.group) (all_of seen rest) ≡ option_map (process_of seen) (slice_get rest c.in-Some.place) = rw (c.from.ensures, same, c.deref.ensures.value, c.in-Some.is) at (c.index_of.ensures.found seen) in
+    let found : find (is_task t.group) (all_of seen rest)
+    ≡ option_map (process_of seen) (slice_get rest c.in-Some.place) = rw (
+      c.from.ensures,
+      same,
+      c.deref.ensures.value,
+      c.in-Some.is,
+    ) at (c.index_of.ensures.found seen) in
     let within : c.in-Some.place < length rest = rw (c.in-Some.is, c.deref.ensures.value) at c.index_of.ensures.within in
     mover_over seen old rest c.args.at c.in-Some.place c.requires.ordered.0 t c.renew-2.new.task order h (rw same at c.if-caller-group.false) c.remove-caller.ensures.items
     found within (c.renew-2.ensures seen ∙ ap (λ (u : Task g.row.H.Denot). renewed (process_of seen u)) out)
@@ -35,5 +41,10 @@ returns-in_default g c = λ seen t h.
     let order : IsTrue (ascends 0 (all_of seen old) c.requires.ordered.0) = subst IsTrue (bare_order seen 0 old c.requires.ordered.0) c.requires.ordered.1 in
     let rest = c.remove-caller.new.self.items in
     let same : c.index-caller.result.now ≡ t = c.index-caller.ensures ∙ get_or_from_slice_get old c.args.at t c.index-caller.result.now h in
-    let none : find (is_task t.group) (all_of seen rest) ≡ None = rw (c.from.ensures, same, c.deref.ensures.value, c.in_default.is) at (c.index_of.ensures.found seen) in
+    let none : find (is_task t.group) (all_of seen rest) ≡ None = rw (
+      c.from.ensures,
+      same,
+      c.deref.ensures.value,
+      c.in_default.is,
+    ) at (c.index_of.ensures.found seen) in
     mover_nowhere seen old rest c.args.at c.requires.ordered.0 t order h (rw same at c.if-caller-group.false) c.remove-caller.ensures.items none

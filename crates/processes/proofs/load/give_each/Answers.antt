@@ -4,7 +4,8 @@ use Rattle.std.specs.Prelude.{if◌then◌else◌}
 use Rattle.std.proofs.lemmas.Bool.{cases_Bool}
 use Rattle.std.proofs.lemmas.List.{length_push}
 use Rattle.processes.specs.Tasks.{Filter, Process}
-use Rattle.processes.specs.inner.Table.{bare_of, is_taker, process_of}
+use Rattle.processes.specs.Kept.{process_of}
+use Rattle.processes.specs.inner.Table.{bare_of, is_taker}
 use Rattle.processes.proofs.Lists.{map_more, map_whole}
 use Rattle.processes.proofs.LoadLemmas.{count_here, front, last, left_other, left_taken, taker_bare}
 use Rattle.processes.proofs.load.give_each.Goals as goal
@@ -22,18 +23,24 @@ loop-task-preserved g c =
     elim (cases_Bool (is_taker c.args.takers (bare_of (get_or xs i d)))) [
       | inl h ↦
           let got = c.give.ensures.taker h in
-          let fewer : length c.loop-task.handles.items ≡ length c.give.new.handles.items + 1 = ap length got.1 ∙ length_push c.give.new.handles.items got.0 in
+          let fewer : length c.loop-task.handles.items ≡ length c.give.new.handles.items + 1 = ap length got.1
+          ∙ length_push c.give.new.handles.items got.0 in
           let popped : vec_len c.loop-task.handles ≡ vec_len c.give.new.handles + 1 = omega arith in
           record {
             left = left_taken (is_taker c.args.takers) xs i y d (vec_len c.loop-task.handles) (vec_len c.give.new.handles) inside h c.loop-task.invariant.left popped;
             same = λ seen filters all.
-                let whole : All (λ handle. seen handle ≡ filters) (c.give.new.handles.items ++ got.0 ∷ []) = subst (All (λ (handle : g.row.H.Denot). seen handle ≡ filters)) got.1 (c.loop-task.invariant.same seen filters all) in
+                let whole : All (λ handle. seen handle ≡ filters) (c.give.new.handles.items
+                ++ got.0 ∷ []) = subst (All (λ (handle : g.row.H.Denot). seen handle
+                ≡ filters)) got.1 (c.loop-task.invariant.same seen filters all) in
                 front (λ handle. seen handle ≡ filters) c.give.new.handles.items got.0 whole;
             seen = λ seen filters all.
-                let whole : All (λ handle. seen handle ≡ filters) (c.give.new.handles.items ++ got.0 ∷ []) = subst (All (λ (handle : g.row.H.Denot). seen handle ≡ filters)) got.1 (c.loop-task.invariant.same seen filters all) in
+                let whole : All (λ handle. seen handle ≡ filters) (c.give.new.handles.items
+                ++ got.0 ∷ []) = subst (All (λ (handle : g.row.H.Denot). seen handle
+                ≡ filters)) got.1 (c.loop-task.invariant.same seen filters all) in
                 let these : seen got.0 ≡ filters = last (λ handle. seen handle ≡ filters) c.give.new.handles.items got.0 whole in
                 let now : process_of seen y ≡ (if is_taker c.args.takers (process_of seen (get_or xs i d)) then record (process_of seen (get_or xs i d)) { filters = filters } else process_of seen (get_or xs i d)) =
-                rw (taker_bare seen c.args.takers (get_or xs i d), h) (got.2 seen ∙ ap (λ (fs : List Filter). record (process_of seen (get_or xs i d)) { filters = fs }) these) in
+                rw (taker_bare seen c.args.takers (get_or xs i d), h) (got.2 seen
+                ∙ ap (λ (fs : List Filter). record (process_of seen (get_or xs i d)) { filters = fs }) these) in
                 rw add-one (map_more (process_of seen) (λ (u : Process). if is_taker c.args.takers u then record u { filters = filters } else u) c.args.tasks.now xs i y d
                 (c.loop-task.invariant.seen seen filters all) (omega arith) now);
           }
@@ -43,7 +50,8 @@ loop-task-preserved g c =
           let kept : vec_len c.give.new.handles ≡ vec_len c.loop-task.handles = omega arith in
           record {
             left = kept ∙ left_other (is_taker c.args.takers) xs i y d (vec_len c.loop-task.handles) inside h c.loop-task.invariant.left;
-            same = λ seen filters all. subst (All (λ (handle : g.row.H.Denot). seen handle ≡ filters)) (sym left.0) (c.loop-task.invariant.same seen filters all);
+            same = λ seen filters all. subst (All (λ (handle : g.row.H.Denot). seen handle
+                ≡ filters)) (sym left.0) (c.loop-task.invariant.same seen filters all);
             seen = λ seen filters all.
                 let now : process_of seen y ≡ (if is_taker c.args.takers (process_of seen (get_or xs i d)) then record (process_of seen (get_or xs i d)) { filters = filters } else process_of seen (get_or xs i d)) =
                 rw (taker_bare seen c.args.takers (get_or xs i d), h) (left.1 seen) in

@@ -2,7 +2,8 @@
 use Rattle.std.proofs.Common.{◌≡◌, ◌++◌, All, List, take, drop, vec_len}
 use Rattle.std.specs.Prelude.{count_by}
 use Rattle.processes.specs.Tasks.{Filter}
-use Rattle.processes.specs.inner.Table.{all_of, bare_of, given, is_taker}
+use Rattle.processes.specs.Kept.{all_of}
+use Rattle.processes.specs.inner.Table.{bare_of, given, is_taker}
 use Rattle.processes.proofs.load.give_each.Given as goal
 
 abbrev pub invariant-loop-task : goal.invariant-loop-task
@@ -11,5 +12,6 @@ invariant-loop-task g l = record {
   same : (seen : g.row.H.Denot → List Filter) (filters : List Filter) → All (λ handle. seen handle ≡ filters) l.initial.handles.items
       → All (λ handle. seen handle ≡ filters) l.handles.items;
   seen : (seen : g.row.H.Denot → List Filter) (filters : List Filter) → All (λ handle. seen handle ≡ filters) l.initial.handles.items
-      → all_of seen l.tasks ≡ given (is_taker l.takers) filters (all_of seen (take l.task-index l.fn.tasks)) ++ all_of seen (drop l.task-index l.fn.tasks);
+      → all_of seen l.tasks ≡ given (is_taker l.takers) filters (all_of seen (take l.task-index l.fn.tasks))
+      ++ all_of seen (drop l.task-index l.fn.tasks);
 }

@@ -1,7 +1,8 @@
 use Rattle.std.proofs.Common.{add-one, arith}
 use Rattle.std.specs.Prelude.{if◌then◌else◌}
 use Rattle.processes.specs.Tasks.{end_by}
-use Rattle.processes.specs.inner.Table.{is_meant, process_of}
+use Rattle.processes.specs.Kept.{process_of}
+use Rattle.processes.specs.inner.Table.{is_meant}
 use Rattle.processes.proofs.Lists.{map_more}
 use Rattle.processes.proofs.tasks.end_each.Goals as goal
 

@@ -1,7 +1,7 @@
 use Rattle.std.proofs.Common.{ap, ◌∙◌, sym}
 use Rattle.std.specs.Prelude.{option_and_then, option_map, slice_get}
 use Rattle.processes.specs.Tasks.{is_task}
-use Rattle.processes.specs.inner.Table.{process_of}
+use Rattle.processes.specs.Kept.{process_of}
 use Rattle.processes.proofs.Lists.{find_at_position}
 use Rattle.processes.proofs.tasks.index_of.Goals as goal
 

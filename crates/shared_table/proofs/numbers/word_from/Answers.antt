@@ -36,7 +36,8 @@ bits-preserved c =
     let next : left + 1 ≡ c.bits.left = omega arith in
     let word : c.bits.word ≡ packed test (c.args.first + (left + 1)) (64 - (left + 1)) =
     c.bits.invariant.bits ∙ ap (λ k. packed test (c.args.first + k) (64 - k)) (sym next) in
-    let own : c.from-bit.result ≡ bit (test (c.args.first + left)) = c.from-bit.ensures ∙ bit_byte c.is_allowed.result ∙ ap bit c.is_allowed.ensures in
+    let own : c.from-bit.result ≡ bit (test (c.args.first + left)) = c.from-bit.ensures
+    ∙ bit_byte c.is_allowed.result ∙ ap bit c.is_allowed.ensures in
     let front : packed test (c.args.first + left) (64 - left)
     ≡ bit (test (c.args.first + left)) + 2 * packed test (c.args.first + (left + 1)) (64 - (left + 1)) = packed_front test c.args.first left less in
     record { most = omega arith; bits = omega arith }

@@ -23,7 +23,10 @@ returns-in_default-clause-step g c =
     let id = c.args.id.now in
     let w = world_from k c.args.self.now.entries.entries in
     unchanged by_program (Create id c.args.checked) w (container_at id w) (Refused BadId) refl
-    (ap (λ (b : Bool). if b then create by_program c.args.checked (container_at id w) else (Refused BadId, container_at id w)) (never (is_id id) c.in_default.ensures.exact.1))
+    (ap (λ (b : Bool). if b then create by_program c.args.checked (container_at id w) else (
+      Refused BadId,
+      container_at id w,
+    )) (never (is_id id) c.in_default.ensures.exact.1))
 
 pub returns-then-contains_key-clause-step : goal.returns-then-contains_key-clause-step
 unfolding world_of
@@ -32,9 +35,13 @@ returns-then-contains_key-clause-step g c =
     let id = c.args.id.now in
     let es = c.args.self.now.entries.entries in
     let w = world_from k es in
-    let held = taken k id es (ap (λ q. is_some (lookup (same_text q) es)) (sym c.in-Some.ensures.text) ∙ (sym c.contains_key.ensures ∙ c.if-contains_key.true)) in
+    let held = taken k id es (ap (λ q. is_some (lookup (same_text q) es)) (sym c.in-Some.ensures.text)
+    ∙ (sym c.contains_key.ensures ∙ c.if-contains_key.true)) in
     unchanged by_program (Create id c.args.checked) w (Some held.0) (Refused IdTaken) held.1
-    (ap (λ (b : Bool). if b then create by_program c.args.checked (Some held.0) else (Refused BadId, Some held.0)) (c.in-Some.ensures.exact.0 refl))
+    (ap (λ (b : Bool). if b then create by_program c.args.checked (Some held.0) else (
+      Refused BadId,
+      Some held.0,
+    )) (c.in-Some.ensures.exact.0 refl))
 
 pub invariant_of-self : goal.invariant_of-self
 invariant_of-self g c =
@@ -42,8 +49,12 @@ invariant_of-self g c =
     let old = c.args.self.now.entries.entries in
     let none = lacks old c.in-Some.name (sym c.contains_key.ensures ∙ c.if-contains_key.false) in
     let is : is_id c.in-Some.name ≡ true = ap is_id c.in-Some.ensures.text ∙ c.in-Some.ensures.exact.0 refl in
-    let kept = kept_by k c.insert.result c.in-Some.name (record { checked = c.args.checked; phase = Made }) old c.insert.new.self.entries c.insert.ensures.updates (λ u. u.0) c.insert.ensures.err
-    none refl is c.args.self.now.ids c.args.self.now.in_step in record { ids = kept.ids; in_step = kept.in_step }
+    let kept = kept_by k c.insert.result c.in-Some.name (record {
+      checked = c.args.checked;
+      phase = Made;
+    }) old c.insert.new.self.entries c.insert.ensures.updates (λ u. u.0) c.insert.ensures.err
+    none refl is c.args.self.now.ids c.args.self.now.in_step in
+    record { ids = kept.ids; in_step = kept.in_step; sound = c.args.self.now.sound }
 
 pub returns-clause-step : goal.returns-clause-step
 unfolding world_of

@@ -10,6 +10,7 @@ use Rattle.lifecycle.specs.Views.{world_of}
 use Rattle.lifecycle.specs.Entries.{container_of, world_from}
 use Rattle.lifecycle.proofs.CommandLaws.{FindsAt, ids_kept, is_known, step_kept}
 use Rattle.lifecycle.proofs.Entries.{changed, not_there, removed, there, unchanged}
+use Rattle.lifecycle.proofs.SoundLaws.{sound_set}
 use Rattle.lifecycle.proofs.runtime.Runtime.delete.Goals as goal
 
 pub returns-in_default : goal.returns-in_default
@@ -31,6 +32,7 @@ invariant_of-self g c =
     let known = is_known old id c.in-Some.field-0.entry c.args.self.now.ids found.kept in record {
       ids = ids_kept old c.forget.new.entries.entries named None finds (rw found.name known) c.args.self.now.ids;
       in_step = step_kept (k c.args.self.now.kernel) (k c.expel.new.self) old c.forget.new.entries.entries named None None c.expel.ensures finds refl c.args.self.now.in_step;
+      sound = sound_set (k c.args.self.now.kernel) (k c.expel.new.self) named None c.expel.ensures tt c.args.self.now.sound;
     }
 
 pub returns-in-Created : goal.returns-in-Created
@@ -64,7 +66,8 @@ returns-in-Stopped g c =
     let found = c.in-Some.ensures.some in
     let container = container_of c.in-Some.field-0.entry (k c.args.self.now.kernel id) in
     let gone : SetAt (k c.args.self.now.kernel) (k c.expel.new.self) id None = rw (sym found.name) c.expel.ensures in
-    let entries : c.forget.new.entries.entries ≡ remove_entry (same_text id) old = c.forget.ensures.entries ∙ ap (λ q. remove_entry (same_text q) old) found.name in
+    let entries : c.forget.new.entries.entries ≡ remove_entry (same_text id) old = c.forget.ensures.entries
+    ∙ ap (λ q. remove_entry (same_text q) old) found.name in
     changed by_program (Delete id) (world_from (k c.args.self.now.kernel) old) (world_from (k c.expel.new.self) c.forget.new.entries.entries) (Some container) None Accepted
     (there (k c.args.self.now.kernel) id old c.in-Some.field-0.entry found.kept)
     (ap (λ s. delete s container) (sym found.status ∙ c.in-Stopped.is))

@@ -16,6 +16,7 @@ use Rattle.lifecycle.specs.Entries.{container_of, is_started, started_in, world_
 use Rattle.lifecycle.proofs.CommandLaws.{FindsAt, bad_created, bad_running, ended_as, ids_kept, is_known, killed_created}
 use Rattle.lifecycle.proofs.CommandLaws.{killed_running, made, runs_on, set_own, step_kept}
 use Rattle.lifecycle.proofs.Entries.{changed, not_there, there, told, unchanged, written}
+use Rattle.lifecycle.proofs.SoundLaws.{signal_sound_in, sound_set}
 use Rattle.lifecycle.proofs.runtime.Runtime.kill.Goals as goal
 use Rattle.lifecycle.proofs.runtime.Runtime.kill.Goals.{then-is_fatal, else-is_fatal}
 
@@ -53,7 +54,16 @@ invariant_of-self g c =
     let none = c.args.self.now.in_step id ∙ (ap started_in found.kept ∙ idle) in record {
       ids = ids_kept old c.come_to.new.entries.entries named (Some ended) finds (rw found.name known) c.args.self.now.ids;
       in_step = step_kept k k old c.come_to.new.entries.entries named (k named) (Some ended) (set_own k named) finds (ap (λ q. is_some (k q)) found.name ∙ none) c.args.self.now.in_step;
+      sound = c.args.self.now.sound;
     }
+
+pub invariant_of-self-in-Running-clause-sound : goal.invariant_of-self-in-Running-clause-sound
+invariant_of-self-in-Running-clause-sound g c =
+    let k = g.K.Kernel.processes in
+    let named = c.in-Some.field-0.name in
+    let before = k c.args.self.now.kernel named in
+    sound_set (k c.args.self.now.kernel) (k c.signal.new.self) named (option_map (signalled c.args.sig) before) c.signal.ensures
+    (signal_sound_in c.args.sig before (c.args.self.now.sound named)) c.args.self.now.sound
 
 pub returns-then-sig-gt-LAST_SIGNAL-2 : goal.returns-then-sig-gt-LAST_SIGNAL-2
 unfolding world_of
@@ -87,7 +97,8 @@ returns-after-is_fatal g c =
           ∙ changed by_program (Kill id c.args.sig) (world_from k es) (world_from k w.come_to.new.entries.entries) (Some container) (Some (record container { status = Stopped })) Accepted
           (there k id es e found.kept)
           (killed_created c.args.sig container true (sym c.is_fatal.ensures ∙ w.if-is_fatal.true) created low)
-          (ap (world_from k) entries ∙ (written k k id (k id) ended e es (set_own k id) found.distinct found.kept ∙ ap (λ (x : Container). put id (Some x) (world_from k es)) (sym stops)))
+          (ap (world_from k) entries ∙ (written k k id (k id) ended e es (set_own k id) found.distinct found.kept
+          ∙ ap (λ (x : Container). put id (Some x) (world_from k es)) (sym stops)))
       | else-is_fatal w ↦
           ap (λ r. (Accepted, world_of r)) w.self-is
           ∙ unchanged by_program (Kill id c.args.sig) (world_from k es) (Some container) Accepted (there k id es e found.kept)

@@ -16,6 +16,7 @@ use Rattle.lifecycle.specs.Entries.{container_of, world_from}
 use Rattle.lifecycle.proofs.CommandLaws.{FindsAt, begins, ended_no, ids_kept, is_known, not_created, on_err, runs_as, started_no, starts}
 use Rattle.lifecycle.proofs.CommandLaws.{status_made, step_kept}
 use Rattle.lifecycle.proofs.Entries.{changed, not_there, there, unchanged, written}
+use Rattle.lifecycle.proofs.SoundLaws.{first_sound, sound_set}
 use Rattle.lifecycle.proofs.runtime.Runtime.start.Goals as goal
 
 pub returns-in_default-clause-step : goal.returns-in_default-clause-step
@@ -41,6 +42,8 @@ invariant_of-self-in-Made g c =
       ids = ids_kept old c.come_to.new.entries.entries named (Some started) finds (rw found.name known) c.args.self.now.ids;
       in_step = step_kept (k c.args.self.now.kernel) (k c.begin.new.kernel) old c.come_to.new.entries.entries named (Some (left_after p.0 p.1)) (Some started)
           c.in_ok-reply-in-Made.ensures.ok finds refl c.args.self.now.in_step;
+      sound = sound_set (k c.args.self.now.kernel) (k c.begin.new.kernel) named (Some (left_after p.0 p.1)) c.in_ok-reply-in-Made.ensures.ok
+          (first_sound (profile_of e.checked).native (by_program e.checked)) c.args.self.now.sound;
     }
 
 pub returns-in_ok-reply-in-Made-clause-step : goal.returns-in_ok-reply-in-Made-clause-step

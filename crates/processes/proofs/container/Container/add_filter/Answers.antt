@@ -4,7 +4,8 @@ use Rattle.std.proofs.lemmas.Result.{err_from_is_err_and}
 use Rattle.kernel_check.specs.Lent.{accepted_insns}
 use Rattle.processes.specs.Stores.{program_filter}
 use Rattle.processes.specs.Tasks.{Filter}
-use Rattle.processes.specs.inner.Table.{all_of, given, is_taker}
+use Rattle.processes.specs.Kept.{all_of}
+use Rattle.processes.specs.inner.Table.{given, is_taker}
 use Rattle.processes.proofs.LoadLemmas.{given_kept, loaded_by}
 use Rattle.processes.proofs.Rooted.{given_rooted, seen_same}
 use Rattle.processes.proofs.container.Container.add_filter.Goals as goal
@@ -15,7 +16,8 @@ invariant_of-self g c =
     let old = c.args.self.now in
     let seen = g.S.Store.filters_of old.store in
     let later = g.S.Store.filters_of c.with_newer.new.self in
-    let whole : all_of later old.tasks.items ≡ all_of seen old.tasks.items = seen_same seen later old.tasks.items c.with_newer.ensures.others old.rooted in
+    let whole : all_of later old.tasks.items
+    ≡ all_of seen old.tasks.items = seen_same seen later old.tasks.items c.with_newer.ensures.others old.rooted in
     record { ordered = rw whole old.ordered; rooted = rw whole old.rooted }
 
 pub returns-in_err-handles-clause-err : goal.returns-in_err-handles-clause-err
@@ -24,7 +26,8 @@ returns-in_err-handles-clause-err g c =
     let seen = g.S.Store.filters_of old.store in
     let later = g.S.Store.filters_of c.with_newer.new.self in
     let p = err_from_is_err_and c.from_residual.result c.from_residual.ensures.1 in
-    let whole : all_of later old.tasks.items ≡ all_of seen old.tasks.items = seen_same seen later old.tasks.items c.with_newer.ensures.others old.rooted in
+    let whole : all_of later old.tasks.items
+    ≡ all_of seen old.tasks.items = seen_same seen later old.tasks.items c.with_newer.ensures.others old.rooted in
     rw (p.1, whole, c.in_err-handles.ensures.err) refl
 
 pub invariant_of-self-2 : goal.invariant_of-self-2
@@ -32,8 +35,10 @@ invariant_of-self-2 g c =
     let old = c.args.self.now in
     let seen = g.S.Store.filters_of old.store in
     let later = g.S.Store.filters_of c.with_newer.new.self in
-    let fs : List Filter = program_filter (g.S.Store.loads_of old.store + 1) (accepted_insns c.args.program.now) ∷ seen c.index-caller.result.now.filters in
-    let whole : all_of later old.tasks.items ≡ all_of seen old.tasks.items = seen_same seen later old.tasks.items c.with_newer.ensures.others old.rooted in
+    let fs : List Filter = program_filter (g.S.Store.loads_of old.store + 1) (accepted_insns c.args.program.now)
+    ∷ seen c.index-caller.result.now.filters in
+    let whole : all_of later old.tasks.items
+    ≡ all_of seen old.tasks.items = seen_same seen later old.tasks.items c.with_newer.ensures.others old.rooted in
     let after : all_of later c.give_all.new.tasks.items ≡ given (is_taker c.args.takers) fs (all_of seen old.tasks.items) =
     c.give_all.ensures later fs c.in_ok-handles.ensures.handles ∙ ap (given (is_taker c.args.takers) fs) whole in
     record {
@@ -46,9 +51,11 @@ returns-clause-ok g c = λ for_all t h same.
     let old = c.args.self.now in
     let seen = g.S.Store.filters_of old.store in
     let later = g.S.Store.filters_of c.with_newer.new.self in
-    let caller : c.index-caller.result.now ≡ t = c.index-caller.ensures ∙ get_or_from_slice_get old.tasks.items c.args.at t c.index-caller.result.now h in
+    let caller : c.index-caller.result.now ≡ t = c.index-caller.ensures
+    ∙ get_or_from_slice_get old.tasks.items c.args.at t c.index-caller.result.now h in
     let fs : List Filter = program_filter (g.S.Store.loads_of old.store + 1) (accepted_insns c.args.program.now) ∷ seen t.filters in
-    let whole : all_of later old.tasks.items ≡ all_of seen old.tasks.items = seen_same seen later old.tasks.items c.with_newer.ensures.others old.rooted in
+    let whole : all_of later old.tasks.items
+    ≡ all_of seen old.tasks.items = seen_same seen later old.tasks.items c.with_newer.ensures.others old.rooted in
     let after : all_of later c.give_all.new.tasks.items ≡ given (is_taker c.args.takers) fs (all_of seen old.tasks.items) =
     c.give_all.ensures later fs (rw caller at c.in_ok-handles.ensures.handles) ∙ ap (given (is_taker c.args.takers) fs) whole in
     rw (

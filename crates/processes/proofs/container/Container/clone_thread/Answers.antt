@@ -26,7 +26,8 @@ add-requires-clause-rooted g c =
     let old = c.args.self.now in
     let seen = g.S.Store.filters_of old.store in
     let t = c.index-caller.result.now in
-    let here : slice_get old.tasks.items c.args.at ≡ Some t = slice_get_read old.tasks.items _ c.args.at t refl (omega (arith, c.requires)) c.index-caller.ensures in
+    let here : slice_get old.tasks.items c.args.at
+    ≡ Some t = slice_get_read old.tasks.items _ c.args.at t refl (omega (arith, c.requires)) c.index-caller.ensures in
     rw c.in_ok-filters.ensures (rooted_at seen old.tasks.items c.args.at t here old.rooted)
 
 pub returns-clause-ok : goal.returns-clause-ok
@@ -35,7 +36,8 @@ returns-clause-ok g c =
     IfOk-weaker c.add.result _ _
     (λ o kept t h.
     let room : c.args.self.now.made < 1024 = omega arith in
-    let caller : c.index-caller.result.now ≡ t = c.index-caller.ensures ∙ get_or_from_slice_get c.args.self.now.tasks.items c.args.at t c.index-caller.result.now h in
+    let caller : c.index-caller.result.now ≡ t = c.index-caller.ensures
+    ∙ get_or_from_slice_get c.args.self.now.tasks.items c.args.at t c.index-caller.result.now h in
     let same : seen c.in_ok-filters.filters ≡ seen t.filters = c.in_ok-filters.ensures ∙ ap (λ (u : Task _). seen u.filters) caller in
     kept ∙ rw (lt-ltb c.args.self.now.made 1024 room, same, caller) refl)
     c.add.ensures.ok

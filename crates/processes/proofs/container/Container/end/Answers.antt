@@ -1,5 +1,6 @@
 use Rattle.processes.specs.declared.outcome.End.TheVariants.{Signal}
-use Rattle.processes.specs.inner.Table.{all_of, is_meant}
+use Rattle.processes.specs.Kept.{all_of}
+use Rattle.processes.specs.inner.Table.{is_meant}
 use Rattle.processes.specs.declared.tasks.Which.TheVariants.{All}
 use Rattle.processes.proofs.Numbers.{where_kept}
 use Rattle.processes.proofs.Rooted.{where_rooted}

@@ -11,12 +11,14 @@ returns-in-Nothing g c = λ t h.
 
 pub returns-in-Task : goal.returns-in-Task
 returns-in-Task g c = λ t h.
-    let caller : c.index-caller.result.now ≡ t = c.index-caller.ensures ∙ get_or_from_slice_get c.args.self.now.tasks.items c.args.at t c.index-caller.result.now h in
+    let caller : c.index-caller.result.now ≡ t = c.index-caller.ensures
+    ∙ get_or_from_slice_get c.args.self.now.tasks.items c.args.at t c.index-caller.result.now h in
     let is : ends_of c.args.word ≡ Task = sym c.ends.ensures ∙ c.in-Task.is in
     rw (is, c.end.ensures, c.from-number.ensures, caller) refl
 
 pub returns-in-Group : goal.returns-in-Group
 returns-in-Group g c = λ t h.
-    let caller : c.index-caller.result.now ≡ t = c.index-caller.ensures ∙ get_or_from_slice_get c.args.self.now.tasks.items c.args.at t c.index-caller.result.now h in
+    let caller : c.index-caller.result.now ≡ t = c.index-caller.ensures
+    ∙ get_or_from_slice_get c.args.self.now.tasks.items c.args.at t c.index-caller.result.now h in
     let is : ends_of c.args.word ≡ Group = sym c.ends.ensures ∙ c.in-Group.is in
     rw (is, c.end-in-Group.ensures, c.from-group.ensures, caller) refl

@@ -4,9 +4,9 @@ use Rattle.std.proofs.lemmas.Option.{get_or_from_slice_get}
 use Rattle.kernel_check.specs.Lent.{accepted_insns}
 use Rattle.processes.specs.Kernel.{conflicts, load}
 use Rattle.processes.specs.Attached.Attached.{Taken}
-use Rattle.processes.specs.inner.Containers.{processes_of}
+use Rattle.processes.specs.Table.{processes_of}
 use Rattle.processes.specs.Stores.{size_beside}
-use Rattle.processes.specs.inner.Table.{all_of, process_of}
+use Rattle.processes.specs.Kept.{all_of, process_of}
 use Rattle.processes.proofs.LoadLemmas.{load_big, load_conflict, load_group, load_own}
 use Rattle.std.proofs.lemmas.Result.{IfOk-weaker}
 use Rattle.processes.proofs.container.Container.load_program.Goals as goal
@@ -17,7 +17,8 @@ overflow_add-size g c = omega arith
 pub returns-then-size-gt-MOST_INSNS-clause-ok : goal.returns-then-size-gt-MOST_INSNS-clause-ok
 returns-then-size-gt-MOST_INSNS-clause-ok g c = λ t h.
     let seen = g.S.Store.filters_of c.args.self.now.store in
-    let caller : c.index-caller.result.now ≡ t = c.index-caller.ensures ∙ get_or_from_slice_get c.args.self.now.tasks.items c.args.at t c.index-caller.result.now h in
+    let caller : c.index-caller.result.now ≡ t = c.index-caller.ensures
+    ∙ get_or_from_slice_get c.args.self.now.tasks.items c.args.at t c.index-caller.result.now h in
     let count : c.len.result ≡ length (accepted_insns c.args.program.now) = rw c.program.ensures.same at c.len.ensures.count in
     let size : c.size.result ≡ size_beside (seen t.filters) = rw caller at c.size.ensures.size in
     let big : 32768 < length (accepted_insns c.args.program.now) + size_beside (seen t.filters) = omega arith in
@@ -26,7 +27,8 @@ returns-then-size-gt-MOST_INSNS-clause-ok g c = λ t h.
 pub add_filter-requires-clause-size : goal.add_filter-requires-clause-size
 add_filter-requires-clause-size g c = λ t h.
     let seen = g.S.Store.filters_of c.args.self.now.store in
-    let caller : c.index-caller.result.now ≡ t = c.index-caller.ensures ∙ get_or_from_slice_get c.args.self.now.tasks.items c.args.at t c.index-caller.result.now h in
+    let caller : c.index-caller.result.now ≡ t = c.index-caller.ensures
+    ∙ get_or_from_slice_get c.args.self.now.tasks.items c.args.at t c.index-caller.result.now h in
     let count : c.len.result ≡ length (accepted_insns c.args.program.now) = rw c.program.ensures.same at c.len.ensures.count in
     let size : c.size.result ≡ size_beside (seen t.filters) = rw caller at c.size.ensures.size in
     omega arith
@@ -34,7 +36,8 @@ add_filter-requires-clause-size g c = λ t h.
 pub add_filter-requires-2-clause-size : goal.add_filter-requires-2-clause-size
 add_filter-requires-2-clause-size g c = λ t h.
     let seen = g.S.Store.filters_of c.args.self.now.store in
-    let caller : c.index-caller.result.now ≡ t = c.index-caller.ensures ∙ get_or_from_slice_get c.args.self.now.tasks.items c.args.at t c.index-caller.result.now h in
+    let caller : c.index-caller.result.now ≡ t = c.index-caller.ensures
+    ∙ get_or_from_slice_get c.args.self.now.tasks.items c.args.at t c.index-caller.result.now h in
     let count : c.len.result ≡ length (accepted_insns c.args.program.now) = rw c.program.ensures.same at c.len.ensures.count in
     let size : c.size.result ≡ size_beside (seen t.filters) = rw caller at c.size.ensures.size in
     omega arith
@@ -44,7 +47,8 @@ returns-then-not-for_all-clause-ok g c =
     let seen = g.S.Store.filters_of c.args.self.now.store in
     IfOk-weaker c.add_filter.result _ _
     (λ o kept t h.
-    let caller : c.index-caller.result.now ≡ t = c.index-caller.ensures ∙ get_or_from_slice_get c.args.self.now.tasks.items c.args.at t c.index-caller.result.now h in
+    let caller : c.index-caller.result.now ≡ t = c.index-caller.ensures
+    ∙ get_or_from_slice_get c.args.self.now.tasks.items c.args.at t c.index-caller.result.now h in
     let count : c.len.result ≡ length (accepted_insns c.args.program.now) = rw c.program.ensures.same at c.len.ensures.count in
     let size : c.size.result ≡ size_beside (seen t.filters) = rw caller at c.size.ensures.size in
     let small : length (accepted_insns c.args.program.now) + size_beside (seen t.filters) ≤ 32768 = omega arith in
@@ -53,13 +57,15 @@ returns-then-not-for_all-clause-ok g c =
     let ps = processes_of c.args.self.now in
     let program = accepted_insns c.args.program.now in
     kept false t h (λ u. rw (c.from-number.ensures, caller) refl)
-    ∙ (sym (load_own program (process_of seen t) ps small less) ∙ ap (λ (b : Bool). load b (process_of seen t) (Taken program) ps) (sym alone)))
+    ∙ (sym (load_own program (process_of seen t) ps small less)
+    ∙ ap (λ (b : Bool). load b (process_of seen t) (Taken program) ps) (sym alone)))
     c.add_filter.ensures.ok
 
 pub returns-in-Some-clause-ok : goal.returns-in-Some-clause-ok
 returns-in-Some-clause-ok g c = λ t h.
     let seen = g.S.Store.filters_of c.args.self.now.store in
-    let caller : c.index-caller.result.now ≡ t = c.index-caller.ensures ∙ get_or_from_slice_get c.args.self.now.tasks.items c.args.at t c.index-caller.result.now h in
+    let caller : c.index-caller.result.now ≡ t = c.index-caller.ensures
+    ∙ get_or_from_slice_get c.args.self.now.tasks.items c.args.at t c.index-caller.result.now h in
     let count : c.len.result ≡ length (accepted_insns c.args.program.now) = rw c.program.ensures.same at c.len.ensures.count in
     let size : c.size.result ≡ size_beside (seen t.filters) = rw caller at c.size.ensures.size in
     let small : length (accepted_insns c.args.program.now) + size_beside (seen t.filters) ≤ 32768 = omega arith in
@@ -67,16 +73,19 @@ returns-in-Some-clause-ok g c = λ t h.
     let all : c.args.for_all ≡ true = c.if-not-for_all.false in
     let ps = processes_of c.args.self.now in
     let program = accepted_insns c.args.program.now in
-    let found : option_map (λ u. u.number) (find (conflicts (process_of seen t)) (all_of seen c.args.self.now.tasks.items)) ≡ Some c.in-Some.number =
+    let found : option_map (λ u. u.number) (find (conflicts (process_of seen t)) (all_of seen c.args.self.now.tasks.items))
+    ≡ Some c.in-Some.number =
     rw (caller, c.deref.ensures.value) at (sym c.first_conflict.ensures ∙ c.in-Some.is) in
-    sym (load_conflict program (process_of seen t) ps c.in-Some.number small less found) ∙ ap (λ (b : Bool). load b (process_of seen t) (Taken program) ps) (sym all)
+    sym (load_conflict program (process_of seen t) ps c.in-Some.number small less found)
+    ∙ ap (λ (b : Bool). load b (process_of seen t) (Taken program) ps) (sym all)
 
 pub returns-clause-ok : goal.returns-clause-ok
 returns-clause-ok g c =
     let seen = g.S.Store.filters_of c.args.self.now.store in
     IfOk-weaker c.add_filter-2.result _ _
     (λ o kept t h.
-    let caller : c.index-caller.result.now ≡ t = c.index-caller.ensures ∙ get_or_from_slice_get c.args.self.now.tasks.items c.args.at t c.index-caller.result.now h in
+    let caller : c.index-caller.result.now ≡ t = c.index-caller.ensures
+    ∙ get_or_from_slice_get c.args.self.now.tasks.items c.args.at t c.index-caller.result.now h in
     let count : c.len.result ≡ length (accepted_insns c.args.program.now) = rw c.program.ensures.same at c.len.ensures.count in
     let size : c.size.result ≡ size_beside (seen t.filters) = rw caller at c.size.ensures.size in
     let small : length (accepted_insns c.args.program.now) + size_beside (seen t.filters) ≤ 32768 = omega arith in
@@ -87,5 +96,6 @@ returns-clause-ok g c =
     let none : option_map (λ u. u.number) (find (conflicts (process_of seen t)) (all_of seen c.args.self.now.tasks.items)) ≡ None =
     rw (caller, c.deref.ensures.value) at (sym c.first_conflict.ensures ∙ c.in_default.is) in
     kept true t h (λ u. rw (c.from-group.ensures, caller) refl)
-    ∙ (sym (load_group program (process_of seen t) ps small less none) ∙ ap (λ (b : Bool). load b (process_of seen t) (Taken program) ps) (sym all)))
+    ∙ (sym (load_group program (process_of seen t) ps small less none)
+    ∙ ap (λ (b : Bool). load b (process_of seen t) (Taken program) ps) (sym all)))
     c.add_filter-2.ensures.ok

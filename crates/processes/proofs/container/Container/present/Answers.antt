@@ -11,13 +11,15 @@ use Rattle.processes.specs.Attached.{Attached}
 use Rattle.processes.specs.Calls.{row_of}
 use Rattle.processes.specs.Kernel.{Answer, can_grow, carried_out, ended_by_verdict, judged, may_grow, presented, verdict_on}
 use Rattle.processes.specs.Tasks.{Process, Processes, live_task}
-use Rattle.processes.specs.inner.Containers.{processes_of}
-use Rattle.processes.specs.inner.Table.{all_of, process_of}
+use Rattle.processes.specs.Table.{processes_of}
+use Rattle.processes.specs.Kept.{all_of, process_of}
 use Rattle.processes.proofs.container.Container.present.Goals as goal
 
-denied : (n v : ℕ) (t : Process) (r : Record) (a : Attached) (ps after : Processes) → live_task n ps.tasks ≡ Some t → v ≡ verdict_on r t → is_through v ≡ false
+denied : (n v : ℕ) (t : Process) (r : Record) (a : Attached) (ps after : Processes)
+    → live_task n ps.tasks ≡ Some t → v ≡ verdict_on r t → is_through v ≡ false
     → after ≡ ended_by_verdict (ends_of v) t ps → (Denied v, after) ≡ presented n r a ps
-denied n v t r a ps after found is barred ends = rw found (subst (λ w. (Denied v, after) ≡ judged w t r a ps) is (whole ∙ ap by (sym barred)))
+denied n v t r a ps after found is barred ends = rw found (subst (λ w. (Denied v, after)
+    ≡ judged w t r a ps) is (whole ∙ ap by (sym barred)))
   where
     by : Bool → Answer
     by b = if b then carried_out (row_of ps.native r) t r a ps else (Denied v, ended_by_verdict (ends_of v) t ps)
@@ -25,30 +27,41 @@ denied n v t r a ps after found is barred ends = rw found (subst (λ w. (Denied 
     whole : (Denied v, after) ≡ by false
     whole = ap (λ qs. (Denied v, qs)) ends
 
-let_through : (n v : ℕ) (t : Process) (r : Record) (a : Attached) (ps : Processes) → live_task n ps.tasks ≡ Some t → v ≡ verdict_on r t → is_through v ≡ true
+let_through : (n v : ℕ) (t : Process) (r : Record) (a : Attached) (ps : Processes)
+    → live_task n ps.tasks ≡ Some t → v ≡ verdict_on r t → is_through v ≡ true
     → carried_out (row_of ps.native r) t r a ps ≡ presented n r a ps
-let_through n v t r a ps found is through = rw found (subst (λ w. carried_out (row_of ps.native r) t r a ps ≡ judged w t r a ps) is (rw through refl))
+let_through n v t r a ps found is through = rw found (subst (λ w. carried_out (row_of ps.native r) t r a ps
+    ≡ judged w t r a ps) is (rw through refl))
 
-grows : (n v : ℕ) (t : Process) (r : Record) (ps : Processes) → live_task n ps.tasks ≡ Some t → v ≡ verdict_on r t → is_through v ≡ true
-    → may_grow (row_of ps.native r) ≡ true → can_grow n r ps ≡ true
-grows n v t r ps found is through grow = rw found (subst (λ w. (is_through w && may_grow (row_of ps.native r)) ≡ true) is (rw (through, grow) refl))
+grows : (n v : ℕ) (t : Process) (r : Record) (a : Attached) (ps : Processes) → live_task n ps.tasks ≡ Some t
+    → v ≡ verdict_on r t → is_through v ≡ true
+    → may_grow (row_of ps.native r) a ps ≡ true → can_grow n r a ps ≡ true
+grows n v t r a ps found is through grow = rw found (subst (λ w. (is_through w && may_grow (row_of ps.native r) a ps)
+    ≡ true) is (rw (through, grow) refl))
 
 pub returns-in_default-clause-ok : goal.returns-in_default-clause-ok
 returns-in_default-clause-ok g c =
     let seen = g.S.Store.filters_of c.args.self.now.store in
-    let none : live_task c.args.task (all_of seen c.args.self.now.tasks.items) ≡ None = rw (c.deref.ensures.value, c.in_default.is) at (c.live_index.ensures.found seen) in
+    let none : live_task c.args.task (all_of seen c.args.self.now.tasks.items)
+    ≡ None = rw (c.deref.ensures.value, c.in_default.is) at (c.live_index.ensures.found seen) in
     rw none refl
 
 pub index-requires : goal.index-requires
 index-requires g c =
     let seen = g.S.Store.filters_of c.args.self.now.store in
-    let within : c.in-Some.at < length c.args.self.now.tasks.items = rw (c.in-Some.is, c.deref.ensures.value) at c.live_index.ensures.within in
+    let within : c.in-Some.at < length c.args.self.now.tasks.items = rw (
+      c.in-Some.is,
+      c.deref.ensures.value,
+    ) at c.live_index.ensures.within in
     omega arith
 
 pub end_by_verdict-requires : goal.end_by_verdict-requires
 end_by_verdict-requires g c =
     let seen = g.S.Store.filters_of c.args.self.now.store in
-    let within : c.in-Some.at < length c.args.self.now.tasks.items = rw (c.in-Some.is, c.deref.ensures.value) at c.live_index.ensures.within in
+    let within : c.in-Some.at < length c.args.self.now.tasks.items = rw (
+      c.in-Some.is,
+      c.deref.ensures.value,
+    ) at c.live_index.ensures.within in
     omega arith
 
 pub returns-then-not-lets_through-clause-ok : goal.returns-then-not-lets_through-clause-ok
@@ -58,14 +71,22 @@ returns-then-not-lets_through-clause-ok g c =
     let t = c.index.result.now in
     let within : c.in-Some.at < length tasks = rw (c.in-Some.is, c.deref.ensures.value) at c.live_index.ensures.within in
     let here : slice_get tasks c.in-Some.at ≡ Some t = slice_get_read tasks _ c.in-Some.at t refl within c.index.ensures in
-    let place : live_task c.args.task (all_of seen tasks) ≡ option_map (process_of seen) (slice_get tasks c.in-Some.at) = rw (c.deref.ensures.value, c.in-Some.is) at (c.live_index.ensures.found seen) in
-    denied c.args.task c.verdict-word.result (process_of seen t) c.args.rec.now _ (processes_of c.args.self.now) _ (place ∙ ap (option_map (process_of seen)) here)
+    let place : live_task c.args.task (all_of seen tasks)
+    ≡ option_map (process_of seen) (slice_get tasks c.in-Some.at) = rw (
+      c.deref.ensures.value,
+      c.in-Some.is,
+    ) at (c.live_index.ensures.found seen) in
+    denied c.args.task c.verdict-word.result (process_of seen t) c.args.rec.now _ (processes_of c.args.self.now) _ (place
+    ∙ ap (option_map (process_of seen)) here)
     c.verdict-word.ensures (sym c.lets_through.ensures ∙ c.if-not-lets_through.true) (c.end_by_verdict.ensures t here)
 
 pub carry_out-requires : goal.carry_out-requires
 carry_out-requires g c =
     let seen = g.S.Store.filters_of c.args.self.now.store in
-    let within : c.in-Some.at < length c.args.self.now.tasks.items = rw (c.in-Some.is, c.deref.ensures.value) at c.live_index.ensures.within in
+    let within : c.in-Some.at < length c.args.self.now.tasks.items = rw (
+      c.in-Some.is,
+      c.deref.ensures.value,
+    ) at c.live_index.ensures.within in
     omega arith
 
 pub returns-clause-ok : goal.returns-clause-ok
@@ -75,10 +96,15 @@ returns-clause-ok g c =
     let t = c.index.result.now in
     let within : c.in-Some.at < length tasks = rw (c.in-Some.is, c.deref.ensures.value) at c.live_index.ensures.within in
     let here : slice_get tasks c.in-Some.at ≡ Some t = slice_get_read tasks _ c.in-Some.at t refl within c.index.ensures in
-    let place : live_task c.args.task (all_of seen tasks) ≡ option_map (process_of seen) (slice_get tasks c.in-Some.at) = rw (c.deref.ensures.value, c.in-Some.is) at (c.live_index.ensures.found seen) in
+    let place : live_task c.args.task (all_of seen tasks)
+    ≡ option_map (process_of seen) (slice_get tasks c.in-Some.at) = rw (
+      c.deref.ensures.value,
+      c.in-Some.is,
+    ) at (c.live_index.ensures.found seen) in
     IfOk-weaker c.carry_out.result _ _
     (λ o kept. kept t here
-    ∙ let_through c.args.task c.verdict-word.result (process_of seen t) c.args.rec.now _ (processes_of c.args.self.now) (place ∙ ap (option_map (process_of seen)) here)
+    ∙ let_through c.args.task c.verdict-word.result (process_of seen t) c.args.rec.now _ (processes_of c.args.self.now) (place
+    ∙ ap (option_map (process_of seen)) here)
     c.verdict-word.ensures (sym c.lets_through.ensures ∙ c.if-not-lets_through.false))
     c.carry_out.ensures.ok
 
@@ -92,8 +118,13 @@ returns-clause-growth g c =
     let t = c.index.result.now in
     let within : c.in-Some.at < length tasks = rw (c.in-Some.is, c.deref.ensures.value) at c.live_index.ensures.within in
     let here : slice_get tasks c.in-Some.at ≡ Some t = slice_get_read tasks _ c.in-Some.at t refl within c.index.ensures in
-    let place : live_task c.args.task (all_of seen tasks) ≡ option_map (process_of seen) (slice_get tasks c.in-Some.at) = rw (c.deref.ensures.value, c.in-Some.is) at (c.live_index.ensures.found seen) in
+    let place : live_task c.args.task (all_of seen tasks)
+    ≡ option_map (process_of seen) (slice_get tasks c.in-Some.at) = rw (
+      c.deref.ensures.value,
+      c.in-Some.is,
+    ) at (c.live_index.ensures.found seen) in
     on_err_weaker c.carry_out.result
-    (grows c.args.task c.verdict-word.result (process_of seen t) c.args.rec.now (processes_of c.args.self.now) (place ∙ ap (option_map (process_of seen)) here)
+    (grows c.args.task c.verdict-word.result (process_of seen t) c.args.rec.now _ (processes_of c.args.self.now) (place
+    ∙ ap (option_map (process_of seen)) here)
     c.verdict-word.ensures (sym c.lets_through.ensures ∙ c.if-not-lets_through.false))
     c.carry_out.ensures.growth

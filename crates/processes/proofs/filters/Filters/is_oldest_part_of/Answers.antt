@@ -9,4 +9,10 @@ returns c =
     let k : c.saturating_sub-spare.result ≡ length new - length old = omega arith in
     let v : c.self.inside.list.items ≡ c.args.self.now = c.self.view_is in
     let w : c.newer.inside.list.items ≡ c.args.newer.now = c.newer.view_is in
-    rw (c.same_loads.ensures, c.deref.ensures.value, c.deref-2.ensures.value, ← v, ← w) (oldest_part old new c.saturating_sub-spare.result k)
+    rw (
+      c.same_loads.ensures,
+      c.deref.ensures.value,
+      c.deref-2.ensures.value,
+      ← v,
+      ← w,
+    ) (oldest_part old new c.saturating_sub-spare.result k)

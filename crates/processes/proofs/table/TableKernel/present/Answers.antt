@@ -5,7 +5,7 @@ use Rattle.std.proofs.lemmas.Result.{on_err_weaker}
 use Rattle.std.proofs.lemmas.Slice.Eq.{bytes_eq-Decides}
 use Rattle.indexmap.specs.IndexMap.{get_by}
 use Rattle.processes.specs.Views.{same_text}
-use Rattle.processes.specs.inner.Containers.{processes_of}
+use Rattle.processes.specs.Table.{processes_of}
 use Rattle.processes.proofs.Lists.{written_alike}
 use Rattle.processes.proofs.table.TableKernel.present.Goals as goal
 

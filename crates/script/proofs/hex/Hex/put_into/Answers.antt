@@ -1,7 +1,7 @@
 use Rattle.std.proofs.Common.{◌≤◌, ◌+◌, ◌++◌, ℕ, List, length, sym, ap, ◌∙◌, subst, arith, vec_len}
 use Rattle.std.specs.Vec.{vec_capacity}
 use Rattle.std.specs.List.{list_all}
-use Rattle.bpf_asm.specs.Digits.{is_hexadecimal_digit}
+use Rattle.texts.specs.Digits.{is_hexadecimal_digit}
 use Rattle.script.specs.Pairs.{spelled_bytes}
 use Rattle.script.proofs.PairLaws.{digits-pair, length-pair, pair-more, rest-pair}
 use Rattle.script.proofs.hex.Hex.put_into.Goals as goal

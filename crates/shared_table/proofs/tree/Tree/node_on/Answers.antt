@@ -46,7 +46,8 @@ returns-in-Some c =
     let count : c.len.result ≡ length program = rw c.program.ensures.same at c.len.ensures.count in
     let old : IsKept c.args.self.now.arch (way_from nodes at) below = c.args.self.now.tree.kept at below c.in-Some.ensures in
     let within : at < length nodes = slice_get_within nodes at below c.in-Some.ensures in
-    let size : size_beside (filters_on ((length nodes, program) ∷ way_from nodes at)) ≡ length program + 4 + size_beside (filters_on (way_from nodes at)) =
+    let size : size_beside (filters_on ((length nodes, program) ∷ way_from nodes at))
+    ≡ length program + 4 + size_beside (filters_on (way_from nodes at)) =
     size_cons (length nodes) program (way_from nodes at) in
     let fits : length program + size_beside (filters_on (way_from nodes at)) ≤ 32768 = c.requires in
     let before : below.size ≡ size_beside (filters_on (way_from nodes at)) = old.size in

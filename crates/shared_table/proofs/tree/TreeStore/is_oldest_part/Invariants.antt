@@ -10,7 +10,8 @@ abbrev pub invariant-down : goal.invariant-down
 invariant-down l =
     let nodes = l.self.nodes.items in
     let old = loads_in (filters_on (way_from nodes l.older.at)) in
-    is_oldest_part old (loads_in (filters_on (way_below (ways_from [] nodes) l.next))) ≡ is_oldest_part old (loads_in (filters_on (way_from nodes l.newer.at)))
+    is_oldest_part old (loads_in (filters_on (way_below (ways_from [] nodes) l.next)))
+    ≡ is_oldest_part old (loads_in (filters_on (way_from nodes l.newer.at)))
 
 abbrev pub decreases-down : goal.decreases-down
 decreases-down l = height l.next

@@ -9,4 +9,5 @@ returns-in-None c = sym (ap (λ way. length (filters_on way)) (way_past c.args.s
 pub returns-in-Some : goal.returns-in-Some
 returns-in-Some c =
     let nodes = c.args.self.now.nodes.items in
-    (c.args.self.now.tree.kept c.args.handle.now.at c.in-Some.node.now c.in-Some.ensures).depth ∙ sym (long_on (way_from nodes c.args.handle.now.at))
+    (c.args.self.now.tree.kept c.args.handle.now.at c.in-Some.node.now c.in-Some.ensures).depth
+    ∙ sym (long_on (way_from nodes c.args.handle.now.at))

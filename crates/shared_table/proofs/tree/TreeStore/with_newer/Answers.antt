@@ -16,13 +16,18 @@ invariant_of-self c =
     let tree : IsTree arch nodes = c.args.self.now.tree in
     let some : 1 ≤ length nodes = tree.some in
     let room : length nodes < 2 ^ 32 = omega (arith, c.requires.numbers) in
-    let more : IsTree arch (nodes ++ node ∷ []) = grown arch c.args.handle.now.at (accepted_insns c.args.program.now) nodes node tree room c.in_ok-node.ensures in
-    record { tree = subst (IsTree arch) (sym c.push.ensures.items) (either (IsTree arch) (is_ok c.push.result) (nodes ++ node ∷ []) nodes more tree) }
+    let more : IsTree arch (nodes
+    ++ node ∷ []) = grown arch c.args.handle.now.at (accepted_insns c.args.program.now) nodes node tree room c.in_ok-node.ensures in
+    record {
+      tree = subst (IsTree arch) (sym c.push.ensures.items) (either (IsTree arch) (is_ok c.push.result) (nodes
+          ++ node ∷ []) nodes more tree);
+    }
 
 pub returns-clause-handles : goal.returns-clause-handles
 returns-clause-handles c = λ k d h.
     let nodes = c.args.self.now.nodes.items in
-    let at : (get_or c.in_ok-places.places.items k d).at ≡ vec_len c.args.self.now.nodes = c.in_ok-places.ensures.same k d h ∙ c.len-at.ensures in
+    let at : (get_or c.in_ok-places.places.items k d).at ≡ vec_len c.args.self.now.nodes = c.in_ok-places.ensures.same k d h
+    ∙ c.len-at.ensures in
     let place : (get_or c.in_ok-places.places.items k d).at ≡ length nodes = omega (arith, at) in
     let more : c.push.new.self.items ≡ nodes ++ c.in_ok-node.node ∷ [] = c.in_ok-push.ensures.items in
     let on : IsOn c.args.self.now.arch nodes c.args.handle.now.at (accepted_insns c.args.program.now) c.in_ok-node.node = c.in_ok-node.ensures in

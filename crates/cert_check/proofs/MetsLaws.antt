@@ -1,0 +1,146 @@
+-- Conditions that are said to be met: places marked one by one, and what they leave to be asked.
+use Rattle.std.proofs.Common.{◌≡◌, ℕ, zero, suc, ◌+◌, ◌*◌, ◌<◌, ◌≤◌, Bool, true, false, List, []}
+use Rattle.std.proofs.Common.{◌∷◌, length, refl, sym, subst, ap, ◌∙◌, inl, inr, ◌⊎◌, arith}
+use Rattle.std.specs.Prelude.{◌↔◌, Contains, Some, replicate, slice_get, slice_index_or}
+use Rattle.std.proofs.lemmas.Bool.{cases_eq, eq-eqb, ne_eqb}
+use Rattle.std.proofs.lemmas.List.{get_or-replicate}
+use Rattle.std.proofs.lemmas.Option.{slice_get-get_or, same_Some}
+use Rattle.profile.specs.declared.conditions.Cond.{Cond}
+use Rattle.cert_state.specs.declared.literal.Lit.{Lit}
+use Rattle.profile.specs.declared.rules.Rule.{Rule}
+use Rattle.profile.specs.Policy.{Policy}
+use Rattle.cert_check.specs.Agree.{AllAreYes, IsNo, IsYes, OneIsNo, SomeIsNo}
+use Rattle.cert_check.specs.Rules.{IsMetBy}
+use Rattle.cert_check.specs.inner.Judged.{AreYes, IsJudged, IsNoNorMet, IsYesOrMet}
+use Rattle.cert_check.specs.declared.judged.Judged.{Judged}
+use Rattle.cert_check.specs.declared.judged.Judged.TheVariants.{Yes, No, Open}
+use Rattle.cert_check.specs.inner.Marked.{is_said, AreMetMarked, AreMetMarkedBut}
+use Rattle.cert_check.proofs.Elements.{contains_at}
+use Rattle.cert_check.proofs.OutsLaws.{cases, first, later, same_answer}
+
+-- ---- places marked
+
+pub none_marked : (places rest : List (ℕ × ℕ)) → rest ≡ places → AreMetMarkedBut places (replicate 49152 false) rest
+none_marked places rest e rule own d lt below = (
+  λ h. elim h [
+    | inl marked ↦ absurd (let is : false ≡ true = sym (get_or-replicate 49152 (6 * rule + own) false d (omega (arith, lt, below)))
+        ∙ marked in cc)
+    | inr has ↦ subst (λ xs. Contains xs (rule, own)) e has
+  ],
+  λ has. inr (subst (λ xs. Contains xs (rule, own)) (sym e) has),
+)
+
+same_place : (a b : ℕ × ℕ) → a.0 ≡ b.0 → a.1 ≡ b.1 → a ≡ b
+same_place a b p q = ap (λ k. (k, a.1)) p ∙ ap (λ k. (b.0, k)) q
+
+pub one_marked : (places : List (ℕ × ℕ)) (old new : List Bool) (all : List (ℕ × ℕ)) (place : ℕ × ℕ) (rest : List (ℕ × ℕ))
+    → all ≡ place ∷ rest
+    → AreMetMarkedBut places old all
+    → ((rule own : ℕ) (d : Bool) → rule < 8192 → own < 6
+    → (slice_index_or new (6 * rule + own) d ≡ true) ↔ ((slice_index_or old (6 * rule + own) d ≡ true)
+    ⊎ ((rule ≡ place.0) × (own ≡ place.1))))
+    → AreMetMarkedBut places new rest
+one_marked places old new all place rest e so step rule own d lt below = (
+  λ h. elim h [
+    | inl marked ↦ elim ((step rule own d lt below).0 marked) [
+      | inl before ↦ (so rule own d lt below).0 (inl before)
+      | inr is ↦ (so rule own d lt below).0 (inr (first place all rest e (rule, own) (same_place place (rule, own) (sym is.0) (sym is.1))))
+    ]
+    | inr has ↦ (so rule own d lt below).0 (inr (later place all rest e (rule, own) has))
+  ],
+  λ has. elim ((so rule own d lt below).1 has) [
+    | inl before ↦ inl ((step rule own d lt below).1 (inl before))
+    | inr waits ↦ elim (cases place all rest e (rule, own) waits) [
+      | inl is ↦ inl ((step rule own d lt below).1 (inr (sym (ap (λ (p : ℕ × ℕ). p.0) is), sym (ap (λ (p : ℕ × ℕ). p.1) is))))
+      | inr has ↦ inr has
+    ]
+  ],
+)
+
+-- what is said is one of the places
+past : (p : ℕ × ℕ) (places : List (ℕ × ℕ)) (rule own : ℕ) → (p ≡ (rule, own) → ⊥) → is_said (p ∷ places) rule own ≡ is_said places rule own
+past p places rule own other = elim (cases_eq p.0 rule) [
+  | inr differs ↦ rw (ne_eqb p.0 rule differs) refl
+  | inl its ↦ elim (cases_eq p.1 own) [
+    | inr differs ↦ rw (eq-eqb p.0 rule its, ne_eqb p.1 own differs) refl
+    | inl same ↦ absurd (other (same_place p (rule, own) its same))
+  ]
+]
+
+is_place : (p : ℕ × ℕ) (rule own : ℕ) → (p ≡ (rule, own)) ⊎ (p ≡ (rule, own) → ⊥)
+is_place p rule own = elim (cases_eq p.0 rule) [
+  | inr differs ↦ inr (λ same. differs (ap (λ (q : ℕ × ℕ). q.0) same))
+  | inl its ↦ elim (cases_eq p.1 own) [
+    | inr differs ↦ inr (λ same. differs (ap (λ (q : ℕ × ℕ). q.1) same))
+    | inl same ↦ inl (same_place p (rule, own) its same)
+  ]
+]
+
+pub said : (places : List (ℕ × ℕ)) (rule own : ℕ) → (is_said places rule own ≡ true) ↔ Contains places (rule, own)
+said [] rule own = (λ is. absurd (let e : false ≡ true = is in cc), λ has. absurd (omega (arith, has.1)))
+said (p ∷ places) rule own = elim (is_place p rule own) [
+  | inl same ↦ (
+    λ _. (0, omega arith, same),
+    λ _. rw (eq-eqb p.0 rule (ap (λ (q : ℕ × ℕ). q.0) same), eq-eqb p.1 own (ap (λ (q : ℕ × ℕ). q.1) same)) refl,
+  )
+  | inr other ↦ (
+    λ is. let has = (said places rule own).0 (sym (past p places rule own other) ∙ is) in (suc has.0, omega (arith, has.1), has.2),
+    λ has. past p places rule own other ∙ (said places rule own).1 (elim (cases p (p ∷ places) places refl (rule, own) has) [
+      | inl same ↦ absurd (other same)
+      | inr waits ↦ waits
+    ]),
+  )
+]
+
+pub all_marked : (places : List (ℕ × ℕ)) (table : List Bool) (rest : List (ℕ × ℕ)) → rest ≡ [] → AreMetMarkedBut places table rest
+    → AreMetMarked places table
+all_marked places table rest e so rule own d lt below =
+    same_answer (slice_index_or table (6 * rule + own) d) (is_said places rule own)
+    (λ marked. (said places rule own).1 ((so rule own d lt below).0 (inl marked))) (λ is.
+    elim ((so rule own d lt below).1 ((said places rule own).0 is)) [
+      | inl marked ↦ marked
+      | inr waits ↦ absurd (omega (arith, (subst (λ xs. Contains xs (rule, own)) e waits).1))
+    ])
+
+-- ---- conditions asked
+
+-- where no condition of a rule is said to be met, all are asked
+pub none_left : (met : List (ℕ × ℕ)) (known : List Lit) (place : ℕ) (conds : List Cond) (judged : Judged) → length conds ≤ 6
+    → ((own : ℕ) → own < 6 → Contains met (place, own) → ⊥) → IsJudged (AreYes known conds) (SomeIsNo known conds) judged
+    → IsJudged (AllAreYes met known place conds) (OneIsNo met known place conds) judged
+none_left met known place conds Yes few none so = λ own c its. inr (so c (contains_at conds own c its))
+none_left met known place conds No few none so = record {
+  own = so.1.0;
+  cond = so.0;
+  stands = slice_get-get_or conds so.1.0 so.0 so.1.1 ∙ ap Some so.1.2;
+  not_met = none so.1.0 (omega (arith, few, so.1.1));
+  is_no = so.2;
+}
+none_left met known place conds Open few none so = (
+  λ all. so.0 (λ c has. elim (all has.0 c (slice_get-get_or conds has.0 c has.1 ∙ ap Some has.2)) [
+    | inl told ↦ absurd (none has.0 (omega (arith, few, has.1)) told)
+    | inr holds ↦ holds
+  ]),
+  λ one. so.1 (one.cond, contains_at conds one.own one.cond one.stands, one.is_no),
+)
+
+-- where a condition is not said to be met, it is asked
+pub unless_met : (met : List (ℕ × ℕ)) (known : List Lit) (place own : ℕ) (c : Cond) (judged : Judged) → (Contains met (place, own) → ⊥)
+    → IsJudged (IsYes known c) (IsNo known c) judged → IsJudged (IsYesOrMet met known place own c) (IsNoNorMet met known place own c) judged
+unless_met met known place own c Yes none so = inr so
+unless_met met known place own c No none so = (none, so)
+unless_met met known place own c Open none so =
+    (λ h. elim h [ inl told ↦ none told | inr holds ↦ so.0 holds ], λ h. so.1 h.1)
+
+-- a condition that the profile has at these places is met for one of the two reasons
+pub met_by : (policy : Policy) (met : List (ℕ × ℕ)) (known : List Lit) (place : ℕ × ℕ) (rule : Rule) (c : Cond)
+    → slice_get policy.rules place.0 ≡ Some rule → slice_get rule.conds.items place.1 ≡ Some c
+    → (Contains met place ⊎ IsYes known c) ↔ IsMetBy policy met known place
+met_by policy met known place rule c stands its = (
+  λ reason. record { rule = rule; stands = stands; cond = c; its = its; reason = reason },
+  λ is.
+      let same : is.rule ≡ rule = same_Some is.rule rule (sym is.stands ∙ stands) in
+      let one : is.cond ≡ c = same_Some is.cond c (sym is.its
+      ∙ subst (λ (x : Rule). slice_get x.conds.items place.1 ≡ Some c) (sym same) its) in
+      subst (λ x. Contains met place ⊎ IsYes known x) one is.reason,
+)

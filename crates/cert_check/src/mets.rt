@@ -1,0 +1,88 @@
+//! The conditions that a node says to be met, by the places of their rules in the profile's order and their own.
+ghost use Rattle.std.specs.Prelude.{◌≡◌, ◌↔◌, ◌+◌, ◌*◌, ◌<◌, ◌⊎◌, [], ℕ, Bool as TheBool, Contains, IsTrue, slice_index_or, true};
+ghost use Rattle.cert_form.specs.Views.{says};
+ghost use Rattle.cert_check.specs.inner.Marked.{AreMetMarked};
+
+use cert_form::NodeView;
+
+/// The conditions that a node says to be met, each marked at its place: a profile has at most 8,192 rules of at most six
+/// conditions.
+#[derive(Clone, Copy)]
+pub(crate) struct Mets<'a> {
+    pub(crate) node: NodeView<'a>,
+    marked: [bool; 49152],
+    ghost whole: { AreMetMarked (says node).met marked },
+}
+
+// Marks a condition, if the table has it.
+fn mark(marked: &mut [bool; 49152], place: (u32, u32))
+    ensures { (rule own : ℕ) (d : TheBool) → rule < 8192 → own < 6 → (slice_index_or marked.new (6 * rule + own) d ≡ true)
+        ↔ ((slice_index_or marked.old (6 * rule + own) d ≡ true) ⊎ ((rule ≡ place.0) × (own ≡ place.1))) }
+{
+    let rule = place.0 as usize;
+    let own = place.1 as usize;
+    if rule >= 8192 {
+        return;
+    }
+    if own >= 6 {
+        return;
+    }
+    marked[6 * rule + own] = true;
+}
+
+// The conditions that a node says to be met, marked.
+fn marked_of(node: &NodeView<'_>) -> [bool; 49152]
+    ensures { AreMetMarked (says node.now).met result }
+{
+    let mut marked = [false; 49152];
+    let mut at = node.first_met();
+    while let Some((place, next)) = node.next_met(at) {
+        mark(&mut marked, place);
+        at = next;
+    }
+    marked
+}
+
+impl<'a> Mets<'a> {
+    ghost use Rattle.std.specs.Prelude.{◌≡◌, ◌↔◌, ◌<◌, ℕ, Contains, IsTrue};
+    ghost use Rattle.cert_form.specs.Views.{says};
+
+    /// Those of a node.
+    pub(crate) fn of(node: &NodeView<'a>) -> Mets<'a>
+        ensures { result.node ≡ node.now }
+    {
+        Mets {
+            node: *node,
+            marked: marked_of(node),
+        }
+    }
+
+    /// Whether a condition of the rule at a place is said to be met.
+    pub(crate) fn has(&self, rule: usize, own: usize) -> bool
+        requires rule { rule < 8192 }
+        requires own { own < 6 }
+        ensures { IsTrue result ↔ Contains (says self.now.node).met (rule, own) }
+    {
+        self.marked[6 * rule + own]
+    }
+
+    /// Whether some condition of the rule at a place is.
+    pub(crate) fn has_some(&self, rule: usize) -> bool
+        requires { rule < 8192 }
+        ensures { IsTrue result ↔ ((own : ℕ) × (own < 6) × Contains (says self.now.node).met (rule, own)) }
+    {
+        for own in 0..6_usize {
+            if self.has(rule, own) {
+                return true;
+            }
+        }
+        false
+    }
+}
+
+/// Whether a node says no condition to be met.
+pub(crate) fn has_no_met(node: &NodeView<'_>) -> bool
+    ensures { IsTrue result ↔ (says node.now).met ≡ [] }
+{
+    node.next_met(node.first_met()).is_none()
+}

@@ -1,0 +1,82 @@
+//! The rules that a node says to be out, by their places in the profile's order.
+ghost use Rattle.std.specs.Prelude.{◌≡◌, ◌↔◌, ◌<◌, ◌⊎◌, [], ℕ, All, Bool as TheBool, Contains, IsTrue, slice_index_or, true};
+ghost use Rattle.cert_form.specs.Views.{says};
+ghost use Rattle.cert_check.specs.inner.Marked.{AreMarked};
+
+use cert_form::NodeView;
+
+/// The rules that a node says to be out, each marked at its place: a profile has at most 8,192 rules.
+#[derive(Clone, Copy)]
+pub(crate) struct Outs<'a> {
+    pub(crate) node: NodeView<'a>,
+    marked: [bool; 8192],
+    ghost whole: { AreMarked (says node).out marked },
+}
+
+// Marks a place, if the table has it.
+fn mark(marked: &mut [bool; 8192], place: u32)
+    ensures { (k : ℕ) (d : TheBool) → k < 8192
+        → (slice_index_or marked.new k d ≡ true) ↔ ((slice_index_or marked.old k d ≡ true) ⊎ (k ≡ place)) }
+{
+    let place = place as usize;
+    if place < 8192 {
+        marked[place] = true;
+    }
+}
+
+// The places that a node says to be out, marked.
+fn marked_of(node: &NodeView<'_>) -> [bool; 8192]
+    ensures { AreMarked (says node.now).out result }
+{
+    let mut marked = [false; 8192];
+    let mut at = node.first_out();
+    while let Some((place, next)) = node.next_out(at) {
+        mark(&mut marked, place);
+        at = next;
+    }
+    marked
+}
+
+impl<'a> Outs<'a> {
+    ghost use Rattle.std.specs.Prelude.{◌≡◌, ◌↔◌, ◌<◌, Contains, IsTrue};
+    ghost use Rattle.cert_form.specs.Views.{says};
+
+    /// Those of a node.
+    pub(crate) fn of(node: &NodeView<'a>) -> Outs<'a>
+        ensures { result.node ≡ node.now }
+    {
+        Outs {
+            node: *node,
+            marked: marked_of(node),
+        }
+    }
+
+    /// Whether the rule at a place is said to be out.
+    pub(crate) fn has(&self, place: usize) -> bool
+        requires { place < 8192 }
+        ensures { IsTrue result ↔ Contains (says self.now.node).out place }
+    {
+        self.marked[place]
+    }
+}
+
+/// Whether a node says no rule to be out.
+pub(crate) fn has_none(node: &NodeView<'_>) -> bool
+    ensures { IsTrue result ↔ (says node.now).out ≡ [] }
+{
+    node.next_out(node.first_out()).is_none()
+}
+
+/// Whether each rule that a node says to be out is one of so many.
+pub(crate) fn are_below(node: &NodeView<'_>, count: usize) -> bool
+    ensures { IsTrue result ↔ All (λ place. place < count) (says node.now).out }
+{
+    let mut at = node.first_out();
+    while let Some((place, next)) = node.next_out(at) {
+        if place as usize >= count {
+            return false;
+        }
+        at = next;
+    }
+    true
+}

@@ -1,0 +1,12 @@
+use Rattle.std.proofs.Common.{inl, arith}
+use Rattle.cert_form.proofs.ClaimLaws.{out_claim}
+use Rattle.cert_form.proofs.judge.judge_out.Goals as goal
+
+pub judge_unused_word-requires : goal.judge_unused_word-requires
+judge_unused_word-requires c = inl c.requires
+
+pub returns-clause-sound : goal.returns-clause-sound
+returns-clause-sound c =
+    let bytes = c.args.bytes.now in
+    out_claim bytes c.args.at (λ i. omega (arith, c.type_inv.bytes i)) c.requires c.in_ok-judge_unused_word.ensures.room
+    c.in_ok-judge_unused_word.ensures.none (omega (arith, c.read_long.ensures, c.if-read_long-ne0.false))

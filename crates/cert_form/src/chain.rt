@@ -1,0 +1,80 @@
+//! What the entries of a chain state, one after another.
+ghost use Rattle.std.specs.Prelude.{◌≡◌, ◌≢◌, ◌<◌, ◌≤◌, ◌∷◌, [], IfSome, MatchOption};
+ghost use Rattle.cert_form.specs.Nodes.{literals_in, mets_in, outs_in, on_chain};
+ghost use Rattle.cert_form.specs.Reading.{entries_of, version_of};
+ghost use Rattle.cert_form.specs.inner.Places.{IsHeadThere};
+
+use crate::node::Claim;
+use crate::part::{read_claim, read_long};
+use cert_state::Lit;
+
+// What the entry of a number states, with the number of the next one. There is no entry 0, and none above all.
+fn next_claim(bytes: &[u8], at: usize) -> Option<(Claim, usize)>
+    requires head { IsHeadThere bytes.now }
+    requires form { version_of bytes.now ≢ 1 }
+    ensures more { let es = entries_of bytes.now in MatchOption result (on_chain es at ≡ []) (λ p. on_chain es at ≡ p.0 ∷ on_chain es p.1) }
+    ensures earlier { IfSome result (λ p. p.1 < at) }
+    ensures bound { IfSome result (λ p. p.1 ≤ 0xffffffff) }
+{
+    if at == 0 {
+        return None;
+    }
+    if at > read_long(bytes, 12) as usize {
+        return None;
+    }
+    let entry = 16 + 14 * (at - 1);
+    let claim = read_claim(bytes, entry + 4);
+    Some((claim, read_long(bytes, entry) as usize))
+}
+
+/// The first literal of a chain from an entry on, with the number of the entry after it.
+pub(crate) fn next_literal(bytes: &[u8], at: usize) -> Option<(Lit, usize)>
+    requires head { IsHeadThere bytes.now }
+    requires form { version_of bytes.now ≢ 1 }
+    ensures more { let es = entries_of bytes.now in MatchOption result (literals_in (on_chain es at) ≡ [])
+        (λ p. literals_in (on_chain es at) ≡ p.0 ∷ literals_in (on_chain es p.1)) }
+    ensures bound { IfSome result (λ p. p.1 ≤ 0xffffffff) }
+{
+    let mut entry = at;
+    while let Some((claim, next)) = next_claim(bytes, entry) {
+        if let Claim::Knows(literal) = claim {
+            return Some((literal, next));
+        }
+        entry = next;
+    }
+    None
+}
+
+/// The first rule that a chain says to be out from an entry on, with the number of the entry after it.
+pub(crate) fn next_out(bytes: &[u8], at: usize) -> Option<(u32, usize)>
+    requires head { IsHeadThere bytes.now }
+    requires form { version_of bytes.now ≢ 1 }
+    ensures { let es = entries_of bytes.now in MatchOption result (outs_in (on_chain es at) ≡ [])
+        (λ p. outs_in (on_chain es at) ≡ p.0 ∷ outs_in (on_chain es p.1)) }
+{
+    let mut entry = at;
+    while let Some((claim, next)) = next_claim(bytes, entry) {
+        if let Claim::Out(place) = claim {
+            return Some((place, next));
+        }
+        entry = next;
+    }
+    None
+}
+
+/// The first condition that a chain says to be met from an entry on, with the number of the entry after it.
+pub(crate) fn next_met(bytes: &[u8], at: usize) -> Option<((u32, u32), usize)>
+    requires head { IsHeadThere bytes.now }
+    requires form { version_of bytes.now ≢ 1 }
+    ensures { let es = entries_of bytes.now in MatchOption result (mets_in (on_chain es at) ≡ [])
+        (λ p. mets_in (on_chain es at) ≡ p.0 ∷ mets_in (on_chain es p.1)) }
+{
+    let mut entry = at;
+    while let Some((claim, next)) = next_claim(bytes, entry) {
+        if let Claim::Met(rule, condition) = claim {
+            return Some(((rule, condition), next));
+        }
+        entry = next;
+    }
+    None
+}

@@ -1,0 +1,14 @@
+use Rattle.processes.proofs.NumberLaws.{x86_64_numbers, aarch64_numbers, linux_x86_64_numbers, linux_aarch64_numbers}
+use Rattle.processes.proofs.calls.numbers_of.Goals as goal
+
+pub returns-in-X86_64 : goal.returns-in-X86_64
+returns-in-X86_64 c = rw c.in-X86_64.is x86_64_numbers
+
+pub returns-in-Aarch64 : goal.returns-in-Aarch64
+returns-in-Aarch64 c = rw c.in-Aarch64.is aarch64_numbers
+
+pub returns-in-LinuxX86_64 : goal.returns-in-LinuxX86_64
+returns-in-LinuxX86_64 c = rw c.in-LinuxX86_64.is linux_x86_64_numbers
+
+pub returns-in-LinuxAarch64 : goal.returns-in-LinuxAarch64
+returns-in-LinuxAarch64 c = rw c.in-LinuxAarch64.is linux_aarch64_numbers

@@ -1,0 +1,110 @@
+//! The calls that the kernel tells from one another, and their numbers on each machine.
+ghost use Rattle.std.specs.Prelude.{◌≡◌};
+ghost use Rattle.call_tables.specs.Arch.{table_of};
+ghost use Rattle.processes.specs.Calls.{named_calls};
+ghost use Rattle.processes.specs.inner.Numbers.{call_at, numbers_in};
+
+use call_tables::Arch;
+
+/// The calls that the kernel tells from one another.
+#[derive(Clone, Copy)]
+pub enum Call {
+    /// fork and vfork.
+    Fork,
+    /// clone.
+    Clone,
+    /// execve.
+    Execve,
+    /// exit.
+    Exit,
+    /// exit_group.
+    ExitGroup,
+    /// kill.
+    Kill,
+    /// getpid.
+    GetPid,
+    /// gettid.
+    GetTid,
+    /// getppid.
+    GetParent,
+    /// seccomp.
+    Seccomp,
+    /// prctl.
+    Prctl,
+    /// A call that the kernel lacks, though the machine's table has it.
+    Lacking,
+    /// Any other call that the machine has.
+    Plain,
+}
+
+impl Call {
+    ghost use Rattle.std.specs.Prelude.{◌≡◌, ℕ, List, Some};
+    ghost use Rattle.call_tables.specs.Arch.{table_of};
+    ghost use Rattle.call_tables.specs.Table.{name_in};
+    ghost use Rattle.processes.specs.Calls.{call_beside, named_calls};
+
+    /// The call of a number that the machine has.
+    pub(crate) fn numbered(native: Arch, number: u32) -> Call
+        ensures { (name : List ℕ) → name_in (table_of native) number ≡ Some name
+            → result ≡ call_beside named_calls name }
+    {
+        find_call(numbers_of(native), number)
+    }
+}
+
+/// The numbers of these calls on x86-64.
+pub(crate) const X86_64_NUMBERS: &[(u32, Call)] = &[
+    (57, Call::Fork),
+    (58, Call::Fork),
+    (56, Call::Clone),
+    (59, Call::Execve),
+    (60, Call::Exit),
+    (231, Call::ExitGroup),
+    (62, Call::Kill),
+    (39, Call::GetPid),
+    (186, Call::GetTid),
+    (110, Call::GetParent),
+    (317, Call::Seccomp),
+    (157, Call::Prctl),
+    (435, Call::Lacking),
+];
+
+/// The numbers of these calls on AArch64, which has neither fork nor vfork.
+pub(crate) const AARCH64_NUMBERS: &[(u32, Call)] = &[
+    (220, Call::Clone),
+    (221, Call::Execve),
+    (93, Call::Exit),
+    (94, Call::ExitGroup),
+    (129, Call::Kill),
+    (172, Call::GetPid),
+    (178, Call::GetTid),
+    (173, Call::GetParent),
+    (277, Call::Seccomp),
+    (167, Call::Prctl),
+    (435, Call::Lacking),
+];
+
+// The numbers of these calls on a machine.
+fn numbers_of(native: Arch) -> &'static [(u32, Call)]
+    ensures { result.now ≡ numbers_in (table_of native) named_calls }
+{
+    match native {
+        Arch::X86_64 => X86_64_NUMBERS,
+        Arch::Aarch64 => AARCH64_NUMBERS,
+        Arch::LinuxX86_64 => X86_64_NUMBERS,
+        Arch::LinuxAarch64 => AARCH64_NUMBERS,
+    }
+}
+
+// The call beside the first such number.
+fn find_call(mut numbers: &[(u32, Call)], number: u32) -> Call
+    ensures { result ≡ call_at numbers.entry.now number }
+{
+    while let [entry, rest @ ..] = numbers {
+        if entry.0 == number {
+            return entry.1;
+        }
+        numbers = rest;
+    }
+    Call::Plain
+}

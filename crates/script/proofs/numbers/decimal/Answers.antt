@@ -1,6 +1,0 @@
-use Rattle.std.proofs.Common.{sym, ◌∙◌}
-use Rattle.bpf_asm.proofs.Numerals.{numeral_decimal}
-use Rattle.script.proofs.numbers.decimal.Goals as goal
-
-pub value-requires-clause-digits : goal.value-requires-clause-digits
-value-requires-clause-digits c = numeral_decimal c.args.text.now (sym c.is_decimal.ensures ∙ c.if-is_decimal.true)

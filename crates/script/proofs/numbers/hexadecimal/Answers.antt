@@ -1,6 +1,0 @@
-use Rattle.std.proofs.Common.{sym, ◌∙◌}
-use Rattle.bpf_asm.proofs.Numerals.{numeral_hexadecimal}
-use Rattle.script.proofs.numbers.hexadecimal.Goals as goal
-
-pub value-requires-clause-digits : goal.value-requires-clause-digits
-value-requires-clause-digits c = numeral_hexadecimal c.args.digits.now (sym c.is_hexadecimal.ensures ∙ c.if-is_hexadecimal.true)

@@ -1,0 +1,4 @@
+pub mod Options
+pub mod Splits
+pub mod Numerals
+pub mod NumberLaws

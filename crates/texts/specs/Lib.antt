@@ -1,0 +1,5 @@
+pub mod Digits
+pub mod Numbers
+pub mod Splits
+pub mod Lines
+pub mod Labels
