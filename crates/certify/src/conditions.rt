@@ -3,7 +3,7 @@ ghost use Rattle.std.specs.Prelude.{◌<◌};
 
 use crate::known::Known;
 use crate::split::Split;
-use crate::words::Words;
+use crate::words::{ARGUMENTS, Words};
 use cert_state::Lit;
 use profile::{Cond, Op};
 
@@ -146,7 +146,7 @@ fn cut(word: u8, cond: &Cond, from: u32, to: u32) -> Option<Split>
 
 /// Whether a condition is met.
 pub(crate) fn judge_condition(known: &Known, cond: &Cond) -> Judged {
-    let word = 4 + 2 * cond.index;
+    let word = ARGUMENTS + 2 * cond.index;
     match cond.op {
         Op::Eq => judge_masked(known, word, u64::MAX, cond.value),
         Op::Ne => not(judge_masked(known, word, u64::MAX, cond.value)),
@@ -169,5 +169,95 @@ pub(crate) fn judge_conditions(known: &Known, conds: &[Cond]) -> Judged {
     match open {
         Some(split) => Judged::Open(split),
         None => Judged::Yes(words),
+    }
+}
+
+// A literal, if it says something.
+fn telling(literal: Lit) -> Option<Lit> {
+    match literal {
+        Lit::In(_, 0, u32::MAX) => None,
+        Lit::Bits(_, 0, _) => None,
+        _ => Some(literal),
+    }
+}
+
+fn bits_of(half: Half) -> Option<Lit> {
+    telling(Lit::Bits(half.word, half.mask, half.datum))
+}
+
+// Few literals by which it is settled whether an argument has these bits under a mask.
+fn reasons_by_bits(known: &Known, above: Half, below: Half) -> [Option<Lit>; 2] {
+    for half in [above, below] {
+        let other = Lit::NotBits(half.word, half.mask, half.datum);
+        if known.entails(other) {
+            return [Some(other), None];
+        }
+    }
+    [bits_of(above), bits_of(below)]
+}
+
+// Few literals by which it is settled whether an argument is at least a number.
+fn reasons_by_order(known: &Known, word: u8, least: u64) -> [Option<Lit>; 2]
+    requires { word < 15 }
+{
+    let (from, to) = known.range(word + 1).unwrap_or((0, u32::MAX));
+    let (above, below) = (high(least), low(least));
+    if from > above {
+        return [
+            Some(Lit::In(word + 1, above.saturating_add(1), u32::MAX)),
+            None,
+        ];
+    }
+    if to < above {
+        return [Some(Lit::In(word + 1, 0, above.saturating_sub(1))), None];
+    }
+    let (least_below, _) = known.range(word).unwrap_or((0, u32::MAX));
+    if least_below >= below {
+        let at_least = Lit::In(word + 1, above, u32::MAX);
+        return [telling(at_least), telling(Lit::In(word, below, u32::MAX))];
+    }
+    let at_most = Lit::In(word + 1, 0, above);
+    [
+        telling(at_most),
+        Some(Lit::In(word, 0, below.saturating_sub(1))),
+    ]
+}
+
+// The halves of an argument that has the bits that a condition asks for.
+fn halves(word: u8, cond: &Cond) -> (Half, Half)
+    requires { word < 15 }
+{
+    let (mask, datum) = match cond.op {
+        Op::MaskedEq => (cond.value, cond.datum),
+        _ => (u64::MAX, cond.value),
+    };
+    let above = Half {
+        word: word + 1,
+        mask: high(mask),
+        datum: high(datum),
+    };
+    let below = Half {
+        word,
+        mask: low(mask),
+        datum: low(datum),
+    };
+    (above, below)
+}
+
+/// Few literals by which a condition is settled that is so: they follow from what is known, and say no more than is
+/// asked.
+pub(crate) fn reasons(known: &Known, cond: &Cond) -> [Option<Lit>; 2] {
+    let word = ARGUMENTS + 2 * cond.index;
+    let least = match cond.op {
+        Op::Ge | Op::Lt => Some(cond.value),
+        Op::Gt | Op::Le => cond.value.checked_add(1),
+        Op::Eq | Op::Ne | Op::MaskedEq => {
+            let (above, below) = halves(word, cond);
+            return reasons_by_bits(known, above, below);
+        }
+    };
+    match least {
+        Some(least) => reasons_by_order(known, word, least),
+        None => [None, None],
     }
 }

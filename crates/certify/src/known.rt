@@ -33,6 +33,8 @@ struct WordFacts {
     // The place of its last literal, and of the last that excludes bits under a part of all.
     last: u32,
     partial: u32,
+    // The place from which on its literals count.
+    from: u32,
 }
 
 // Nothing is known of a word.
@@ -45,6 +47,7 @@ const ANY: WordFacts = WordFacts {
     excluded: 0,
     last: NOBODY,
     partial: NOBODY,
+    from: 0,
 };
 
 // A literal, with what was known of its word before it, and the place of the last one of its list before it.
@@ -220,7 +223,7 @@ impl Known {
                 return false;
             };
             if fact.literal == literal {
-                return true;
+                return place >= self.word(word_of(literal)).from;
             }
             place = fact.alike;
         }
@@ -291,6 +294,14 @@ impl Known {
         Ok(())
     }
 
+    /// Lets what is known of a word count no more, until the literal that is added with it goes: nothing.
+    pub(crate) fn disregard(&mut self, word: u8) -> Result<(), AllocError> {
+        self.push(Lit::In(word, 0, u32::MAX))?;
+        let last = place_of(self.facts.len().saturating_sub(1));
+        self.words[(word % 16) as usize] = WordFacts { from: last, ..ANY };
+        Ok(())
+    }
+
     /// Forgets all literals but the first of them.
     pub(crate) fn truncate(&mut self, count: usize) {
         for _ in count..self.facts.len() {
@@ -306,6 +317,16 @@ impl Known {
         let facts = self.word(word);
         if facts.has_points() {
             Some((facts.least, facts.greatest))
+        } else {
+            None
+        }
+    }
+
+    /// The number of a word, if it is one.
+    pub(crate) fn only(&self, word: u8) -> Option<u32> {
+        let facts = self.word(word);
+        if facts.least == facts.greatest {
+            Some(facts.least)
         } else {
             None
         }

@@ -7,8 +7,9 @@ ghost use Rattle.certify.specs.declared.fault.CertifyError.TheVariants.{OutOfMem
 ghost use Rattle.certify.specs.Own.{IsOwnWork};
 
 use crate::fault::CertifyError;
+use crate::nodes::MAX_NODES;
 use crate::plain::plain_certificate;
-use crate::walk::Walk;
+use crate::walk::{Manner, Walk};
 use bpf_insn::Program;
 use kernel_check::{Accepted, accept};
 use profile::{Profile, Rule};
@@ -21,13 +22,57 @@ fn are_plain(rules: &[Rule]) -> bool
     rules.iter().all(|rule| rule.conds.is_empty())
 }
 
+// So many nodes of literals alone are tried for the smallest filters.
+const LEAST_TRIED: usize = 256;
+
+// No node takes fewer bytes, with its place in the table.
+const LEAST_NODE: usize = 24;
+
 // By the walk that looks at each node for what the nodes after it need.
+fn by_walk(
+    alloc: Global,
+    profile: &Profile,
+    accepted: Accepted<'_>,
+    manner: Manner,
+) -> Result<Vec<u8>, CertifyError> {
+    Walk::new(alloc, profile, accepted, manner)?.run()
+}
+
+// With nodes that state literals alone, while they are few for the filter. Else with nodes that also say what follows for
+// the rules, unless that comes out larger.
 fn walked(
     alloc: Global,
     profile: &Profile,
     accepted: Accepted<'_>,
 ) -> Result<Vec<u8>, CertifyError> {
-    Walk::new(alloc, profile, accepted)?.run()
+    let few = 4 * accepted.program().len();
+    let few = few.max(LEAST_TRIED).min(MAX_NODES);
+    match by_walk(alloc, profile, accepted, Manner::Literals(few)) {
+        Err(CertifyError::TooLarge) => {}
+        outcome => return outcome,
+    }
+    match by_walk(alloc, profile, accepted, Manner::Marks) {
+        Ok(marked) => smaller(alloc, profile, accepted, marked),
+        Err(CertifyError::TooLarge) => {
+            by_walk(alloc, profile, accepted, Manner::Literals(MAX_NODES))
+        }
+        Err(error) => Err(error),
+    }
+}
+
+// One of literals alone, if it is no larger than this one.
+fn smaller(
+    alloc: Global,
+    profile: &Profile,
+    accepted: Accepted<'_>,
+    marked: Vec<u8>,
+) -> Result<Vec<u8>, CertifyError> {
+    let most = (marked.len() / LEAST_NODE).min(MAX_NODES);
+    match by_walk(alloc, profile, accepted, Manner::Literals(most)) {
+        Ok(bytes) if bytes.len() <= marked.len() => Ok(bytes),
+        Err(CertifyError::OutOfMemory) => Err(CertifyError::OutOfMemory),
+        _ => Ok(marked),
+    }
 }
 
 /// A certificate that the filter gives each call record the word that the profile says.

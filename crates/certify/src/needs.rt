@@ -1,6 +1,10 @@
-//! What a node states: literals, each once.
+//! What a node states: literals, each once, and what is said of rules.
 
-use crate::known::list_of;
+use crate::known::{Known, list_of};
+use crate::path::{Path, clash_after};
+use crate::standing::Mark;
+use crate::words::{NUMBER, TOKEN, word_of};
+use cert_form::Claim;
 use cert_state::Lit;
 use std::alloc::{AllocError, Global};
 
@@ -10,10 +14,12 @@ const LISTS: usize = 1024;
 // Stands for no place.
 const NOBODY: u32 = u32::MAX;
 
-/// Literals, each once, in the order in which they came.
+/// Literals, each once, in the order in which they came, and what is said of rules.
 #[derive(Drop)]
 pub(crate) struct Needs {
     literals: Vec<Lit>,
+    // Since when, of which rule, and what: 0 is that it is out, and above are the conditions that are met.
+    marks: Vec<(u32, u32, u32)>,
     // For each literal the one before it in its list, and for each list the last one.
     alike: Vec<u32>,
     lists: Vec<u32>,
@@ -24,6 +30,7 @@ impl Needs {
     pub(crate) fn new(alloc: Global) -> Result<Needs, AllocError> {
         Ok(Needs {
             literals: Vec::new(alloc),
+            marks: Vec::new(alloc),
             alike: Vec::new(alloc),
             lists: vec![in alloc; NOBODY; LISTS]?,
         })
@@ -37,12 +44,70 @@ impl Needs {
             }
         }
         self.literals.clear();
+        self.marks.clear();
         self.alike.clear();
     }
 
-    /// The literals.
-    pub(crate) fn literals(&self) -> &[Lit] {
-        &self.literals
+    /// The literals of the word of a fact, with it, if they can not all be true.
+    pub(crate) fn clash(&self, alloc: Global, fact: Lit) -> Result<Option<Vec<Lit>>, AllocError> {
+        let mut known = Known::new(alloc)?;
+        for literal in &self.literals {
+            if word_of(*literal) == word_of(fact) {
+                known.push(*literal)?;
+            }
+        }
+        clash_after(alloc, &mut known, fact)
+    }
+
+    // Adds the literals of the call, or the others.
+    fn add_literals(&self, claims: &mut Vec<Claim>, of_call: bool) -> Result<(), AllocError> {
+        for literal in &self.literals {
+            let word = word_of(*literal);
+            if (word == TOKEN || word == NUMBER) == of_call {
+                claims.push(Claim::Knows(*literal))?;
+            }
+        }
+        Ok(())
+    }
+
+    /// What a node states. What is said of rules stands in the order in which it came to be known, behind what is known of
+    /// the call, so that chains share their beginnings.
+    pub(crate) fn claims(
+        &mut self,
+        alloc: Global,
+        path: &Path<'_>,
+    ) -> Result<Vec<Claim>, AllocError> {
+        let mut claims = Vec::new(alloc);
+        if self.marks.is_empty() {
+            for literal in &self.literals {
+                claims.push(Claim::Knows(*literal))?;
+            }
+            return Ok(claims);
+        }
+        self.add_literals(&mut claims, true)?;
+        self.marks.sort_unstable();
+        self.marks.dedup();
+        for (_, at, said) in &self.marks {
+            if let Some(place) = path.rules().place(*at as usize) {
+                claims.push(match said.checked_sub(1) {
+                    Some(own) => Claim::Met(place, own),
+                    None => Claim::Out(place),
+                })?;
+            }
+        }
+        self.add_literals(&mut claims, false)?;
+        Ok(claims)
+    }
+
+    /// Adds what is said of a rule, since when.
+    pub(crate) fn add_mark(&mut self, mark: Mark, since: u32) -> Result<(), AllocError> {
+        let (at, said) = match mark {
+            Mark::Out(at) => (at, 0),
+            Mark::Met(at, own) => (at, own.saturating_add(1)),
+        };
+        let at = at.min(0xffff_ffff) as u32;
+        let said = said.min(0xffff_ffff) as u32;
+        Ok(self.marks.push((since, at, said))?)
     }
 
     fn contains(&self, literal: Lit, latest: u32) -> bool {

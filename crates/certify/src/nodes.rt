@@ -1,13 +1,11 @@
 //! The nodes of a certificate, made from its last to its first.
 
-use crate::chains::{Chains, MAX_LITERALS};
-use crate::essence::add_essence;
+use crate::chains::{Chains, MAX_CLAIMS};
 use crate::fault::{CertifyError, unwritten};
-use crate::known::Known;
-use crate::needs::Needs;
+use crate::path::Path;
 use crate::uses::are_so;
-use crate::words::{BEGINNING, word_of};
-use cert_form::{ChainNode, Kind, write_chained};
+use crate::words::BEGINNING;
+use cert_form::{ChainNode, Claim, Kind, write_chained, write_claims};
 use cert_state::{Lit, Regs};
 use std::alloc::{AllocError, Global};
 
@@ -58,14 +56,17 @@ impl Nodes {
         kind: Kind,
         pc: u16,
         regs: Regs,
-        literals: &[Lit],
+        claims: &[Claim],
     ) -> Result<u32, CertifyError> {
         let count = self.nodes.len();
         if count >= MAX_NODES {
             return Err(CertifyError::TooLarge);
         }
         let number = count as u32;
-        let chain = self.chains.of(literals)?;
+        let chain = self.chains.of(claims)?;
+        if let (Kind::Dead, Some(same)) = (kind, self.dead(pc, chain)) {
+            return Ok(same);
+        }
         let before = match self.latest.get_mut(pc as usize) {
             Some(latest) => std::mem::replace(latest, number),
             None => NOBODY,
@@ -80,14 +81,28 @@ impl Nodes {
         Ok(number)
     }
 
-    // Whether each literal of a chain follows from what is known, or is this fact.
-    fn follow(&self, known: &Known, fact: Option<Lit>, chain: u32) -> bool {
+    // A dead node that is there already.
+    fn dead(&self, pc: u16, chain: u32) -> Option<u32> {
+        let mut number = *self.latest.get(pc as usize)?;
+        for _ in 0..TRIES {
+            let node = self.nodes.get(number as usize)?;
+            if node.chain == chain && matches!(&node.kind, Kind::Dead) {
+                return Some(number);
+            }
+            number = *self.before.get(number as usize)?;
+        }
+        None
+    }
+
+    // Whether each claim of a chain follows from what is known, or is this fact.
+    fn follow(&self, path: &Path<'_>, fact: Option<Lit>, chain: u32) -> bool {
+        let fact = fact.map(Claim::Knows);
         let mut left = chain;
-        for _ in 0..=MAX_LITERALS {
-            let Some((parent, literal)) = self.chains.last(left) else {
+        for _ in 0..=MAX_CLAIMS {
+            let Some((parent, claim)) = self.chains.last(left) else {
                 return true;
             };
-            if fact != Some(literal) && !known.entails(literal) {
+            if fact != Some(claim) && !path.follows(claim) {
                 return false;
             }
             left = parent;
@@ -96,11 +111,11 @@ impl Nodes {
     }
 
     /// The last node that stands at a place and states nothing but the place's fact and what is known.
-    pub(crate) fn find(&self, place: &Place, known: &Known) -> Option<u32> {
+    pub(crate) fn find(&self, place: &Place, path: &Path<'_>) -> Option<u32> {
         let mut number = *self.latest.get(place.pc as usize)?;
         let mut node = self.nodes.get(number as usize)?;
         for _ in 0..TRIES {
-            if self.follow(known, place.fact, node.chain) && are_so(&node.regs, &place.regs) {
+            if self.follow(path, place.fact, node.chain) && are_so(&node.regs, &place.regs) {
                 return Some(number);
             }
             number = *self.before.get(number as usize)?;
@@ -114,30 +129,18 @@ impl Nodes {
         Some(self.nodes.get(number as usize)?.regs)
     }
 
-    /// Adds what has to be known before a way with this fact to a node, of which this is known: what the node states and
-    /// the fact does not, or else all that is known of the word, which gives it together with the fact.
-    pub(crate) fn add_needs(
-        &self,
-        needs: &mut Needs,
-        known: &Known,
-        fact: Option<Lit>,
-        number: u32,
-    ) -> Result<(), AllocError> {
+    /// What a node states, from the last claim to the first.
+    pub(crate) fn claims(&self, number: u32) -> Result<Vec<Claim>, AllocError> {
         let chain = match self.nodes.get(number as usize) {
             Some(node) => node.chain,
             None => 0,
         };
-        for literal in self.chains.literals(self.alloc, chain)?.iter().rev() {
-            if fact == Some(*literal) {
-                continue;
-            }
-            if known.states(*literal) || known.entails(*literal) {
-                needs.add(*literal)?;
-            } else {
-                add_essence(self.alloc, needs, known, word_of(*literal))?;
-            }
-        }
-        Ok(())
+        self.chains.claims(self.alloc, chain)
+    }
+
+    /// How many nodes there are.
+    pub(crate) fn len(&self) -> usize {
+        self.nodes.len()
     }
 
     /// The certificate: the last node comes first.
@@ -155,7 +158,10 @@ impl Nodes {
                 ..*node
             })?;
         }
-        write_chained(self.alloc, self.chains.entries(), &turned).map_err(unwritten)
+        match self.chains.literals_alone(self.alloc)? {
+            Some(entries) => write_chained(self.alloc, &entries, &turned).map_err(unwritten),
+            None => write_claims(self.alloc, self.chains.entries(), &turned).map_err(unwritten),
+        }
     }
 }
 

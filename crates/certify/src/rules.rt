@@ -8,6 +8,8 @@ use std::alloc::{AllocError, Global};
 pub(crate) struct Rules<'a> {
     profile: &'a Profile,
     places: Vec<(u32, u32, usize)>,
+    // For each place of the list where it stands in that order.
+    turns: Vec<u32>,
 }
 
 impl<'a> Rules<'a> {
@@ -18,7 +20,17 @@ impl<'a> Rules<'a> {
             places.push((rule.arch.token(), rule.nr, place))?;
         }
         places.sort_unstable();
-        Ok(Rules { profile, places })
+        let mut turns = vec![in alloc; 0u32; places.len()]?;
+        for (at, (_, _, place)) in places.iter().enumerate() {
+            if let Some(turn) = turns.get_mut(*place) {
+                *turn = at.min(0xffff_ffff) as u32;
+            }
+        }
+        Ok(Rules {
+            profile,
+            places,
+            turns,
+        })
     }
 
     /// The profile.
@@ -59,5 +71,23 @@ impl<'a> Rules<'a> {
             return None;
         }
         self.profile.rules().get(*place)
+    }
+
+    /// The rule that stands there.
+    pub(crate) fn rule(&self, at: usize) -> Option<&'a Rule> {
+        let (_, _, place) = self.places.get(at)?;
+        self.profile.rules().get(*place)
+    }
+
+    /// The place in the profile's list of the rule that stands there.
+    pub(crate) fn place(&self, at: usize) -> Option<u32> {
+        let (_, _, place) = self.places.get(at)?;
+        u32::try_from(*place).ok()
+    }
+
+    /// Where the rule stands that has a place in the profile's list.
+    pub(crate) fn turn(&self, place: u32) -> Option<usize> {
+        let at = self.turns.get(place as usize)?;
+        Some(*at as usize)
     }
 }

@@ -1,20 +1,33 @@
 //! Whether what is known settles that the profile says a word, and else how to come to know more.
 
-use crate::conditions::{Judged, judge_conditions};
+use crate::conditions::{Judged, judge_condition, judge_conditions};
 use crate::known::Known;
+use crate::path::Path;
 use crate::rules::Rules;
 use crate::split::Split;
+use crate::standing::{Call, Mark};
 use crate::words::{NUMBER, TOKEN, Words};
 use call_record::Word;
 use call_tables::Arch;
 use cert_state::Lit;
 use profile::{LEAST_X32_NUMBER, Profile, Rule};
 
+/// What is known of the call's rules by which it is settled.
+#[derive(Clone, Copy)]
+pub(crate) enum By {
+    /// Nothing more than is known of words.
+    Words,
+    /// Each condition of this rule is met.
+    Rule(usize),
+    /// Those that have another word are out.
+    Outs(Call),
+}
+
 /// What comes of the question.
 #[derive(Clone, Copy)]
 pub(crate) enum Outcome {
-    /// The profile says the word, by what is known of these words.
-    Settled(Words),
+    /// The profile says the word, by what is known of these words, and of rules.
+    Settled(Words, By),
     /// It is asked again of either half.
     Cut(Split),
     /// It says another word of some record, or nothing more can be asked.
@@ -39,14 +52,21 @@ enum Bearing {
 /// Whether the profile says a word of each record of which this is known.
 #[derive(Clone, Copy)]
 pub(crate) struct Question<'a> {
-    pub(crate) rules: &'a Rules<'a>,
-    pub(crate) known: &'a Known,
+    pub(crate) path: &'a Path<'a>,
     pub(crate) word: Word,
 }
 
 impl Question<'_> {
+    fn known(&self) -> &Known {
+        self.path.all()
+    }
+
+    fn rules(&self) -> &Rules<'_> {
+        self.path.rules()
+    }
+
     fn profile(&self) -> &Profile {
-        self.rules.profile()
+        self.rules().profile()
     }
 
     fn is_default(&self) -> bool {
@@ -56,30 +76,35 @@ impl Question<'_> {
     /// The answer.
     pub(crate) fn settle(&self) -> Outcome {
         let mut words = match self.settle_foreign() {
-            Outcome::Settled(words) => words,
+            Outcome::Settled(words, _) => words,
             other => return other,
         };
+        let mut by = By::Words;
         for arch in self.profile().machines() {
             match self.settle_machine(arch.token()) {
-                Outcome::Settled(more) => words = words.and(more),
+                Outcome::Settled(more, By::Words) => words = words.and(more),
+                Outcome::Settled(more, rules) => {
+                    words = words.and(more);
+                    by = rules;
+                }
                 other => return other,
             }
         }
-        Outcome::Settled(words)
+        Outcome::Settled(words, by)
     }
 
     // Whether foreign records are impossible, or get their word.
     fn settle_foreign(&self) -> Outcome {
         if self.word == Word::KILL_THREAD {
-            return Outcome::Settled(Words::NONE);
+            return Outcome::Settled(Words::NONE, By::Words);
         }
         let mut open = None;
         for arch in self.profile().machines() {
             let token = arch.token();
-            if self.known.entails(Lit::Bits(TOKEN, u32::MAX, token)) {
-                return Outcome::Settled(Words::of(TOKEN));
+            if self.known().entails(Lit::Bits(TOKEN, u32::MAX, token)) {
+                return Outcome::Settled(Words::of(TOKEN), By::Words);
             }
-            if !self.known.entails(Lit::NotBits(TOKEN, u32::MAX, token)) {
+            if !self.known().entails(Lit::NotBits(TOKEN, u32::MAX, token)) {
                 open = Some(Split::bits(TOKEN, u32::MAX, token));
             }
         }
@@ -88,8 +113,8 @@ impl Question<'_> {
 
     // Whether the records of a machine get the word, or there are none.
     fn settle_machine(&self, token: u32) -> Outcome {
-        if self.known.entails(Lit::NotBits(TOKEN, u32::MAX, token)) {
-            return Outcome::Settled(Words::of(TOKEN));
+        if self.known().entails(Lit::NotBits(TOKEN, u32::MAX, token)) {
+            return Outcome::Settled(Words::of(TOKEN), By::Words);
         }
         let outcome = if token == Arch::X86_64.token() {
             self.settle_x86_64(token)
@@ -97,30 +122,30 @@ impl Question<'_> {
             self.settle_rules(token)
         };
         match outcome {
-            Outcome::Settled(words) => Outcome::Settled(words),
-            other if self.known.entails(Lit::Bits(TOKEN, u32::MAX, token)) => other,
+            Outcome::Settled(words, by) => Outcome::Settled(words, by),
+            other if self.known().entails(Lit::Bits(TOKEN, u32::MAX, token)) => other,
             _ => Outcome::Cut(Split::bits(TOKEN, u32::MAX, token)),
         }
     }
 
     // Whether the x86-64 records get the word, of which x32 calls are foreign.
     fn settle_x86_64(&self, token: u32) -> Outcome {
-        if self
-            .known
-            .entails(Lit::In(NUMBER, LEAST_X32_NUMBER, u32::MAX))
-        {
+        let foreign = Lit::In(NUMBER, LEAST_X32_NUMBER, u32::MAX);
+        if self.known().entails(foreign) {
             return if self.word == Word::KILL_THREAD {
-                Outcome::Settled(Words::of(NUMBER))
+                Outcome::Settled(Words::of(NUMBER), By::Words)
             } else {
                 Outcome::Undecided
             };
         }
-        let native = self.known.entails(Lit::In(NUMBER, 0, LEAST_X32_NUMBER - 1));
+        let native = self
+            .known()
+            .entails(Lit::In(NUMBER, 0, LEAST_X32_NUMBER - 1));
         if !native && self.word != Word::KILL_THREAD {
             return cut_or_undecided(Split::at(NUMBER, LEAST_X32_NUMBER));
         }
         match self.settle_rules(token) {
-            Outcome::Settled(words) => Outcome::Settled(words.and(Words::of(NUMBER))),
+            Outcome::Settled(words, by) => Outcome::Settled(words.and(Words::of(NUMBER)), by),
             other if native => other,
             _ => cut_or_undecided(Split::at(NUMBER, LEAST_X32_NUMBER)),
         }
@@ -128,16 +153,19 @@ impl Question<'_> {
 
     // Whether the rules of a machine say the word.
     fn settle_rules(&self, token: u32) -> Outcome {
-        let Some((least, greatest)) = self.known.range(NUMBER) else {
+        let Some((least, greatest)) = self.known().range(NUMBER) else {
             return Outcome::Undecided;
         };
         if least == greatest {
-            return self.settle_number(token, least);
+            return match self.path.call() {
+                Some(call) => self.settle_call(call),
+                None => self.settle_number(token, least),
+            };
         }
         let mut words = Words::of(NUMBER);
         let mut nearest = None;
-        for at in self.rules.first(token, least)..self.rules.len() {
-            let Some(rule) = self.rules.at(at, token, greatest) else {
+        for at in self.rules().first(token, least)..self.rules().len() {
+            let Some(rule) = self.rules().at(at, token, greatest) else {
                 break;
             };
             match self.bearing_of(rule) {
@@ -148,7 +176,7 @@ impl Question<'_> {
         match nearest {
             Some(nr) if nr > least => cut_or_undecided(Split::at(NUMBER, nr)),
             Some(nr) => cut_or_undecided(Split::above(NUMBER, nr)),
-            None if self.is_default() => Outcome::Settled(words),
+            None if self.is_default() => Outcome::Settled(words, By::Words),
             None => Outcome::Undecided,
         }
     }
@@ -157,10 +185,13 @@ impl Question<'_> {
         if self.is_default() && rule.word == self.word {
             return Bearing::None(Words::NONE);
         }
-        if self.known.entails(Lit::NotBits(NUMBER, u32::MAX, rule.nr)) {
+        if self
+            .known()
+            .entails(Lit::NotBits(NUMBER, u32::MAX, rule.nr))
+        {
             return Bearing::None(Words::NONE);
         }
-        match judge_conditions(self.known, rule.conds.as_slice()) {
+        match judge_conditions(self.known(), rule.conds.as_slice()) {
             Judged::No(words) => Bearing::None(words),
             _ => Bearing::Counts,
         }
@@ -171,13 +202,16 @@ impl Question<'_> {
         let mut words = Words::of(NUMBER);
         let mut refuted = false;
         let mut open = None;
-        for at in self.rules.first(token, nr)..self.rules.len() {
-            let Some(rule) = self.rules.at(at, token, nr) else {
+        for at in self.rules().first(token, nr)..self.rules().len() {
+            let Some(rule) = self.rules().at(at, token, nr) else {
                 break;
             };
             let same = rule.word == self.word;
-            match judge_conditions(self.known, rule.conds.as_slice()) {
-                Judged::Yes(by) if same => return Outcome::Settled(by.and(Words::of(NUMBER))),
+            match judge_conditions(self.known(), rule.conds.as_slice()) {
+                Judged::Yes(by) if same => return Outcome::Settled(
+                    by.and(Words::of(NUMBER)),
+                    By::Words,
+                ),
                 Judged::Yes(_) => refuted = true,
                 Judged::No(by) if !same => words = words.and(by),
                 Judged::Open(split) if same != self.is_default() => open = open.or(Some(split)),
@@ -189,8 +223,71 @@ impl Question<'_> {
         }
         match open {
             Some(split) => Outcome::Cut(split),
-            None if self.is_default() => Outcome::Settled(words),
+            None if self.is_default() => Outcome::Settled(words, By::Words),
             None => Outcome::Undecided,
+        }
+    }
+
+    // Whether the rules of the call say the word.
+    fn settle_call(&self, call: Call) -> Outcome {
+        let mut refuted = false;
+        let mut open = None;
+        let mut best = None;
+        for at in call.first..call.end {
+            let Some(rule) = self.rules().rule(at) else {
+                break;
+            };
+            let same = rule.word == self.word;
+            match self.judge_rule(at, rule) {
+                Judged::Yes(_) if same => best = self.later(best, at, rule),
+                Judged::Yes(_) => refuted = refuted || self.path.since(Mark::Out(at)).is_none(),
+                Judged::Open(split) if same != self.is_default() => open = open.or(Some(split)),
+                Judged::No(_) | Judged::Open(_) => {}
+            }
+        }
+        if let Some((at, _)) = best {
+            return Outcome::Settled(Words::of(NUMBER), By::Rule(at));
+        }
+        if refuted {
+            return Outcome::Undecided;
+        }
+        match open {
+            Some(split) => Outcome::Cut(split),
+            None if self.is_default() => Outcome::Settled(Words::of(NUMBER), By::Outs(call)),
+            None => Outcome::Undecided,
+        }
+    }
+
+    // Of two rules that match, the one that came to do so later, which is the one that was asked for.
+    fn later(&self, best: Option<(usize, u32)>, at: usize, rule: &Rule) -> Option<(usize, u32)> {
+        let mut last = 0;
+        for own in 0..rule.conds.len() {
+            last = last.max(self.path.since(Mark::Met(at, own)).unwrap_or(u32::MAX));
+        }
+        match best {
+            Some((_, since)) if since >= last => best,
+            _ => Some((at, last)),
+        }
+    }
+
+    // Whether a rule is out, or all its conditions are met.
+    fn judge_rule(&self, at: usize, rule: &Rule) -> Judged {
+        let mut open = None;
+        for (own, cond) in rule.conds.as_slice().iter().enumerate() {
+            match judge_condition(self.path.recent(), cond) {
+                Judged::Yes(_) => {}
+                Judged::No(words) => return Judged::No(words),
+                Judged::Open(split) => {
+                    if self.path.since(Mark::Met(at, own)).is_none() {
+                        open = open.or(Some(split));
+                    }
+                }
+            }
+        }
+        match open {
+            None => Judged::Yes(Words::NONE),
+            Some(_) if self.path.since(Mark::Out(at)).is_some() => Judged::No(Words::NONE),
+            Some(split) => Judged::Open(split),
         }
     }
 }

@@ -5,25 +5,27 @@
 ghost use Rattle.bpf_insn.specs.Causes.{IsPlain};
 
 use crate::clash::contradiction;
-use crate::essence::{add_words, excluded, only_number};
+use crate::essence::{add_essence, add_words, excluded};
 use crate::fault::CertifyError;
-use crate::known::Known;
+use crate::grounds::{Ground, ground_of};
+use crate::meetings::{after, meetings};
 use crate::needs::Needs;
 use crate::nodes::{MAX_NODES, Nodes, Place, one_way};
+use crate::path::{Moment, Path};
 use crate::points::Search;
 use crate::position::insn_at;
-use crate::rules::Rules;
-use crate::settle::{Outcome, Question};
+use crate::settle::{By, Outcome, Question};
 use crate::split::Split;
+use crate::standing::Mark;
 use crate::uses::Uses;
 use crate::words::{BEGINNING, NOTHING, Words, knowing, word_of};
 use bpf_insn::{Insn, Operation};
 use call_record::{Record, Word};
-use cert_form::Kind;
+use cert_form::{Claim, Kind};
 use cert_state::{AVal, Listed, Lit, Regs, edge_fact, transfer};
 use kernel_check::Accepted;
 use profile::Profile;
-use std::alloc::Global;
+use std::alloc::{AllocError, Global};
 
 // Each node is come back to at most three times: at first, and after each of its ways.
 const MAX_TURNS: usize = 4 * MAX_NODES;
@@ -40,28 +42,51 @@ enum Way {
     Cut(Split),
 }
 
+// A way that no record takes, by what was learned before paths met. It is gone all the same, since the nodes on it are for
+// other paths too.
+#[derive(Clone, Copy)]
+struct Tear {
+    place: Place,
+    before: Moment,
+    // How many nodes were to be made.
+    visits: usize,
+}
+
 // A node to be made, once those are found that follow it.
 #[derive(Clone, Copy)]
 struct Visit {
     pc: u16,
     regs: Regs,
     way: Way,
-    // How many literals were known before the fact of the way to it.
-    known: usize,
+    // What is known there.
+    moment: Moment,
     first: Option<u32>,
     second: Option<u32>,
+}
+
+/// What nodes state.
+#[derive(Clone, Copy)]
+pub(crate) enum Manner {
+    /// Literals alone, and there are at most so many nodes.
+    Literals(usize),
+    /// Also that rules are out, and that conditions are met.
+    Marks,
 }
 
 /// A walk that has come so far.
 #[derive(Drop)]
 pub(crate) struct Walk<'a> {
     alloc: Global,
-    rules: Rules<'a>,
     program: Accepted<'a>,
+    // At which positions paths meet, where nodes may say which rules are out.
+    meetings: Vec<bool>,
     // What is known on the path, and the nodes on it that are still to be made.
-    known: Known,
+    path: Path<'a>,
     visits: Vec<Visit>,
+    tear: Option<Tear>,
     nodes: Nodes,
+    // How many nodes there may be.
+    most: usize,
     // What the node states that is made next.
     needs: Needs,
     // Whether it looks for a record that gets unlike words, and then whether only among the calls of the tables; and the
@@ -72,12 +97,6 @@ pub(crate) struct Walk<'a> {
 
 fn undecided(pc: u16) -> CertifyError {
     CertifyError::Undecided(u32::from(pc))
-}
-
-// The position after so many instructions are skipped.
-fn after(pc: u16, skipped: u32) -> u16 {
-    let skipped = u16::try_from(skipped).unwrap_or(u16::MAX);
-    pc.saturating_add(1).saturating_add(skipped)
 }
 
 // The places that a branch leads to, first that where it is not taken.
@@ -162,15 +181,22 @@ impl<'a> Walk<'a> {
         alloc: Global,
         profile: &'a Profile,
         program: Accepted<'a>,
+        manner: Manner,
     ) -> Result<Walk<'a>, CertifyError> {
         let nodes = Nodes::new(alloc, program.program().len())?;
+        let (meetings, most) = match manner {
+            Manner::Marks => (meetings(alloc, &program)?, MAX_NODES),
+            Manner::Literals(most) => (Vec::new(alloc), most),
+        };
         Ok(Walk {
             alloc,
-            rules: Rules::new(alloc, profile)?,
             program,
-            known: Known::new(alloc)?,
+            path: Path::new(alloc, profile, !meetings.is_empty())?,
+            meetings,
             visits: Vec::new(alloc),
+            tear: None,
             nodes,
+            most,
             needs: Needs::new(alloc)?,
             hunt: None,
             found: None,
@@ -184,7 +210,7 @@ impl<'a> Walk<'a> {
         program: Accepted<'a>,
         listed: bool,
     ) -> Result<Walk<'a>, CertifyError> {
-        let mut walk = Walk::new(alloc, profile, program)?;
+        let mut walk = Walk::new(alloc, profile, program, Manner::Literals(MAX_NODES))?;
         walk.hunt = Some(listed);
         Ok(walk)
     }
@@ -196,7 +222,7 @@ impl<'a> Walk<'a> {
             regs: BEGINNING,
             fact: None,
         };
-        let mut found = self.enter(&root)?;
+        let mut found = self.enter(&root, true)?;
         for _ in 0..MAX_TURNS {
             if self.found.is_some() {
                 return Ok(());
@@ -229,6 +255,7 @@ impl<'a> Walk<'a> {
         let Some(insn) = insn_at(&self.program, visit.pc) else {
             return Err(undecided(visit.pc));
         };
+        self.path.go_back(visit.moment)?;
         let (first, second) = visit.places(&insn);
         let visit = match visit.first {
             None => Visit {
@@ -250,7 +277,7 @@ impl<'a> Walk<'a> {
 
     fn go(&mut self, visit: Visit, place: &Place) -> Result<Option<u32>, CertifyError> {
         self.visits.push(visit)?;
-        self.enter(place)
+        self.enter(place, matches!(&visit.way, Way::Step))
     }
 
     // Makes the node.
@@ -269,22 +296,117 @@ impl<'a> Walk<'a> {
             Way::Step => uses.before(insn),
             Way::Cut(_) => uses,
         };
-        self.known.truncate(visit.known);
-        let kind = visit.kind(node, visit.second);
+        let node = self.or_dead(&first, node)?;
+        let other = match (&second, visit.second) {
+            (Some(place), Some(other)) => Some(self.or_dead(place, other)?),
+            _ => None,
+        };
+        let kind = visit.kind(node, other);
         self.make(kind, visit.pc, uses.keep(&visit.regs))
     }
 
     // Adds what has to be stated before a way with this fact to a node.
     fn need(&mut self, fact: Option<Lit>, node: u32) -> Result<(), CertifyError> {
-        Ok(
-            self.nodes
-                .add_needs(&mut self.needs, &self.known, fact, node)?,
-        )
+        let mut marks = Vec::new(self.alloc);
+        for claim in self.nodes.claims(node)?.iter().rev() {
+            match *claim {
+                Claim::Knows(literal) => self.need_literal(fact, literal)?,
+                _ => {
+                    if let Some(mark) = self.path.mark_of(*claim) {
+                        marks.push(mark)?;
+                    }
+                }
+            }
+        }
+        self.need_marks(fact, &marks)
+    }
+
+    // Adds what gives a literal together with the fact: itself, if it follows without, or else what is known of its
+    // word.
+    fn need_literal(&mut self, fact: Option<Lit>, literal: Lit) -> Result<(), CertifyError> {
+        if fact == Some(literal) {
+            return Ok(());
+        }
+        let word = word_of(literal);
+        if self.path.recent().states(literal) || self.path.recent().entails(literal) {
+            self.needs.add(literal)?;
+        } else if self.follows_recently(fact, literal)? {
+            add_essence(self.alloc, &mut self.needs, self.path.recent(), word)?;
+        } else if self.path.all().entails(literal) {
+            self.needs.add(literal)?;
+        } else {
+            add_essence(self.alloc, &mut self.needs, self.path.all(), word)?;
+        }
+        Ok(())
+    }
+
+    // Whether a literal follows from the fact and what was learned since paths met.
+    fn follows_recently(&mut self, fact: Option<Lit>, literal: Lit) -> Result<bool, CertifyError> {
+        if self.path.is_fresh() {
+            return Ok(true);
+        }
+        let now = self.path.now();
+        self.path.learn(fact)?;
+        let follows = self.path.recent().entails(literal);
+        self.path.go_back(now)?;
+        Ok(follows)
+    }
+
+    // Adds what gives what is said of rules, together with the fact.
+    fn need_marks(&mut self, fact: Option<Lit>, marks: &[Mark]) -> Result<(), CertifyError> {
+        if marks.is_empty() {
+            return Ok(());
+        }
+        let now = self.path.now();
+        let mut words = Words::NONE;
+        let mut literals = Vec::new(self.alloc);
+        self.path.learn(fact)?;
+        for mark in marks {
+            match ground_of(&self.path, *mark, now.len) {
+                Ground::Recent(more) => words = words.and(more),
+                Ground::Before(since) => self.needs.add_mark(*mark, since)?,
+                Ground::Reasons(reasons) => {
+                    for reason in reasons {
+                        if let Some(literal) = reason {
+                            literals.push(literal)?;
+                        }
+                    }
+                }
+            }
+        }
+        self.path.go_back(now)?;
+        add_words(self.alloc, &mut self.needs, self.path.recent(), words)?;
+        for literal in &literals {
+            self.need_literal(fact, *literal)?;
+        }
+        Ok(())
+    }
+
+    // The node that follows: a dead one, where what the node before it states can not be true together with the fact.
+    fn or_dead(&mut self, place: &Place, node: u32) -> Result<u32, CertifyError> {
+        let Some(fact) = place.fact else {
+            return Ok(node);
+        };
+        if self.path.is_fresh() || self.path.clash(fact)?.is_none() {
+            return Ok(node);
+        }
+        let Some(own) = self.needs.clash(self.alloc, fact)? else {
+            return Ok(node);
+        };
+        let mut claims = Vec::new(self.alloc);
+        for literal in &contradiction(self.alloc, own, Some(fact))? {
+            claims.push(Claim::Knows(*literal))?;
+        }
+        self.nodes.add(Kind::Dead, place.pc, NOTHING, &claims)
     }
 
     // Makes a node that states what is needed.
     fn make(&mut self, kind: Kind, pc: u16, regs: Regs) -> Result<Option<u32>, CertifyError> {
-        let number = self.nodes.add(kind, pc, regs, self.needs.literals())?;
+        if self.nodes.len() >= self.most {
+            return Err(CertifyError::TooLarge);
+        }
+        let claims = self.needs.claims(self.alloc, &self.path)?;
+        let number = self.nodes.add(kind, pc, regs, &claims)?;
         Ok(Some(number))
     }
 
@@ -295,61 +417,83 @@ impl<'a> Walk<'a> {
         }
     }
 
-    // Comes to a place. A node that is there already, or ends the path, is answered.
-    fn enter(&mut self, place: &Place) -> Result<Option<u32>, CertifyError> {
-        let known = self.known.len();
-        if self.learn(place.fact)? {
-            return self.end_dead(place, known);
+    // Comes to a place, by a step or not. A node that is there already, or ends the path, is answered.
+    fn enter(&mut self, place: &Place, by_step: bool) -> Result<Option<u32>, CertifyError> {
+        let before = self.path.now();
+        let was_torn = self.path.is_torn();
+        if self.path.learn(place.fact)? {
+            return self.end_dead(place, before);
         }
-        if let Some(number) = self.nodes.find(place, &self.known) {
-            self.known.truncate(known);
+        if self.path.is_torn() && !was_torn {
+            self.tear = Some(Tear {
+                place: *place,
+                before,
+                visits: self.visits.len(),
+            });
+        }
+        if let Some(number) = self.nodes.find(place, &self.path) {
             return Ok(Some(number));
         }
         let Some(insn) = insn_at(&self.program, place.pc) else {
             return Err(undecided(place.pc));
         };
+        if by_step && self.do_meet(place.pc) {
+            self.path.meet()?;
+        }
         if let Some(split) = self.crowded(place.fact)? {
-            return self.wait(place, known, Way::Cut(split));
+            return self.wait(place, Way::Cut(split));
         }
         match (insn.operation(), place.regs.a) {
-            (Some(Operation::ReturnK), _) => self.end(place, known, Word(insn.k), Uses::NONE),
+            (Some(Operation::ReturnK), _) => self.end(place, Word(insn.k), Uses::NONE),
             (Some(Operation::ReturnA), AVal::Const(word)) => {
-                self.end(place, known, Word(word), Uses::NONE.before(&insn))
+                self.end(place, Word(word), Uses::NONE.before(&insn))
             }
-            (Some(Operation::ReturnA), _) => self.stuck(place, known),
-            _ => self.wait(place, known, Way::Step),
+            (Some(Operation::ReturnA), _) => self.stuck(place),
+            _ => self.wait(place, Way::Step),
         }
     }
 
-    // Adds a fact that is new, and says whether it contradicts what is known.
-    fn learn(&mut self, fact: Option<Lit>) -> Result<bool, CertifyError> {
-        let Some(fact) = fact else {
-            return Ok(false);
+    // Whether paths meet at a position, and nodes may say which rules are out.
+    fn do_meet(&self, pc: u16) -> bool {
+        self.meetings.get(pc as usize).copied().unwrap_or(false)
+    }
+
+    // Ends a way where it began to be one that no record takes.
+    fn undo(&mut self, tear: &Tear) -> Result<Option<u32>, CertifyError> {
+        self.visits.truncate(tear.visits);
+        self.path.go_back(tear.before)?;
+        let Some(fact) = tear.place.fact else {
+            return Err(undecided(tear.place.pc));
         };
-        if self.known.entails(fact) {
-            return Ok(false);
-        }
-        self.known.push(fact)?;
-        if let Some(literal) = only_number(&self.known, word_of(fact)) {
-            self.known.push(literal)?;
-        }
-        Ok(self.known.is_dead(word_of(fact)))
+        let Some(own) = self.path.clash(fact)? else {
+            return Err(undecided(tear.place.pc));
+        };
+        let few = contradiction(self.alloc, own, Some(fact))?;
+        self.make_dead(&tear.place, &few)
     }
 
     // Ends a path that no record takes. What could be found together with the fact may ask for more than the nodes on the
-    // way here state, so it is looked for without.
-    fn end_dead(&mut self, place: &Place, known: usize) -> Result<Option<u32>, CertifyError> {
+    // way here state, so it is looked for without. What is said of rules would not follow beside a contradiction.
+    fn end_dead(&mut self, place: &Place, before: Moment) -> Result<Option<u32>, CertifyError> {
         let word = match place.fact {
             Some(fact) => word_of(fact),
             None => 0,
         };
-        let own = self.known.of_word(self.alloc, word)?;
-        self.known.truncate(known);
-        if let Some(number) = self.nodes.find(place, &self.known) {
-            return Ok(Some(number));
+        let own = self.path.recent().of_word(self.alloc, word)?;
+        self.path.go_back(before)?;
+        if self.meetings.is_empty() {
+            if let Some(number) = self.nodes.find(place, &self.path) {
+                return Ok(Some(number));
+            }
         }
+        let few = contradiction(self.alloc, own, place.fact)?;
+        self.make_dead(place, &few)
+    }
+
+    // Makes a node that states literals that can not all be true.
+    fn make_dead(&mut self, place: &Place, clash: &[Lit]) -> Result<Option<u32>, CertifyError> {
         self.needs.clear();
-        for literal in &contradiction(self.alloc, own, place.fact)? {
+        for literal in clash {
             self.needs.add(*literal)?;
         }
         self.make(Kind::Dead, place.pc, NOTHING)
@@ -360,10 +504,10 @@ impl<'a> Walk<'a> {
         let Some(Lit::NotBits(word, u32::MAX, _)) = fact else {
             return Ok(None);
         };
-        if self.known.excluded(word) < CROWD {
+        if self.path.recent().excluded(word) < CROWD {
             return Ok(None);
         }
-        let mut numbers = excluded(self.alloc, &self.known, word)?;
+        let mut numbers = excluded(self.alloc, self.path.recent(), word)?;
         if numbers.len() < CROWD as usize {
             return Ok(None);
         }
@@ -376,7 +520,7 @@ impl<'a> Walk<'a> {
     }
 
     // Puts a node off until those that follow it are made.
-    fn wait(&mut self, place: &Place, known: usize, way: Way) -> Result<Option<u32>, CertifyError> {
+    fn wait(&mut self, place: &Place, way: Way) -> Result<Option<u32>, CertifyError> {
         if self.visits.len() >= MAX_NODES {
             return Err(CertifyError::TooLarge);
         }
@@ -384,7 +528,7 @@ impl<'a> Walk<'a> {
             pc: place.pc,
             regs: place.regs,
             way,
-            known,
+            moment: self.path.now(),
             first: None,
             second: None,
         })?;
@@ -394,50 +538,74 @@ impl<'a> Walk<'a> {
     // Whether the profile says the word of all records that come here.
     fn settled(&self, word: Word) -> Outcome {
         let question = Question {
-            rules: &self.rules,
-            known: &self.known,
+            path: &self.path,
             word,
         };
         question.settle()
     }
 
     // Comes to a return.
-    fn end(
-        &mut self,
-        place: &Place,
-        known: usize,
-        word: Word,
-        uses: Uses,
-    ) -> Result<Option<u32>, CertifyError> {
+    fn end(&mut self, place: &Place, word: Word, uses: Uses) -> Result<Option<u32>, CertifyError> {
         match self.settled(word) {
-            Outcome::Settled(words) => {
+            Outcome::Settled(words, by) => {
                 self.needs.clear();
-                add_words(self.alloc, &mut self.needs, &self.known, words)?;
-                self.known.truncate(known);
+                add_words(self.alloc, &mut self.needs, self.path.all(), words)?;
+                let marks = self.marks_of(by, word)?;
+                self.need_marks(None, &marks)?;
                 self.make(Kind::Return, place.pc, uses.keep(&place.regs))
             }
-            Outcome::Cut(split) => self.wait(place, known, Way::Cut(split)),
-            Outcome::Undecided => self.stuck(place, known),
+            Outcome::Cut(split) if !self.path.is_torn() => self.wait(place, Way::Cut(split)),
+            Outcome::Cut(_) | Outcome::Undecided => self.stuck(place),
         }
+    }
+
+    // What is said of the rules of the call by which a word is settled.
+    fn marks_of(&self, by: By, word: Word) -> Result<Vec<Mark>, AllocError> {
+        let mut marks = Vec::new(self.alloc);
+        match by {
+            By::Words => {}
+            By::Rule(at) => {
+                if let Some(rule) = self.path.rules().rule(at) {
+                    for own in 0..rule.conds.len() {
+                        marks.push(Mark::Met(at, own))?;
+                    }
+                }
+            }
+            By::Outs(call) => {
+                for at in call.first..call.end {
+                    if self
+                        .path
+                        .rules()
+                        .rule(at)
+                        .is_some_and(|rule| rule.word != word)
+                    {
+                        marks.push(Mark::Out(at))?;
+                    }
+                }
+            }
+        }
+        Ok(marks)
     }
 
     // Comes to a return whose word is not the profile's, as far as is known. Who looks for a record tries some that come
     // here, and goes on elsewhere.
-    fn stuck(&mut self, place: &Place, known: usize) -> Result<Option<u32>, CertifyError> {
+    fn stuck(&mut self, place: &Place) -> Result<Option<u32>, CertifyError> {
+        if let (true, Some(tear)) = (self.path.is_torn(), self.tear) {
+            return self.undo(&tear);
+        }
         let Some(listed) = self.hunt else {
             return Err(undecided(place.pc));
         };
         let search = Search {
-            rules: &self.rules,
+            rules: self.path.rules(),
             program: &self.program,
-            known: &self.known,
+            known: self.path.all(),
             listed,
         };
         let found = search.first();
         self.found = found;
         self.needs.clear();
-        add_words(self.alloc, &mut self.needs, &self.known, Words::ALL)?;
-        self.known.truncate(known);
+        add_words(self.alloc, &mut self.needs, self.path.all(), Words::ALL)?;
         self.make(Kind::Return, place.pc, place.regs)
     }
 }

@@ -10,6 +10,9 @@ pub(crate) const NUMBER: u8 = 0;
 /// The word of the machine's token.
 pub(crate) const TOKEN: u8 = 1;
 
+/// The low word of the first argument.
+pub(crate) const ARGUMENTS: u8 = 4;
+
 /// A set of words.
 #[derive(Clone, Copy)]
 pub(crate) struct Words {
