@@ -6,7 +6,8 @@ use Rattle.cert_form.proofs.WriteLaws.{chained_in_limits, spells_chained}
 use Rattle.cert_form.proofs.chain_writing.write_chained.Goals as goal
 
 pub returns-clause-spelled : goal.returns-clause-spelled
-returns-clause-spelled c = c.in_ok-put_file.ensures ∙ ap (λ v. chained v (all_known c.args.entries.now) c.args.nodes.now) c.version_of-version.ensures
+returns-clause-spelled c =
+    c.in_ok-put_file.ensures ∙ ap (λ v. chained v (all_known c.args.entries.now) c.args.nodes.now) c.version_of-version.ensures
 
 -- what is written keeps the limits, and is the certificate of what is meant
 in_limits : (c : goal.Else-len-gt4194304) → AreChainsWritable c.args.entries.now c.args.nodes.now

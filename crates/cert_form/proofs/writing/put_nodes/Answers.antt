@@ -8,7 +8,8 @@ use Rattle.cert_form.proofs.writing.put_nodes.Goals as goal
 pub returns-then-not-states_nothing-clause-refused : goal.returns-then-not-states_nothing-clause-refused
 returns-then-not-states_nothing-clause-refused c = λ all.
     let none =
-    of_item (λ n. n.regs.scratch ≡ nothing_stated) plain c.args.nodes.now c.loop-n.n-index c.n-item.result c.loop-n-test.true c.n-item.is all in
+    of_item (λ n. n.regs.scratch ≡ nothing_stated) plain c.args.nodes.now c.loop-n.n-index c.n-item.result c.loop-n-test.true
+    c.n-item.is all in
     absurd (let e : false ≡ true = c.if-not-states_nothing.ensures.1 none in cc)
 
 pub returns-then-len-gt512-clause-refused : goal.returns-then-len-gt512-clause-refused
@@ -26,7 +27,9 @@ loop-n-preserved c =
       few = omega (arith, c.len.ensures, c.if-len-gt512.false);
     } in
     record {
-      written = written_more plain node c.args.nodes.now c.loop-n.n-index c.n-item.result c.args.out.now.items c.loop-n.out.items c.put_node.new.out.items
+      written = written_more plain node c.args.nodes.now c.loop-n.n-index c.n-item.result c.args.out.now.items
+          c.loop-n.out.items c.put_node.new.out.items
           c.loop-n-test.true c.n-item.is c.loop-n.invariant.written c.in_ok-put_node.ensures;
-      plain = all_more IsPlain plain c.args.nodes.now c.loop-n.n-index c.n-item.result c.loop-n-test.true c.n-item.is c.loop-n.invariant.plain one;
+      plain = all_more IsPlain plain c.args.nodes.now c.loop-n.n-index c.n-item.result c.loop-n-test.true c.n-item.is
+          c.loop-n.invariant.plain one;
     }
