@@ -9,7 +9,9 @@ use crate::finding::check_line;
 use crate::line::verdict_line;
 use crate::running::run_bundles;
 use crate::stops::{Stop, report};
+use bpf_insn::MAX_INSNS;
 use call_tables::Arch;
+use cert_form::MAX_BYTES;
 use command_line::{Order, read_words};
 use export::{Sink, Source};
 use std::alloc::Global;
@@ -17,9 +19,9 @@ use std::alloc::Global;
 // The longest files that are judged by more than their length, in bytes: a call record, a filter, a certificate.
 const RECORD_SIZE: u32 = 64;
 
-const FILTER_SIZE: u32 = 8 * 4096;
+const FILTER_SIZE: u32 = 8 * MAX_INSNS as u32;
 
-const CERTIFICATE_SIZE: u32 = 4 * 1024 * 1024;
+const CERTIFICATE_SIZE: u32 = MAX_BYTES as u32;
 
 fn stop_of<'a>(fault: FileFault, name: &'a str) -> Stop<'a> {
     match fault {
