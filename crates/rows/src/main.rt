@@ -63,8 +63,8 @@
 //! - `long-chain COUNT` reads a certificate of one node with a chain of so many literals.
 //! - `nodes-flipped FILE` reads a certificate with each of its bits flipped alone, and counts the answers.
 //! - `made-up SEED COUNT` draws so many small profiles and filters of up to eight instructions, makes eight certificates of
-//!   each accepted one by changing its nodes, in forms 1 to 3, and counts the answers. Where one is yes, the filter is run on a
-//!   grid of records, and its words are compared with the profile's.
+//!   each accepted one by changing its nodes, in all forms, and says whether each refusal comes, more than a fifth are yes and
+//!   none wrongly: where one is yes, the filter is run on a grid of records, and its words are compared with the profile's.
 //! - `check-beginnings`, `check-flipped-filter`, `check-flipped-certificate` and then `MACHINE BUNDLE FILTER CERTIFICATE`
 //!   run the check with each beginning of the certificate, or with each bit of the filter or certificate flipped alone.
 //!   They count the answers, without the places that these name. Where the answer is yes, the filter is run on a grid of
@@ -80,6 +80,7 @@ mod calls;
 mod cases;
 mod certified;
 mod changes;
+mod claims;
 mod conformance;
 mod dice;
 mod evidence;
