@@ -49,7 +49,10 @@ pub fn tell_made_up(out: &mut String, alloc: Global, text: &str) -> Result<()> {
         try_filter(alloc, &mut dice, &grid, &mut tally)?;
     }
     if are_all_met(&tally) && tally.of("yes") > tally.all() / 5 && tally.of(WRONG) == 0 {
-        return tell(out, "each answer comes, more than a fifth are yes, none is wrong");
+        return tell(
+            out,
+            "each answer comes, more than a fifth are yes, none is wrong",
+        );
     }
     tally.tell(out)
 }

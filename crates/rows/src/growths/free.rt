@@ -20,10 +20,17 @@ use std::io;
 
 // A load without bytes, one of bytes that are no program, and a fork where no further task may be made: each fails.
 const FAILING: [Event; 3] = [
-    EVENTS[8],
     Event {
+        task: 1,
+        name: "seccomp",
+        args: [1, 0],
+        attached: None,
+    },
+    Event {
+        task: 1,
+        name: "seccomp",
+        args: [1, 0],
         attached: Some(&[6]),
-        ..EVENTS[8]
     },
     FORK,
 ];
