@@ -17,15 +17,12 @@ use crate::outs::Outs;
 use call_record::Word;
 use call_tables::Arch;
 use cert_state::{Facts, Lit, State};
-use profile::{Cond, Op, Profile, Rule, has_x32_calls};
+use profile::{Cond, LEAST_X32_NUMBER, Op, Profile, Rule, has_x32_calls};
 
 // The words of a record that hold the call's number and the machine's token.
 pub(crate) const NUMBER: u8 = 0;
 
 pub(crate) const TOKEN: u8 = 1;
-
-// The least number of an x32 call.
-const LEAST_X32_NUMBER: u32 = 0x4000_0000;
 
 // What is known of a number.
 fn ask_number<S: State>(facts: &Facts<'_, S>, nr: u32) -> Number
@@ -37,7 +34,7 @@ fn ask_number<S: State>(facts: &Facts<'_, S>, nr: u32) -> Number
     }
 }
 
-// The same, asked once for each of the least numbers: the numbers of all calls are among them.
+// What is known of a number, asked once for each of the least ones: the numbers of all calls are among them.
 fn number_of<S: State>(facts: &Facts<'_, S>, numbers: &mut [Option<Number>; 512], nr: u32) -> Number
     requires { AreKnownNumbers (S.known facts.now.state.now) numbers.old }
     ensures number { IsKnownNumber (S.known facts.now.state.now) nr result }

@@ -13,7 +13,6 @@ mod met;
 mod mets;
 mod nodes;
 mod outs;
-mod position;
 mod refuted;
 mod returned;
 mod root;

@@ -47,7 +47,7 @@ impl<'a> Mets<'a> {
     ghost use Rattle.std.specs.Prelude.{◌≡◌, ◌↔◌, ◌<◌, ℕ, Contains, IsTrue};
     ghost use Rattle.cert_form.specs.Views.{says};
 
-    /// Those of a node.
+    /// The conditions that a node says to be met.
     pub(crate) fn of(node: &NodeView<'a>) -> Mets<'a>
         ensures { result.node ≡ node.now }
     {

@@ -18,7 +18,6 @@ use crate::checked::Checked;
 use crate::edges::{all_lead, ways_of};
 use crate::entailed::entail_is_kept;
 use crate::fault::CheckError;
-use crate::position::insn_at;
 use crate::returned::return_is_kept;
 use crate::root::root_is_kept;
 use crate::split::split_is_kept;
@@ -39,7 +38,7 @@ fn check_node(
     ensures { NodeFound profile.now (accepted_insns accepted.now) (nodes_of view.now) i result }
 {
     let node = view.node(i as usize);
-    let Some(insn) = insn_at(accepted, node.pc()) else {
+    let Some(insn) = accepted.insn_at(node.pc()) else {
         return Err(CheckError::Edge(i));
     };
     let Some(ways) = ways_of(&node, &insn) else {

@@ -41,7 +41,7 @@ impl<'a> Outs<'a> {
     ghost use Rattle.std.specs.Prelude.{◌≡◌, ◌↔◌, ◌<◌, Contains, IsTrue};
     ghost use Rattle.cert_form.specs.Views.{says};
 
-    /// Those of a node.
+    /// The rules that a node says to be out.
     pub(crate) fn of(node: &NodeView<'a>) -> Outs<'a>
         ensures { result.node ≡ node.now }
     {

@@ -6,7 +6,8 @@ use Rattle.std.proofs.lemmas.List.{length-reverse}
 use Rattle.byteorder.specs.Endian.{little_bytes}
 use Rattle.cert_form.specs.Nodes.{said}
 use Rattle.cert_form.specs.Spelling.{value, claim, scratch, tail}
-use Rattle.cert_form.specs.Reading.{short_at, long_at, value_at, claim_at, parent_at, kind_at, tail_length, version_of, chain_count, entries_of}
+use Rattle.cert_form.specs.Reading.{short_at, long_at, value_at, claim_at, parent_at, kind_at, tail_length, version_of}
+use Rattle.cert_form.specs.Reading.{chain_count, entries_of}
 use Rattle.cert_form.specs.Reading.{scratch_at, chain_place, chain_node_at, node_at, tail_place, node_end}
 use Rattle.cert_form.specs.inner.Standing.{Stands, IsClaimThere, IsEntryThere, IsTailThere, IsFrontThere}
 use Rattle.cert_form.specs.inner.Standing.{IsScratchThere, IsChainThere, IsChainedThere}

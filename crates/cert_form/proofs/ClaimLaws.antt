@@ -25,7 +25,8 @@ pub in_other_form : (bytes : List ℕ) (at : ℕ) → version_of bytes ≢ 4 →
 unfolding claim_at
 in_other_form bytes at form = rw (ne_eqb (version_of bytes) 4 form) refl
 
-with_other_tag : (bytes : List ℕ) (at : ℕ) → slice_index bytes at ≢ 4 → slice_index bytes at ≢ 5 → claim_at bytes at ≡ Knows (literal_at bytes at)
+with_other_tag : (bytes : List ℕ) (at : ℕ) → slice_index bytes at ≢ 4 → slice_index bytes at ≢ 5
+    → claim_at bytes at ≡ Knows (literal_at bytes at)
 unfolding claim_at
 with_other_tag bytes at not_4 not_5 =
     rw (ne_eqb (slice_index bytes at) 4 not_4, ne_eqb (slice_index bytes at) 5 not_5) (by_form (eqb (version_of bytes) 4)) where
@@ -53,7 +54,8 @@ says_met bytes at form tag = rw (form, tag) refl
 
 -- ---- what is judged sound is spelled so
 
-pub literal_claim : (bytes : List ℕ) (at : ℕ) → (SaysOut bytes at → ⊥) → (SaysMet bytes at → ⊥) → IsLiteralThere bytes at → IsClaimThere bytes at
+pub literal_claim : (bytes : List ℕ) (at : ℕ) → (SaysOut bytes at → ⊥) → (SaysMet bytes at → ⊥) → IsLiteralThere bytes at
+    → IsClaimThere bytes at
 literal_claim bytes at no_out no_met l =
     let e = says_literal bytes at (omega (arith, l.stands.ends, l.stands.room, length-literal (literal_at bytes at))) no_out no_met in
     record {

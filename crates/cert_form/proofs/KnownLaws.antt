@@ -1,5 +1,6 @@
 -- Entries that all state literals, as claims.
-use Rattle.std.proofs.Common.{◌≡◌, ℕ, suc, Bool, true, false, cond, eqb, List, [], ◌∷◌, ◌++◌, length, reverse, map, refl, ap, sym, subst, ◌∙◌}
+use Rattle.std.proofs.Common.{◌≡◌, ℕ, suc, Bool, true, false, cond, eqb, List, [], ◌∷◌, ◌++◌, length, reverse, map, refl, ap}
+use Rattle.std.proofs.Common.{sym, subst, ◌∙◌}
 use Rattle.std.specs.Prelude.{Option, Some, None, option_map, slice_get}
 use Rattle.std.proofs.lemmas.List.{length-map, map-append, reverse-append}
 use Rattle.std.proofs.lemmas.Option.{same_Some, none-some, slice_get-map}
@@ -27,7 +28,8 @@ length-known es = length-map es as_claim
 back_known : (es : List (ℕ × Lit)) (n : ℕ) → on_chain_back (map as_claim es) n ≡ map Knows (on_chain_back es n)
 back_known [] n = refl
 back_known (e ∷ es) n =
-    ap (λ k. cond (eqb n (suc k)) (Knows e.1 ∷ on_chain_back (map as_claim es) e.0) (on_chain_back (map as_claim es) n)) (length-map es as_claim)
+    ap (λ k. cond (eqb n (suc k)) (Knows e.1 ∷ on_chain_back (map as_claim es) e.0) (on_chain_back (map as_claim es) n))
+    (length-map es as_claim)
     ∙ by_test (eqb n (suc (length es))) (back_known es e.0) (back_known es n) where
       by_test : (b : Bool) → on_chain_back (map as_claim es) e.0 ≡ map Knows (on_chain_back es e.0)
           → on_chain_back (map as_claim es) n ≡ map Knows (on_chain_back es n)

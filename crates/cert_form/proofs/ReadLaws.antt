@@ -104,7 +104,8 @@ none_above bytes place h = none_past (reverse (entries_of bytes)) place (omega (
 -- from an entry on there is what it states, and what the parent has
 pub claim_left : (bytes : List ℕ) (place : ℕ) → (place ≡ 0 → ⊥) → place ≤ chain_count bytes
     → parent_at bytes (place - 1) < place - 1 + 1
-    → on_chain (entries_of bytes) place ≡ claim_at bytes (16 + 14 * (place - 1) + 4) ∷ on_chain (entries_of bytes) (parent_at bytes (place - 1))
+    → on_chain (entries_of bytes) place ≡ claim_at bytes (16 + 14 * (place - 1) + 4)
+    ∷ on_chain (entries_of bytes) (parent_at bytes (place - 1))
 claim_left bytes zero some h g = absurd (some refl)
 claim_left bytes (suc j) some h g =
     let e : suc j - 1 ≡ j = omega arith in

@@ -182,7 +182,8 @@ chained_spelled bytes small top form few entries room nodes end =
         some = omega (arith, top.some, n_cs);
         few = omega (arith, top.few, n_cs);
         few_entries = omega (arith, few, n_es);
-        entries = λ j e got. let one = entry_got bytes (chain_count bytes) j e got in subst (λ f. IsEntry version j f) one.1 (entries j one.0).good;
+        entries = λ j e got. let one = entry_got bytes (chain_count bytes) j e got in
+            subst (λ f. IsEntry version j f) one.1 (entries j one.0).good;
         nodes = All-from_recursion (IsChainNode version es) cs (goods bytes 0 count (λ i h. (nodes.nodes i (omega (arith, h))).good));
       };
       same = says bytes 0 count form;

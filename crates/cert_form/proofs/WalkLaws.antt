@@ -101,7 +101,8 @@ entries_stand bytes es end s (suc j) h =
     (back bytes (16 + 14 * j) (entry p.0) (flat_map entry (drop (suc j) es)) end split)
     (omega (arith, length-append (little_bytes 4 p.0.0) (claim p.0.1), length-claim p.0.1))
 
-pub entry_stands : (bytes : List ℕ) (es : List (ℕ × Claim)) (end : ℕ) → Stands bytes 16 (flat_map entry es) end → (j : ℕ) (h : j < length es)
+pub entry_stands : (bytes : List ℕ) (es : List (ℕ × Claim)) (end : ℕ) → Stands bytes 16 (flat_map entry es) end
+    → (j : ℕ) (h : j < length es)
     → Stands bytes (16 + 14 * j) (entry (at_place es j h).0) (16 + 14 * j + length (entry (at_place es j h).0))
 entry_stands bytes es end s j h =
     let p = at_place es j h in
@@ -131,7 +132,8 @@ entry_not_bad bytes version j e end s good form small (IsBadEntry.parent room ba
           (front bytes (16 + 14 * j) (little_bytes 4 e.0) (claim e.1) end s) (omega (arith, good.earlier, small)),
     )
 entry_not_bad bytes version j e end s good form small (IsBadEntry.claim bad) =
-    claim_not_bad bytes (16 + 14 * j + 4) version e.1 end (back bytes (16 + 14 * j) (little_bytes 4 e.0) (claim e.1) end s) good.claim form bad
+    claim_not_bad bytes (16 + 14 * j + 4) version e.1 end (back bytes (16 + 14 * j) (little_bytes 4 e.0) (claim e.1) end s)
+    good.claim form bad
 
 take_one_more : {X : Type 0} (xs : List X) (j : ℕ) (x : X) → drop j xs ≡ x ∷ drop (suc j) xs → take (suc j) xs ≡ take j xs ++ x ∷ []
 take_one_more [] zero x e = absurd cc

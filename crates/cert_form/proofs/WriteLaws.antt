@@ -2,7 +2,8 @@
 use Rattle.std.proofs.Common.{Bool, true, false, inl, inr, cond, eqb, drop, ◌≡◌, ℕ, ◌+◌, ◌<◌, ◌≤◌, List, [], ◌∷◌, ◌++◌, All, length, take}
 use Rattle.std.proofs.Common.{map, get_or, refl, ap, sym, ◌∙◌, subst, arith}
 use Rattle.std.specs.List.{flat_map, AllByRecursion}
-use Rattle.std.proofs.lemmas.List.{get_or_default, length-map, get_or-map, map_more, flat_map_more, take_more, length-append, append_assoc, drop_more}
+use Rattle.std.proofs.lemmas.List.{get_or_default, length-map, get_or-map, map_more, flat_map_more, take_more, length-append}
+use Rattle.std.proofs.lemmas.List.{append_assoc, drop_more}
 use Rattle.std.proofs.lemmas.List.Elements.{All-push, All-from_recursion}
 use Rattle.std.specs.Prelude.{replicate}
 use Rattle.std.proofs.lemmas.Bool.{eqb-true}
@@ -17,7 +18,8 @@ use Rattle.cert_form.specs.Reading.{tail_length}
 use Rattle.cert_form.specs.Spelling.{value, scratch, tail, kind_number, chain_node, offsets}
 use Rattle.cert_form.proofs.PartLaws.{length-value}
 use Rattle.cert_form.proofs.TailLaws.{length-tail}
-use Rattle.cert_form.specs.Spelling.{listed, chained, stated_bits, nothing_stated, IsNode, SpellsListed, IsChainNode, IsChained, SpellsChained, Spells}
+use Rattle.cert_form.specs.Spelling.{listed, chained, stated_bits, nothing_stated, IsNode, SpellsListed, IsChainNode, IsChained}
+use Rattle.cert_form.specs.Spelling.{SpellsChained, Spells}
 use Rattle.cert_form.specs.declared.fault.FormError.TheVariants.{BadMagic, BadVersion, Truncated, BadNode, BadCount, Trailing, OutOfMemory}
 use Rattle.cert_form.specs.Writing.{IsMeant, IsChainMeant, AreMeant, AreWritable, AreChainsWritable, all_known, version_for}
 use Rattle.cert_form.specs.Writing.{IsClaimMeant, AreClaimsMeant, AreClaimsWritable}
@@ -104,7 +106,8 @@ writable ns short some few plain Truncated none = absurd none
 writable ns short some few plain Trailing none = absurd none
 
 -- so bytes that spell nodes within the limits
-pub listed_in_limits : (bytes : List ℕ) (ns : List PlainNode) → bytes ≡ listed ns → length bytes ≤ 4194304 → 1 ≤ length ns → length ns ≤ 16384
+pub listed_in_limits : (bytes : List ℕ) (ns : List PlainNode) → bytes ≡ listed ns → length bytes ≤ 4194304 → 1 ≤ length ns
+    → length ns ≤ 16384
     → All IsPlain ns → AreWritable ns × (All IsMeant ns → SpellsListed bytes ns)
 listed_in_limits bytes ns spelled short some few plain =
     (writable ns (omega (arith, ap length spelled, short)) some few plain, spelled_listed bytes ns spelled short some few plain)
@@ -185,7 +188,8 @@ spelled_chained bytes es ns spelled short some few few_entries meant = record {
   }
 
 -- what was written breaks no limit
-writable_chains : (es : List (ℕ × Lit)) (ns : List ChainNode) → length (chained (version_for ns) (all_known es) ns) ≤ 4194304 → 1 ≤ length ns
+writable_chains : (es : List (ℕ × Lit)) (ns : List ChainNode)
+    → length (chained (version_for ns) (all_known es) ns) ≤ 4194304 → 1 ≤ length ns
     → length ns ≤ 16384 → length es ≤ 65536 → AreChainsWritable es ns
 writable_chains es ns short some few few_entries BadCount (inl none) = absurd (omega (arith, some, none))
 writable_chains es ns short some few few_entries BadCount (inr (inl many)) = absurd (omega (arith, few, many))

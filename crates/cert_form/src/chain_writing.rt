@@ -9,6 +9,7 @@ ghost use Rattle.cert_form.specs.Writing.{all_known, version_for};
 
 use crate::fault::FormError;
 use crate::judge::tail_size;
+use crate::limits::{MAX_BYTES, MAX_ENTRIES, MAX_NODES};
 use crate::node::{ChainNode, Claim};
 use crate::part::end_of_scratch;
 use crate::put::{
@@ -179,13 +180,13 @@ pub fn write_chained(
     ensures read { IfOk result (λ bytes. AreMeant entries.now nodes.now → Spells bytes.items (map (said_plainly entries.now) nodes.now)) }
     ensures refused { IfErr result (λ e. ChainsRefused e entries.now nodes.now) }
 {
-    if nodes.is_empty() || nodes.len() > 16384 || entries.len() > 65536 {
+    if nodes.is_empty() || nodes.len() > MAX_NODES || entries.len() > MAX_ENTRIES {
         return Err(FormError::BadCount);
     }
     let version = version_of(nodes);
     let mut out = Vec::new(alloc);
     put_file(&mut out, version, entries, nodes)?;
-    if out.len() > 4194304 {
+    if out.len() > MAX_BYTES {
         return Err(FormError::BadCount);
     }
     Ok(out)
@@ -206,12 +207,12 @@ pub fn write_claims(
     ensures read { IfOk result (λ bytes. AreClaimsMeant entries.now nodes.now → Spells bytes.items (map (said entries.now) nodes.now)) }
     ensures refused { IfErr result (λ e. ClaimsRefused e entries.now nodes.now) }
 {
-    if nodes.is_empty() || nodes.len() > 16384 || entries.len() > 65536 {
+    if nodes.is_empty() || nodes.len() > MAX_NODES || entries.len() > MAX_ENTRIES {
         return Err(FormError::BadCount);
     }
     let mut out = Vec::new(alloc);
     put_claims_file(&mut out, entries, nodes)?;
-    if out.len() > 4194304 {
+    if out.len() > MAX_BYTES {
         return Err(FormError::BadCount);
     }
     Ok(out)

@@ -10,6 +10,7 @@ ghost use Rattle.cert_form.specs.inner.Standing.{IsChainThere, IsChainedThere, I
 
 use crate::fault::FormError;
 use crate::judge::{judge_claim, judge_tail, judge_value, tail_size};
+use crate::limits::{MAX_ENTRIES, MAX_LITERALS};
 use crate::part::{chain_place_of, read_long, read_short};
 
 fn judge_entry(bytes: &[u8], j: usize) -> Result<(), FormError>
@@ -105,7 +106,7 @@ fn is_short(bytes: &[u8], chain: u32) -> bool
     ensures { IsTrue result ↔ length (on_chain (entries_of bytes.now) chain) ≤ 512 }
 {
     let mut entry = chain as usize;
-    for _ in 0..512_usize {
+    for _ in 0..MAX_LITERALS {
         if entry == 0 {
             return true;
         }
@@ -223,7 +224,7 @@ pub(crate) fn judge_all(bytes: &[u8]) -> Result<(), FormError>
         return Err(FormError::Truncated);
     }
     let entries = read_long(bytes, 12) as usize;
-    if entries > 65536 {
+    if entries > MAX_ENTRIES {
         return Err(FormError::BadCount);
     }
     judge_entries(bytes)?;

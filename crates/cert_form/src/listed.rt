@@ -6,6 +6,7 @@ ghost use Rattle.cert_form.specs.inner.Standing.{Fails, FailsListed, IsTopThere,
 
 use crate::fault::FormError;
 use crate::judge::{judge_literal, judge_tail, judge_value, tail_size};
+use crate::limits::MAX_LITERALS;
 use crate::part::{read_long, read_short};
 use std::alloc::Global;
 
@@ -24,7 +25,7 @@ fn judge_top(bytes: &[u8], at: usize) -> Result<(), FormError>
     if at + 5 > bytes.len() {
         return Err(FormError::Truncated);
     }
-    if read_short(bytes, at + 3) > 512 {
+    if read_short(bytes, at + 3) as usize > MAX_LITERALS {
         return Err(FormError::BadCount);
     }
     Ok(())

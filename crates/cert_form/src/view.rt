@@ -7,6 +7,7 @@ ghost use Rattle.cert_form.specs.Reading.{node_count, place_of};
 
 use crate::fault::FormError;
 use crate::lent::NodeView;
+use crate::limits::{MAX_BYTES, MAX_NODES};
 use crate::part::read_long;
 use crate::{chained, listed};
 use std::alloc::Global;
@@ -77,7 +78,7 @@ fn judge_head(bytes: &[u8]) -> Result<(), FormError>
     ensures fault { IfErr result (λ e. Faulty e bytes.now × (e ≢ FormError.OutOfMemory)) }
     ensures version { IfErr result (λ e. IsOtherVersion bytes.now → IsToldFirst e bytes.now) }
 {
-    if bytes.len() > 4194304 {
+    if bytes.len() > MAX_BYTES {
         return Err(FormError::BadCount);
     }
     if !bytes.starts_with(b"CCRT") {
@@ -93,8 +94,8 @@ fn judge_head(bytes: &[u8]) -> Result<(), FormError>
     if bytes.len() < 12 {
         return Err(FormError::Truncated);
     }
-    let count = read_long(bytes, 8);
-    if count == 0 || count > 16384 {
+    let count = read_long(bytes, 8) as usize;
+    if count == 0 || count > MAX_NODES {
         return Err(FormError::BadCount);
     }
     Ok(())

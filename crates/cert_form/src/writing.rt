@@ -6,6 +6,7 @@ ghost use Rattle.cert_form.specs.Writing.{plain, plains, AreWritable, IsMeant, R
 ghost use Rattle.cert_form.specs.inner.Standing.{IsPlain};
 
 use crate::fault::FormError;
+use crate::limits::{MAX_BYTES, MAX_LITERALS, MAX_NODES};
 use crate::node::Node;
 use crate::put::{put_literals, put_long, put_short, put_tail, put_value, states_nothing, tag_of};
 use std::alloc::{AllocError, Global};
@@ -33,7 +34,7 @@ fn put_nodes(out: &mut Vec<u8>, nodes: &[Node]) -> Result<(), FormError>
         if !states_nothing(&n.regs.scratch) {
             return Err(FormError::BadNode);
         }
-        if n.lits.len() > 512 {
+        if n.lits.len() > MAX_LITERALS {
             return Err(FormError::BadCount);
         }
         put_node(out, n)?;
@@ -51,7 +52,7 @@ pub fn write(alloc: Global, nodes: &[Node]) -> Result<Vec<u8>, FormError>
     ensures written { IfOk result (λ bytes. All IsMeant (plains nodes.now) → SpellsListed bytes.items (plains nodes.now)) }
     ensures refused { IfErr result (λ e. Refused e (plains nodes.now)) }
 {
-    if nodes.is_empty() || nodes.len() > 16384 {
+    if nodes.is_empty() || nodes.len() > MAX_NODES {
         return Err(FormError::BadCount);
     }
     let mut out = Vec::new(alloc);
@@ -59,7 +60,7 @@ pub fn write(alloc: Global, nodes: &[Node]) -> Result<Vec<u8>, FormError>
     put_long(&mut out, 1)?;
     put_long(&mut out, nodes.len() as u32)?;
     put_nodes(&mut out, nodes)?;
-    if out.len() > 4194304 {
+    if out.len() > MAX_BYTES {
         return Err(FormError::BadCount);
     }
     Ok(out)

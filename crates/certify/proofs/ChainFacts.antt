@@ -1,5 +1,6 @@
 -- The literals of chains, as entries are added.
-use Rattle.std.proofs.Common.{◌≡◌, ℕ, zero, suc, ◌+◌, ◌<◌, ◌≤◌, Bool, true, false, cond, eqb, List, [], ◌∷◌, ◌++◌, length, reverse, refl, ap, sym, ◌∙◌, subst, arith, inl, inr, ◌⊎◌, ⊎_elim}
+use Rattle.std.proofs.Common.{◌≡◌, ℕ, zero, suc, ◌+◌, ◌<◌, ◌≤◌, Bool, true, false, cond, eqb, List, [], ◌∷◌, ◌++◌, length}
+use Rattle.std.proofs.Common.{reverse, refl, ap, sym, ◌∙◌, subst, arith, inl, inr, ◌⊎◌, ⊎_elim}
 use Rattle.std.specs.Prelude.{Option, Some, None, slice_get, All}
 use Rattle.std.proofs.lemmas.Option.{same_Some}
 use Rattle.std.proofs.lemmas.Bool.{eq-eqb, ne_eqb, cases_lt, cases_eq}
@@ -56,14 +57,16 @@ between (x ∷ es) (suc j) e h =
     record { front = x ∷ b.front; back = b.back; parts = ap (λ ys. x ∷ ys) b.parts; place = ap suc b.place }
 
 -- a chain is the literal of its entry, and the chain of the parent
-pub chain_next : (es : List (ℕ × Lit)) (j : ℕ) (e : ℕ × Lit) → slice_get es j ≡ Some e → e.0 ≤ j → literals es (suc j) ≡ e.1 ∷ literals es e.0
+pub chain_next : (es : List (ℕ × Lit)) (j : ℕ) (e : ℕ × Lit) → slice_get es j ≡ Some e → e.0 ≤ j
+    → literals es (suc j) ≡ e.1 ∷ literals es e.0
 chain_next es j e h earlier =
     let b = between es j e h in
     let front = b.front in
     let here : literals es (suc j) ≡ literals (front ++ e ∷ []) (suc j) =
     ap (λ (xs : List (ℕ × Lit)). literals xs (suc j)) b.parts
     ∙ literals_more (front ++ e ∷ []) b.back (suc j) (omega (arith, length-append front (e ∷ []), b.place)) in
-    let first : literals (front ++ e ∷ []) (suc j) ≡ e.1 ∷ literals front e.0 = literals_push front e.0 (suc j) e.1 (ap suc (sym b.place)) in
+    let first : literals (front ++ e ∷ []) (suc j) ≡ e.1 ∷ literals front e.0 =
+    literals_push front e.0 (suc j) e.1 (ap suc (sym b.place)) in
     let rest : literals front e.0 ≡ literals es e.0 =
     sym (literals_more front (e ∷ b.back) e.0 (omega (arith, earlier, b.place)))
     ∙ ap (λ (xs : List (ℕ × Lit)). literals xs e.0) (sym (append_assoc front (e ∷ []) b.back) ∙ sym b.parts) in
@@ -76,7 +79,8 @@ all_push P es c l old new n = ⊎_elim
     (λ (less : length es < n). ⊎_elim
     (λ (is : n ≡ suc (length es)). subst (λ ls. All P ls) (sym (literals_push es c n l is)) (All-cons P l (literals es c) new (old c)))
     (λ (not : n ≡ suc (length es) → ⊥).
-    subst (λ ls. All P ls) (sym (literals_past (es ++ (c, l) ∷ []) n (omega (arith, less, not, length-append es ((c, l) ∷ []))))) (All-nil P))
+    subst (λ ls. All P ls)
+    (sym (literals_past (es ++ (c, l) ∷ []) n (omega (arith, less, not, length-append es ((c, l) ∷ []))))) (All-nil P))
     (cases_eq n (suc (length es))))
     (λ (more : n ≤ length es). subst (λ ls. All P ls) (sym (literals_more es ((c, l) ∷ []) n more)) (old n))
     (cases_lt (length es) n)

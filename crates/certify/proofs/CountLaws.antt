@@ -1,5 +1,6 @@
 -- How many calls are possible, and what the paths of a filter cost.
-use Rattle.std.proofs.Common.{◌≡◌, ℕ, zero, suc, ◌+◌, ◌*◌, ◌<◌, ◌≤◌, Bool, true, false, cond, List, [], ◌∷◌, refl, ap, sym, ◌∙◌, subst, arith, max, length, inl, inr, ◌⊎◌, ⊎_elim}
+use Rattle.std.proofs.Common.{◌≡◌, ℕ, zero, suc, ◌+◌, ◌*◌, ◌<◌, ◌≤◌, Bool, true, false, cond, List, [], ◌∷◌, refl, ap, sym, ◌∙◌}
+use Rattle.std.proofs.Common.{subst, arith, max, length, inl, inr, ◌⊎◌, ⊎_elim}
 use Rattle.std.specs.Prelude.{◌&&◌, Option, Some, None, slice_get, Contains}
 use Rattle.std.proofs.lemmas.Option.{same_Some}
 use Rattle.std.proofs.lemmas.Bool.{cases_eq}
@@ -98,7 +99,9 @@ weight_is (x ∷ p) zero i n found step =
     ap (λ y. weight_by (operation_of y.code) y (weight p)) (same_Some x i found)
     ∙ step (weight p) (λ skip. let e : suc skip ≡ 0 + 1 + skip = omega arith in ap (weight (x ∷ p)) e)
 weight_is (x ∷ p) (suc pc) i n found step =
-    weight_is p pc i n found (λ rest same. step rest (λ skip. let e : suc (pc + 1 + skip) ≡ suc pc + 1 + skip = omega arith in same skip ∙ ap (weight (x ∷ p)) e))
+    weight_is p pc i n found
+    (λ rest same. step rest (λ skip. let e : suc (pc + 1 + skip) ≡ suc pc + 1 + skip = omega arith in
+    same skip ∙ ap (weight (x ∷ p)) e))
 
 depth_is : (p : List Insn) (pc : ℕ) (i : Insn) (n : ℕ) → slice_get p pc ≡ Some i
     → ((rest : ℕ → ℕ) → ((skip : ℕ) → rest skip ≡ depth p (pc + 1 + skip)) → depth_by (operation_of i.code) i rest ≡ n) → depth p pc ≡ n
@@ -107,7 +110,8 @@ depth_is (x ∷ p) zero i n found step =
     ap (λ y. depth_by (operation_of y.code) y (depth p)) (same_Some x i found)
     ∙ step (depth p) (λ skip. let e : suc skip ≡ 0 + 1 + skip = omega arith in ap (depth (x ∷ p)) e)
 depth_is (x ∷ p) (suc pc) i n found step =
-    depth_is p pc i n found (λ rest same. step rest (λ skip. let e : suc (pc + 1 + skip) ≡ suc pc + 1 + skip = omega arith in same skip ∙ ap (depth (x ∷ p)) e))
+    depth_is p pc i n found
+    (λ rest same. step rest (λ skip. let e : suc (pc + 1 + skip) ≡ suc pc + 1 + skip = omega arith in same skip ∙ ap (depth (x ∷ p)) e))
 
 pub costs : (p : List Insn) (pc : ℕ) (i : Insn) → slice_get p pc ≡ Some i → CostsAt p pc i
 costs p pc i found = record {
@@ -122,8 +126,10 @@ costs p pc i found = record {
   );
   fork = λ test c e. (
     weight_is p pc i (1 + (weight p (pc + 1 + i.jt) + weight p (pc + 1 + i.jf))) found
-        (λ rest same. ap (λ o. weight_by o i rest) e ∙ ap (λ n. 1 + (n + rest i.jf)) (same i.jt) ∙ ap (λ n. 1 + (weight p (pc + 1 + i.jt) + n)) (same i.jf)),
+        (λ rest same. ap (λ o. weight_by o i rest) e ∙ ap (λ n. 1 + (n + rest i.jf)) (same i.jt)
+        ∙ ap (λ n. 1 + (weight p (pc + 1 + i.jt) + n)) (same i.jf)),
     depth_is p pc i (1 + max (depth p (pc + 1 + i.jt)) (depth p (pc + 1 + i.jf))) found
-        (λ rest same. ap (λ o. depth_by o i rest) e ∙ ap (λ n. 1 + max n (rest i.jf)) (same i.jt) ∙ ap (λ n. 1 + max (depth p (pc + 1 + i.jt)) n) (same i.jf)),
+        (λ rest same. ap (λ o. depth_by o i rest) e ∙ ap (λ n. 1 + max n (rest i.jf)) (same i.jt)
+        ∙ ap (λ n. 1 + max (depth p (pc + 1 + i.jt)) n) (same i.jf)),
   );
 }

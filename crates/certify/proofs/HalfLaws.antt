@@ -1,5 +1,6 @@
 -- A return of one machine: its halves come apart, and what they cost.
-use Rattle.std.proofs.Common.{◌≡◌, ℕ, zero, suc, ◌+◌, ◌-◌, ◌*◌, ◌/◌, ◌^◌, ◌<◌, ◌≤◌, Bool, true, false, cond, eqb, List, [], ◌∷◌, length, refl, ap, sym, ◌∙◌, subst, arith, inl, inr, ◌⊎◌, ⊎_elim}
+use Rattle.std.proofs.Common.{◌≡◌, ℕ, zero, suc, ◌+◌, ◌-◌, ◌*◌, ◌/◌, ◌^◌, ◌<◌, ◌≤◌, Bool, true, false, cond, eqb, List, [], ◌∷◌}
+use Rattle.std.proofs.Common.{length, refl, ap, sym, ◌∙◌, subst, arith, inl, inr, ◌⊎◌, ⊎_elim}
 use Rattle.std.specs.Prelude.{◌&&◌, Contains, All, bit_and, nat_le, not}
 use Rattle.std.proofs.lemmas.List.Elements.{All-cons, All-head, All-tail}
 use Rattle.std.proofs.lemmas.Bool.{cases_eq, cases_lt, eq-eqb, eqb-true, ne_eqb, le-leb, leb-true}
@@ -107,7 +108,8 @@ module _ (known : List Lit) (arch : Arch) (lo hi cut halvings : ℕ) (range : Is
   pub ten_at_most : halvings ≤ 10
   ten_at_most = ⊎_elim
       (λ (ten : halvings ≡ 10). omega (arith, ten))
-      (λ (more : AreX32 known arch ⊎ ((halvings < 10) × AreNear known (2 ^ halvings))). ⊎_elim (λ (x : AreX32 known arch). absurd (not_x32 x))
+      (λ (more : AreX32 known arch ⊎ ((halvings < 10) × AreNear known (2 ^ halvings))). ⊎_elim
+      (λ (x : AreX32 known arch). absurd (not_x32 x))
       (λ (near : (halvings < 10) × AreNear known (2 ^ halvings)). omega (arith, near.0)) more)
       enough
 
@@ -126,7 +128,8 @@ module _ (known : List Lit) (arch : Arch) (lo hi cut halvings : ℕ) (range : Is
         let top = small_all hi range.greatest in
         let p : 2 ^ h ≡ 512 = ap (λ k. 2 ^ k) nine in
         omega (arith, p, top))
-        (λ (more : AreX32 known arch ⊎ ((halvings < 10) × AreNear known (2 ^ halvings))). ⊎_elim (λ (x : AreX32 known arch). absurd (not_x32 x))
+        (λ (more : AreX32 known arch ⊎ ((halvings < 10) × AreNear known (2 ^ halvings))). ⊎_elim
+        (λ (x : AreX32 known arch). absurd (not_x32 x))
         (λ (near : (halvings < 10) × AreNear known (2 ^ halvings)).
         let apart = (near.1 lo hi range.least range.greatest).0 in
         let d = double h e in
@@ -159,7 +162,8 @@ module _ (known : List Lit) (arch : Arch) (lo hi cut halvings : ℕ) (range : Is
     first_time : halvings ≡ 10
     first_time = ⊎_elim
         (λ (ten : halvings ≡ 10). ten)
-        (λ (more : AreX32 known arch ⊎ ((halvings < 10) × AreNear known (2 ^ halvings))). ⊎_elim (λ (x : AreX32 known arch). absurd (not_x32 x))
+        (λ (more : AreX32 known arch ⊎ ((halvings < 10) × AreNear known (2 ^ halvings))). ⊎_elim
+        (λ (x : AreX32 known arch). absurd (not_x32 x))
         (λ (near : (halvings < 10) × AreNear known (2 ^ halvings)).
         let b = (near.1 lo hi range.least range.greatest).1 in
         absurd (omega (arith, b, far))) more)
@@ -181,16 +185,21 @@ module _ (known : List Lit) (arch : Arch) (lo hi cut halvings : ℕ) (range : Is
     x32_high : AreX32 (In 0 (cut + 1) all_bits ∷ known) arch
     x32_high = (is, λ u at. let at_cut = cuts.native is far in let b = high_point known cut u at in omega (arith, at_cut, b))
 
-  by_kind : (P : Type 0) → ((token_of arch ≡ token_of X86_64 → hi < 0x40000000) → P) → (token_of arch ≡ token_of X86_64 → 0x40000000 ≤ hi → P) → P
+  by_kind : (P : Type 0) → ((token_of arch ≡ token_of X86_64 → hi < 0x40000000) → P)
+      → (token_of arch ≡ token_of X86_64 → 0x40000000 ≤ hi → P) → P
   by_kind P own x32 = ⊎_elim
-      (λ (is : token_of arch ≡ token_of X86_64). ⊎_elim (λ (l : hi < 0x40000000). own (λ _. l)) (λ (g : 0x40000000 ≤ hi). x32 is g) (cases_lt hi 0x40000000))
+      (λ (is : token_of arch ≡ token_of X86_64). ⊎_elim (λ (l : hi < 0x40000000). own (λ _. l))
+      (λ (g : 0x40000000 ≤ hi). x32 is g) (cases_lt hi 0x40000000))
       (λ (other : token_of arch ≡ token_of X86_64 → ⊥). own (λ is. absurd (other is)))
       (cases_eq (token_of arch) (token_of X86_64))
 
   pub enough_low : (h : ℕ) → halvings ≡ suc h → IsEnough (In 0 0 cut ∷ known) arch h
   enough_low h e =
       let most = ten_at_most in
-      inr (inr (omega (arith, e, most), by_kind (AreNear (In 0 0 cut ∷ known) (2 ^ h)) (λ own. near_low own h e) (λ is far. x32_low is far h e)))
+      inr (inr (
+        omega (arith, e, most),
+        by_kind (AreNear (In 0 0 cut ∷ known) (2 ^ h)) (λ own. near_low own h e) (λ is far. x32_low is far h e),
+      ))
 
   pub enough_high : (h : ℕ) → halvings ≡ suc h → IsEnough (In 0 (cut + 1) all_bits ∷ known) arch h
   enough_high h e =
@@ -224,7 +233,8 @@ module _ (known : List Lit) (arch : Arch) (lo hi cut halvings : ℕ) (range : Is
 
     some_high : (token_of arch ≡ token_of X86_64 → hi < 0x40000000) → 1 ≤ inside 512 archs (In 0 (cut + 1) all_bits ∷ known)
     some_high own = inside_some 512 archs (In 0 (cut + 1) all_bits ∷ known) arch hi listed (small hi range.greatest own)
-        (allowed (In 0 (cut + 1) all_bits ∷ known) (token_of arch) hi (of_calls (cut + 1) all_bits) (token_at (In 0 (cut + 1) all_bits) (λ e. omega (arith, e))) high_at)
+        (allowed (In 0 (cut + 1) all_bits ∷ known) (token_of arch) hi (of_calls (cut + 1) all_bits)
+        (token_at (In 0 (cut + 1) all_bits) (λ e. omega (arith, e))) high_at)
 
     pub ten_or_high : (halvings ≡ 10) ⊎ (1 ≤ inside 512 archs (In 0 (cut + 1) all_bits ∷ known))
     ten_or_high = by_kind ((halvings ≡ 10) ⊎ (1 ≤ inside 512 archs (In 0 (cut + 1) all_bits ∷ known)))
@@ -241,7 +251,8 @@ halves_split h a b i some most parts first (inr also) = omega (arith, some, most
 
 -- ---- a place that is halved
 
-pub record IsHalved (policy : Policy) (p : List Insn) (s : Store) (place : Place) (v lo hi : ℕ) (arch : Arch) (cut halvings : ℕ) : Type 0 where
+pub record IsHalved (policy : Policy) (p : List Insn) (s : Store) (place : Place) (v lo hi : ℕ) (arch : Arch)
+    (cut halvings : ℕ) : Type 0 where
   pub at : IsAtReturn policy p s place v
   pub of : IsOfMachine policy s place arch
   pub range : IsRange (known_at s place) 0 lo hi
@@ -251,7 +262,8 @@ pub record IsHalved (policy : Policy) (p : List Insn) (s : Store) (place : Place
   pub native : (token_of arch ≡ token_of X86_64) × (0x40000000 ≤ lo) → ⊥
   pub differ : policy.default_word ≡ v → ⊥
 
-module _ (policy : Policy) (p : List Insn) (s : Store) (place : Place) (v lo hi : ℕ) (arch : Arch) (cut halvings : ℕ) (meant : IsMeant policy p)
+module _ (policy : Policy) (p : List Insn) (s : Store) (place : Place) (v lo hi : ℕ) (arch : Arch) (cut halvings : ℕ)
+    (meant : IsMeant policy p)
     (halved : IsHalved policy p s place v lo hi arch cut halvings) where
   small : (u : ℕ) → IsPoint (known_at s place) 0 u → (token_of arch ≡ token_of X86_64 → u < 0x40000000) → u < 512
   small = small_number policy p s place v lo hi arch meant halved.at halved.of halved.range halved.differ
@@ -260,10 +272,12 @@ module _ (policy : Policy) (p : List Insn) (s : Store) (place : Place) (v lo hi 
   left = omega (arith, halved.some)
 
   pub low_enough : IsEnough (In 0 0 cut ∷ known_at s place) arch (halvings - 1)
-  low_enough = enough_low (known_at s place) arch lo hi cut halvings halved.range halved.cuts halved.enough halved.native small (halvings - 1) left
+  low_enough = enough_low (known_at s place) arch lo hi cut halvings halved.range halved.cuts halved.enough halved.native small
+      (halvings - 1) left
 
   pub high_enough : IsEnough (In 0 (cut + 1) all_bits ∷ known_at s place) arch (halvings - 1)
-  high_enough = enough_high (known_at s place) arch lo hi cut halvings halved.range halved.cuts halved.enough halved.native small (halvings - 1) left
+  high_enough = enough_high (known_at s place) arch lo hi cut halvings halved.range halved.cuts halved.enough halved.native
+      small (halvings - 1) left
 
   pub halves_total : halves_cost (halvings - 1) (inside 512 policy.machines (In 0 0 cut ∷ known_at s place))
       + halves_cost (halvings - 1) (inside 512 policy.machines (In 0 (cut + 1) all_bits ∷ known_at s place)) + 1
@@ -271,9 +285,12 @@ module _ (policy : Policy) (p : List Insn) (s : Store) (place : Place) (v lo hi 
   halves_total =
       let of_calls = halved.at.store.calls place.chain in
       let token = halved.of.token.least in
-      halves_split halvings (inside 512 policy.machines (In 0 0 cut ∷ known_at s place)) (inside 512 policy.machines (In 0 (cut + 1) all_bits ∷ known_at s place))
+      halves_split halvings (inside 512 policy.machines (In 0 0 cut ∷ known_at s place))
+      (inside 512 policy.machines (In 0 (cut + 1) all_bits ∷ known_at s place))
       (inside 512 policy.machines (known_at s place)) halved.some
       (ten_at_most (known_at s place) arch lo hi cut halvings halved.range halved.cuts halved.enough halved.native small)
       (inside_parts 512 policy.machines (known_at s place) (In 0 0 cut) (In 0 (cut + 1) all_bits) (halves_exclude cut))
-      (low_is_some (known_at s place) arch lo hi cut halvings halved.range halved.cuts halved.enough halved.native small policy.machines halved.of.listed of_calls token)
-      (ten_or_high (known_at s place) arch lo hi cut halvings halved.range halved.cuts halved.enough halved.native small policy.machines halved.of.listed of_calls token)
+      (low_is_some (known_at s place) arch lo hi cut halvings halved.range halved.cuts halved.enough halved.native small
+      policy.machines halved.of.listed of_calls token)
+      (ten_or_high (known_at s place) arch lo hi cut halvings halved.range halved.cuts halved.enough halved.native small
+      policy.machines halved.of.listed of_calls token)

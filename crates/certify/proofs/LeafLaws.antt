@@ -1,5 +1,6 @@
 -- What is known at a return settles the word.
-use Rattle.std.proofs.Common.{◌≡◌, ◌≢◌, ℕ, suc, zero, ◌^◌, ◌<◌, ◌≤◌, List, [], ◌∷◌, sym, refl, ap, subst, ◌∙◌, arith, inl, inr, ◌⊎◌, ⊎_elim, get_or, length}
+use Rattle.std.proofs.Common.{◌≡◌, ◌≢◌, ℕ, suc, zero, ◌^◌, ◌<◌, ◌≤◌, List, [], ◌∷◌, sym, refl, ap, subst, ◌∙◌, arith, inl, inr}
+use Rattle.std.proofs.Common.{◌⊎◌, ⊎_elim, get_or, length}
 use Rattle.std.specs.Prelude.{bit_and, Contains, Any, Some, replicate, slice_index}
 use Rattle.std.specs.List.{All, AllByRecursion}
 use Rattle.std.proofs.lemmas.List.{get_or-replicate, get_or_past}
@@ -57,7 +58,8 @@ holds_here known t u l of at_t at_u = ⊎_elim
     subst (λ w. Meets l (word (call t u) w)) (sym e) (at_t e of.0))
     (cases_eq (index_of l) 0)
 
-pub holds_of_points : (known : List Lit) (t u : ℕ) → All IsOfCalls known → IsPoint known 1 t → IsPoint known 0 u → All (λ l. Holds l (call t u)) known
+pub holds_of_points : (known : List Lit) (t u : ℕ) → All IsOfCalls known → IsPoint known 1 t → IsPoint known 0 u
+    → All (λ l. Holds l (call t u)) known
 holds_of_points known t u of at_t at_u = λ k d lt. holds_here known t u (get_or known k d) (of k d lt) (at_t.1 k d lt) (at_u.1 k d lt)
 
 module _ (policy : Policy) (known : List Lit) (v lo hi from to : ℕ) (plain : All IsPlainRule policy.rules) (of : All IsOfCalls known)
@@ -67,20 +69,24 @@ module _ (policy : Policy) (known : List Lit) (v lo hi from to : ℕ) (plain : A
   number_is n u h at =
       let small = at.0 in
       sym (and_all u small)
-      ∙ entailed_is_true (call from u) (call_is_record from u tokens.least.0 small) known (holds_of_points known from u of tokens.least at) (Bits 0 all_bits n) h
+      ∙ entailed_is_true (call from u) (call_is_record from u tokens.least.0 small) known
+      (holds_of_points known from u of tokens.least at) (Bits 0 all_bits n) h
 
   -- a call without conditions
   matches_call : (rule : Rule) (t u : ℕ) → Contains policy.rules rule → t ≡ token_of rule.arch → u ≡ rule.nr → Matches rule (call t u)
   matches_call rule t u has e f = record {
     machine = e;
     number = f;
-    conditions = subst (λ cs. All (λ (c : Cond). MeetsCond c (argument (call t u) c.index)) cs) (sym (All-contains IsPlainRule policy.rules rule plain has).0) (All-nil _);
+    conditions = subst (λ cs. All (λ (c : Cond). MeetsCond c (argument (call t u) c.index)) cs)
+        (sym (All-contains IsPlainRule policy.rules rule plain has).0) (All-nil _);
   }
 
-  yes_rule : (place : ℕ) (rule : Rule) → Contains policy.rules rule → Entails known (Bits 0 all_bits rule.nr) → IsYesRule [] known place rule
+  yes_rule : (place : ℕ) (rule : Rule) → Contains policy.rules rule → Entails known (Bits 0 all_bits rule.nr)
+      → IsYesRule [] known place rule
   yes_rule place rule has h = (
     h,
-    λ own c its. absurd (subst (λ cs. Contains cs c → ⊥) (sym (All-contains IsPlainRule policy.rules rule plain has).0) (λ none. omega (arith, none.1))
+    λ own c its. absurd (subst (λ cs. Contains cs c → ⊥) (sym (All-contains IsPlainRule policy.rules rule plain has).0)
+        (λ none. omega (arith, none.1))
         (contains_at rule.conds.items own c its)),
   )
 
@@ -99,10 +105,12 @@ module _ (policy : Policy) (known : List Lit) (v lo hi from to : ℕ) (plain : A
   )
 
   -- a number has a rule, or none
-  rule_or_none : (arch : Arch) (n : ℕ) (rules : List Rule) → ((rule : Rule) × Contains rules rule × IsNumberOf arch n rule) ⊎ ((rule : Rule) → Contains rules rule → IsNumberOf arch n rule → ⊥)
+  rule_or_none : (arch : Arch) (n : ℕ) (rules : List Rule)
+      → ((rule : Rule) × Contains rules rule × IsNumberOf arch n rule) ⊎ ((rule : Rule) → Contains rules rule → IsNumberOf arch n rule → ⊥)
   rule_or_none arch n [] = inr (λ rule has. λ _. omega (arith, has.1))
   rule_or_none arch n (rule ∷ rules) = ⊎_elim
-      (λ (found : (r : Rule) × Contains rules r × IsNumberOf arch n r). inl (found.0, (suc found.1.0, omega (arith, found.1.1), found.1.2), found.2))
+      (λ (found : (r : Rule) × Contains rules r × IsNumberOf arch n r). inl
+      (found.0, (suc found.1.0, omega (arith, found.1.1), found.1.2), found.2))
       (λ (none : (r : Rule) → Contains rules r → IsNumberOf arch n r → ⊥). ⊎_elim
       (λ (a : token_of rule.arch ≡ token_of arch). ⊎_elim
       (λ (b : rule.nr ≡ n). inl (rule, (0, omega arith, refl), (a, b)))
@@ -112,7 +120,8 @@ module _ (policy : Policy) (known : List Lit) (v lo hi from to : ℕ) (plain : A
       (cases_eq (token_of rule.arch) (token_of arch)))
       (rule_or_none arch n rules)
     where
-      first_is_not : (first : Rule) (rest : List Rule) → ((r : Rule) → Contains rest r → IsNumberOf arch n r → ⊥) → (IsNumberOf arch n first → ⊥)
+      first_is_not : (first : Rule) (rest : List Rule) → ((r : Rule) → Contains rest r → IsNumberOf arch n r → ⊥)
+          → (IsNumberOf arch n first → ⊥)
           → (r : Rule) → Contains (first ∷ rest) r → IsNumberOf arch n r → ⊥
       first_is_not first rest none not r (zero, lt, is) m = not (subst (IsNumberOf arch n) (sym is) m)
       first_is_not first rest none not r (suc i, lt, is) m = none r (i, omega arith, is) m
@@ -121,7 +130,8 @@ module _ (policy : Policy) (known : List Lit) (v lo hi from to : ℕ) (plain : A
   foreign_word : IsForeign policy known → v ≡ 0
   foreign_word none =
       (says from lo tokens.least numbers.least).foreign
-      (λ native. none native.listed.1 (native.listed.0, native.listed.2, native.listed.3) (subst (IsPoint known 1) native.listed.4 tokens.least))
+      (λ native. none native.listed.1 (native.listed.0, native.listed.2, native.listed.3)
+      (subst (IsPoint known 1) native.listed.4 tokens.least))
 
   all_foreign : IsForeign policy known → All (ListedAgrees policy [] [] known v) policy.machines
   all_foreign none = each_of (ListedAgrees policy [] [] known v) policy.machines (λ arch has. ⊎_elim
@@ -157,7 +167,8 @@ module _ (policy : Policy) (known : List Lit) (v lo hi from to : ℕ) (plain : A
         let has = contains_at policy.rules place rule is.stands in
         let small = rule_is_small rule has in
         ⊎_elim
-        (λ (at : IsPoint known 0 rule.nr). inr (matched_word rule rule.nr has is.left.is_for refl at (native rule.nr (omega (arith, small)))))
+        (λ (at : IsPoint known 0 rule.nr). inr
+        (matched_word rule rule.nr has is.left.is_for refl at (native rule.nr (omega (arith, small)))))
         (λ (other : Entails known (NotBits 0 all_bits rule.nr)). inl (inl other, not_yes))
         (point_or_not known 0 lo hi numbers rule.nr (omega (arith, small)))
 
@@ -176,7 +187,8 @@ module _ (policy : Policy) (known : List Lit) (v lo hi from to : ℕ) (plain : A
         let range : IsRange known 0 lo lo = subst (IsRange known 0 lo) (sym same) numbers in
         ⊎_elim
         (λ (found : (rule : Rule) × Contains policy.rules rule × IsNumberOf arch lo rule).
-        let knows : Entails known (Bits 0 all_bits found.0.nr) = subst (λ n. Entails known (Bits 0 all_bits n)) (sym found.2.1) (single known 0 lo range) in
+        let knows : Entails known (Bits 0 all_bits found.0.nr) =
+        subst (λ n. Entails known (Bits 0 all_bits n)) (sym found.2.1) (single known 0 lo range) in
         let of = rule_of arch found.0 found.1 found.2.0 in
         inl (record {
           place = of.0;
@@ -186,11 +198,13 @@ module _ (policy : Policy) (known : List Lit) (v lo hi from to : ℕ) (plain : A
           word = matched_word found.0 lo found.1 found.2.0 found.2.1 numbers.least own;
         }))
         (λ (none : (rule : Rule) → Contains policy.rules rule → IsNumberOf arch lo rule → ⊥).
-        let not_yes : (place : ℕ) (rule : Rule) → IsRuleOf policy [] arch place rule → IsYesRule [] known place rule → ⊥ = λ place rule is yes.
+        let not_yes : (place : ℕ) (rule : Rule) → IsRuleOf policy [] arch place rule → IsYesRule [] known place rule → ⊥ =
+        λ place rule is yes.
         none rule (contains_at policy.rules place rule is.stands) (is.left.is_for, sym (number_is rule.nr lo yes.0 numbers.least)) in
         let default : policy.default_word ≡ v =
         sym ((says (token_of arch) lo token numbers.least).unmatched own
-        (each_of (λ rule. ¬ Matches rule (call (token_of arch) lo)) policy.rules (λ rule has m. none rule has (sym m.machine, sym m.number)))) in
+        (each_of (λ rule. ¬ Matches rule (call (token_of arch) lo)) policy.rules
+        (λ rule has m. none rule has (sym m.machine, sym m.number)))) in
         inr (record { none_yes = not_yes; default = default; each = λ place rule is. none_or_word place rule is (not_yes place rule is) }))
         (rule_or_none arch lo policy.rules)
 
@@ -224,7 +238,8 @@ module _ (policy : Policy) (known : List Lit) (v lo hi from to : ℕ) (plain : A
         (λ (same : lo ≡ hi). absurd (differ same))
         (λ (more : (policy.default_word ≡ v) ⊎ ((token_of arch ≡ token_of X86_64) × (0x40000000 ≤ lo))). ⊎_elim
         (λ (default : policy.default_word ≡ v). inr (several (omega (arith, order, differ)) default))
-        (λ (x32 : (token_of arch ≡ token_of X86_64) × (0x40000000 ≤ lo)). inl (x32.0, bounded known 0 lo hi numbers 0x40000000 all_bits x32.1 (omega (arith, top))))
+        (λ (x32 : (token_of arch ≡ token_of X86_64) × (0x40000000 ≤ lo)). inl
+        (x32.0, bounded known 0 lo hi numbers 0x40000000 all_bits x32.1 (omega (arith, top))))
         more)
         h)
         (cases_eq lo hi)
@@ -274,15 +289,18 @@ leaf_agrees policy known v lo hi from to plain of says numbers tokens h = ⊎_el
     })
     h
 
-pub own_is_small : (policy : Policy) (known : List Lit) (v lo hi from to : ℕ) → All IsPlainRule policy.rules → All IsOfCalls known → SaysThere policy known v
-    → IsRange known 0 lo hi → IsRange known 1 from to → (arch : Arch) → Contains policy.machines arch → IsRange known 1 (token_of arch) (token_of arch)
+pub own_is_small : (policy : Policy) (known : List Lit) (v lo hi from to : ℕ) → All IsPlainRule policy.rules
+    → All IsOfCalls known → SaysThere policy known v
+    → IsRange known 0 lo hi → IsRange known 1 from to → (arch : Arch) → Contains policy.machines arch
+    → IsRange known 1 (token_of arch) (token_of arch)
     → (policy.default_word ≡ v → ⊥) → (u : ℕ) → IsPoint known 0 u → (token_of arch ≡ token_of X86_64 → u < 0x40000000) → u < 512
 own_is_small policy known v lo hi from to plain of says numbers tokens arch listed token differ u at own =
     own_small policy known v lo hi from to plain of says numbers tokens arch listed token.least differ u at
     (record { listed = (listed.0, arch, listed.1, listed.2, refl); no_x32 = own })
 
 -- where the word is 0 and the default one, nothing has to be told apart
-pub zero_agrees : (policy : Policy) (known : List Lit) (v lo hi from to : ℕ) → All IsPlainRule policy.rules → All IsOfCalls known → SaysThere policy known v
+pub zero_agrees : (policy : Policy) (known : List Lit) (v lo hi from to : ℕ) → All IsPlainRule policy.rules
+    → All IsOfCalls known → SaysThere policy known v
     → IsRange known 0 lo hi → IsRange known 1 from to → v ≡ 0 → policy.default_word ≡ v → Agrees policy [] [] known v
 zero_agrees policy known v lo hi from to plain of says numbers tokens is_zero default = record {
   foreign = inr is_zero;
@@ -291,6 +309,8 @@ zero_agrees policy known v lo hi from to plain of says numbers tokens is_zero de
 }
 
 -- a token that is ruled out is not possible
-pub ruled_out : (known : List Lit) (t u : ℕ) → All IsOfCalls known → IsPoint known 0 u → Entails known (NotBits 1 all_bits t) → IsPoint known 1 t → ⊥
+pub ruled_out : (known : List Lit) (t u : ℕ) → All IsOfCalls known → IsPoint known 0 u → Entails known (NotBits 1 all_bits t)
+    → IsPoint known 1 t → ⊥
 ruled_out known t u of at_u h at_t =
-    entailed_is_true (call t u) (call_is_record t u at_t.0 at_u.0) known (holds_of_points known t u of at_t at_u) (NotBits 1 all_bits t) h (and_all t at_t.0)
+    entailed_is_true (call t u) (call_is_record t u at_t.0 at_u.0) known (holds_of_points known t u of at_t at_u)
+    (NotBits 1 all_bits t) h (and_all t at_t.0)

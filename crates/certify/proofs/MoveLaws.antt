@@ -1,10 +1,13 @@
 -- Which instructions make a move, where they lead, and what that costs.
-use Rattle.std.proofs.Common.{◌≡◌, ℕ, zero, suc, ◌+◌, ◌*◌, ◌<◌, ◌≤◌, Bool, true, false, cond, eqb, refl, ap, sym, ◌∙◌, subst, arith, inl, inr, ◌⊎◌, ⊎_elim, length, List, [], ◌∷◌, max}
+use Rattle.std.proofs.Common.{◌≡◌, ℕ, zero, suc, ◌+◌, ◌*◌, ◌<◌, ◌≤◌, Bool, true, false, cond, eqb, refl, ap, sym, ◌∙◌, subst}
+use Rattle.std.proofs.Common.{arith, inl, inr, ◌⊎◌, ⊎_elim, length, List, [], ◌∷◌, max}
 use Rattle.std.specs.Prelude.{Option, Some, None, slice_get}
 use Rattle.std.proofs.lemmas.Bool.{eqb-true, cases_lt}
 use Rattle.std.proofs.lemmas.Option.{slice_get_within, same_Some}
 use Rattle.bpf_insn.specs.declared.code.Operation.{Operation}
-use Rattle.bpf_insn.specs.declared.code.Operation.TheVariants.{LoadWord, LoadScratch, LoadScratchX, Store, StoreX, SetA, SetX, ReturnK, ReturnA, Jump, Branch, Compute, ShiftLeft, ShiftRight, Negate, CopyToX, CopyToA}
+use Rattle.bpf_insn.specs.declared.code.Operation.TheVariants.{LoadWord, LoadScratch, LoadScratchX, Store, StoreX, SetA, SetX}
+use Rattle.bpf_insn.specs.declared.code.Operation.TheVariants.{ReturnK, ReturnA, Jump, Branch, Compute, ShiftLeft, ShiftRight}
+use Rattle.bpf_insn.specs.declared.code.Operation.TheVariants.{Negate, CopyToX, CopyToA}
 use Rattle.bpf_insn.specs.declared.code.Operand.TheVariants.{K, X}
 use Rattle.bpf_insn.specs.declared.code.Test.{Test}
 use Rattle.bpf_insn.specs.declared.code.Test.TheVariants.{Equal, Greater, AtLeast, AnyBit}
@@ -68,7 +71,8 @@ goes_held o k held skip now e holds = ⊎_elim
     (λ (load : IsLoad o k skip now). let few = load.few in subst HoldsCall (sym load.now_is) few)
     (move_of_is o k held (Some (Goes skip now)) e)
 
-pub fork_held : (o : Option Operation) (k : ℕ) (held : Option ℕ) (test : Test) (w : ℕ) → move_at o k held ≡ Some (Forks test w) → held ≡ Some w
+pub fork_held : (o : Option Operation) (k : ℕ) (held : Option ℕ) (test : Test) (w : ℕ)
+    → move_at o k held ≡ Some (Forks test w) → held ≡ Some w
 fork_held o k held test w e = (move_of_is o k held (Some (Forks test w)) e).1
 
 -- ---- in an accepted filter moves lead to instructions of it
@@ -121,9 +125,11 @@ module _ (p : List Insn) (pc : ℕ) (i : Insn) (held : Option ℕ) (found : slic
       → (weight p pc ≡ 1 + weight p (pc + 1 + skip)) × (depth p pc ≡ depth p (pc + 1 + skip))
   goes_cost skip now e = ⊎_elim
       (λ (jump : (operation_of i.code ≡ Some Jump) × (skip ≡ i.k) × (now ≡ held)).
-      subst (λ k. (weight p pc ≡ 1 + weight p (pc + 1 + k)) × (depth p pc ≡ depth p (pc + 1 + k))) (sym jump.1) ((costs p pc i found).jump jump.0))
+      subst (λ k. (weight p pc ≡ 1 + weight p (pc + 1 + k)) × (depth p pc ≡ depth p (pc + 1 + k))) (sym jump.1)
+      ((costs p pc i found).jump jump.0))
       (λ (load : IsLoad (operation_of i.code) i.k skip now).
-      subst (λ k. (weight p pc ≡ 1 + weight p (pc + 1 + k)) × (depth p pc ≡ depth p (pc + 1 + k))) (sym load.skip_is) ((costs p pc i found).load load.operation))
+      subst (λ k. (weight p pc ≡ 1 + weight p (pc + 1 + k)) × (depth p pc ≡ depth p (pc + 1 + k))) (sym load.skip_is)
+      ((costs p pc i found).load load.operation))
       (move_of_is (operation_of i.code) i.k held (Some (Goes skip now)) e)
 
   pub forks_cost : (test : Test) (w : ℕ) → move_at (operation_of i.code) i.k held ≡ Some (Forks test w)

@@ -1,5 +1,6 @@
 -- Nodes keep the rules.
-use Rattle.std.proofs.Common.{◌≡◌, ◌≢◌, ℕ, suc, zero, ◌+◌, ◌-◌, ◌/◌, ◌^◌, ◌<◌, ◌≤◌, Bool, true, false, cond, eqb, List, [], ◌∷◌, ◌++◌, sym, refl, ap, subst, ◌∙◌, arith, inl, inr, ◌⊎◌, ⊎_elim, length, get_or}
+use Rattle.std.proofs.Common.{◌≡◌, ◌≢◌, ℕ, suc, zero, ◌+◌, ◌-◌, ◌/◌, ◌^◌, ◌<◌, ◌≤◌, Bool, true, false, cond, eqb, List, [], ◌∷◌}
+use Rattle.std.proofs.Common.{◌++◌, sym, refl, ap, subst, ◌∙◌, arith, inl, inr, ◌⊎◌, ⊎_elim, length, get_or}
 use Rattle.std.specs.Prelude.{Option, Some, None, IfSome, slice_get, slice_index_or, Contains, option_to_list, All}
 use Rattle.std.proofs.lemmas.Option.{same_Some, none-some, get_or_from_slice_get, slice_get_within}
 use Rattle.std.proofs.lemmas.List.Elements.{All-head, All-tail, All-cons, All-nil, All-weaker}
@@ -24,7 +25,8 @@ use Rattle.cert_form.specs.declared.node.Kind.{Kind}
 use Rattle.cert_form.specs.declared.node.Kind.TheVariants.{Step, Split, Return, Dead}
 use Rattle.cert_form.specs.Nodes.{PlainNode}
 use Rattle.cert_check.specs.Agree.{Agrees}
-use Rattle.cert_check.specs.Rules.{IsOutOn, IsMetBy, Edge, known_on, Allows, Carries, Covers, EdgeRule, EntailRule, Keeps, ReturnRule, SplitRule, edges, edges_by, no_node, step_edges, word_by}
+use Rattle.cert_check.specs.Rules.{IsOutOn, IsMetBy, Edge, known_on, Allows, Carries, Covers, EdgeRule, EntailRule, Keeps}
+use Rattle.cert_check.specs.Rules.{ReturnRule, SplitRule, edges, edges_by, no_node, step_edges, word_by}
 use Rattle.cert_check.proofs.Elements.{each_of}
 use Rattle.rule_compile.specs.Moves.{Move}
 use Rattle.rule_compile.specs.Moves.{Ends, Goes, Forks}
@@ -75,7 +77,8 @@ contains_new : (ls : List Lit) (x : Lit) → Contains (ls ++ x ∷ []) x
 contains_new ls x = (length ls, omega (arith, length-append ls (x ∷ [])), get_or_at ls x [] x (length ls) refl)
 
 same_values : (r s : Regs) → r ≡ s → (j : ℕ) (v : AVal) → slice_get r.scratch j ≡ Some v → Allows v (slice_index_or s.scratch j Unknown)
-same_values r s e j v found = inr (sym (get_or_from_slice_get s.scratch j v Unknown (ap (λ (x : Regs). slice_get x.scratch j) (sym e) ∙ found)))
+same_values r s e j v found =
+    inr (sym (get_or_from_slice_get s.scratch j v Unknown (ap (λ (x : Regs). slice_get x.scratch j) (sym e) ∙ found)))
 
 -- no rule is said to be out, and no condition to be met
 none_out : (policy : Policy) (n : PlainNode) (e : Edge) (m : PlainNode) → m.out ≡ [] → All (IsOutOn policy n e) m.out
@@ -85,7 +88,8 @@ none_met : (policy : Policy) (n : PlainNode) (e : Edge) (m : PlainNode) → m.me
 none_met policy n e m o = subst (All (IsMetBy policy n.met (known_on n e))) (sym o) (All-nil (IsMetBy policy n.met (known_on n e)))
 
 -- nothing new is learned, and one literal is
-carries_same : (policy : Policy) (n : PlainNode) (to pc : ℕ) (regs : Regs) (m : PlainNode) → m.regs ≡ regs → m.known ≡ n.known → m.out ≡ [] → m.met ≡ []
+carries_same : (policy : Policy) (n : PlainNode) (to pc : ℕ) (regs : Regs) (m : PlainNode) → m.regs ≡ regs → m.known ≡ n.known
+    → m.out ≡ [] → m.met ≡ []
     → Carries policy n (record { to = to; pc = pc; fact = None; regs = regs }) m
 carries_same policy n to pc regs m r k o q = record {
   literals = each_of (Entails (n.known ++ [])) m.known (λ x has. inl (contains_left n.known [] x (subst (λ ls. Contains ls x) k has)));
@@ -138,7 +142,8 @@ module _ (i : Insn) (held : Option ℕ) (pc : ℕ) (known : List Lit) where
     by_held None = refl
     by_held (Some v) = refl
 
-  by_load : (w : ℕ) → operation_of i.code ≡ Some LoadWord → i.k / 4 ≡ w → (f : ℕ) → step_edges (Some LoadWord) (own (Step f no_node)) f no_node i
+  by_load : (w : ℕ) → operation_of i.code ≡ Some LoadWord → i.k / 4 ≡ w → (f : ℕ)
+      → step_edges (Some LoadWord) (own (Step f no_node)) f no_node i
       ≡ Some (record { to = f; pc = pc + 1 + 0; fact = None; regs = regs_of (Some w) } ∷ [])
   by_load w e k f =
       let next : pc + 1 ≡ pc + 1 + 0 = omega arith in
@@ -148,10 +153,13 @@ module _ (i : Insn) (held : Option ℕ) (pc : ℕ) (known : List Lit) where
       ∙ ap (λ q. Some (record { to = f; pc = q; fact = None; regs = regs_of (Some w) } ∷ [])) next
 
 module _ (i : Insn) (pc : ℕ) (known : List Lit) where
-  by_branch : (test : Test) (w : ℕ) → operation_of i.code ≡ Some (Branch test K) → IsAs i (Some w) pc known (Some (Branch test K)) (Some (Forks test w))
+  by_branch : (test : Test) (w : ℕ) → operation_of i.code ≡ Some (Branch test K)
+      → IsAs i (Some w) pc known (Some (Branch test K)) (Some (Forks test w))
   by_branch test w e f s =
-      ap (λ o. Some (record { to = f; pc = pc + 1 + i.jt; fact = fact_by o i (regs_of (Some w)) true; regs = transfer_if o i (regs_of (Some w)) }
-      ∷ record { to = s; pc = pc + 1 + i.jf; fact = fact_by o i (regs_of (Some w)) false; regs = transfer_if o i (regs_of (Some w)) } ∷ [])) e
+      ap (λ o. Some (
+      record { to = f; pc = pc + 1 + i.jt; fact = fact_by o i (regs_of (Some w)) true; regs = transfer_if o i (regs_of (Some w)) }
+      ∷ record { to = s; pc = pc + 1 + i.jf; fact = fact_by o i (regs_of (Some w)) false; regs = transfer_if o i (regs_of (Some w)) }
+      ∷ [])) e
 
   -- what the rules say of the instruction of a move
   move_as : (held : Option ℕ) (m : Option Move) → IsMoveOf (operation_of i.code) i.k held m → IsAs i held pc known (operation_of i.code) m
@@ -165,7 +173,8 @@ module _ (i : Insn) (pc : ℕ) (known : List Lit) where
       let words : i.k / 4 ≡ load.word = omega (arith, load.offset) in
       subst (λ h. IsAs i held pc known (operation_of i.code) (Some (Goes skip h))) (sym load.now_is)
       (subst (λ k. IsAs i held pc known (operation_of i.code) (Some (Goes k (Some load.word)))) (sym load.skip_is)
-      (subst (λ x. IsAs i held pc known x (Some (Goes 0 (Some load.word)))) (sym load.operation) (by_load i held pc known load.word load.operation words)))
+      (subst (λ x. IsAs i held pc known x (Some (Goes 0 (Some load.word)))) (sym load.operation)
+      (by_load i held pc known load.word load.operation words)))
   move_as held (Some (Forks test w)) (o, held_is, which) =
       subst (λ h. IsAs i h pc known (operation_of i.code) (Some (Forks test w))) (sym held_is)
       (subst (λ x. IsAs i (Some w) pc known x (Some (Forks test w))) (sym o) (by_branch test w o))
@@ -178,7 +187,8 @@ module _ (policy : Policy) (p : List Insn) (ns : List PlainNode) (i : ℕ) (insn
   is_as m e = move_as insn pc known held m (move_of_is (operation_of insn.code) insn.k held m e)
 
   -- a node whose edges arrive
-  kept : (kind : Kind) (out : List Edge) → edges (node_of held pc known kind) insn ≡ Some out → All (Arrives policy ns i (node_of held pc known kind)) out
+  kept : (kind : Kind) (out : List Edge) → edges (node_of held pc known kind) insn ≡ Some out
+      → All (Arrives policy ns i (node_of held pc known kind)) out
       → SplitRule kind → (kind ≡ Dead → IsDead known) → (kind ≡ Return → ReturnRule policy p (node_of held pc known kind))
       → Keeps policy p ns i (node_of held pc known kind)
   kept kind out leave arrive split dead return = record {
@@ -190,11 +200,28 @@ module _ (policy : Policy) (p : List Insn) (ns : List PlainNode) (i : ℕ) (insn
 
   arrives_same : (kind : Kind) (to next : ℕ) (now : Option ℕ) → i < to → StandsAt ns to next now known
       → Arrives policy ns i (node_of held pc known kind) (record { to = to; pc = next; fact = None; regs = regs_of now })
-  arrives_same kind to next now later at = (later, (at.node, at.there, at.pc_is, carries_same policy (node_of held pc known kind) to next (regs_of now) at.node at.regs_are at.known_is at.none_out at.none_met))
+  arrives_same kind to next now later at = (
+    later,
+    (
+      at.node,
+      at.there,
+      at.pc_is,
+      carries_same policy (node_of held pc known kind) to next (regs_of now) at.node at.regs_are at.known_is at.none_out at.none_met,
+    ),
+  )
 
   arrives_more : (kind : Kind) (to next : ℕ) (l : Lit) → i < to → StandsAt ns to next held (l ∷ known)
       → Arrives policy ns i (node_of held pc known kind) (record { to = to; pc = next; fact = Some l; regs = regs_of held })
-  arrives_more kind to next l later at = (later, (at.node, at.there, at.pc_is, carries_more policy (node_of held pc known kind) to next (regs_of held) l at.node at.regs_are at.known_is at.none_out at.none_met))
+  arrives_more kind to next l later at = (
+    later,
+    (
+      at.node,
+      at.there,
+      at.pc_is,
+      carries_more policy (node_of held pc known kind) to next (regs_of held) l at.node at.regs_are at.known_is
+          at.none_out at.none_met,
+    ),
+  )
 
   all_one : (P : Edge → Type 0) (e : Edge) → P e → All P (e ∷ [])
   all_one P e h = All-cons P e [] h (All-nil P)
@@ -205,8 +232,11 @@ module _ (policy : Policy) (p : List Insn) (ns : List PlainNode) (i : ℕ) (insn
   step_kept : (skip : ℕ) (now : Option ℕ) (to : ℕ) → move_at (operation_of insn.code) insn.k held ≡ Some (Goes skip now) → i < to
       → StandsAt ns to (pc + 1 + skip) now known → Keeps policy p ns i (node_of held pc known (Step to no_node))
   step_kept skip now to e later at =
-      kept (Step to no_node) (record { to = to; pc = pc + 1 + skip; fact = None; regs = regs_of now } ∷ []) (is_as (Some (Goes skip now)) e to)
-      (all_one (Arrives policy ns i (node_of held pc known (Step to no_node))) (record { to = to; pc = pc + 1 + skip; fact = None; regs = regs_of now }) (arrives_same (Step to no_node) to (pc + 1 + skip) now later at)) tt (λ no_dead. cc) (λ no_return. cc)
+      kept (Step to no_node) (record { to = to; pc = pc + 1 + skip; fact = None; regs = regs_of now } ∷ [])
+      (is_as (Some (Goes skip now)) e to)
+      (all_one (Arrives policy ns i (node_of held pc known (Step to no_node)))
+      (record { to = to; pc = pc + 1 + skip; fact = None; regs = regs_of now })
+      (arrives_same (Step to no_node) to (pc + 1 + skip) now later at)) tt (λ no_dead. cc) (λ no_return. cc)
 
   two : (kind : Kind) (first second at_first at_second : ℕ) (l m : Lit) → i < first → i < second
       → StandsAt ns first at_first held (l ∷ known) → StandsAt ns second at_second held (m ∷ known)
@@ -215,7 +245,8 @@ module _ (policy : Policy) (p : List Insn) (ns : List PlainNode) (i : ℕ) (insn
       ∷ record { to = second; pc = at_second; fact = Some m; regs = regs_of held } ∷ [])
   two kind first second at_first at_second l m later also a b =
       all_two (Arrives policy ns i (node_of held pc known kind)) (record { to = first; pc = at_first; fact = Some l; regs = regs_of held })
-      (record { to = second; pc = at_second; fact = Some m; regs = regs_of held }) (arrives_more kind first at_first l later a) (arrives_more kind second at_second m also b)
+      (record { to = second; pc = at_second; fact = Some m; regs = regs_of held }) (arrives_more kind first at_first l later a)
+      (arrives_more kind second at_second m also b)
 
   fork_kept : (test : Test) (w : ℕ) (first second : ℕ) (l m : Lit) → move_at (operation_of insn.code) insn.k held ≡ Some (Forks test w)
       → i < first → i < second → fact test w insn.k true ≡ Some l → fact test w insn.k false ≡ Some m
@@ -237,7 +268,8 @@ module _ (policy : Policy) (p : List Insn) (ns : List PlainNode) (i : ℕ) (insn
       → Keeps policy p ns i (node_of held pc known (Split l m first second))
   split_kept l m first second covers later also a b =
       kept (Split l m first second)
-      (record { to = first; pc = pc; fact = Some l; regs = regs_of held } ∷ record { to = second; pc = pc; fact = Some m; regs = regs_of held } ∷ [])
+      (record { to = first; pc = pc; fact = Some l; regs = regs_of held }
+      ∷ record { to = second; pc = pc; fact = Some m; regs = regs_of held } ∷ [])
       refl (two (Split l m first second) first second pc pc l m later also a b) (inl covers) (λ no_dead. cc) (λ no_return. cc)
 
   return_kept : (v : ℕ) → move_at (operation_of insn.code) insn.k held ≡ Some (Ends v) → Agrees policy [] [] known v

@@ -1,5 +1,6 @@
 -- What is known leads on.
-use Rattle.std.proofs.Common.{◌≡◌, ◌≢◌, ℕ, suc, zero, ◌+◌, ◌-◌, ◌^◌, ◌<◌, ◌≤◌, Bool, true, false, cond, eqb, List, [], ◌∷◌, sym, refl, ap, subst, ◌∙◌, arith, inl, inr, ◌⊎◌, ⊎_elim, length}
+use Rattle.std.proofs.Common.{◌≡◌, ◌≢◌, ℕ, suc, zero, ◌+◌, ◌-◌, ◌^◌, ◌<◌, ◌≤◌, Bool, true, false, cond, eqb, List, [], ◌∷◌, sym}
+use Rattle.std.proofs.Common.{refl, ap, subst, ◌∙◌, arith, inl, inr, ◌⊎◌, ⊎_elim, length}
 use Rattle.std.specs.Prelude.{Option, Some, None, IfSome, slice_get, slice_index, bit_and, nat_le}
 use Rattle.std.proofs.lemmas.Option.{same_Some, none-some}
 use Rattle.std.proofs.lemmas.List.Elements.{All-head, All-tail}
@@ -27,7 +28,8 @@ use Rattle.certify.proofs.PointFacts.{Asks}
 
 -- the answer at a position, by what the instruction there does
 pub answer_is : (p : List Insn) (pc : ℕ) (i : Insn) (held : Option ℕ) (r : List ℕ) (o : Option ℕ) → slice_get p pc ≡ Some i
-    → ((rest : ℕ → Option ℕ → Option ℕ) → ((skip : ℕ) (now : Option ℕ) → rest skip now ≡ answer p (pc + 1 + skip) now r) → answer_by (move_at (operation_of i.code) i.k held) i r rest ≡ o)
+    → ((rest : ℕ → Option ℕ → Option ℕ) → ((skip : ℕ) (now : Option ℕ) → rest skip now ≡ answer p (pc + 1 + skip) now r)
+    → answer_by (move_at (operation_of i.code) i.k held) i r rest ≡ o)
     → answer p pc held r ≡ o
 answer_is [] pc i held r o found step = cc
 answer_is (x ∷ p) zero i held r o found step =
@@ -45,14 +47,16 @@ module _ (w k u : ℕ) (small : k < 2 ^ 32) (below : u < 2 ^ 32) where
   equal_taken : (l : Lit) → fact Equal w k true ≡ Some l → Asks w u l → eqb u k ≡ true
   equal_taken l e asks =
       let within : bit_and k all_bits ≡ k = and_all k small in
-      let is : Bits w all_bits k ≡ l = same_Some _ _ (sym (ap (λ b. cond b (Some (Bits w all_bits k)) (Some (In 0 1 0))) (eq-eqb (bit_and k all_bits) k within)) ∙ e) in
+      let is : Bits w all_bits k ≡ l =
+      same_Some _ _ (sym (ap (λ b. cond b (Some (Bits w all_bits k)) (Some (In 0 1 0))) (eq-eqb (bit_and k all_bits) k within)) ∙ e) in
       let met : bit_and u all_bits ≡ k = subst (Asks w u) (sym is) asks refl refl in
       eq-eqb u k (sym (and_all u below) ∙ met)
 
   equal_not : (l : Lit) → fact Equal w k false ≡ Some l → Asks w u l → eqb u k ≡ false
   equal_not l e asks =
       let within : bit_and k all_bits ≡ k = and_all k small in
-      let is : NotBits w all_bits k ≡ l = same_Some _ _ (sym (ap (λ b. cond b (Some (NotBits w all_bits k)) None) (eq-eqb (bit_and k all_bits) k within)) ∙ e) in
+      let is : NotBits w all_bits k ≡ l =
+      same_Some _ _ (sym (ap (λ b. cond b (Some (NotBits w all_bits k)) None) (eq-eqb (bit_and k all_bits) k within)) ∙ e) in
       let met : bit_and u all_bits ≡ k → ⊥ = subst (Asks w u) (sym is) asks refl refl in
       ne_eqb u k (λ same. met (and_all u below ∙ same))
 
@@ -100,7 +104,8 @@ came_out test w k t u taken l ls which small below e at_t at_u =
     let asks = first_asks l ls w (slice_index (call t u) w) at in
     by_test test taken which e asks at.0
   where
-    by_test : (test : Test) (taken : Bool) → (test ≡ Equal) ⊎ (test ≡ AtLeast) → fact test w k taken ≡ Some l → Asks w (slice_index (call t u) w) l
+    by_test : (test : Test) (taken : Bool) → (test ≡ Equal) ⊎ (test ≡ AtLeast) → fact test w k taken ≡ Some l
+        → Asks w (slice_index (call t u) w) l
         → slice_index (call t u) w < 2 ^ 32 → holds test (slice_index (call t u) w) k ≡ taken
     by_test Equal true which e asks low = equal_taken w k (slice_index (call t u) w) small low l e asks
     by_test Equal false which e asks low = equal_not w k (slice_index (call t u) w) small low l e asks
@@ -117,7 +122,8 @@ module _ (policy : Policy) (p : List Insn) (pc : ℕ) (held : Option ℕ) (known
   leads None is = λ possible.
       let gives = answers possible.token possible.number possible.token_is possible.number_is in
       let none : answer p pc held (call possible.token possible.number) ≡ None =
-      answer_is p pc i held (call possible.token possible.number) None found (λ rest same. ap (λ m. answer_by m i (call possible.token possible.number) rest) is) in
+      answer_is p pc i held (call possible.token possible.number) None found
+      (λ rest same. ap (λ m. answer_by m i (call possible.token possible.number) rest) is) in
       none-some _ (sym none ∙ gives)
   leads (Some (Ends v)) is = λ t u at_t at_u.
       let gives : answer p pc held (call t u) ≡ Some v =
@@ -137,4 +143,5 @@ module _ (policy : Policy) (p : List Insn) (pc : ℕ) (held : Option ℕ) (known
       sym goes ∙ answers t u (rest_point l known 1 t at_t) (rest_point l known 0 u at_u)
 
 pub paths_lead : PathsLead
-paths_lead policy p pc held known i found small of answers = leads policy p pc held known i found small of answers (move_at (operation_of i.code) i.k held) refl
+paths_lead policy p pc held known i found small of answers =
+    leads policy p pc held known i found small of answers (move_at (operation_of i.code) i.k held) refl

@@ -1,5 +1,6 @@
 -- There is room for what is made.
-use Rattle.std.proofs.Common.{◌≡◌, ℕ, ◌+◌, ◌-◌, ◌<◌, ◌≤◌, ◌^◌, Bool, true, false, cond, eqb, List, [], ◌∷◌, length, refl, ap, sym, ◌∙◌, subst, arith, inl, inr, ◌⊎◌, ⊎_elim, max}
+use Rattle.std.proofs.Common.{◌≡◌, ℕ, ◌+◌, ◌-◌, ◌<◌, ◌≤◌, ◌^◌, Bool, true, false, cond, eqb, List, [], ◌∷◌, length, refl, ap}
+use Rattle.std.proofs.Common.{sym, ◌∙◌, subst, arith, inl, inr, ◌⊎◌, ⊎_elim, max}
 use Rattle.std.specs.Prelude.{Option, Some, None, slice_get, Result, Ok, Err, IfOk, bit_and, nat_le, not}
 use Rattle.std.proofs.lemmas.Bool.{cases_eq, eq-eqb, ne_eqb, leb-true}
 use Rattle.std.proofs.lemmas.Option.{same_Some}
@@ -34,7 +35,8 @@ use Rattle.certify.proofs.MoveLaws.{forks_cost, move_of_is}
 
 -- ---- a fork has room for both ways
 
-forked_length : (s t : Store) (place : Place) (l m : Lit) (fork : Fork) → IsForked s t place l m fork → length t.nodes.items ≡ length s.nodes.items + 1
+forked_length : (s t : Store) (place : Place) (l m : Lit) (fork : Fork) → IsForked s t place l m fork
+    → length t.nodes.items ≡ length s.nodes.items + 1
 forked_length s t place l m fork f = omega (arith, ap length f.nodes, length-append s.nodes.items (chain_node_of place Dead ∷ []))
 
 pub room_yes : (s t : Store) (place : Place) (l m : Lit) (fork : Fork) (first second cost less height : ℕ) → IsForked s t place l m fork
@@ -48,7 +50,8 @@ room_yes s t place l m fork first second cost less height f room enough lower =
       literals = omega (arith, depth, literals, lower);
     }
 
-pub room_no : (policy : Policy) (p : List Insn) (s t u : Store) (place : Place) (l m : Lit) (fork : Fork) (first second cost less height at : ℕ)
+pub room_no : (policy : Policy) (p : List Insn) (s t u : Store) (place : Place) (l m : Lit) (fork : Fork)
+    (first second cost less height at : ℕ)
     → IsMeant policy p → IsForked s t place l m fork → IsMadeAt policy p fork.yes t u first at → HasRoom s place cost height
     → first + second + 1 ≤ cost → less + 1 ≤ height → HasRoom u fork.no second less
 room_no policy p s t u place l m fork first second cost less height at meant f made room enough lower =
@@ -77,8 +80,10 @@ pub tokens_total : (policy : Policy) (known : List Lit) (t at : ℕ) → at < le
     + return_cost (length policy.machines) (at + 1) (inside 512 policy.machines (NotBits 1 all_bits t ∷ known)) + 1
     ≤ return_cost (length policy.machines) at (inside 512 policy.machines known)
 tokens_total policy known t at less =
-    return_split (length policy.machines) at (inside 512 policy.machines (Bits 1 all_bits t ∷ known)) (inside 512 policy.machines (NotBits 1 all_bits t ∷ known))
-    (inside 512 policy.machines known) less (inside_parts 512 policy.machines known (Bits 1 all_bits t) (NotBits 1 all_bits t) (tokens_exclude t))
+    return_split (length policy.machines) at (inside 512 policy.machines (Bits 1 all_bits t ∷ known))
+    (inside 512 policy.machines (NotBits 1 all_bits t ∷ known))
+    (inside 512 policy.machines known) less
+    (inside_parts 512 policy.machines known (Bits 1 all_bits t) (NotBits 1 all_bits t) (tokens_exclude t))
 
 -- a profile lists two at most
 pub two_machines : (policy : Policy) → IsProfile policy → length policy.machines ≤ 2
@@ -98,8 +103,10 @@ module _ (w k : ℕ) (small : k < 2 ^ 32) where
   equal_exclude : (l m : Lit) → fact Equal w k true ≡ Some l → fact Equal w k false ≡ Some m → Exclude l m
   equal_exclude l m e f =
       let within : bit_and k all_bits ≡ k = and_all k small in
-      let yes : Bits w all_bits k ≡ l = same_Some _ _ (sym (ap (λ b. cond b (Some (Bits w all_bits k)) (Some (In 0 1 0))) (eq-eqb (bit_and k all_bits) k within)) ∙ e) in
-      let no_is : NotBits w all_bits k ≡ m = same_Some _ _ (sym (ap (λ b. cond b (Some (NotBits w all_bits k)) None) (eq-eqb (bit_and k all_bits) k within)) ∙ f) in
+      let yes : Bits w all_bits k ≡ l =
+      same_Some _ _ (sym (ap (λ b. cond b (Some (Bits w all_bits k)) (Some (In 0 1 0))) (eq-eqb (bit_and k all_bits) k within)) ∙ e) in
+      let no_is : NotBits w all_bits k ≡ m =
+      same_Some _ _ (sym (ap (λ b. cond b (Some (NotBits w all_bits k)) None) (eq-eqb (bit_and k all_bits) k within)) ∙ f) in
       subst (λ x. Exclude x m) yes (subst (λ x. Exclude (Bits w all_bits k) x) no_is (λ token nr own other.
       apart (eqb (bit_and (cond (eqb w 0) nr token) all_bits) k) own other))
     where
@@ -118,7 +125,8 @@ module _ (w k : ℕ) (small : k < 2 ^ 32) where
       let upto = leb-true nr 0 (both_second (nat_le 1 nr) (nat_le nr 0) other) in
       omega (arith, from, upto)))
       (λ (nz : k ≡ 0 → ⊥).
-      let no_is : In w 0 (k - 1) ≡ m = same_Some _ _ (sym (ap (λ b. cond b (Some (In 0 1 0)) (Some (In w 0 (k - 1)))) (ne_eqb k 0 nz)) ∙ f) in
+      let no_is : In w 0 (k - 1) ≡ m =
+      same_Some _ _ (sym (ap (λ b. cond b (Some (In 0 1 0)) (Some (In w 0 (k - 1)))) (ne_eqb k 0 nz)) ∙ f) in
       subst (λ x. Exclude (In w k all_bits) x) no_is (λ token nr own other.
       let u = cond (eqb w 0) nr token in
       let from = leb-true k u (both_first (nat_le k u) (nat_le u all_bits) own) in
@@ -126,14 +134,16 @@ module _ (w k : ℕ) (small : k < 2 ^ 32) where
       omega (arith, from, upto, nz)))
       (cases_eq k 0))
 
-  pub facts_exclude : (test : Test) (l m : Lit) → (test ≡ Equal) ⊎ (test ≡ AtLeast) → fact test w k true ≡ Some l → fact test w k false ≡ Some m → Exclude l m
+  pub facts_exclude : (test : Test) (l m : Lit) → (test ≡ Equal) ⊎ (test ≡ AtLeast) → fact test w k true ≡ Some l
+      → fact test w k false ≡ Some m → Exclude l m
   facts_exclude test l m (inl is) e f = equal_exclude l m (ap (λ x. fact x w k true) (sym is) ∙ e) (ap (λ x. fact x w k false) (sym is) ∙ f)
   facts_exclude test l m (inr is) e f = least_exclude l m (ap (λ x. fact x w k true) (sym is) ∙ e) (ap (λ x. fact x w k false) (sym is) ∙ f)
 
 module _ (policy : Policy) (p : List Insn) (pc : ℕ) (i : Insn) (held : Option ℕ) (found : slice_get p pc ≡ Some i) (small : i.k < 2 ^ 32)
     (test : Test) (w : ℕ) (forks : move_at (operation_of i.code) i.k held ≡ Some (Forks test w)) (known : List Lit) (l m : Lit)
     (yes : fact test w i.k true ≡ Some l) (other : fact test w i.k false ≡ Some m) where
-  pub forks_total : path_cost p (pc + 1 + i.jt) (inside 512 policy.machines (l ∷ known)) + path_cost p (pc + 1 + i.jf) (inside 512 policy.machines (m ∷ known)) + 1
+  pub forks_total : path_cost p (pc + 1 + i.jt) (inside 512 policy.machines (l ∷ known))
+      + path_cost p (pc + 1 + i.jf) (inside 512 policy.machines (m ∷ known)) + 1
       ≤ path_cost p pc (inside 512 policy.machines known)
   forks_total =
       let which = (move_of_is (operation_of i.code) i.k held (Some (Forks test w)) forks).2 in
@@ -141,7 +151,9 @@ module _ (policy : Policy) (p : List Insn) (pc : ℕ) (i : Insn) (held : Option 
       omega (arith, parts, (forks_cost p pc i held found test w forks).0)
 
   pub taken_lower : depth p (pc + 1 + i.jt) + 1 ≤ depth p pc
-  taken_lower = omega (arith, (forks_cost p pc i held found test w forks).1, le-max_left (depth p (pc + 1 + i.jt)) (depth p (pc + 1 + i.jf)))
+  taken_lower =
+      omega (arith, (forks_cost p pc i held found test w forks).1, le-max_left (depth p (pc + 1 + i.jt)) (depth p (pc + 1 + i.jf)))
 
   pub other_lower : depth p (pc + 1 + i.jf) + 1 ≤ depth p pc
-  other_lower = omega (arith, (forks_cost p pc i held found test w forks).1, le-max_right (depth p (pc + 1 + i.jt)) (depth p (pc + 1 + i.jf)))
+  other_lower =
+      omega (arith, (forks_cost p pc i held found test w forks).1, le-max_right (depth p (pc + 1 + i.jt)) (depth p (pc + 1 + i.jf)))

@@ -1,5 +1,6 @@
 -- What is made of a filter of calls is within the limits of a certificate.
-use Rattle.std.proofs.Common.{◌≡◌, ℕ, zero, suc, ◌+◌, ◌*◌, ◌<◌, ◌≤◌, Bool, true, false, cond, eqb, List, [], ◌∷◌, ◌++◌, length, refl, ap, sym, ◌∙◌, subst, arith, inl, inr, ◌⊎◌, ⊎_elim}
+use Rattle.std.proofs.Common.{◌≡◌, ℕ, zero, suc, ◌+◌, ◌*◌, ◌<◌, ◌≤◌, Bool, true, false, cond, eqb, List, [], ◌∷◌, ◌++◌, length}
+use Rattle.std.proofs.Common.{refl, ap, sym, ◌∙◌, subst, arith, inl, inr, ◌⊎◌, ⊎_elim}
 use Rattle.std.specs.Prelude.{All}
 use Rattle.std.specs.List.{flat_map}
 use Rattle.std.proofs.lemmas.List.{length-append}
@@ -51,7 +52,8 @@ node_short : (es : List (ℕ × Lit)) (version : ℕ) (n : ChainNode) → IsChai
 node_short es version n meant =
     omega (arith, length-chained version n, part_short (eqb version 2) n.regs.scratch meant.values.sixteen, tail_short n.kind)
 
-nodes_short : (es : List (ℕ × Lit)) (version : ℕ) (ns : List ChainNode) → All (IsChainMeant es) ns → length (flat_map (chain_node version) ns) ≤ 146 * length ns
+nodes_short : (es : List (ℕ × Lit)) (version : ℕ) (ns : List ChainNode) → All (IsChainMeant es) ns
+    → length (flat_map (chain_node version) ns) ≤ 146 * length ns
 nodes_short es version [] all = omega arith
 nodes_short es version (n ∷ ns) all =
     omega (

@@ -1,5 +1,6 @@
 -- Entries and nodes stay such as they grow.
-use Rattle.std.proofs.Common.{◌≡◌, ℕ, zero, suc, ◌+◌, ◌*◌, ◌^◌, ◌<◌, ◌≤◌, List, [], ◌∷◌, ◌++◌, length, refl, ap, sym, ◌∙◌, subst, arith, inl, inr, ◌⊎◌, ⊎_elim, get_or, set}
+use Rattle.std.proofs.Common.{◌≡◌, ℕ, zero, suc, ◌+◌, ◌*◌, ◌^◌, ◌<◌, ◌≤◌, List, [], ◌∷◌, ◌++◌, length, refl, ap, sym, ◌∙◌}
+use Rattle.std.proofs.Common.{subst, arith, inl, inr, ◌⊎◌, ⊎_elim, get_or, set}
 use Rattle.std.specs.Prelude.{Option, Some, None, slice_get, All}
 use Rattle.std.proofs.lemmas.Option.{same_Some}
 use Rattle.std.proofs.lemmas.List.{length-append, length-set}
@@ -33,9 +34,15 @@ slice_get_push (z ∷ xs) y (suc j) x h = ⊎_elim
 
 values : (held : Option ℕ) → HoldsCall held → AreValues (regs_of held)
 values None h = record { a = omega arith; x = omega arith; sixteen = refl; scratch = All-replicate IsValue 16 Unknown tt }
-values (Some w) h = record { a = (omega (arith, h), omega arith); x = omega arith; sixteen = refl; scratch = All-replicate IsValue 16 Unknown tt }
+values (Some w) h = record {
+  a = (omega (arith, h), omega arith);
+  x = omega arith;
+  sixteen = refl;
+  scratch = All-replicate IsValue 16 Unknown tt;
+}
 
-pub node_meant : (es : List (ℕ × Lit)) (place : Place) (kind : Kind) → place.pc < 2 ^ 16 → place.chain ≤ length es → length (literals es place.chain) ≤ 512
+pub node_meant : (es : List (ℕ × Lit)) (place : Place) (kind : Kind) → place.pc < 2 ^ 16 → place.chain ≤ length es
+    → length (literals es place.chain) ≤ 512
     → HoldsCall place.held → IsKind kind → IsChainMeant es (chain_node_of place kind)
 node_meant es place kind pc chain few held is_kind = record {
   kind = is_kind;
@@ -46,15 +53,18 @@ node_meant es place kind pc chain few held is_kind = record {
 }
 
 module _ (s t : Store) (is : IsStore s) where
-  pub stored_add : (place : Place) (kind : Kind) → place.pc < 2 ^ 16 → place.chain ≤ length s.entries.items → length (literals s.entries.items place.chain) ≤ 512
-      → HoldsCall place.held → IsKind kind → t.entries.items ≡ s.entries.items → t.nodes.items ≡ s.nodes.items ++ chain_node_of place kind ∷ []
+  pub stored_add : (place : Place) (kind : Kind) → place.pc < 2 ^ 16 → place.chain ≤ length s.entries.items
+      → length (literals s.entries.items place.chain) ≤ 512
+      → HoldsCall place.held → IsKind kind → t.entries.items ≡ s.entries.items
+      → t.nodes.items ≡ s.nodes.items ++ chain_node_of place kind ∷ []
       → length s.nodes.items < 16384 → IsStore t
   stored_add place kind pc chain few held is_kind es ns room = record {
     entries = subst AreLiteralEntries (sym es) is.entries;
     calls = λ n. subst (λ (xs : List (ℕ × Lit)). All IsOfCalls (literals xs n)) (sym es) (is.calls n);
     nodes = subst (λ (xs : List (ℕ × Lit)). All (IsChainMeant xs) t.nodes.items) (sym es)
         (subst (All (IsChainMeant s.entries.items)) (sym ns)
-        (All-push (IsChainMeant s.entries.items) s.nodes.items (chain_node_of place kind) is.nodes (node_meant s.entries.items place kind pc chain few held is_kind)));
+        (All-push (IsChainMeant s.entries.items) s.nodes.items (chain_node_of place kind) is.nodes
+        (node_meant s.entries.items place kind pc chain few held is_kind)));
     few = omega (arith, ap length ns, length-append s.nodes.items (chain_node_of place kind ∷ []), room);
     few_entries = let few = is.few_entries in
         omega (arith, few, ap length es, ap length ns, length-append s.nodes.items (chain_node_of place kind ∷ []));
@@ -77,10 +87,12 @@ module _ (s t : Store) (is : IsStore s) where
         (λ (new : (j ≡ length s.entries.items) × ((c, l) ≡ e)).
         subst (λ x. IsLiteralEntry j x) new.1 (record { earlier = omega (arith, chain, new.0); literal = lit }))
         (slice_get_push s.entries.items (c, l) j e there));
-    calls = λ n. subst (λ (xs : List (ℕ × Lit)). All IsOfCalls (literals xs n)) (sym es) (all_push IsOfCalls s.entries.items c l is.calls call n);
+    calls = λ n. subst (λ (xs : List (ℕ × Lit)). All IsOfCalls (literals xs n)) (sym es)
+        (all_push IsOfCalls s.entries.items c l is.calls call n);
     nodes = subst (λ (xs : List (ℕ × Lit)). All (IsChainMeant xs) t.nodes.items) (sym es)
         (subst (All (IsChainMeant (s.entries.items ++ (c, l) ∷ []))) (sym ns)
-        (All-weaker (IsChainMeant s.entries.items) (IsChainMeant (s.entries.items ++ (c, l) ∷ [])) (λ n m. meant_more ((c, l) ∷ []) n m) s.nodes.items is.nodes));
+        (All-weaker (IsChainMeant s.entries.items) (IsChainMeant (s.entries.items ++ (c, l) ∷ []))
+        (λ n m. meant_more ((c, l) ∷ []) n m) s.nodes.items is.nodes));
     few = let few = is.few in omega (arith, few, ap length ns);
     few_entries = omega (arith, ap length es, length-append s.entries.items ((c, l) ∷ []), room, ap length ns);
   }
@@ -88,14 +100,17 @@ module _ (s t : Store) (is : IsStore s) where
   pub earlier : AreEarlier s.entries.items
   earlier = λ j e there. (is.entries j e there).earlier
 
-pub stored_set : (s t : Store) (is : IsStore s) (number : ℕ) (place : Place) (kind : Kind) → place.pc < 2 ^ 16 → place.chain ≤ length s.entries.items → length (literals s.entries.items place.chain) ≤ 512
-    → HoldsCall place.held → IsKind kind → t.entries.items ≡ s.entries.items → t.nodes.items ≡ set s.nodes.items number (chain_node_of place kind) → IsStore t
+pub stored_set : (s t : Store) (is : IsStore s) (number : ℕ) (place : Place) (kind : Kind) → place.pc < 2 ^ 16
+    → place.chain ≤ length s.entries.items → length (literals s.entries.items place.chain) ≤ 512
+    → HoldsCall place.held → IsKind kind → t.entries.items ≡ s.entries.items
+    → t.nodes.items ≡ set s.nodes.items number (chain_node_of place kind) → IsStore t
 stored_set s t is number place kind pc chain few held is_kind es ns = record {
   entries = subst AreLiteralEntries (sym es) is.entries;
   calls = λ n. subst (λ (xs : List (ℕ × Lit)). All IsOfCalls (literals xs n)) (sym es) (is.calls n);
   nodes = subst (λ (xs : List (ℕ × Lit)). All (IsChainMeant xs) t.nodes.items) (sym es)
       (subst (All (IsChainMeant s.entries.items)) (sym ns)
-      (All-set (IsChainMeant s.entries.items) s.nodes.items number (chain_node_of place kind) (node_meant s.entries.items place kind pc chain few held is_kind) is.nodes));
+      (All-set (IsChainMeant s.entries.items) s.nodes.items number (chain_node_of place kind)
+      (node_meant s.entries.items place kind pc chain few held is_kind) is.nodes));
   few = let few = is.few in omega (arith, few, ap length ns, length-set s.nodes.items number (chain_node_of place kind));
   few_entries = let few = is.few_entries in
       omega (arith, few, ap length es, ap length ns, length-set s.nodes.items number (chain_node_of place kind));

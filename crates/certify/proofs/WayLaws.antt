@@ -1,5 +1,6 @@
 -- What is known where a path stands is known in a part of it.
-use Rattle.std.proofs.Common.{◌≡◌, ℕ, zero, suc, ◌+◌, ◌^◌, ◌<◌, ◌≤◌, List, [], ◌∷◌, ◌++◌, length, refl, ap, sym, ◌∙◌, subst, arith, inl, inr, ◌⊎◌, ⊎_elim, Bool, true, false, cond, eqb}
+use Rattle.std.proofs.Common.{◌≡◌, ℕ, zero, suc, ◌+◌, ◌^◌, ◌<◌, ◌≤◌, List, [], ◌∷◌, ◌++◌, length, refl, ap, sym, ◌∙◌, subst}
+use Rattle.std.proofs.Common.{arith, inl, inr, ◌⊎◌, ⊎_elim, Bool, true, false, cond, eqb}
 use Rattle.std.specs.Prelude.{Option, Some, None, Contains, All, slice_get}
 use Rattle.std.proofs.lemmas.List.Elements.{All-cons, All-tail}
 use Rattle.std.proofs.lemmas.Option.{same_Some, none-some, slice_get-get_or, slice_get_within, get_or_from_slice_get}
@@ -82,7 +83,9 @@ module _ (policy : Policy) (p : List Insn) (s t : Store) (place c : Place) (l : 
         stands = record {
           insn = stands.insn;
           inside = ap (λ k. Rattle.std.specs.Prelude.slice_get p k) same ∙ stands.inside;
-          ends = ap (λ h. Rattle.rule_compile.specs.Moves.move_at (Rattle.bpf_insn.specs.Code.operation_of stands.insn.code) stands.insn.k h) child.held ∙ stands.ends;
+          ends =
+              ap (λ h. Rattle.rule_compile.specs.Moves.move_at (Rattle.bpf_insn.specs.Code.operation_of stands.insn.code)
+              stands.insn.k h) child.held ∙ stands.ends;
         };
         says = λ meant. subst (λ ls. SaysThere policy ls v) (sym child.known)
             (λ n u at_t at_u. at.says meant n u (rest_point l (known_at s place) 1 n at_t) (rest_point l (known_at s place) 0 u at_u));
@@ -91,35 +94,45 @@ module _ (policy : Policy) (p : List Insn) (s t : Store) (place c : Place) (l : 
   pub of_child : (arch : Arch) → (index_of l ≡ 1 → ⊥) → IsOfMachine policy s place arch → IsOfMachine policy t c arch
   of_child arch other of = record {
     listed = of.listed;
-    token = subst (λ ls. IsRange ls 1 (token_of arch) (token_of arch)) (sym child.known) (other_range l (known_at s place) 1 (token_of arch) (token_of arch) other of.token);
+    token = subst (λ ls. IsRange ls 1 (token_of arch) (token_of arch)) (sym child.known)
+        (other_range l (known_at s place) 1 (token_of arch) (token_of arch) other of.token);
   }
 
 -- both ways of a fork
 pub yes_child : (s t : Store) (place : Place) (l m : Lit) (fork : Fork) → IsForked s t place l m fork → IsChild s t place fork.yes l
-yes_child s t place l m fork f = record { store = f.store; chain = f.yes_chain; known = f.yes_known; held = f.yes_held; depth = f.yes_depth; room = f.room }
+yes_child s t place l m fork f =
+    record { store = f.store; chain = f.yes_chain; known = f.yes_known; held = f.yes_held; depth = f.yes_depth; room = f.room }
 
 -- what one machine's return needs
-pub machine_agrees_there : (policy : Policy) (p : List Insn) (s : Store) (place : Place) (v lo hi : ℕ) (arch : Arch) → IsMeant policy p → IsAtReturn policy p s place v → IsOfMachine policy s place arch
-    → IsRange (known_at s place) 0 lo hi → (lo ≡ hi) ⊎ ((policy.default_word ≡ v) ⊎ ((token_of arch ≡ token_of X86_64) × (0x40000000 ≤ lo))) → Agrees policy [] [] (known_at s place) v
+pub machine_agrees_there : (policy : Policy) (p : List Insn) (s : Store) (place : Place) (v lo hi : ℕ) (arch : Arch)
+    → IsMeant policy p → IsAtReturn policy p s place v → IsOfMachine policy s place arch
+    → IsRange (known_at s place) 0 lo hi → (lo ≡ hi)
+    ⊎ ((policy.default_word ≡ v) ⊎ ((token_of arch ≡ token_of X86_64) × (0x40000000 ≤ lo))) → Agrees policy [] [] (known_at s place) v
 machine_agrees_there policy p s place v lo hi arch meant at of range h =
-    leaf_agrees policy (known_at s place) v lo hi (token_of arch) (token_of arch) meant.plain.rules (at.store.calls place.chain) (at.says meant) range of.token
+    leaf_agrees policy (known_at s place) v lo hi (token_of arch) (token_of arch) meant.plain.rules (at.store.calls place.chain)
+    (at.says meant) range of.token
     (inr (record { arch = arch; listed = of.listed; token = of.token; numbers = h }))
 
-pub foreign_agrees_there : (policy : Policy) (p : List Insn) (s : Store) (place : Place) (v lo hi from to : ℕ) → IsMeant policy p → IsAtReturn policy p s place v
-    → IsRange (known_at s place) 0 lo hi → IsRange (known_at s place) 1 from to → IsForeign policy (known_at s place) → Agrees policy [] [] (known_at s place) v
+pub foreign_agrees_there : (policy : Policy) (p : List Insn) (s : Store) (place : Place) (v lo hi from to : ℕ)
+    → IsMeant policy p → IsAtReturn policy p s place v
+    → IsRange (known_at s place) 0 lo hi → IsRange (known_at s place) 1 from to → IsForeign policy (known_at s place)
+    → Agrees policy [] [] (known_at s place) v
 foreign_agrees_there policy p s place v lo hi from to meant at range tokens none =
-    leaf_agrees policy (known_at s place) v lo hi from to meant.plain.rules (at.store.calls place.chain) (at.says meant) range tokens (inl none)
+    leaf_agrees policy (known_at s place) v lo hi from to meant.plain.rules (at.store.calls place.chain) (at.says meant) range
+    tokens (inl none)
 
 -- where the word is not the default one, each number of the machine's own is small
 pub small_number : (policy : Policy) (p : List Insn) (s : Store) (place : Place) (v lo hi : ℕ) (arch : Arch) → IsMeant policy p
     → IsAtReturn policy p s place v → IsOfMachine policy s place arch → IsRange (known_at s place) 0 lo hi → (policy.default_word ≡ v → ⊥)
     → (u : ℕ) → IsPoint (known_at s place) 0 u → (token_of arch ≡ token_of X86_64 → u < 0x40000000) → u < 512
 small_number policy p s place v lo hi arch meant at of range differ u point own =
-    own_is_small policy (known_at s place) v lo hi (token_of arch) (token_of arch) meant.plain.rules (at.store.calls place.chain) (at.says meant) range of.token
+    own_is_small policy (known_at s place) v lo hi (token_of arch) (token_of arch) meant.plain.rules
+    (at.store.calls place.chain) (at.says meant) range of.token
     arch of.listed of.token differ u point own
 
 -- the second way, once the first is gone
-pub no_child : (policy : Policy) (p : List Insn) (s t u : Store) (place : Place) (l m : Lit) (fork : Fork) (first cost : ℕ) → IsForked s t place l m fork
+pub no_child : (policy : Policy) (p : List Insn) (s t u : Store) (place : Place) (l m : Lit) (fork : Fork) (first cost : ℕ)
+    → IsForked s t place l m fork
     → IsMadeAt policy p fork.yes t u cost first → IsChild s u place fork.no m
 no_child policy p s t u place l m fork first cost f one = record {
   store = one.grown.store;
@@ -131,7 +144,8 @@ no_child policy p s t u place l m fork first cost f one = record {
 }
 
 -- what a place knows stays, also after both ways
-pub stays_short : (s t : Store) (p : List Insn) (place : Place) → IsPlace s p place → Rattle.certify.specs.inner.Store.IsLonger s.entries.items t.entries.items → length (known_at t place) ≤ 512
+pub stays_short : (s t : Store) (p : List Insn) (place : Place) → IsPlace s p place
+    → Rattle.certify.specs.inner.Store.IsLonger s.entries.items t.entries.items → length (known_at t place) ≤ 512
 stays_short s t p place fits longer =
     let short = fits.short in
     let few = fits.few in
@@ -154,7 +168,8 @@ none_left policy s place n out none arch (k, lt, is) at = ⊎_elim
     (cases_lt k n)
 
 -- one more is not possible
-pub out_more : (policy : Policy) (s : Store) (place : Place) (n : ℕ) (arch : Arch) → AreOutBefore policy s place n → slice_get policy.machines n ≡ Some arch
+pub out_more : (policy : Policy) (s : Store) (place : Place) (n : ℕ) (arch : Arch) → AreOutBefore policy s place n
+    → slice_get policy.machines n ≡ Some arch
     → (IsPoint (known_at s place) 1 (token_of arch) → ⊥) → AreOutBefore policy s place (n + 1)
 out_more policy s place n arch out here not k a less there at = ⊎_elim
     (λ (before : k < n). out k a before there at)
@@ -165,7 +180,8 @@ out_more policy s place n arch out here not k a less there at = ⊎_elim
     (cases_lt k n)
 
 -- what is not possible is not in a part
-pub out_child : (policy : Policy) (s t : Store) (place c : Place) (l : Lit) (n : ℕ) → IsChild s t place c l → AreOutBefore policy s place n → AreOutBefore policy t c n
+pub out_child : (policy : Policy) (s t : Store) (place c : Place) (l : Lit) (n : ℕ) → IsChild s t place c l
+    → AreOutBefore policy s place n → AreOutBefore policy t c n
 out_child policy s t place c l n child out k arch less there at =
     out k arch less there (rest_point l (known_at s place) 1 (token_of arch) (subst (λ ls. IsPoint ls 1 (token_of arch)) child.known at))
 
@@ -182,7 +198,8 @@ not_bits ls n at = first_asks (NotBits 1 all_bits n) ls 1 n at refl refl (and_al
 
 -- ---- on the way
 
-module _ (policy : Policy) (p : List Insn) (s : Store) (place : Place) (way : IsOnWay policy p s place) (i : Insn) (found : slice_get p place.pc ≡ Some i) (small : i.k < 2 ^ 32) where
+module _ (policy : Policy) (p : List Insn) (s : Store) (place : Place) (way : IsOnWay policy p s place) (i : Insn)
+    (found : slice_get p place.pc ≡ Some i) (small : i.k < 2 ^ 32) where
   lead : IsMeant policy p → (m : Option Move) → move_at (operation_of i.code) i.k place.held ≡ m
       → LeadsOn policy p place.pc place.held (known_at s place) i m
   lead meant m e = subst (LeadsOn policy p place.pc place.held (known_at s place) i) e
@@ -204,8 +221,10 @@ module _ (policy : Policy) (p : List Insn) (s : Store) (place : Place) (way : Is
   way_moves meant possible e = lead meant None e possible
 
   -- a step leads on
-  pub way_goes : (t : Store) (next : Place) (skip : ℕ) (now : Option ℕ) → move_at (operation_of i.code) i.k place.held ≡ Some (Goes skip now) → IsStore t
-      → t.entries.items ≡ s.entries.items → next.pc ≡ place.pc + 1 + skip → next.held ≡ now → next.chain ≡ place.chain → next.depth ≡ place.depth
+  pub way_goes : (t : Store) (next : Place) (skip : ℕ) (now : Option ℕ)
+      → move_at (operation_of i.code) i.k place.held ≡ Some (Goes skip now) → IsStore t
+      → t.entries.items ≡ s.entries.items → next.pc ≡ place.pc + 1 + skip → next.held ≡ now → next.chain ≡ place.chain
+      → next.depth ≡ place.depth
       → IsOnWay policy p t next
   way_goes t next skip now e is es pc held chain depth =
       let known : known_at t next ≡ known_at s place =
@@ -235,7 +254,8 @@ module _ (policy : Policy) (p : List Insn) (s : Store) (place : Place) (way : Is
   fork_inside test w e false = other_inside p place.pc i place.held found way.accepted test w e
 
   -- and each way on from a comparison
-  pub way_forks : (t : Store) (c : Place) (test : Test) (w : ℕ) (taken : Bool) (l : Lit) → move_at (operation_of i.code) i.k place.held ≡ Some (Forks test w)
+  pub way_forks : (t : Store) (c : Place) (test : Test) (w : ℕ) (taken : Bool) (l : Lit)
+      → move_at (operation_of i.code) i.k place.held ≡ Some (Forks test w)
       → fact test w i.k taken ≡ Some l → IsChild s t place c l → c.pc ≡ place.pc + 1 + cond taken i.jt i.jf → IsOnWay policy p t c
   way_forks t c test w taken l e is_fact child pc =
       let held : place.held ≡ Some w = (fork_held (operation_of i.code) i.k place.held test w e) in

@@ -52,7 +52,8 @@ root_way policy p s accepted es ns = record {
   answers = λ meant t u at_t at_u. meant.shape.answers t u at_t.0 at_u.0;
 }
 
-pub valid_whole : (policy : Policy) (p : List Insn) (s t : Store) (cost first : ℕ) → IsMeant policy p → s.entries.items ≡ [] → s.nodes.items ≡ [] → IsMadeAt policy p root_place s t cost first
+pub valid_whole : (policy : Policy) (p : List Insn) (s t : Store) (cost first : ℕ) → IsMeant policy p → s.entries.items ≡ []
+    → s.nodes.items ≡ [] → IsMadeAt policy p root_place s t cost first
     → IsValid policy p (plain t.entries.items t.nodes.items)
 valid_whole policy p s t cost first meant es ns made =
     let at = made.stands in
@@ -68,11 +69,13 @@ valid_whole policy p s t cost first meant es ns made =
         none_met = at.none_met;
         a_is_zero = ap (λ (r : Regs). r.a) at.regs_are;
         x_is_zero = ap (λ (r : Regs). r.x) at.regs_are;
-        none_stated = subst (λ (r : Regs). All (λ (v : AVal). v ≡ Unknown) r.scratch) (sym at.regs_are) (All-replicate (λ (v : AVal). v ≡ Unknown) 16 Unknown refl);
+        none_stated = subst (λ (r : Regs). All (λ (v : AVal). v ≡ Unknown) r.scratch) (sym at.regs_are)
+            (All-replicate (λ (v : AVal). v ≡ Unknown) 16 Unknown refl);
       };
       each = λ i n there.
           let within = slice_get_within (plain t.entries.items t.nodes.items) i n there in
-          kept (plain t.entries.items t.nodes.items) (λ k a b. refl) i n (omega (arith, ap length ns)) (omega (arith, within, length-map t.nodes.items (Rattle.cert_form.specs.Nodes.said_plainly t.entries.items))) there;
+          kept (plain t.entries.items t.nodes.items) (λ k a b. refl) i n (omega (arith, ap length ns))
+          (omega (arith, within, length-map t.nodes.items (Rattle.cert_form.specs.Nodes.said_plainly t.entries.items))) there;
     }
 
 pub meant_whole : (t : Store) → IsStore t → AreMeant t.entries.items t.nodes.items

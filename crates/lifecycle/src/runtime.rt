@@ -2,7 +2,6 @@
 ghost use Rattle.std.specs.Prelude.{◌≡◌, ℕ, List, [], Option, None, true, is_some, if◌then◌else◌};
 ghost use Rattle.std.specs.Map.{lookup};
 ghost use Rattle.processes.specs.Ids.{is_id};
-ghost use Rattle.processes.specs.Kernel.{is_fatal};
 ghost use Rattle.processes.specs.Views.{lives_in, same_text};
 ghost use Rattle.lifecycle.specs.Entries.{started_at};
 ghost use Rattle.lifecycle.specs.Sound.{SoundIn, SoundIn-prop};
@@ -14,7 +13,7 @@ use crate::start::begin;
 use call_record::Record;
 use cert_check::Checked;
 use indexmap::IndexMap;
-use processes::{Id, Kernel, Outcome};
+use processes::{Id, Kernel, LAST_SIGNAL, Outcome, is_fatal};
 use std::alloc::{AllocError, Global};
 
 /// Containers over a kernel.
@@ -237,14 +236,4 @@ impl<'a, K: Kernel> Runtime<'a, K> {
             Status::Stopped
         }
     }
-}
-
-// The greatest number of a signal (SIGRTMAX).
-const LAST_SIGNAL: u64 = 64;
-
-// Whether a signal ends its target: SIGKILL and SIGTERM do.
-fn is_fatal(sig: u64) -> bool
-    ensures { result ≡ is_fatal sig }
-{
-    sig == 9 || sig == 15
 }

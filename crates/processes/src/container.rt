@@ -6,6 +6,7 @@ ghost use Rattle.processes.specs.Stores.{is_rooted};
 
 use crate::errno::{EAGAIN, EINVAL, ESRCH};
 use crate::outcome::{End, Outcome, TaskView};
+use crate::signals::{LAST_SIGNAL, is_fatal};
 use crate::store::Store;
 use crate::task::Task;
 use crate::tasks::{Which, end_where, group_lives, index_of};
@@ -86,7 +87,7 @@ impl<S: Store> Container<S> {
         }
     }
 
-    // The next task.
+    // A new task, with the next number.
     fn add(&mut self, group: u32, parent: u32, filters: S::Handle) -> Result<Outcome, AllocError>
         requires room { self.old.made < 1024 }
         requires rooted { has_filter (S.filters_of self.old.store filters) ≡ true }
@@ -152,7 +153,7 @@ impl<S: Store> Container<S> {
     pub(crate) fn kill(&mut self, target: u64, sig: u64) -> Outcome
         ensures { (result, processes_of self.new) ≡ killed target sig (processes_of self.old) }
     {
-        if sig > 64 {
+        if sig > LAST_SIGNAL {
             return Outcome::Failed(EINVAL);
         }
         if !group_lives(&self.tasks, target) {
@@ -190,13 +191,4 @@ impl<S: Store> Container<S> {
             end: task.end,
         })
     }
-}
-
-ghost use Rattle.processes.specs.Kernel.{is_fatal};
-
-/// Whether a signal ends its target: 9 (SIGKILL) and 15 (SIGTERM) do.
-pub(crate) fn is_fatal(sig: u64) -> bool
-    ensures { result ≡ is_fatal sig }
-{
-    sig == 9 || sig == 15
 }

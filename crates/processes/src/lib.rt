@@ -14,6 +14,7 @@ mod load;
 mod outcome;
 mod present;
 mod row;
+mod signals;
 mod store;
 mod table;
 mod task;
@@ -27,5 +28,6 @@ pub use law::{
     numbers_ascend,
 };
 pub use outcome::{End, Outcome, TaskView};
+pub use signals::{LAST_SIGNAL, is_fatal};
 pub use store::Store;
 pub use table::{Table, TaskTable};

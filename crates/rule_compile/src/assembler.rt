@@ -12,13 +12,10 @@ ghost use Rattle.rule_compile.specs.inner.Goes.{Branches, JumpsTo, Reaches};
 
 use crate::fault::CompileError;
 use crate::label::{Exits, Label, Target};
-use bpf_insn::{Arithmetic, Insn, Operand, Operation, Test, encode_into};
+use bpf_insn::{Arithmetic, Insn, MAX_INSNS, Operand, Operation, Test, encode_into};
 use call_record::Word;
 use std::alloc::{AllocError, Global};
 use std::marker::Model;
-
-/// The most instructions of a filter.
-const LIMIT: usize = 4096;
 
 /// How many instructions a conditional jump skips at most.
 const FARTHEST: usize = 255;
@@ -33,13 +30,13 @@ pub(crate) struct Assembler {
 impl Model for Assembler {
     ghost use Rattle.std.specs.Prelude.{◌≤◌, List, reverse, vec_len};
     ghost use Rattle.bpf_insn.specs.declared.instruction.Insn.{Insn};
-    ghost use Rattle.rule_compile.specs.declared.assembler.TheConstants.{LIMIT};
+    ghost use Rattle.bpf_insn.specs.declared.view.TheConstants.{MAX_INSNS};
 
     ghost Value = { List Insn };
 
     ghost view = { λ code. reverse code.backwards.items };
 
-    ghost invariant = { λ code. vec_len code.backwards ≤ LIMIT };
+    ghost invariant = { λ code. vec_len code.backwards ≤ MAX_INSNS };
 }
 
 // An instruction that is no conditional jump.
@@ -68,9 +65,9 @@ impl Assembler {
     fn write(&mut self, insn: Insn) -> Result<Label, CompileError>
         ensures written { OnOk result (self.new ≡ insn ∷ self.old) }
         ensures start { IfOk result (IsStart self.new) }
-        ensures full { IsErrOf result CompileError.TooLong ↔ (length self.old ≡ LIMIT) }
+        ensures full { IsErrOf result CompileError.TooLong ↔ (length self.old ≡ MAX_INSNS) }
     {
-        if self.backwards.len() == LIMIT {
+        if self.backwards.len() == MAX_INSNS {
             return Err(CompileError::TooLong);
         }
         self.backwards.push(insn)?;
@@ -83,7 +80,7 @@ impl Assembler {
     pub(crate) fn load(&mut self, offset: u32) -> Result<Label, CompileError>
         ensures written { OnOk result (self.new ≡ insn_of LoadWord offset ∷ self.old) }
         ensures start { IfOk result (IsStart self.new) }
-        ensures full { IsErrOf result CompileError.TooLong ↔ (length self.old ≡ LIMIT) }
+        ensures full { IsErrOf result CompileError.TooLong ↔ (length self.old ≡ MAX_INSNS) }
     {
         self.write(insn(Operation::LoadWord, offset))
     }
@@ -101,7 +98,7 @@ impl Assembler {
     fn distance(&self, to: Label) -> usize
         requires { IsIn self.now to }
         ensures skipped { result + to.to_end ≡ length self.now }
-        ensures limit { result ≤ LIMIT }
+        ensures limit { result ≤ MAX_INSNS }
     {
         self.backwards.len() - to.to_end
     }
@@ -147,7 +144,7 @@ impl Assembler {
     fn near(&mut self, to: Label) -> Result<Label, CompileError>
         requires { IsIn self.old to }
         ensures reached { IfOk result (Reaches self.old self.new (Target.Place to)) }
-        ensures full { IsErrOf result CompileError.TooLong → length self.old ≡ LIMIT }
+        ensures full { IsErrOf result CompileError.TooLong → length self.old ≡ MAX_INSNS }
     {
         let skipped = self.distance(to);
         if skipped < FARTHEST {
@@ -162,7 +159,7 @@ impl Assembler {
     /// The one return of the word, or where it is far from here, that of a jump to it, as `near`.
     pub(crate) fn near_return(&mut self, word: Word) -> Result<Label, CompileError>
         ensures reached { IfOk result (Reaches self.old self.new (Target.Return word)) }
-        ensures full { IsErrOf result CompileError.TooLong → length self.old ≡ LIMIT }
+        ensures full { IsErrOf result CompileError.TooLong → length self.old ≡ MAX_INSNS }
     {
         let ending = insn(Operation::ReturnK, word.0);
         match self.find(ending) {
@@ -175,7 +172,7 @@ impl Assembler {
     fn near_target(&mut self, to: Target) -> Result<Label, CompileError>
         requires { IsTarget self.old to }
         ensures reached { IfOk result (Reaches self.old self.new to) }
-        ensures full { IsErrOf result CompileError.TooLong → length self.old ≡ LIMIT }
+        ensures full { IsErrOf result CompileError.TooLong → length self.old ≡ MAX_INSNS }
     {
         match to {
             Target::Place(place) => self.near(place),
@@ -188,7 +185,7 @@ impl Assembler {
         requires { HasExits self.old exits }
         ensures start { IfOk result (IsStart self.new) }
         ensures written { OnOk result (Branches self.old self.new test k exits) }
-        ensures full { IsErrOf result CompileError.TooLong → LIMIT < length self.old + 3 }
+        ensures full { IsErrOf result CompileError.TooLong → MAX_INSNS < length self.old + 3 }
     {
         let no = self.near_target(exits.no)?;
         let yes = self.near_target(exits.yes)?;

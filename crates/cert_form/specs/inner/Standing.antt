@@ -8,9 +8,11 @@ use Rattle.cert_form.specs.declared.fault.FormError.{FormError}
 use Rattle.cert_form.specs.declared.fault.FormError.TheVariants.{BadMagic, BadVersion, Truncated, BadNode, BadCount, Trailing, OutOfMemory}
 use Rattle.cert_form.specs.Faults.{IsBadStated, IsBadListed}
 use Rattle.cert_form.specs.Nodes.{PlainNode, on_chain}
-use Rattle.cert_form.specs.Spelling.{magic, value, literal, claim, tail, kind_number, entry, chain_node, node, scratch, if_stated, stated_bits}
+use Rattle.cert_form.specs.Spelling.{magic, value, literal, claim, tail, kind_number, entry, chain_node, node, scratch}
+use Rattle.cert_form.specs.Spelling.{if_stated, stated_bits}
 use Rattle.cert_form.specs.Spelling.{nothing_stated, IsKind, IsClaim, IsEntry, IsChainNode, IsNode}
-use Rattle.cert_form.specs.Reading.{short_at, long_at, value_at, literal_at, claim_at, kind_at, tail_length, version_of, node_count, chain_count}
+use Rattle.cert_form.specs.Reading.{short_at, long_at, value_at, literal_at, claim_at, kind_at, tail_length, version_of}
+use Rattle.cert_form.specs.Reading.{node_count, chain_count}
 use Rattle.cert_form.specs.Reading.{entry_at, entries_of, scratch_from, scratch_at, ones, chain_place, chain_node_at, node_end, place_of}
 use Rattle.cert_form.specs.Reading.{offset_at, own_count, listed_node}
 

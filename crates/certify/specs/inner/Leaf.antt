@@ -33,5 +33,6 @@ pub record IsOfOne (policy : Policy) (known : List Lit) (v lo hi : ℕ) : Type 0
 -- so the rules of the profile agree
 abbrev pub LeafAgrees : Type 0
 LeafAgrees =
-    (policy : Policy) (known : List Lit) (v lo hi from to : ℕ) → All IsPlainRule policy.rules → All IsOfCalls known → SaysThere policy known v
+    (policy : Policy) (known : List Lit) (v lo hi from to : ℕ) → All IsPlainRule policy.rules → All IsOfCalls known
+    → SaysThere policy known v
     → IsRange known 0 lo hi → IsRange known 1 from to → IsForeign policy known ⊎ IsOfOne policy known v lo hi → Agrees policy [] [] known v

@@ -21,7 +21,8 @@ abbrev pub node_of : Option ℕ → ℕ → List Lit → Kind → PlainNode
 node_of held pc known kind = record { kind = kind; pc = pc; regs = regs_of held; known = known; out = []; met = [] }
 
 -- of node i at an instruction of the program, by what it is
-pub record NodesKeepAt (policy : Policy) (p : List Insn) (ns : List PlainNode) (i : ℕ) (insn : Insn) (held : Option ℕ) (pc : ℕ) (known : List Lit) : Type 0 where
+pub record NodesKeepAt (policy : Policy) (p : List Insn) (ns : List PlainNode) (i : ℕ) (insn : Insn) (held : Option ℕ) (pc : ℕ)
+    (known : List Lit) : Type 0 where
   pub step : (skip : ℕ) (now : Option ℕ) (to : ℕ) → move_at (operation_of insn.code) insn.k held ≡ Some (Goes skip now) → i < to
       → StandsAt ns to (pc + 1 + skip) now known → Keeps policy p ns i (node_of held pc known (Step to no_node))
   pub fork : (test : Test) (w : ℕ) (first second : ℕ) (l m : Lit) → move_at (operation_of insn.code) insn.k held ≡ Some (Forks test w)

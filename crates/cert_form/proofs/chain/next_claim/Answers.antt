@@ -12,4 +12,5 @@ pub returns-clause-more : goal.returns-clause-more
 returns-clause-more c =
     rw (c.read_claim-claim.ensures, c.read_long-2.ensures)
     (claim_left c.args.bytes.now c.args.at c.if-at-eq0.false (omega (arith, c.read_long.ensures, c.if-at-read_long.false))
-    (c.requires.head.earlier c.requires.form (c.args.at - 1) (omega (arith, c.read_long.ensures, c.if-at-read_long.false, c.if-at-eq0.false))))
+    (c.requires.head.earlier c.requires.form (c.args.at - 1)
+    (omega (arith, c.read_long.ensures, c.if-at-read_long.false, c.if-at-eq0.false))))

@@ -11,7 +11,8 @@ loop-n-preserved c =
       written = subst (λ k. c.put_long.new.out.items ++ offsets c.args.version (c.loop-n.at + k)
           (drop (c.loop-n.n-index + 1) c.args.nodes.now) ≡ all)
           (sym c.size_of-at.ensures.size)
-          (offset_more c.args.version c.loop-n.at c.args.nodes.now c.loop-n.n-index _ c.loop-n.out.items c.put_long.new.out.items all c.loop-n-test.true
+          (offset_more c.args.version c.loop-n.at c.args.nodes.now c.loop-n.n-index _ c.loop-n.out.items
+          c.put_long.new.out.items all c.loop-n-test.true
           c.loop-n.invariant.written c.in_ok-put_long.ensures);
       bound = omega (arith, c.loop-n.invariant.bound, c.size_of-at.ensures.few);
     }

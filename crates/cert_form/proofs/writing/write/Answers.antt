@@ -21,16 +21,16 @@ returns-clause-spelled c =
     ∙ ap (λ k. magic ++ little_bytes 4 1 ++ little_bytes 4 k ++ flat_map node ns) (sym count))
 
 -- what is written keeps the limits, and is the certificate of what is meant
-in_limits : (c : goal.Else-len-gt4194304)
+in_limits : (c : goal.Else-len-gt-MAX_BYTES)
     → AreWritable (plains c.args.nodes.now)
     × (All IsMeant (plains c.args.nodes.now) → SpellsListed c.put_nodes.new.out.items (plains c.args.nodes.now))
 in_limits c =
     let ns = c.args.nodes.now in
     let count : length (plains ns) ≡ length ns = length-map ns plain in
     listed_in_limits c.put_nodes.new.out.items (plains ns) (returns-clause-spelled c)
-    (omega (arith, c.len.ensures, c.if-len-gt4194304.false))
+    (omega (arith, c.len.ensures, c.if-len-gt-MAX_BYTES.false))
     (omega (arith, count, λ (z : length ns ≡ 0). eqb-false (length ns) 0 (sym c.is_empty.ensures ∙ c.if-is_empty.false) z))
-    (omega (arith, count, c.if-nodes-gt16384.false)) c.in_ok-put_nodes.ensures.plain
+    (omega (arith, count, c.if-nodes-gt-MAX_NODES.false)) c.in_ok-put_nodes.ensures.plain
 
 pub returns-clause-kept : goal.returns-clause-kept
 returns-clause-kept c = (in_limits c).0

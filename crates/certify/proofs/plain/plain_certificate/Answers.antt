@@ -18,7 +18,8 @@ use Rattle.certify.proofs.plain.plain_certificate.Goals as goal
 
 pub enter-requires-clause-way : goal.enter-requires-clause-way
 enter-requires-clause-way c =
-    root_way c.args.profile.now (insns c.args.program.now) c.new-store.result c.requires.accepted c.new-store.ensures.entries c.new-store.ensures.nodes
+    root_way c.args.profile.now (insns c.args.program.now) c.new-store.result c.requires.accepted c.new-store.ensures.entries
+    c.new-store.ensures.nodes
 
 pub enter-requires-clause-room : goal.enter-requires-clause-room
 enter-requires-clause-room c = λ meant.
@@ -30,7 +31,8 @@ enter-requires-clause-room c = λ meant.
 
 pub returns-in_err-_root-clause-never : goal.returns-in_err-_root-clause-never
 returns-in_err-_root-clause-never c = λ is shape.
-    let meant : IsMeant c.args.profile.now (insns c.args.program.now) = record { profile = c.requires.profile; plain = is; shape = shape } in
+    let meant : IsMeant c.args.profile.now (insns c.args.program.now) =
+    record { profile = c.requires.profile; plain = is; shape = shape } in
     let memory = c.in_err-_root.ensures.never meant in
     first_of (search (rules, memory), grind (rules, memory))
 

@@ -1,4 +1,5 @@
-use Rattle.std.proofs.Common.{rules, ◌≡◌, ◌+◌, ◌-◌, ◌<◌, ◌≤◌, ◌⊎◌, inl, inr, refl, sym, subst, ap, ◌∙◌, arith, length, ◌∷◌, List, ℕ, true, false}
+use Rattle.std.proofs.Common.{rules, ◌≡◌, ◌+◌, ◌-◌, ◌<◌, ◌≤◌, ◌⊎◌, inl, inr, refl, sym, subst, ap, ◌∙◌, arith, length, ◌∷◌}
+use Rattle.std.proofs.Common.{List, ℕ, true, false}
 use Rattle.call_tables.specs.declared.arch.Arch.TheVariants.{X86_64}
 use Rattle.call_tables.specs.Arch.{token_of}
 use Rattle.bpf_insn.specs.Program.{insns}
@@ -17,23 +18,29 @@ use Rattle.certify.proofs.HalfLaws.{IsHalved, halves_total, high_enough, low_eno
 use Rattle.certify.proofs.RoomLaws.{room_no, room_yes}
 use Rattle.certify.proofs.WayLaws.{at_child, machine_agrees_there, no_child, of_child, stays_short, yes_child}
 use Rattle.certify.proofs.plain.splits.+numbers.Goals as goal
-use Rattle.certify.proofs.plain.splits.+numbers.Goals.{then-low-high-via-then-low-high, then-low-high-via-else-low-high+then-default-word, then-low-high-via-else-low-high+else-default-word+then-is_x32}
+use Rattle.certify.proofs.plain.splits.+numbers.Goals.{then-low-high-via-then-low-high}
+use Rattle.certify.proofs.plain.splits.+numbers.Goals.{then-low-high-via-else-low-high+then-default-word}
+use Rattle.certify.proofs.plain.splits.+numbers.Goals.{then-low-high-via-else-low-high+else-default-word+then-is_x32}
 
 pub ends-requires-clause-agrees : goal.ends-requires-clause-agrees
 ends-requires-clause-agrees t c =
     let policy = c.args.profile.now in
-    let numbers : (c.in-Some.low ≡ c.in-Some.high) ⊎ ((policy.default_word ≡ c.args.word) ⊎ ((token_of c.args.arch ≡ token_of X86_64) × (0x40000000 ≤ c.in-Some.low))) =
+    let numbers : (c.in-Some.low ≡ c.in-Some.high)
+    ⊎ ((policy.default_word ≡ c.args.word) ⊎ ((token_of c.args.arch ≡ token_of X86_64) × (0x40000000 ≤ c.in-Some.low))) =
     elim c.then-low-high.branch [
       | then-low-high-via-then-low-high w ↦ inl w.if-low-high.true
-      | then-low-high-via-else-low-high+then-default-word w ↦ inr (inl (sym c.default_word.ensures ∙ sym c.default.view_is ∙ w.if-default-word.true))
+      | then-low-high-via-else-low-high+then-default-word w ↦ inr
+          (inl (sym c.default_word.ensures ∙ sym c.default.view_is ∙ w.if-default-word.true))
       | then-low-high-via-else-low-high+else-default-word+then-is_x32 w ↦ inr (inr (w.is_x32.ensures.0 w.if-is_x32.true))
     ] in
-    λ meant. machine_agrees_there policy (insns c.args.program.now) c.args.store.now c.args.place c.args.word c.in-Some.low c.in-Some.high c.args.arch
+    λ meant. machine_agrees_there policy (insns c.args.program.now) c.args.store.now c.args.place c.args.word c.in-Some.low
+    c.in-Some.high c.args.arch
     meant c.requires.at c.requires.of c.in-Some.ensures numbers
 
 pub returns-then-halvings-eq0-clause-never : goal.returns-then-halvings-eq0-clause-never
 returns-then-halvings-eq0-clause-never t c = λ meant.
-    absurd (some_left (known_at c.args.store.now c.args.place) c.args.arch c.in-Some.low c.in-Some.high c.args.halvings c.in-Some.ensures c.if-low-high.false
+    absurd (some_left (known_at c.args.store.now c.args.place) c.args.arch c.in-Some.low c.in-Some.high c.args.halvings
+    c.in-Some.ensures c.if-low-high.false
     (c.requires.enough meant) (λ x32. let e : false ≡ true = sym c.if-is_x32.false ∙ c.is_x32.ensures.1 x32 in cc) c.if-halvings-eq0.true)
 
 pub middle-cut-requires-clause-some : goal.middle-cut-requires-clause-some
@@ -55,13 +62,19 @@ numbers-requires t c =
     let l : Lit = In 0 0 cut in
     let m : Lit = In 0 (cut + 1) 0xffffffff in
     let less = c.args.halvings - 1 in
-    let halved : IsMeant policy p → IsHalved policy p s place c.args.word c.in-Some.low c.in-Some.high c.args.arch cut c.args.halvings = λ meant. record {
+    let halved : IsMeant policy p
+    → IsHalved policy p s place c.args.word c.in-Some.low c.in-Some.high c.args.arch cut c.args.halvings = λ meant. record {
       at = c.requires.at;
       of = c.requires.of;
       range = c.in-Some.ensures;
       enough = c.requires.enough meant;
       some = c.if-halvings-eq0.false;
-      cuts = record { from = c.middle-cut.ensures.from; upto = c.middle-cut.ensures.to; native = c.middle-cut.ensures.native; half = c.middle-cut.ensures.half };
+      cuts = record {
+        from = c.middle-cut.ensures.from;
+        upto = c.middle-cut.ensures.to;
+        native = c.middle-cut.ensures.native;
+        half = c.middle-cut.ensures.half;
+      };
       native = λ x32. let e : false ≡ true = sym c.if-is_x32.false ∙ c.is_x32.ensures.1 x32 in cc;
       differ = λ e. c.if-default-word.false (c.default.view_is ∙ c.default_word.ensures ∙ e);
     } in
@@ -74,11 +87,15 @@ numbers-requires t c =
           of_child policy p s u place fork.yes l child c.args.arch (λ e. omega (arith, e)) c.requires.of,
           (
             (λ meant. subst (λ ls. IsEnough ls c.args.arch less) (sym child.known)
-                (low_enough policy p s place c.args.word c.in-Some.low c.in-Some.high c.args.arch cut c.args.halvings meant (halved meant))),
+                (low_enough policy p s place c.args.word c.in-Some.low c.in-Some.high c.args.arch cut c.args.halvings meant
+                (halved meant))),
             (λ meant. room_yes s u place l m fork (count (known_at u fork.yes)) (count (m ∷ known_at s place))
-                (halves_cost c.args.halvings (inside 512 policy.machines (known_at s place))) less c.args.halvings f.forked (c.requires.room meant)
-                (subst (λ ls. count ls + count (m ∷ known_at s place) + 1 ≤ halves_cost c.args.halvings (inside 512 policy.machines (known_at s place))) (sym child.known)
-                (halves_total policy p s place c.args.word c.in-Some.low c.in-Some.high c.args.arch cut c.args.halvings meant (halved meant)))
+                (halves_cost c.args.halvings (inside 512 policy.machines (known_at s place))) less c.args.halvings f.forked
+                (c.requires.room meant)
+                (subst (λ ls. count ls + count (m ∷ known_at s place) + 1
+                ≤ halves_cost c.args.halvings (inside 512 policy.machines (known_at s place))) (sym child.known)
+                (halves_total policy p s place c.args.word c.in-Some.low c.in-Some.high c.args.arch cut c.args.halvings meant
+                (halved meant)))
                 (omega (arith, c.if-halvings-eq0.false))),
           ),
         ),
@@ -98,13 +115,19 @@ numbers-requires-2 t c =
     let l : Lit = In 0 0 cut in
     let m : Lit = In 0 (cut + 1) 0xffffffff in
     let less = c.args.halvings - 1 in
-    let halved : IsMeant policy p → IsHalved policy p s place c.args.word c.in-Some.low c.in-Some.high c.args.arch cut c.args.halvings = λ meant. record {
+    let halved : IsMeant policy p
+    → IsHalved policy p s place c.args.word c.in-Some.low c.in-Some.high c.args.arch cut c.args.halvings = λ meant. record {
       at = c.requires.at;
       of = c.requires.of;
       range = c.in-Some.ensures;
       enough = c.requires.enough meant;
       some = c.if-halvings-eq0.false;
-      cuts = record { from = c.middle-cut.ensures.from; upto = c.middle-cut.ensures.to; native = c.middle-cut.ensures.native; half = c.middle-cut.ensures.half };
+      cuts = record {
+        from = c.middle-cut.ensures.from;
+        upto = c.middle-cut.ensures.to;
+        native = c.middle-cut.ensures.native;
+        half = c.middle-cut.ensures.half;
+      };
       native = λ x32. let e : false ≡ true = sym c.if-is_x32.false ∙ c.is_x32.ensures.1 x32 in cc;
       differ = λ e. c.if-default-word.false (c.default.view_is ∙ c.default_word.ensures ∙ e);
     } in
@@ -118,13 +141,18 @@ numbers-requires-2 t c =
           of_child policy p s u place fork.no m child c.args.arch (λ e. omega (arith, e)) c.requires.of,
           (
             (λ meant. subst (λ ls. IsEnough ls c.args.arch less) (sym child.known)
-                (high_enough policy p s place c.args.word c.in-Some.low c.in-Some.high c.args.arch cut c.args.halvings meant (halved meant))),
+                (high_enough policy p s place c.args.word c.in-Some.low c.in-Some.high c.args.arch cut c.args.halvings meant
+                (halved meant))),
             (λ meant. room_no policy p s c.fork.new.self u place l m fork first (count (known_at u fork.no))
-                (halves_cost c.args.halvings (inside 512 policy.machines (known_at s place))) less c.args.halvings c.in_ok-first.first meant f.forked c.in_ok-first.ensures.made
+                (halves_cost c.args.halvings (inside 512 policy.machines (known_at s place))) less c.args.halvings
+                c.in_ok-first.first meant f.forked c.in_ok-first.ensures.made
                 (c.requires.room meant)
-                (subst (λ ls. count ls + count (known_at u fork.no) + 1 ≤ halves_cost c.args.halvings (inside 512 policy.machines (known_at s place))) (sym f.forked.yes_known)
-                (subst (λ ls. count (l ∷ known_at s place) + count ls + 1 ≤ halves_cost c.args.halvings (inside 512 policy.machines (known_at s place))) (sym child.known)
-                (halves_total policy p s place c.args.word c.in-Some.low c.in-Some.high c.args.arch cut c.args.halvings meant (halved meant))))
+                (subst (λ ls. count ls + count (known_at u fork.no) + 1
+                ≤ halves_cost c.args.halvings (inside 512 policy.machines (known_at s place))) (sym f.forked.yes_known)
+                (subst (λ ls. count (l ∷ known_at s place) + count ls + 1
+                ≤ halves_cost c.args.halvings (inside 512 policy.machines (known_at s place))) (sym child.known)
+                (halves_total policy p s place c.args.word c.in-Some.low c.in-Some.high c.args.arch cut c.args.halvings meant
+                (halved meant))))
                 (omega (arith, c.if-halvings-eq0.false))),
           ),
         ),
@@ -139,7 +167,8 @@ set-requires-clause-short t c =
     let two = c.in_ok-second.ensures.made in
     stays_short s c.numbers-2.new.store (insns c.args.program.now) c.args.place c.requires.at.fits
     (longer_than s.entries.items c.fork.new.self.entries.items c.numbers-2.new.store.entries.items f.forked.entries
-    (longer_than c.fork.new.self.entries.items c.numbers.new.store.entries.items c.numbers-2.new.store.entries.items one.grown.entries two.grown.entries))
+    (longer_than c.fork.new.self.entries.items c.numbers.new.store.entries.items c.numbers-2.new.store.entries.items
+    one.grown.entries two.grown.entries))
 
 pub returns-clause-made : goal.returns-clause-made
 returns-clause-made t c =
@@ -159,19 +188,26 @@ returns-clause-made t c =
     let stands = c.requires.at.stands in
     let range : IsRange (known_at s place) 0 c.in-Some.low c.in-Some.high = c.in-Some.ensures in
     let top = range.greatest.0 in
-    let halved : IsMeant policy p → IsHalved policy p s place c.args.word c.in-Some.low c.in-Some.high c.args.arch cut c.args.halvings = λ meant. record {
+    let halved : IsMeant policy p
+    → IsHalved policy p s place c.args.word c.in-Some.low c.in-Some.high c.args.arch cut c.args.halvings = λ meant. record {
       at = c.requires.at;
       of = c.requires.of;
       range = c.in-Some.ensures;
       enough = c.requires.enough meant;
       some = c.if-halvings-eq0.false;
-      cuts = record { from = c.middle-cut.ensures.from; upto = c.middle-cut.ensures.to; native = c.middle-cut.ensures.native; half = c.middle-cut.ensures.half };
+      cuts = record {
+        from = c.middle-cut.ensures.from;
+        upto = c.middle-cut.ensures.to;
+        native = c.middle-cut.ensures.native;
+        half = c.middle-cut.ensures.half;
+      };
       native = λ x32. let e : false ≡ true = sym c.if-is_x32.false ∙ c.is_x32.ensures.1 x32 in cc;
       differ = λ e. c.if-default-word.false (c.default.view_is ∙ c.default_word.ensures ∙ e);
     } in
     let count : List Lit → ℕ = λ ls. halves_cost less (inside 512 policy.machines ls) in
     let cost = halves_cost c.args.halvings (inside 512 policy.machines (known_at s place)) in
-    let child = no_child policy p s c.fork.new.self u place l m fork first (count (known_at c.fork.new.self fork.yes)) f.forked c.in_ok-first.ensures.made in
+    let child = no_child policy p s c.fork.new.self u place l m fork first (count (known_at c.fork.new.self fork.yes)) f.forked
+    c.in_ok-first.ensures.made in
     made_fork policy p s c.fork.new.self u c.numbers-2.new.store c.set.new.self place (Split l m first second) l m fork first second
     (count (known_at c.fork.new.self fork.yes)) (count (known_at u fork.no)) cost
     c.requires.at.store c.requires.at.fits.chain f.forked c.in_ok-first.ensures.made c.in_ok-second.ensures.made

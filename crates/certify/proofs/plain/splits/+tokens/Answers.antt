@@ -15,7 +15,8 @@ use Rattle.certify.proofs.NodeLaws.{nodes_keep}
 use Rattle.certify.proofs.LeafLaws.{ruled_out, zero_agrees}
 use Rattle.certify.proofs.RoomLaws.{room_no, room_yes, tokens_total}
 use Rattle.certify.proofs.GrowLaws.{longer_than, made_fork}
-use Rattle.certify.proofs.WayLaws.{at_child, foreign_agrees_there, listed_at, no_child, none_left, not_bits, only_bits, out_child, out_more, stays_short, yes_child}
+use Rattle.certify.proofs.WayLaws.{at_child, foreign_agrees_there, listed_at, no_child, none_left, not_bits, only_bits}
+use Rattle.certify.proofs.WayLaws.{out_child, out_more, stays_short, yes_child}
 use Rattle.certify.proofs.plain.splits.+tokens.Goals as goal
 
 pub dead-requires-in_default-range-clause-dead : goal.dead-requires-in_default-range-clause-dead
@@ -24,17 +25,21 @@ dead-requires-in_default-range-clause-dead t c = (1, omega arith, inl c.in_defau
 pub ends-requires-clause-agrees : goal.ends-requires-clause-agrees
 ends-requires-clause-agrees t c = λ meant.
     let is = c.is_refusal.ensures.0 c.if-is_refusal.true in
-    zero_agrees c.args.profile.now (known_at c.args.store.now c.args.place) c.args.word c.in-Some._low c.in-Some._high c.in-Some-range.from c.in-Some-range.to
-    meant.plain.rules (c.requires.at.store.calls c.args.place.chain) (c.requires.at.says meant) c.in-Some.ensures c.in-Some-range.ensures is.0 is.1
+    zero_agrees c.args.profile.now (known_at c.args.store.now c.args.place) c.args.word c.in-Some._low c.in-Some._high
+    c.in-Some-range.from c.in-Some-range.to
+    meant.plain.rules (c.requires.at.store.calls c.args.place.chain) (c.requires.at.says meant) c.in-Some.ensures
+    c.in-Some-range.ensures is.0 is.1
 
 pub ends-requires-in_default-machine_at-clause-agrees : goal.ends-requires-in_default-machine_at-clause-agrees
 ends-requires-in_default-machine_at-clause-agrees t c = λ meant.
-    foreign_agrees_there c.args.profile.now (insns c.args.program.now) c.args.store.now c.args.place c.args.word c.in-Some._low c.in-Some._high c.in-Some-range.from c.in-Some-range.to
+    foreign_agrees_there c.args.profile.now (insns c.args.program.now) c.args.store.now c.args.place c.args.word c.in-Some._low
+    c.in-Some._high c.in-Some-range.from c.in-Some-range.to
     meant c.requires.at c.in-Some.ensures c.in-Some-range.ensures
     (none_left c.args.profile.now c.args.store.now c.args.place c.args.at c.requires.out (sym c.in_default-machine_at.ensures.found))
 
 pub machine-requires-clause-listed : goal.machine-requires-clause-listed
-machine-requires-clause-listed t c = listed_at c.args.profile.now c.args.at c.in-Some-machine_at.arch (sym c.in-Some-machine_at.ensures.found)
+machine-requires-clause-listed t c =
+    listed_at c.args.profile.now c.args.at c.in-Some-machine_at.arch (sym c.in-Some-machine_at.ensures.found)
 
 pub machine-requires-clause-only : goal.machine-requires-clause-only
 machine-requires-clause-only t c = λ u at.
@@ -58,7 +63,8 @@ tokens-requires t c =
         c.requires.at,
         (
           out_more policy s c.args.place c.args.at c.in-Some-machine_at.arch c.requires.out here
-              (λ at. let b = range.between (token_of c.in-Some-machine_at.arch) at in c.if-from-token.false (omega (arith, b, c.if-from-to.true, c.token-token.ensures))),
+              (λ at. let b = range.between (token_of c.in-Some-machine_at.arch) at in
+              c.if-from-token.false (omega (arith, b, c.if-from-to.true, c.token-token.ensures))),
           (λ meant. let nodes = (c.requires.room meant).nodes in let literals = (c.requires.room meant).literals in
               record { nodes = omega (arith, nodes); literals = omega (arith, literals) }),
         ),
@@ -75,7 +81,8 @@ machine-requires-2-clause-at t c =
     (yes_child c.args.store.now c.fork.new.self c.args.place own other fork f.forked) c.args.word f.pcs.0 c.requires.at
 
 pub machine-requires-2-clause-listed : goal.machine-requires-2-clause-listed
-machine-requires-2-clause-listed t c = listed_at c.args.profile.now c.args.at c.in-Some-machine_at.arch (sym c.in-Some-machine_at.ensures.found)
+machine-requires-2-clause-listed t c =
+    listed_at c.args.profile.now c.args.at c.in-Some-machine_at.arch (sym c.in-Some-machine_at.ensures.found)
 
 pub machine-requires-2-clause-only : goal.machine-requires-2-clause-only
 machine-requires-2-clause-only t c = λ u at.
@@ -95,7 +102,8 @@ machine-requires-2-clause-room t c =
     let within = slice_get_within policy.machines c.args.at c.in-Some-machine_at.arch (sym c.in-Some-machine_at.ensures.found) in
     let rest = return_cost n (c.args.at + 1) (inside 512 policy.machines (other ∷ known_at s place)) in
     let cost = return_cost n c.args.at (inside 512 policy.machines (known_at s place)) in
-    λ meant. room_yes s c.fork.new.self place own other fork (halves_cost 10 (inside 512 policy.machines (known_at c.fork.new.self fork.yes))) rest cost
+    λ meant. room_yes s c.fork.new.self place own other fork
+    (halves_cost 10 (inside 512 policy.machines (known_at c.fork.new.self fork.yes))) rest cost
     10 (n - c.args.at + 10) f.forked (c.requires.room meant)
     (subst (λ ls. halves_cost 10 (inside 512 policy.machines ls) + rest + 1 ≤ cost) (sym f.forked.yes_known)
     (tokens_total policy (known_at s place) c.token-token.result c.args.at within))
@@ -110,13 +118,15 @@ tokens-requires-then-rules_out t c =
     let within = slice_get_within policy.machines c.args.at arch here in
     let less : length policy.machines - (c.args.at + 1) < t = omega (arith, c.decreases, within) in
     let out : Entails (known_at s c.args.place) (NotBits 1 0xffffffff (token_of arch)) =
-    subst (λ n. Entails (known_at s c.args.place) (NotBits 1 0xffffffff n)) c.token-token.ensures (c.rules_out.ensures c.if-rules_out.true) in (
+    subst (λ n. Entails (known_at s c.args.place) (NotBits 1 0xffffffff n)) c.token-token.ensures
+    (c.rules_out.ensures c.if-rules_out.true) in (
       less,
       (
         c.requires.at,
         (
           out_more policy s c.args.place c.args.at arch c.requires.out here
-              (ruled_out (known_at s c.args.place) (token_of arch) c.in-Some._low (c.requires.at.store.calls c.args.place.chain) c.in-Some.ensures.least out),
+              (ruled_out (known_at s c.args.place) (token_of arch) c.in-Some._low (c.requires.at.store.calls c.args.place.chain)
+              c.in-Some.ensures.least out),
           (λ meant. let nodes = (c.requires.room meant).nodes in let literals = (c.requires.room meant).literals in
               record { nodes = omega (arith, nodes); literals = omega (arith, literals) }),
         ),
@@ -153,11 +163,14 @@ tokens-requires-2 t c =
         (
           out_more policy u fork.no c.args.at arch (out_child policy s u place fork.no other c.args.at child c.requires.out) here
               (λ at. not_bits (known_at s place) c.token-token.result
-              (subst (λ n. IsPoint (other ∷ known_at s place) 1 n) (sym c.token-token.ensures) (subst (λ ls. IsPoint ls 1 (token_of arch)) child.known at))),
-          (λ meant. room_no policy p s v u place own other fork first rest cost (n - (c.args.at + 1) + 10) (n - c.args.at + 10) c.in_ok-first.first
+              (subst (λ n. IsPoint (other ∷ known_at s place) 1 n) (sym c.token-token.ensures)
+              (subst (λ ls. IsPoint ls 1 (token_of arch)) child.known at))),
+          (λ meant. room_no policy p s v u place own other fork first rest cost (n - (c.args.at + 1) + 10) (n - c.args.at + 10)
+              c.in_ok-first.first
               meant f.forked c.in_ok-first.ensures.made (c.requires.room meant)
               (subst (λ ls. halves_cost 10 (inside 512 policy.machines ls) + rest + 1 ≤ cost) (sym f.forked.yes_known)
-              (subst (λ ls. halves_cost 10 (inside 512 policy.machines (own ∷ known_at s place)) + return_cost n (c.args.at + 1) (inside 512 policy.machines ls) + 1 ≤ cost)
+              (subst (λ ls. halves_cost 10 (inside 512 policy.machines (own ∷ known_at s place))
+              + return_cost n (c.args.at + 1) (inside 512 policy.machines ls) + 1 ≤ cost)
               (sym child.known) (tokens_total policy (known_at s place) c.token-token.result c.args.at within)))
               (omega (arith, within))),
         ),
@@ -172,7 +185,8 @@ set-requires-clause-short t c =
     let two = c.in_ok-second.ensures.made in
     stays_short s c.tokens-2.new.store (insns c.args.program.now) c.args.place c.requires.at.fits
     (longer_than s.entries.items c.fork.new.self.entries.items c.tokens-2.new.store.entries.items f.forked.entries
-    (longer_than c.fork.new.self.entries.items c.machine-2.new.store.entries.items c.tokens-2.new.store.entries.items one.grown.entries two.grown.entries))
+    (longer_than c.fork.new.self.entries.items c.machine-2.new.store.entries.items c.tokens-2.new.store.entries.items
+    one.grown.entries two.grown.entries))
 
 pub returns-clause-made : goal.returns-clause-made
 returns-clause-made t c =
@@ -195,14 +209,17 @@ returns-clause-made t c =
     let rest = return_cost n (c.args.at + 1) (inside 512 policy.machines (known_at u fork.no)) in
     let cost = return_cost n c.args.at (inside 512 policy.machines (known_at s place)) in
     let child = no_child policy p s v u place own other fork first own_cost f.forked c.in_ok-first.ensures.made in
-    made_fork policy p s v u c.tokens-2.new.store c.set.new.self place (Split own other first second) own other fork first second own_cost rest cost
+    made_fork policy p s v u c.tokens-2.new.store c.set.new.self place (Split own other first second) own other fork first
+    second own_cost rest cost
     c.requires.at.store c.requires.at.fits.chain f.forked c.in_ok-first.ensures.made c.in_ok-second.ensures.made
     (λ meant. subst (λ ls. halves_cost 10 (inside 512 policy.machines ls) + rest + 1 ≤ cost) (sym f.forked.yes_known)
-    (subst (λ ls. halves_cost 10 (inside 512 policy.machines (own ∷ known_at s place)) + return_cost n (c.args.at + 1) (inside 512 policy.machines ls) + 1 ≤ cost)
+    (subst (λ ls. halves_cost 10 (inside 512 policy.machines (own ∷ known_at s place))
+    + return_cost n (c.args.at + 1) (inside 512 policy.machines ls) + 1 ≤ cost)
     (sym child.known) (tokens_total policy (known_at s place) c.token-token.result c.args.at within)))
     c.set.ensures.store c.set.ensures.entries c.set.ensures.nodes
     (λ meant ms a b x y.
-    (nodes_keep policy p ms (length s.nodes.items) stands.insn place.held place.pc (known_at s place) stands.inside).split own other first second
+    (nodes_keep policy p ms (length s.nodes.items) stands.insn place.held place.pc (known_at s place) stands.inside).split own
+    other first second
     (refl, refl, refl) x y
     (subst (λ k. StandsAt ms first k place.held (own ∷ known_at s place)) f.pcs.0 a)
     (subst (λ k. StandsAt ms second k place.held (other ∷ known_at s place)) f.pcs.1 b))

@@ -16,5 +16,7 @@ returns-clause-made c =
     let s = c.args.store.now in
     let place = c.args.place in
     let at = some_at p place.pc c.requires.place.inside in
-    made_leaf_if c.args._profile.now p s c.add.new.self place Dead c.add.result c.requires.store c.requires.place.chain e.store e.entries e.nodes e.number
-    (λ meant ms. (nodes_keep c.args._profile.now p ms (length s.nodes.items) at.0 place.held place.pc (known_at s place) at.1).dead c.requires.dead)
+    made_leaf_if c.args._profile.now p s c.add.new.self place Dead c.add.result c.requires.store c.requires.place.chain e.store
+    e.entries e.nodes e.number
+    (λ meant ms. (nodes_keep c.args._profile.now p ms (length s.nodes.items) at.0 place.held place.pc (known_at s place)
+    at.1).dead c.requires.dead)

@@ -13,8 +13,10 @@ returns-clause-made c =
     let s = c.args.store.now in
     let place = c.args.place in
     let at = c.requires.stands in
-    made_leaf_if c.args.profile.now p s c.add.new.self place Return c.add.result c.requires.store c.requires.place.chain e.store e.entries e.nodes e.number
-    (λ meant ms. (nodes_keep c.args.profile.now p ms (length s.nodes.items) at.insn place.held place.pc (known_at s place) at.inside).return c.args.word at.ends (c.requires.agrees meant))
+    made_leaf_if c.args.profile.now p s c.add.new.self place Return c.add.result c.requires.store c.requires.place.chain e.store
+    e.entries e.nodes e.number
+    (λ meant ms. (nodes_keep c.args.profile.now p ms (length s.nodes.items) at.insn place.held place.pc (known_at s place)
+    at.inside).return c.args.word at.ends (c.requires.agrees meant))
 
 pub returns-then-is_unlike-clause-never : goal.returns-then-is_unlike-clause-never
 returns-then-is_unlike-clause-never c = λ meant.

@@ -10,5 +10,6 @@ dead-requires-clause-dead c = (1, omega arith, inl c.in_default.ensures)
 pub numbers-requires-clause-of : goal.numbers-requires-clause-of
 numbers-requires-clause-of c = record {
   listed = c.requires.listed;
-  token = only_range (known_at c.args.store.now c.args.place) 1 (token_of c.args.arch) c.in-Some._from c.in-Some._to c.in-Some.ensures c.requires.only;
+  token = only_range (known_at c.args.store.now c.args.place) 1 (token_of c.args.arch) c.in-Some._from c.in-Some._to
+      c.in-Some.ensures c.requires.only;
 }

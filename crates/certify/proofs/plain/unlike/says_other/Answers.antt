@@ -7,4 +7,5 @@ returns c = λ clear says.
     let small_token : c.args.token < 2 ^ 32 = search rules in
     let small_number : c.args.number < 2 ^ 32 = search rules in
     absurd (c.if-said-word.false (c.said.view_is
-    ∙ one_word c.args.profile.now c.args.token c.args.number c.decide-said.result c.args.word small_token small_number clear c.decide-said.ensures says))
+    ∙ one_word c.args.profile.now c.args.token c.args.number c.decide-said.result c.args.word small_token small_number clear
+    c.decide-said.ensures says))

@@ -1,4 +1,5 @@
-use Rattle.std.proofs.Common.{rules, ◌≡◌, ◌+◌, ◌-◌, ◌<◌, ◌≤◌, ◌^◌, ◌⊎◌, inl, inr, ⊎_elim, refl, sym, subst, ◌∙◌, ap, arith, length, ◌∷◌, Some, None, true, false, List, ℕ}
+use Rattle.std.proofs.Common.{rules, ◌≡◌, ◌+◌, ◌-◌, ◌<◌, ◌≤◌, ◌^◌, ◌⊎◌, inl, inr, ⊎_elim, refl, sym, subst, ◌∙◌, ap, arith}
+use Rattle.std.proofs.Common.{length, ◌∷◌, Some, None, true, false, List, ℕ}
 use Rattle.std.specs.Prelude.{slice_get, Option}
 use Rattle.std.specs.Option.{option_map}
 use Rattle.bpf_insn.specs.Program.{insns}
@@ -52,20 +53,28 @@ returns-in_default-range-clause-made t c =
     let p = insns c.args.program.now in
     let s = c.args.store.now in
     let place = c.args.place in
-    made_within_if policy p s c.dead-in_default-range.new.store place 1 (path_cost p place.pc (inside 512 policy.machines (known_at s place))) c.dead-in_default-range.result
+    made_within_if policy p s c.dead-in_default-range.new.store place 1
+    (path_cost p place.pc (inside 512 policy.machines (known_at s place))) c.dead-in_default-range.result
     (λ meant. let some = some_weight p place.pc c.requires.way.fits.inside in omega (arith, some)) c.dead-in_default-range.ensures.made
 
 pub returns-in-None-clause-never : goal.returns-in-None-clause-never
 returns-in-None-clause-never t c = λ meant.
     let small : c.get-insn.result.k < 2 ^ 32 = search rules in
-    absurd (way_moves c.args.profile.now (insns c.args.program.now) c.args.store.now c.args.place c.requires.way c.get-insn.result c.get-insn.ensures small meant
-    (record { token = c.in-Some-range._from; number = c.in-Some._low; token_is = c.in-Some-range.ensures.least; number_is = c.in-Some.ensures.least })
+    absurd (way_moves c.args.profile.now (insns c.args.program.now) c.args.store.now c.args.place c.requires.way
+    c.get-insn.result c.get-insn.ensures small meant
+    (record {
+      token = c.in-Some-range._from;
+      number = c.in-Some._low;
+      token_is = c.in-Some-range.ensures.least;
+      number_is = c.in-Some.ensures.least;
+    })
     (sym c.in-None.ensures))
 
 pub tokens-requires-clause-at : goal.tokens-requires-clause-at
 tokens-requires-clause-at t c =
     let small : c.get-insn.result.k < 2 ^ 32 = search rules in
-    way_ends c.args.profile.now (insns c.args.program.now) c.args.store.now c.args.place c.requires.way c.get-insn.result c.get-insn.ensures small
+    way_ends c.args.profile.now (insns c.args.program.now) c.args.store.now c.args.place c.requires.way c.get-insn.result
+    c.get-insn.ensures small
     c.in-Some-Ends.word (sym c.in-Some-Ends.ensures ∙ ap (λ m. Some (move_by m)) c.in-Some-Ends.field-0-is)
 
 pub tokens-requires-clause-room : goal.tokens-requires-clause-room
@@ -87,7 +96,8 @@ returns-in-Some-Ends-clause-made t c =
     let s = c.args.store.now in
     let place = c.args.place in
     let calls = inside 512 policy.machines (known_at s place) in
-    made_within_if policy p s c.tokens.new.store place (return_cost (length policy.machines) 0 calls) (path_cost p place.pc calls) c.tokens.result
+    made_within_if policy p s c.tokens.new.store place (return_cost (length policy.machines) 0 calls)
+    (path_cost p place.pc calls) c.tokens.result
     (λ meant.
     let five = ends_cost p place.pc c.get-insn.result place.held c.get-insn.ensures c.in-Some-Ends.word
     (sym c.in-Some-Ends.ensures ∙ ap (λ m. Some (move_by m)) c.in-Some-Ends.field-0-is) in
@@ -97,7 +107,8 @@ returns-in-Some-Ends-clause-made t c =
 pub after-pc-requires : goal.after-pc-requires
 after-pc-requires t c =
     let way = c.requires.way in
-    let inside = goes_inside (insns c.args.program.now) c.args.place.pc c.get-insn.result c.args.place.held c.get-insn.ensures way.accepted c.in-Some-Goes.skip c.in-Some-Goes.held
+    let inside = goes_inside (insns c.args.program.now) c.args.place.pc c.get-insn.result c.args.place.held c.get-insn.ensures
+    way.accepted c.in-Some-Goes.skip c.in-Some-Goes.held
     (sym c.in-Some-Goes.ensures ∙ ap (λ m. Some (move_by m)) c.in-Some-Goes.field-0-is) in
     let limit = way.accepted.limit in
     omega (arith, inside, limit)
@@ -131,13 +142,16 @@ enter-requires t c =
     let costs = goes_cost p place.pc insn place.held c.get-insn.ensures skip now move in (
       less,
       (
-        way_goes c.args.profile.now p c.args.store.now place way insn c.get-insn.ensures small c.add.new.self next skip now move e.store e.entries at refl refl refl,
+        way_goes c.args.profile.now p c.args.store.now place way insn c.get-insn.ensures small c.add.new.self next skip now move
+            e.store e.entries at refl refl refl,
         λ meant.
             let policy = c.args.profile.now in
-            let known : known_at c.add.new.self next ≡ known_at c.args.store.now place = ap (λ (xs : List (ℕ × Lit)). literals xs place.chain) e.entries in
+            let known : known_at c.add.new.self next ≡ known_at c.args.store.now place =
+            ap (λ (xs : List (ℕ × Lit)). literals xs place.chain) e.entries in
             let nodes = (c.requires.room meant).nodes in
             let room = (c.requires.room meant).literals in
-            let more = length_more c.args.store.now.nodes.items c.add.new.self.nodes.items (chain_node_of place (Step (c.count-behind.result + 1) 0xffffffff)) e.nodes in
+            let more = length_more c.args.store.now.nodes.items c.add.new.self.nodes.items
+            (chain_node_of place (Step (c.count-behind.result + 1) 0xffffffff)) e.nodes in
             record {
               nodes = omega (arith, more, nodes, costs.0, ap (λ n. weight p n) at, ap (λ ls. inside 512 policy.machines ls) known);
               literals = omega (arith, room, costs.1, ap (λ n. depth p n) at);
@@ -165,13 +179,20 @@ returns-in_ok-_next-in-Some-Goes-clause-made t c =
     sym c.in-Some-Goes.ensures ∙ ap (λ m. Some (move_by m)) c.in-Some-Goes.field-0-is in
     let known : known_at c.add.new.self next ≡ known_at s place = ap (λ (xs : List (ℕ × Lit)). literals xs place.chain) e.entries in
     let cost : List Lit → ℕ = λ ls. path_cost p c.after-pc.result (inside 512 policy.machines ls) in
-    made_step policy p s c.add.new.self way.store e.store place (Step behind 0xffffffff) c.enter.new.store found c.in_ok-number-in-Some-Goes.number
+    made_step policy p s c.add.new.self way.store e.store place (Step behind 0xffffffff) c.enter.new.store found
+    c.in_ok-number-in-Some-Goes.number
     (cost (known_at c.add.new.self next)) (path_cost p place.pc (inside 512 policy.machines (known_at s place))) next
     (λ meant. subst (λ ls. cost ls + 1 ≤ path_cost p place.pc (inside 512 policy.machines (known_at s place))) (sym known)
     (omega (arith, (goes_cost p place.pc insn place.held c.get-insn.ensures skip now move).0, ap (λ n. weight p n) c.after-pc.ensures)))
     e.number way.fits.chain e.entries e.nodes refl made
     (λ meant ms stands less.
-    let same : found ≡ behind = omega (arith, made_at, c.count-behind.ensures.count, length_more s.nodes.items c.add.new.self.nodes.items (chain_node_of place (Step behind 0xffffffff)) e.nodes) in
+    let same : found ≡ behind =
+    omega (
+      arith,
+      made_at,
+      c.count-behind.ensures.count,
+      length_more s.nodes.items c.add.new.self.nodes.items (chain_node_of place (Step behind 0xffffffff)) e.nodes,
+    ) in
     (nodes_keep policy p ms (length s.nodes.items) insn place.held place.pc (known_at s place) c.get-insn.ensures).step skip now behind move
     (omega (arith, less, same))
     (subst (λ k. StandsAt ms k (place.pc + 1 + skip) now (known_at s place)) same
@@ -202,15 +223,23 @@ enter-requires-in-Some-Forks t c =
     let cost = path_cost p place.pc (calls (known_at s place)) in
     let rest = path_cost p (place.pc + 1 + insn.jf) (calls (m ∷ known_at s place)) in
     let lower : depth p fork.yes.pc + 12 + 1 ≤ depth p place.pc + 12 =
-    omega (arith, taken_lower policy p place.pc insn place.held c.get-insn.ensures small test w move (known_at s place) l m c.fact.ensures.fact c.fact-in-Some-Forks.ensures.fact, ap (depth p) at) in (
+    omega (
+      arith,
+      taken_lower policy p place.pc insn place.held c.get-insn.ensures small test w move (known_at s place) l m
+          c.fact.ensures.fact c.fact-in-Some-Forks.ensures.fact,
+      ap (depth p) at,
+    ) in (
       less,
       (
-        way_forks policy p s place way insn c.get-insn.ensures small u fork.yes test w true l move c.fact.ensures.fact (yes_child s u place l m fork f.forked) at,
-        λ meant. room_yes s u place l m fork (path_cost p fork.yes.pc (calls (known_at u fork.yes))) rest cost (depth p fork.yes.pc + 12) (depth p place.pc + 12)
+        way_forks policy p s place way insn c.get-insn.ensures small u fork.yes test w true l move c.fact.ensures.fact
+            (yes_child s u place l m fork f.forked) at,
+        λ meant. room_yes s u place l m fork (path_cost p fork.yes.pc (calls (known_at u fork.yes))) rest cost
+            (depth p fork.yes.pc + 12) (depth p place.pc + 12)
             f.forked (c.requires.room meant)
             (subst (λ ls. path_cost p fork.yes.pc (calls ls) + rest + 1 ≤ cost) (sym f.forked.yes_known)
             (subst (λ k. path_cost p k (calls (l ∷ known_at s place)) + rest + 1 ≤ cost) (sym at)
-            (forks_total policy p place.pc insn place.held c.get-insn.ensures small test w move (known_at s place) l m c.fact.ensures.fact c.fact-in-Some-Forks.ensures.fact)))
+            (forks_total policy p place.pc insn place.held c.get-insn.ensures small test w move (known_at s place) l m
+            c.fact.ensures.fact c.fact-in-Some-Forks.ensures.fact)))
             lower,
       ),
     )
@@ -245,17 +274,28 @@ enter-requires-in-Some-Forks-2 t c =
     let one = c.in_ok-first-in-Some-Forks.ensures.made in
     let child = no_child policy p s v u place l m fork c.in_ok-first-in-Some-Forks.first first f.forked one in
     let lower : depth p fork.no.pc + 12 + 1 ≤ depth p place.pc + 12 =
-    omega (arith, other_lower policy p place.pc insn place.held c.get-insn.ensures small test w move (known_at s place) l m c.fact.ensures.fact c.fact-in-Some-Forks.ensures.fact, ap (depth p) at) in (
+    omega (
+      arith,
+      other_lower policy p place.pc insn place.held c.get-insn.ensures small test w move (known_at s place) l m
+          c.fact.ensures.fact c.fact-in-Some-Forks.ensures.fact,
+      ap (depth p) at,
+    ) in (
       less,
       (
-        way_forks policy p s place way insn c.get-insn.ensures small u fork.no test w false m move c.fact-in-Some-Forks.ensures.fact child at,
-        λ meant. room_no policy p s v u place l m fork first rest cost (depth p fork.no.pc + 12) (depth p place.pc + 12) c.in_ok-first-in-Some-Forks.first
+        way_forks policy p s place way insn c.get-insn.ensures small u fork.no test w false m move
+            c.fact-in-Some-Forks.ensures.fact child at,
+        λ meant. room_no policy p s v u place l m fork first rest cost (depth p fork.no.pc + 12) (depth p place.pc + 12)
+            c.in_ok-first-in-Some-Forks.first
             meant f.forked one (c.requires.room meant)
             (subst (λ ls. path_cost p fork.yes.pc (calls ls) + rest + 1 ≤ cost) (sym f.forked.yes_known)
-            (subst (λ ls. path_cost p fork.yes.pc (calls (l ∷ known_at s place)) + path_cost p fork.no.pc (calls ls) + 1 ≤ cost) (sym child.known)
-            (subst (λ k. path_cost p k (calls (l ∷ known_at s place)) + path_cost p fork.no.pc (calls (m ∷ known_at s place)) + 1 ≤ cost) (sym at_yes)
-            (subst (λ k. path_cost p (place.pc + 1 + insn.jt) (calls (l ∷ known_at s place)) + path_cost p k (calls (m ∷ known_at s place)) + 1 ≤ cost) (sym at)
-            (forks_total policy p place.pc insn place.held c.get-insn.ensures small test w move (known_at s place) l m c.fact.ensures.fact c.fact-in-Some-Forks.ensures.fact)))))
+            (subst (λ ls. path_cost p fork.yes.pc (calls (l ∷ known_at s place)) + path_cost p fork.no.pc (calls ls) + 1 ≤ cost)
+            (sym child.known)
+            (subst (λ k. path_cost p k (calls (l ∷ known_at s place)) + path_cost p fork.no.pc (calls (m ∷ known_at s place))
+            + 1 ≤ cost) (sym at_yes)
+            (subst (λ k. path_cost p (place.pc + 1 + insn.jt) (calls (l ∷ known_at s place))
+            + path_cost p k (calls (m ∷ known_at s place)) + 1 ≤ cost) (sym at)
+            (forks_total policy p place.pc insn place.held c.get-insn.ensures small test w move (known_at s place) l m
+            c.fact.ensures.fact c.fact-in-Some-Forks.ensures.fact)))))
             lower,
       ),
     )
@@ -301,16 +341,21 @@ returns-in_ok-second-in-Some-Forks-clause-made t c =
     let second = c.in_ok-second-in-Some-Forks.second in
     let one = c.in_ok-first-in-Some-Forks.ensures.made in
     let child = no_child policy p s v u place l m fork first first_cost f.forked one in
-    made_fork policy p s v u c.enter-in-Some-Forks-2.new.store c.set.new.self place (Step first second) l m fork first second first_cost rest cost
+    made_fork policy p s v u c.enter-in-Some-Forks-2.new.store c.set.new.self place (Step first second) l m fork first second
+    first_cost rest cost
     way.store way.fits.chain f.forked one c.in_ok-second-in-Some-Forks.ensures.made
     (λ meant. subst (λ ls. path_cost p fork.yes.pc (calls ls) + rest + 1 ≤ cost) (sym f.forked.yes_known)
     (subst (λ ls. path_cost p fork.yes.pc (calls (l ∷ known_at s place)) + path_cost p fork.no.pc (calls ls) + 1 ≤ cost) (sym child.known)
-    (subst (λ k. path_cost p k (calls (l ∷ known_at s place)) + path_cost p fork.no.pc (calls (m ∷ known_at s place)) + 1 ≤ cost) (sym at_yes)
-    (subst (λ k. path_cost p (place.pc + 1 + insn.jt) (calls (l ∷ known_at s place)) + path_cost p k (calls (m ∷ known_at s place)) + 1 ≤ cost) (sym at)
-    (forks_total policy p place.pc insn place.held c.get-insn.ensures small test w move (known_at s place) l m c.fact.ensures.fact c.fact-in-Some-Forks.ensures.fact)))))
+    (subst (λ k. path_cost p k (calls (l ∷ known_at s place)) + path_cost p fork.no.pc (calls (m ∷ known_at s place))
+    + 1 ≤ cost) (sym at_yes)
+    (subst (λ k. path_cost p (place.pc + 1 + insn.jt) (calls (l ∷ known_at s place))
+    + path_cost p k (calls (m ∷ known_at s place)) + 1 ≤ cost) (sym at)
+    (forks_total policy p place.pc insn place.held c.get-insn.ensures small test w move (known_at s place) l m
+    c.fact.ensures.fact c.fact-in-Some-Forks.ensures.fact)))))
     c.set.ensures.store c.set.ensures.entries c.set.ensures.nodes
     (λ meant ms a b x y.
-    (nodes_keep policy p ms (length s.nodes.items) insn place.held place.pc (known_at s place) c.get-insn.ensures).fork test w first second l m
+    (nodes_keep policy p ms (length s.nodes.items) insn place.held place.pc (known_at s place) c.get-insn.ensures).fork test w
+    first second l m
     move x y c.fact.ensures.fact c.fact-in-Some-Forks.ensures.fact
     (subst (λ k. StandsAt ms first k place.held (l ∷ known_at s place)) at_yes a)
     (subst (λ k. StandsAt ms second k place.held (m ∷ known_at s place)) at b))

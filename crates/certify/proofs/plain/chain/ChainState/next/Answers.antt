@@ -9,7 +9,8 @@ use Rattle.certify.proofs.ChainFacts.{literals_none, literals_past, chain_next}
 use Rattle.certify.proofs.plain.chain.ChainState.next.Goals as goal
 
 pub returns-then-at-eq0-clause-more : goal.returns-then-at-eq0-clause-more
-returns-then-at-eq0-clause-more c = ap (λ n. literals c.args.self.now.entries.now n) c.if-at-eq0.true ∙ literals_none c.args.self.now.entries.now
+returns-then-at-eq0-clause-more c =
+    ap (λ n. literals c.args.self.now.entries.now n) c.if-at-eq0.true ∙ literals_none c.args.self.now.entries.now
 
 pub returns-then-at-self-clause-more : goal.returns-then-at-self-clause-more
 returns-then-at-self-clause-more c = literals_past c.args.self.now.entries.now c.args.at (omega (arith, c.if-at-self.true))

@@ -14,10 +14,12 @@ returns c = λ is.
     let number = c.args.number in
     let small : c.args.number < 2 ^ 32 = search rules in
     let range : IsRange (literals entries c.args.chain) word c.in-Some._low c.in-Some._high =
-    subst (λ (xs : List (ℕ × Lit)). IsRange (literals xs c.args.chain) word c.in-Some._low c.in-Some._high) c.deref.ensures.value c.in-Some.ensures in
+    subst (λ (xs : List (ℕ × Lit)). IsRange (literals xs c.args.chain) word c.in-Some._low c.in-Some._high)
+    c.deref.ensures.value c.in-Some.ensures in
     let possible : Entails (literals entries c.args.chain) (NotBits word 0xffffffff number) → ⊥ = λ out.
     let e : false ≡ true = c.if-entails.ensures.1
-    (subst (λ (xs : List (ℕ × Lit)). Entails (literals xs c.args.chain) (NotBits word 0xffffffff number)) (sym c.deref.ensures.value) out) in
+    (subst (λ (xs : List (ℕ × Lit)). Entails (literals xs c.args.chain) (NotBits word 0xffffffff number))
+    (sym c.deref.ensures.value) out) in
     cc in
     ⊎_elim
     (λ (point : IsPoint (literals entries c.args.chain) word number). point)

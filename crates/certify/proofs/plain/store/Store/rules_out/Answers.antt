@@ -7,4 +7,5 @@ use Rattle.certify.proofs.plain.store.Store.rules_out.Goals as goal
 
 pub returns : goal.returns
 returns c = λ is.
-    subst (λ (xs : List (ℕ × Lit)). Entails (literals xs c.args.chain) (NotBits 1 0xffffffff c.args.token)) c.deref.ensures.value (c.entails.ensures.0 is)
+    subst (λ (xs : List (ℕ × Lit)). Entails (literals xs c.args.chain) (NotBits 1 0xffffffff c.args.token))
+    c.deref.ensures.value (c.entails.ensures.0 is)
