@@ -22,11 +22,11 @@
 //! - `own MACHINE BUNDLE` has the program export the filter and the certificate of a bundle, each with its status, and check
 //!   the two.
 //! - `outputs ccell WORD .. < FILE` runs the program on these words and this input, which may be left out, with an output
-//!   that has room for each beginning of what is written: it fails then, or takes nothing more; and it takes all bytes of
-//!   a call at once, or one. Each time the output has to hold that beginning, with status 3 and the line of a failed write
+//!   that has room for each beginning of what is written: then it fails for good, fails once and goes on, or takes nothing
+//!   more; and it takes all bytes of a call at once, or one. Each time the output has to hold that beginning, with status 3 and the line of a failed write
 //!   on standard error, and nothing more may be read. The answer is how many beginnings there are.
-//! - `inputs ccell WORD .. < FILE` runs it with an input that fails at each of its calls, where a call gives all bytes that
-//!   there are, or one. Each time the output has to hold the replies to the lines that were read whole, with status 3 and
+//! - `inputs ccell WORD .. < FILE` runs it with an input that fails at each of its calls, for good or once, where a call
+//!   gives all bytes that there are, or one. Each time the output has to hold the replies to the lines that were read whole, with status 3 and
 //!   the line of a failed read. The answer is how many calls there are, one byte a call.
 //! - `ends ccell WORD .. < FILE` runs it with an input that gives a byte a call, and none behind each of its beginnings: it
 //!   has to do what it does on that beginning alone. The answer is how many there are.
@@ -63,8 +63,8 @@
 //! - `long-chain COUNT` reads a certificate of one node with a chain of so many literals.
 //! - `nodes-flipped FILE` reads a certificate with each of its bits flipped alone, and counts the answers.
 //! - `made-up SEED COUNT` draws so many small profiles and filters of up to eight instructions, makes eight certificates of
-//!   each accepted one by changing its nodes, in forms 1 to 3, and counts the answers. Where one is yes, the filter is run on a
-//!   grid of records, and its words are compared with the profile's.
+//!   each accepted one by changing its nodes, in all forms, and says whether each refusal comes, more than a fifth are yes and
+//!   none wrongly: where one is yes, the filter is run on a grid of records, and its words are compared with the profile's.
 //! - `check-beginnings`, `check-flipped-filter`, `check-flipped-certificate` and then `MACHINE BUNDLE FILTER CERTIFICATE`
 //!   run the check with each beginning of the certificate, or with each bit of the filter or certificate flipped alone.
 //!   They count the answers, without the places that these name. Where the answer is yes, the filter is run on a grid of
@@ -80,6 +80,7 @@ mod calls;
 mod cases;
 mod certified;
 mod changes;
+mod claims;
 mod conformance;
 mod dice;
 mod evidence;

@@ -2,14 +2,13 @@
 
 use crate::bytes::tell_bytes;
 use crate::changes::{bits, flipped};
+use crate::claims::{claim_nodes_of, claimed};
 use crate::shelf::Shelf;
 use crate::tally::Tally;
 use crate::tell::tell;
 use crate::text::narrow;
 use anyhow::{Context, Result};
-use cert_form::{
-    CertView, ChainNode, Claim, Kind, Node, NodeView, write, write_chained, write_claims,
-};
+use cert_form::{CertView, ChainNode, Kind, Node, NodeView, write, write_chained};
 use cert_state::{AVal, Lit, Regs, State};
 use std::alloc::Global;
 
@@ -36,7 +35,7 @@ pub fn answer(
         }
         "claimed" => {
             let (name, other) = rest.split_once(' ').context("two files")?;
-            let written = claimed(alloc, shelf.bytes_of(name)?)?;
+            let written = claimed(alloc, &claim_nodes_of(alloc, shelf.bytes_of(name)?)?)?;
             tell_alike(out, alloc, &written, shelf.bytes_of(other)?)?;
         }
         "long-chain" => tell_long(out, alloc, rest)?,
@@ -107,20 +106,24 @@ fn literals_of(alloc: Global, node: &NodeView<'_>) -> Result<Vec<Lit>> {
     Ok(lits)
 }
 
-/// The nodes of a certificate.
+/// The nodes of a certificate, with their literals alone.
 pub fn nodes_of(alloc: Global, bytes: &[u8]) -> Result<Vec<Node>> {
     let view = CertView::read(alloc, bytes)?;
     let mut nodes = Vec::new(alloc);
     for i in 0..view.len() {
-        let node = view.node(i);
-        nodes.push(Node {
-            kind: node.kind(),
-            pc: node.pc(),
-            regs: node.regs(),
-            lits: literals_of(alloc, &node)?,
-        })?;
+        nodes.push(node_of(alloc, &view.node(i))?)?;
     }
     Ok(nodes)
+}
+
+// A node with its literals.
+fn node_of(alloc: Global, node: &NodeView<'_>) -> Result<Node> {
+    Ok(Node {
+        kind: node.kind(),
+        pc: node.pc(),
+        regs: node.regs(),
+        lits: literals_of(alloc, node)?,
+    })
 }
 
 /// Nodes, written with a chain for each node's literals.
@@ -146,66 +149,4 @@ fn add_chain(entries: &mut Vec<(u32, Lit)>, lits: &[Lit]) -> Result<u32> {
         parent = u32::try_from(entries.len())?;
     }
     Ok(parent)
-}
-
-// The rules that a node says to be out, of which there are 512 at most.
-fn outs_of(alloc: Global, node: &NodeView<'_>) -> Result<Vec<u32>> {
-    let mut outs = Vec::new(alloc);
-    let mut at = node.first_out();
-    for _ in 0..512 {
-        let Some((place, next)) = node.next_out(at) else {
-            break;
-        };
-        outs.push(place)?;
-        at = next;
-    }
-    Ok(outs)
-}
-
-// The conditions that a node says to be met, of which there are 512 at most.
-fn mets_of(alloc: Global, node: &NodeView<'_>) -> Result<Vec<(u32, u32)>> {
-    let mut mets = Vec::new(alloc);
-    let mut at = node.first_met();
-    for _ in 0..512 {
-        let Some((place, next)) = node.next_met(at) else {
-            break;
-        };
-        mets.push(place)?;
-        at = next;
-    }
-    Ok(mets)
-}
-
-// The nodes of a certificate, written in form 4 with a chain for what each node says: its literals, then the rules that
-// are out, then the conditions that are met.
-fn claimed(alloc: Global, bytes: &[u8]) -> Result<Vec<u8>> {
-    let view = CertView::read(alloc, bytes)?;
-    let mut entries = Vec::new(alloc);
-    let mut nodes = Vec::new(alloc);
-    for i in 0..view.len() {
-        let node = view.node(i);
-        let mut chain = 0;
-        for literal in literals_of(alloc, &node)? {
-            chain = add_claim(&mut entries, chain, Claim::Knows(literal))?;
-        }
-        for place in outs_of(alloc, &node)? {
-            chain = add_claim(&mut entries, chain, Claim::Out(place))?;
-        }
-        for (rule, own) in mets_of(alloc, &node)? {
-            chain = add_claim(&mut entries, chain, Claim::Met(rule, own))?;
-        }
-        nodes.push(ChainNode {
-            kind: node.kind(),
-            pc: node.pc(),
-            regs: node.regs(),
-            chain,
-        })?;
-    }
-    Ok(write_claims(alloc, &entries, &nodes)?)
-}
-
-// Adds an entry behind another, and gives its number.
-fn add_claim(entries: &mut Vec<(u32, Claim)>, parent: u32, claim: Claim) -> Result<u32> {
-    entries.push((parent, claim))?;
-    Ok(u32::try_from(entries.len())?)
 }

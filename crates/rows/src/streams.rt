@@ -4,7 +4,9 @@ pub mod ends;
 pub mod trial;
 
 use crate::shelf::Shelf;
-use crate::streams::ends::{AT_ONCE, BYTE_BY_BYTE, Manner, TO_AN_END};
+use crate::streams::ends::{
+    AT_ONCE, AT_ONCE_AGAIN, BYTE_BY_BYTE, BYTE_BY_BYTE_AGAIN, GivesOut, Manner, TO_AN_END,
+};
 use crate::streams::trial::Case;
 use crate::tell::tell;
 use crate::text::expanded;
@@ -80,8 +82,8 @@ fn outputs(out: &mut String, alloc: Global, shelf: &mut Shelf, line: &str) -> Re
     let case = Case::read(alloc, shelf, line)?;
     let whole = case.run(alloc, shelf, AT_ONCE, usize::MAX, usize::MAX);
     for most in [usize::MAX, 1] {
-        for fails in [true, false] {
-            let manner = Manner { most, fails };
+        for how in [GivesOut::Fails, GivesOut::FailsOnce, GivesOut::MovesNone] {
+            let manner = Manner { most, how };
             if let Some(room) = wrong_room(alloc, shelf, &case, &whole.out, manner)? {
                 return tell(out, format_args!("wrong with room for {room} bytes"));
             }
@@ -117,7 +119,7 @@ fn wrong_call(
 fn inputs(out: &mut String, alloc: Global, shelf: &mut Shelf, line: &str) -> Result<()> {
     let case = Case::read(alloc, shelf, line)?;
     let whole = case.run(alloc, shelf, AT_ONCE, usize::MAX, usize::MAX);
-    for manner in [AT_ONCE, BYTE_BY_BYTE] {
+    for manner in [AT_ONCE, AT_ONCE_AGAIN, BYTE_BY_BYTE, BYTE_BY_BYTE_AGAIN] {
         if let Some(call) = wrong_call(alloc, shelf, &case, &whole.out, manner)? {
             return tell(out, format_args!("wrong after {call} calls"));
         }

@@ -32,6 +32,23 @@ impl Tally {
         Ok(())
     }
 
+    /// How often an answer came.
+    pub fn of(&self, kind: &str) -> u64 {
+        match self.counts.get(kind) {
+            Some(count) => *count,
+            None => 0,
+        }
+    }
+
+    /// How many answers came.
+    pub fn all(&self) -> u64 {
+        let mut sum = 0_u64;
+        for (_, count) in &self.counts {
+            sum = sum.saturating_add(*count);
+        }
+        sum
+    }
+
     /// Adds a line for each answer.
     pub fn tell(&self, out: &mut String) -> Result<()> {
         for (kind, count) in &self.counts {

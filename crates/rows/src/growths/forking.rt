@@ -12,15 +12,16 @@ const LOAD: Event = Event {
     attached: Some(ALLOW),
 };
 
-const FORK: Event = Event {
+/// A fork by the first task.
+pub const FORK: Event = Event {
     task: 1,
     name: "fork",
     args: [0, 0],
     attached: None,
 };
 
-// Has a call carried out so many times.
-fn present_often<K: Kernel>(kernel: &mut K, id: &Id, event: &Event, times: u64) -> Result<()> {
+/// Has a call carried out so many times.
+pub fn present_often<K: Kernel>(kernel: &mut K, id: &Id, event: &Event, times: u64) -> Result<()> {
     let rec = event.record()?;
     for _ in 0..times {
         let outcome = kernel.present(id, event.task, &rec, event.attached)?;

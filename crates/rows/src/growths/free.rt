@@ -1,8 +1,9 @@
 //! Calls that take no memory.
 
-use crate::growths::kernels::{ALLOW, EVENTS};
+use crate::growths::forking::{FORK, present_often};
+use crate::growths::kernels::{ALLOW, EVENTS, Event};
 use crate::growths::making::Made;
-use anyhow::{Context, Result};
+use anyhow::{Context, Result, ensure};
 use bpf_insn::Program;
 use bpf_interp::{verdict, verdict_counted};
 use call_tables::Arch;
@@ -12,10 +13,30 @@ use cli::verdict_line;
 use export::{ToWrite, export_cert, export_raw};
 use kernel_check::accept;
 use lifecycle::Runtime;
-use processes::{Id, Kernel, TaskTable};
+use processes::{Id, Kernel, Outcome, TaskTable};
 use profile::overlap;
 use std::alloc::Global;
 use std::io;
+
+// A load without bytes, one of bytes that are no program, and a fork where no further task may be made: each fails.
+const FAILING: [Event; 3] = [
+    Event {
+        task: 1,
+        name: "seccomp",
+        args: [1, 0],
+        attached: None,
+    },
+    Event {
+        task: 1,
+        name: "seccomp",
+        args: [1, 0],
+        attached: Some(&[6]),
+    },
+    FORK,
+];
+
+// As many tasks as a container may ever have beside its first.
+const FURTHER_TASKS: u64 = 1023;
 
 // Takes bytes, and counts them.
 #[derive(Drop)]
@@ -57,6 +78,10 @@ fn judge(alloc: Global, made: &Made, checked: Checked<'_>) -> Result<()> {
 fn look<K: Kernel>(kernel: &mut K, runtime: &mut Runtime<'_, TaskTable>, id: &Id) -> Result<()> {
     let event = EVENTS[7];
     let _ = kernel.present(id, 1, &event.record()?, Some(ALLOW))?;
+    for failing in &FAILING {
+        let outcome = kernel.present(id, failing.task, &failing.record()?, failing.attached)?;
+        ensure!(matches!(outcome, Outcome::Failed(_)), "{outcome:?}");
+    }
     let _ = kernel.task(id, 1);
     if kernel.live(id) {
         kernel.signal(id, 1);
@@ -80,6 +105,7 @@ pub fn call_freely<K: Kernel + Drop>(
     let id = Id::read("c").context("an id")?;
     kernel.expel(&id);
     kernel.admit(&id, checked)?;
+    present_often(&mut kernel, &id, &FORK, FURTHER_TASKS)?;
     let mut runtime = Runtime::new(alloc, TaskTable::new(alloc));
     runtime.create("c", checked)?;
     runtime.start("c")?;

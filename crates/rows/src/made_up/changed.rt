@@ -1,14 +1,16 @@
 //! Changes of the nodes of a certificate.
 
+use crate::claims::ClaimNode;
 use crate::dice::Dice;
 use crate::made_up::drawn::HALVES;
 use anyhow::Result;
-use cert_form::{Kind, Node};
+use cert_form::Kind;
 use cert_state::{AVal, Lit};
 
 /// Changes a node: a literal is dropped, added or weakened, an edge led elsewhere, the halves of a split exchanged, the
-/// node itself exchanged with another, or a value stated of a register or of a scratch word.
-pub fn change(dice: &mut Dice, nodes: &mut Vec<Node>) -> Result<()> {
+/// node itself exchanged with another, a value stated of a register or of a scratch word, or a rule said to be out or a
+/// condition to be met, of itself or in place of a literal.
+pub fn change(dice: &mut Dice, nodes: &mut Vec<ClaimNode>) -> Result<()> {
     let count = nodes.len() as u64;
     if count == 0 {
         return Ok(());
@@ -26,17 +28,32 @@ pub fn change(dice: &mut Dice, nodes: &mut Vec<Node>) -> Result<()> {
 }
 
 // Changes one node. Where it has no literal or no edge to change, it stays.
-fn change_node(dice: &mut Dice, node: &mut Node, other: u32) -> Result<()> {
-    match dice.below(8) {
-        0 => drop_literal(dice, &mut node.lits),
-        1 => node.lits.push(draw_literal(dice))?,
-        2 => weaken_one(dice, &mut node.lits),
-        3 => node.kind = led_elsewhere(dice, node.kind, other),
-        4 | 5 => node.kind = exchanged(dice, node.kind),
-        6 => node.regs.a = draw_value(dice),
-        _ => node.regs.scratch[1] = draw_value(dice),
+fn change_node(dice: &mut Dice, said: &mut ClaimNode, other: u32) -> Result<()> {
+    match dice.below(12) {
+        0 => drop_literal(dice, &mut said.node.lits),
+        1 => said.node.lits.push(draw_literal(dice))?,
+        2 => weaken_one(dice, &mut said.node.lits),
+        3 => said.node.kind = led_elsewhere(dice, said.node.kind, other),
+        4 | 5 => said.node.kind = exchanged(dice, said.node.kind),
+        6 => said.node.regs.a = draw_value(dice),
+        7 => said.node.regs.scratch[1] = draw_value(dice),
+        8 => said.outs.push(draw_place(dice))?,
+        9 => {
+            said.outs.push(draw_place(dice))?;
+            drop_literal(dice, &mut said.node.lits);
+        }
+        10 => said.mets.push((draw_place(dice), 0))?,
+        _ => {
+            said.mets.push((draw_place(dice), draw_place(dice)))?;
+            drop_literal(dice, &mut said.node.lits);
+        }
     }
     Ok(())
+}
+
+// The place of a rule, mostly of one of the two that a profile has at most; or of a condition.
+fn draw_place(dice: &mut Dice) -> u32 {
+    dice.pick(&[0, 0, 0, 0, 1, 1, 1, 2])
 }
 
 fn drop_literal(dice: &mut Dice, lits: &mut Vec<Lit>) {

@@ -3,29 +3,52 @@
 use std::alloc::Global;
 use std::io;
 
-/// How ends give out: how many bytes a call moves at most, and whether an end that gives out fails or moves none.
+/// What an end does that gives out.
+#[derive(Clone, Copy, PartialEq, Eq)]
+pub enum GivesOut {
+    /// It fails from then on.
+    Fails,
+    /// It fails once, and who asks again is served.
+    FailsOnce,
+    /// It moves no byte.
+    MovesNone,
+}
+
+/// How ends give out: how many bytes a call moves at most, and what an end does that gives out.
 #[derive(Clone, Copy)]
 pub struct Manner {
     pub most: usize,
-    pub fails: bool,
+    pub how: GivesOut,
 }
 
 /// As many bytes a call as there are.
 pub const AT_ONCE: Manner = Manner {
     most: usize::MAX,
-    fails: true,
+    how: GivesOut::Fails,
+};
+
+/// The same, and where an end has failed it goes on.
+pub const AT_ONCE_AGAIN: Manner = Manner {
+    most: usize::MAX,
+    how: GivesOut::FailsOnce,
 };
 
 /// One byte a call.
 pub const BYTE_BY_BYTE: Manner = Manner {
     most: 1,
-    fails: true,
+    how: GivesOut::Fails,
+};
+
+/// One byte a call, and where an end has failed it goes on.
+pub const BYTE_BY_BYTE_AGAIN: Manner = Manner {
+    most: 1,
+    how: GivesOut::FailsOnce,
 };
 
 /// One byte a call, and then none.
 pub const TO_AN_END: Manner = Manner {
     most: 1,
-    fails: false,
+    how: GivesOut::MovesNone,
 };
 
 /// A reader that gives out after so many calls.
@@ -49,16 +72,23 @@ impl<'a> Supply<'a> {
     pub fn left(&self) -> &'a [u8] {
         self.left
     }
+
+    // What a call answers once so many were made.
+    fn give_out(&mut self) -> io::Result<usize> {
+        if self.manner.how == GivesOut::MovesNone {
+            return Ok(0);
+        }
+        if self.manner.how == GivesOut::FailsOnce {
+            self.calls = usize::MAX;
+        }
+        Err(io::Error::from(io::ErrorKind::Other))
+    }
 }
 
 impl io::Read for Supply<'_> {
     fn read(&mut self, buffer: &mut [u8]) -> io::Result<usize> {
         if self.calls == 0 {
-            return if self.manner.fails {
-                Err(io::Error::from(io::ErrorKind::Other))
-            } else {
-                Ok(0)
-            };
+            return self.give_out();
         }
         self.calls -= 1;
         let n = buffer.len().min(self.left.len()).min(self.manner.most);
@@ -87,13 +117,21 @@ impl Room {
             manner,
         }
     }
+
+    // What a write answers that finds no room.
+    fn fail(&mut self) -> io::Error {
+        if self.manner.how == GivesOut::FailsOnce {
+            self.left = usize::MAX;
+        }
+        io::Error::from(io::ErrorKind::StorageFull)
+    }
 }
 
 impl io::Write for Room {
     fn write(&mut self, bytes: &[u8]) -> io::Result<usize> {
         self.writes = self.writes.saturating_add(1);
-        if self.left == 0 && self.manner.fails {
-            return Err(io::Error::from(io::ErrorKind::StorageFull));
+        if self.left == 0 && self.manner.how != GivesOut::MovesNone {
+            return Err(self.fail());
         }
         let n = bytes.len().min(self.left).min(self.manner.most);
         self.held.extend_from_slice(&bytes[..n])?;
