@@ -1,4 +1,5 @@
 //! One call as its fields, as sixteen words and as 64 bytes.
+ghost use Rattle.std.specs.Prelude.{◌≡◌, ◌/◌, ◌%◌, ◌^◌};
 ghost use Rattle.call_record.specs.Words.{FieldsFit};
 
 use crate::little::{narrow_at, wide_at};
@@ -80,4 +81,12 @@ impl Record {
     {
         if j == 0 { self.ip } else { self.args[j - 1] }
     }
+}
+
+/// The low and the high half of a number.
+pub const fn halves(number: u64) -> (u32, u32)
+    ensures low { result.0 ≡ number % 2 ^ 32 }
+    ensures high { result.1 ≡ number / 2 ^ 32 }
+{
+    ((number % (1 << 32)) as u32, (number >> 32) as u32)
 }

@@ -19,6 +19,6 @@ mod verdict;
 pub use bits::least_below;
 pub use effect::Ends;
 pub use laws::{refusal_stands, same_bytes, same_record, words_are_a_record};
-pub use layout::Record;
+pub use layout::{Record, halves};
 pub use strictness::{stricter, strictest, strictest_in_turn};
 pub use verdict::{Word, lets_through};

@@ -7,6 +7,7 @@ ghost use Rattle.cert_check.specs.inner.Judged.{AreEnds, AreYes, IsJudged, IsNoN
 
 use crate::judged::Judged;
 use crate::mets::Mets;
+use call_record::halves;
 use cert_state::{Facts, Lit, State};
 use profile::{Cond, Op};
 
@@ -16,14 +17,6 @@ const fn low_word(index: u8) -> u8
     ensures { result ≡ 4 + 2 * index }
 {
     4 + 2 * index
-}
-
-// The low and the high half of a number.
-const fn halves(number: u64) -> (u32, u32)
-    ensures low { result.0 ≡ number % 2 ^ 32 }
-    ensures high { result.1 ≡ number / 2 ^ 32 }
-{
-    ((number % (1 << 32)) as u32, (number >> 32) as u32)
 }
 
 // Whether an argument is known to have these bits under a mask.

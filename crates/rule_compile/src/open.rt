@@ -1,8 +1,8 @@
 //! What is left to ask of rules.
 
 use crate::question::{Comparison, Question, Reply, Subject};
-use call_record::Word;
 use call_record::offset::ARGUMENTS;
+use call_record::{Word, halves};
 use profile::{Cond, Op, Rule};
 use std::alloc::{AllocError, Global};
 
@@ -113,15 +113,13 @@ impl Questions {
 
     // Asks for the bits of both words under a mask. A mask of 0 asks for nothing.
     fn ask_bits(&mut self, answer: Word, low: u32, cond: &Cond) -> Result<(), AllocError> {
-        let halves = [
-            (
-                low.saturating_add(4),
-                high_word(cond.value),
-                high_word(cond.datum),
-            ),
-            (low, low_word(cond.value), low_word(cond.datum)),
+        let (mask, mask_above) = halves(cond.value);
+        let (datum, datum_above) = halves(cond.datum);
+        let words = [
+            (low.saturating_add(4), mask_above, datum_above),
+            (low, mask, datum),
         ];
-        for (word, mask, number) in halves {
+        for (word, mask, number) in words {
             if mask != 0 {
                 let question = Question {
                     subject: Subject { word, mask },
@@ -137,25 +135,18 @@ impl Questions {
     }
 }
 
-fn high_word(number: u64) -> u32 {
-    (number >> 32) as u32
-}
-
-fn low_word(number: u64) -> u32 {
-    (number % (1 << 32)) as u32
-}
-
 // How an argument compares with a number, from its high word on.
 fn argument(low: u32, comparison: Comparison, number: u64, wanted: bool) -> Question {
     let subject = Subject {
         word: low.saturating_add(4),
         mask: u32::MAX,
     };
+    let (number, above) = halves(number);
     Question {
         subject,
         comparison,
-        number: high_word(number),
-        low: Some(low_word(number)),
+        number: above,
+        low: Some(number),
         wanted,
     }
 }
