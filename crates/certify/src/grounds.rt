@@ -15,8 +15,8 @@ use std::alloc::AllocError;
 pub(crate) enum Ground {
     /// By what was learned of these words since paths met.
     Recent(Words),
-    /// It was known before, since then.
-    Before(u32),
+    /// It was known before.
+    Before,
     /// By these literals together.
     Reasons([Option<Lit>; 2]),
 }
@@ -90,14 +90,14 @@ pub(crate) fn ground_of(path: &Path<'_>, mark: Mark, before: usize) -> Result<Gr
     let was_known = since as usize <= before;
     let argument = argument_behind(path, before);
     if was_known && argument.is_none() {
-        return Ok(Ground::Before(since));
+        return Ok(Ground::Before);
     }
     let only = if was_known { argument } else { None };
     let Some((cond, suffix)) = settled_last(path, conds, only, met, usize::MAX)? else {
-        return Ok(Ground::Before(since));
+        return Ok(Ground::Before);
     };
     if was_known && suffix.from <= from_of(settled_last(path, conds, None, met, before)?) {
-        return Ok(Ground::Before(since));
+        return Ok(Ground::Before);
     }
     Ok(Ground::Reasons(reasons(&suffix.known, cond)))
 }

@@ -145,6 +145,11 @@ impl<'a> Path<'a> {
         self.from == 0
     }
 
+    /// So many lessons count no more.
+    pub(crate) fn gate(&self) -> usize {
+        self.gate
+    }
+
     /// How many lessons there are.
     pub(crate) fn len(&self) -> usize {
         self.lessons.len()

@@ -43,6 +43,9 @@ fn cut_or_undecided(split: Option<Split>) -> Outcome {
     }
 }
 
+// Rules that were out before the last gate are asked for last.
+const OUT: usize = 16;
+
 // How a rule bears on a word where several numbers are possible.
 enum Bearing {
     // In no way, by what is known of these words.
@@ -247,6 +250,12 @@ impl Question<'_> {
                     let count = self.open_conditions(at, rule);
                     open = fewer(open, count, split);
                 }
+                Judged::No(_) if same && !self.is_default() => {
+                    if let Some(split) = self.reopened(at, rule) {
+                        let count = self.open_conditions(at, rule).saturating_add(OUT);
+                        open = fewer(open, count, split);
+                    }
+                }
                 Judged::No(_) | Judged::Open(_) => {}
             }
         }
@@ -279,6 +288,17 @@ impl Question<'_> {
             }
         }
         Ok(best.map(|(at, _)| at))
+    }
+
+    // Where a rule that was out before the last gate may match by what was learned behind it, how to come to know more.
+    fn reopened(&self, at: usize, rule: &Rule) -> Option<Split> {
+        if self.path.since(Mark::Out(at))? as usize > self.path.gate() {
+            return None;
+        }
+        match judge_conditions(self.known(), rule.conds.as_slice()) {
+            Judged::Open(split) => Some(split),
+            Judged::Yes(_) | Judged::No(_) => None,
+        }
     }
 
     // How many conditions of a rule are not known to be met.

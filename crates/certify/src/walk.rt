@@ -400,7 +400,7 @@ impl<'a> Walk<'a> {
         for mark in marks {
             match ground_of(&self.path, *mark, now.len)? {
                 Ground::Recent(more) => words = words.and(more),
-                Ground::Before(since) => self.needs.add_mark(*mark, since)?,
+                Ground::Before => self.needs.add_mark(*mark)?,
                 Ground::Reasons(reasons) => {
                     for reason in reasons {
                         if let Some(literal) = reason {
