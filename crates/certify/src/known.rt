@@ -11,6 +11,9 @@ use std::alloc::{AllocError, Global};
 // Into how many lists the literals are sorted.
 const LISTS: usize = 1024;
 
+// The same where they are few.
+const FEW_LISTS: usize = 8;
+
 // How many numbers are tried for one of which all is true.
 const TRIES: usize = 1024;
 
@@ -184,10 +187,20 @@ impl WordFacts {
 impl Known {
     /// Nothing is known.
     pub(crate) fn new(alloc: Global) -> Result<Known, AllocError> {
+        Known::sorted(alloc, LISTS)
+    }
+
+    /// Nothing is known, and little will be.
+    pub(crate) fn few(alloc: Global) -> Result<Known, AllocError> {
+        Known::sorted(alloc, FEW_LISTS)
+    }
+
+    // Nothing is known. The literals are sorted into so many lists.
+    fn sorted(alloc: Global, lists: usize) -> Result<Known, AllocError> {
         Ok(Known {
             facts: Vec::new(alloc),
             words: [ANY; 16],
-            lists: vec![in alloc; NOBODY; LISTS]?,
+            lists: vec![in alloc; NOBODY; lists]?,
         })
     }
 
@@ -203,14 +216,15 @@ impl Known {
 
     // The place of the last literal of its list.
     fn latest(&self, literal: Lit) -> u32 {
-        match self.lists.get(list_of(literal, LISTS)) {
+        match self.lists.get(list_of(literal, self.lists.len())) {
             Some(latest) => *latest,
             None => NOBODY,
         }
     }
 
     fn set_latest(&mut self, literal: Lit, place: u32) {
-        if let Some(latest) = self.lists.get_mut(list_of(literal, LISTS)) {
+        let list = list_of(literal, self.lists.len());
+        if let Some(latest) = self.lists.get_mut(list) {
             *latest = place;
         }
     }

@@ -51,12 +51,22 @@ fn walked(
         Err(CertifyError::TooLarge) => {}
         outcome => return outcome,
     }
-    match by_walk(alloc, profile, accepted, Manner::Marks) {
+    match marked(alloc, profile, accepted) {
         Ok(marked) => smaller(alloc, profile, accepted, marked),
-        Err(CertifyError::TooLarge) => {
-            by_walk(alloc, profile, accepted, Manner::Literals(MAX_NODES))
-        }
-        Err(error) => Err(error),
+        Err(CertifyError::OutOfMemory) => Err(CertifyError::OutOfMemory),
+        Err(_) => by_walk(alloc, profile, accepted, Manner::Literals(MAX_NODES)),
+    }
+}
+
+// With nodes that also say what follows for the rules. Where too much is let go, it is tried again.
+fn marked(
+    alloc: Global,
+    profile: &Profile,
+    accepted: Accepted<'_>,
+) -> Result<Vec<u8>, CertifyError> {
+    match by_walk(alloc, profile, accepted, Manner::Gates) {
+        Err(CertifyError::Undecided(_)) => by_walk(alloc, profile, accepted, Manner::Marks),
+        outcome => outcome,
     }
 }
 

@@ -11,8 +11,8 @@ pub(crate) fn after(pc: u16, skipped: u32) -> u16 {
     pc.saturating_add(1).saturating_add(skipped)
 }
 
-// The positions that an instruction leads to.
-fn targets(pc: u16, insn: &Insn) -> [Option<u16>; 2] {
+/// The positions that an instruction leads to.
+pub(crate) fn targets(pc: u16, insn: &Insn) -> [Option<u16>; 2] {
     match insn.operation() {
         Some(Operation::ReturnK) | Some(Operation::ReturnA) => [None, None],
         Some(Operation::Jump) => [Some(after(pc, insn.k)), None],

@@ -18,8 +18,8 @@ const NOBODY: u32 = u32::MAX;
 #[derive(Drop)]
 pub(crate) struct Needs {
     literals: Vec<Lit>,
-    // Since when, of which rule, and what: 0 is that it is out, and above are the conditions that are met.
-    marks: Vec<(u32, u32, u32)>,
+    // Whether a condition is met, of which rule, and which one. Else the rule is out.
+    marks: Vec<(bool, u32, u32)>,
     // For each literal the one before it in its list, and for each list the last one.
     alike: Vec<u32>,
     lists: Vec<u32>,
@@ -70,8 +70,8 @@ impl Needs {
         Ok(())
     }
 
-    /// What a node states. What is said of rules stands in the order in which it came to be known, behind what is known of
-    /// the call, so that chains share their beginnings.
+    /// What a node states. Behind what is known of the call stand the rules that are out, in their order, which mostly is that in
+    /// which they are asked for, and then the conditions that are met: so chains share their beginnings.
     pub(crate) fn claims(
         &mut self,
         alloc: Global,
@@ -87,11 +87,12 @@ impl Needs {
         self.add_literals(&mut claims, true)?;
         self.marks.sort_unstable();
         self.marks.dedup();
-        for (_, at, said) in &self.marks {
+        for (is_met, at, own) in &self.marks {
             if let Some(place) = path.rules().place(*at as usize) {
-                claims.push(match said.checked_sub(1) {
-                    Some(own) => Claim::Met(place, own),
-                    None => Claim::Out(place),
+                claims.push(if *is_met {
+                    Claim::Met(place, *own)
+                } else {
+                    Claim::Out(place)
                 })?;
             }
         }
@@ -99,15 +100,15 @@ impl Needs {
         Ok(claims)
     }
 
-    /// Adds what is said of a rule, since when.
-    pub(crate) fn add_mark(&mut self, mark: Mark, since: u32) -> Result<(), AllocError> {
-        let (at, said) = match mark {
-            Mark::Out(at) => (at, 0),
-            Mark::Met(at, own) => (at, own.saturating_add(1)),
+    /// Adds what is said of a rule.
+    pub(crate) fn add_mark(&mut self, mark: Mark) -> Result<(), AllocError> {
+        let (is_met, own) = match mark {
+            Mark::Out(_) => (false, 0),
+            Mark::Met(_, own) => (true, own),
         };
-        let at = at.min(0xffff_ffff) as u32;
-        let said = said.min(0xffff_ffff) as u32;
-        Ok(self.marks.push((since, at, said))?)
+        let at = mark.rule().min(0xffff_ffff) as u32;
+        let own = own.min(0xffff_ffff) as u32;
+        Ok(self.marks.push((is_met, at, own))?)
     }
 
     fn contains(&self, literal: Lit, latest: u32) -> bool {

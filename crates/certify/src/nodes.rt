@@ -64,8 +64,10 @@ impl Nodes {
         }
         let number = count as u32;
         let chain = self.chains.of(claims)?;
-        if let (Kind::Dead, Some(same)) = (kind, self.dead(pc, chain)) {
-            return Ok(same);
+        if matches!(kind, Kind::Dead | Kind::Return) {
+            if let Some(same) = self.same(kind, pc, regs, chain) {
+                return Ok(same);
+            }
         }
         let before = match self.latest.get_mut(pc as usize) {
             Some(latest) => std::mem::replace(latest, number),
@@ -81,12 +83,12 @@ impl Nodes {
         Ok(number)
     }
 
-    // A dead node that is there already.
-    fn dead(&self, pc: u16, chain: u32) -> Option<u32> {
+    // A node that leads nowhere and is there already.
+    fn same(&self, kind: Kind, pc: u16, regs: Regs, chain: u32) -> Option<u32> {
         let mut number = *self.latest.get(pc as usize)?;
         for _ in 0..TRIES {
             let node = self.nodes.get(number as usize)?;
-            if node.chain == chain && matches!(&node.kind, Kind::Dead) {
+            if node.chain == chain && node.kind == kind && node.regs == regs {
                 return Some(number);
             }
             number = *self.before.get(number as usize)?;

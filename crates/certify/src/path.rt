@@ -8,18 +8,23 @@ use crate::essence::only_number;
 use crate::known::Known;
 use crate::rules::Rules;
 use crate::standing::{Call, Mark, Standing};
-use crate::words::{NUMBER, TOKEN, word_of};
+use crate::suffix::last_lessons;
+use crate::words::{ARGUMENTS, NUMBER, TOKEN, word_of};
 use cert_form::Claim;
 use cert_state::Lit;
 use profile::Profile;
 use std::alloc::{AllocError, Global};
 
-// A literal, with how much was known before it.
+/// A literal that was learned, with how much was known before it.
 #[derive(Clone, Copy)]
-struct Lesson {
-    literal: Lit,
+pub(crate) struct Lesson {
+    pub(crate) literal: Lit,
     all: usize,
     recent: usize,
+    /// How much was learned before paths met last.
+    pub(crate) from: usize,
+    /// The number of the lesson of the same word before it, from 1, or 0.
+    pub(crate) before: usize,
 }
 
 /// A moment of a path: so many literals are learned, the first so many of them before paths met.
@@ -27,6 +32,8 @@ struct Lesson {
 pub(crate) struct Moment {
     pub(crate) from: usize,
     pub(crate) len: usize,
+    gate: usize,
+    torn: bool,
 }
 
 /// A path that has come so far.
@@ -35,10 +42,14 @@ pub(crate) struct Path<'a> {
     alloc: Global,
     rules: Rules<'a>,
     lessons: Vec<Lesson>,
+    // For each word the number of its last lesson, from 1, or 0.
+    latest: [usize; 16],
     // What is known. Where a lesson contradicts what was known of its word before, that counts no more: no record takes
     // the path then.
     all: Known,
-    torn: Option<usize>,
+    torn: bool,
+    // So many lessons count no more.
+    gate: usize,
     // What is known by the lessons from this place on, and of the call. From 0 on it is all, and not kept twice.
     recent: Known,
     from: usize,
@@ -46,8 +57,8 @@ pub(crate) struct Path<'a> {
     standing: Option<Standing>,
 }
 
-// Adds a literal, and that the word is one number where that follows.
-fn add(known: &mut Known, literal: Lit) -> Result<(), AllocError> {
+/// Adds a literal, and that the word is one number where that follows.
+pub(crate) fn add(known: &mut Known, literal: Lit) -> Result<(), AllocError> {
     known.push(literal)?;
     if let Some(only) = only_number(known, word_of(literal)) {
         known.push(only)?;
@@ -90,12 +101,19 @@ impl<'a> Path<'a> {
             alloc,
             rules,
             lessons: Vec::new(alloc),
+            latest: [0; 16],
             all: Known::new(alloc)?,
-            torn: None,
+            torn: false,
+            gate: 0,
             recent: Known::new(alloc)?,
             from: 0,
             standing,
         })
+    }
+
+    /// The allocator.
+    pub(crate) fn alloc(&self) -> Global {
+        self.alloc
     }
 
     /// The rules.
@@ -117,9 +135,24 @@ impl<'a> Path<'a> {
         }
     }
 
+    /// How much was learned before paths met.
+    pub(crate) fn from(&self) -> usize {
+        self.from
+    }
+
     /// Whether nothing was learned before paths met.
     pub(crate) fn is_fresh(&self) -> bool {
         self.from == 0
+    }
+
+    /// So many lessons count no more.
+    pub(crate) fn gate(&self) -> usize {
+        self.gate
+    }
+
+    /// How many lessons there are.
+    pub(crate) fn len(&self) -> usize {
+        self.lessons.len()
     }
 
     /// This moment.
@@ -127,6 +160,8 @@ impl<'a> Path<'a> {
         Moment {
             from: self.from,
             len: self.lessons.len(),
+            gate: self.gate,
+            torn: self.torn,
         }
     }
 
@@ -140,11 +175,7 @@ impl<'a> Path<'a> {
         }
         let word = word_of(fact);
         let place = self.lessons.len();
-        self.lessons.push(Lesson {
-            literal: fact,
-            all: self.all.len(),
-            recent: self.recent.len(),
-        })?;
+        self.note(fact)?;
         if self.from > 0 {
             add(&mut self.recent, fact)?;
         }
@@ -155,24 +186,58 @@ impl<'a> Path<'a> {
             return Ok(true);
         }
         if self.all.is_dead(word) {
-            self.tear(place, fact)?;
+            self.tear(place, word)?;
         }
         self.mark(word)?;
         Ok(false)
     }
 
-    // Keeps of a word only what was learned since paths met, the last fact of which contradicts what was known before.
-    fn tear(&mut self, place: usize, fact: Lit) -> Result<(), AllocError> {
-        let word = word_of(fact);
-        if self.torn.is_none() {
-            self.torn = Some(place);
+    // Adds a lesson.
+    fn note(&mut self, literal: Lit) -> Result<(), AllocError> {
+        let word = (word_of(literal) % 16) as usize;
+        self.lessons.push(Lesson {
+            literal,
+            all: self.all.len(),
+            recent: self.recent.len(),
+            from: self.from,
+            before: self.latest[word],
+        })?;
+        self.latest[word] = self.lessons.len();
+        Ok(())
+    }
+
+    /// The lesson with a number, if it counts.
+    pub(crate) fn lesson(&self, number: usize) -> Option<Lesson> {
+        if number <= self.gate {
+            return None;
         }
+        self.lessons.get(number.checked_sub(1)?).copied()
+    }
+
+    /// The number of the last lesson of a word among the first so many, or 0.
+    pub(crate) fn last_of(&self, word: u8, count: usize) -> usize {
+        let mut number = self.latest[(word % 16) as usize];
+        for _ in 0..self.lessons.len() {
+            if number <= count {
+                break;
+            }
+            number = match self.lesson(number) {
+                Some(lesson) => lesson.before,
+                None => 0,
+            };
+        }
+        number
+    }
+
+    // Keeps of a word only what was learned last and can all be true, where the last fact contradicts what was known before.
+    fn tear(&mut self, place: usize, word: u8) -> Result<(), AllocError> {
+        self.torn = true;
         if let Some(lesson) = self.lessons.get(place) {
             self.all.truncate(lesson.all);
         }
         self.all.disregard(word)?;
-        for literal in &self.recent.of_word(self.alloc, word)? {
-            self.all.push(*literal)?;
+        for literal in &last_lessons(self, word)? {
+            add(&mut self.all, *literal)?;
         }
         Ok(())
     }
@@ -192,24 +257,46 @@ impl<'a> Path<'a> {
         self.learn_again()
     }
 
+    /// Paths meet here, and nothing that was learned of arguments counts any more, but that rules are out.
+    pub(crate) fn pass_gate(&mut self) -> Result<(), AllocError> {
+        self.note(Lit::In(NUMBER, 0, u32::MAX))?;
+        for word in ARGUMENTS..16 {
+            self.all.disregard(word)?;
+        }
+        self.gate = self.lessons.len();
+        self.torn = false;
+        if let Some(standing) = &mut self.standing {
+            standing.pass_gate(time_of(self.gate));
+        }
+        self.meet()
+    }
+
     /// Goes back to an earlier moment.
     pub(crate) fn go_back(&mut self, moment: Moment) -> Result<(), AllocError> {
         if let Some(lesson) = self.lessons.get(moment.len) {
             self.all.truncate(lesson.all);
             self.recent.truncate(lesson.recent);
         }
-        self.lessons.truncate(moment.len);
-        if self.torn.is_some_and(|place| place >= moment.len) {
-            self.torn = None;
-        }
+        self.forget(moment.len);
+        self.torn = moment.torn;
+        self.gate = moment.gate;
         if let Some(standing) = &mut self.standing {
-            standing.forget(time_of(moment.len));
+            standing.forget(time_of(moment.len), time_of(moment.gate));
         }
         if self.from != moment.from {
             self.from = moment.from;
             self.learn_again()?;
         }
         Ok(())
+    }
+
+    // Forgets all lessons but the first so many.
+    fn forget(&mut self, count: usize) {
+        for _ in count..self.lessons.len() {
+            if let Some(lesson) = self.lessons.pop() {
+                self.latest[(word_of(lesson.literal) % 16) as usize] = lesson.before;
+            }
+        }
     }
 
     // Gathers again what was learned since paths met.
@@ -238,7 +325,7 @@ impl<'a> Path<'a> {
 
     /// Whether the path is one that no record takes.
     pub(crate) fn is_torn(&self) -> bool {
-        self.torn.is_some()
+        self.torn
     }
 
     /// What is known of the word of a fact, with it, if that can not all be true.

@@ -1,6 +1,7 @@
 //! Whether what is known settles that the profile says a word, and else how to come to know more.
 
 use crate::conditions::{Judged, judge_condition, judge_conditions};
+use crate::grounds::match_of;
 use crate::known::Known;
 use crate::path::Path;
 use crate::rules::Rules;
@@ -11,14 +12,15 @@ use call_record::Word;
 use call_tables::Arch;
 use cert_state::Lit;
 use profile::{LEAST_X32_NUMBER, Profile, Rule};
+use std::alloc::AllocError;
 
 /// What is known of the call's rules by which it is settled.
 #[derive(Clone, Copy)]
 pub(crate) enum By {
     /// Nothing more than is known of words.
     Words,
-    /// Each condition of this rule is met.
-    Rule(usize),
+    /// Each condition of a rule is met that has the word.
+    Match(Call),
     /// Those that have another word are out.
     Outs(Call),
 }
@@ -40,6 +42,9 @@ fn cut_or_undecided(split: Option<Split>) -> Outcome {
         None => Outcome::Undecided,
     }
 }
+
+// Rules that were out before the last gate are asked for last.
+const OUT: usize = 16;
 
 // How a rule bears on a word where several numbers are possible.
 enum Bearing {
@@ -231,43 +236,81 @@ impl Question<'_> {
     // Whether the rules of the call say the word.
     fn settle_call(&self, call: Call) -> Outcome {
         let mut refuted = false;
-        let mut open = None;
-        let mut best = None;
+        let mut open: Option<(usize, Split)> = None;
+        let mut is_matched = false;
         for at in call.first..call.end {
             let Some(rule) = self.rules().rule(at) else {
                 break;
             };
             let same = rule.word == self.word;
             match self.judge_rule(at, rule) {
-                Judged::Yes(_) if same => best = self.later(best, at, rule),
+                Judged::Yes(_) if same => is_matched = true,
                 Judged::Yes(_) => refuted = refuted || self.path.since(Mark::Out(at)).is_none(),
-                Judged::Open(split) if same != self.is_default() => open = open.or(Some(split)),
+                Judged::Open(split) if same != self.is_default() => {
+                    let count = self.open_conditions(at, rule);
+                    open = fewer(open, count, split);
+                }
+                Judged::No(_) if same && !self.is_default() => {
+                    if let Some(split) = self.reopened(at, rule) {
+                        let count = self.open_conditions(at, rule).saturating_add(OUT);
+                        open = fewer(open, count, split);
+                    }
+                }
                 Judged::No(_) | Judged::Open(_) => {}
             }
         }
-        if let Some((at, _)) = best {
-            return Outcome::Settled(Words::of(NUMBER), By::Rule(at));
+        if is_matched {
+            return Outcome::Settled(Words::of(NUMBER), By::Match(call));
         }
         if refuted {
             return Outcome::Undecided;
         }
         match open {
-            Some(split) => Outcome::Cut(split),
+            Some((_, split)) => Outcome::Cut(split),
             None if self.is_default() => Outcome::Settled(Words::of(NUMBER), By::Outs(call)),
             None => Outcome::Undecided,
         }
     }
 
-    // Of two rules that match, the one that came to do so later, which is the one that was asked for.
-    fn later(&self, best: Option<(usize, u32)>, at: usize, rule: &Rule) -> Option<(usize, u32)> {
-        let mut last = 0;
-        for own in 0..rule.conds.len() {
-            last = last.max(self.path.since(Mark::Met(at, own)).unwrap_or(u32::MAX));
+    /// The rule with the word that matches by what was learned last.
+    pub(crate) fn matching(&self, call: Call) -> Result<Option<usize>, AllocError> {
+        let mut best = None;
+        for at in call.first..call.end {
+            let Some(rule) = self.rules().rule(at) else {
+                break;
+            };
+            if rule.word == self.word && matches!(self.judge_rule(at, rule), Judged::Yes(_)) {
+                let matched = match_of(self.path, at, rule)?;
+                best = match best {
+                    Some((_, other)) if other >= matched => best,
+                    _ => Some((at, matched)),
+                };
+            }
         }
-        match best {
-            Some((_, since)) if since >= last => best,
-            _ => Some((at, last)),
+        Ok(best.map(|(at, _)| at))
+    }
+
+    // Where a rule that was out before the last gate may match by what was learned behind it, how to come to know more.
+    fn reopened(&self, at: usize, rule: &Rule) -> Option<Split> {
+        if self.path.since(Mark::Out(at))? as usize > self.path.gate() {
+            return None;
         }
+        match judge_conditions(self.known(), rule.conds.as_slice()) {
+            Judged::Open(split) => Some(split),
+            Judged::Yes(_) | Judged::No(_) => None,
+        }
+    }
+
+    // How many conditions of a rule are not known to be met.
+    fn open_conditions(&self, at: usize, rule: &Rule) -> usize {
+        let mut count = 0usize;
+        for (own, cond) in rule.conds.as_slice().iter().enumerate() {
+            let is_met = matches!(judge_condition(self.path.recent(), cond), Judged::Yes(_));
+            if !is_met && self.path.since(Mark::Met(at, own)).is_none() {
+                count = count.saturating_add(1);
+            }
+        }
+        count
     }
 
     // Whether a rule is out, or all its conditions are met.
@@ -289,6 +332,14 @@ impl Question<'_> {
             Some(_) if self.path.since(Mark::Out(at)).is_some() => Judged::No(Words::NONE),
             Some(split) => Judged::Open(split),
         }
+    }
+}
+
+// Of two splits the one for the rule with fewer open conditions.
+fn fewer(best: Option<(usize, Split)>, count: usize, split: Split) -> Option<(usize, Split)> {
+    match best {
+        Some((least, _)) if least <= count => best,
+        _ => Some((count, split)),
     }
 }
 

@@ -25,6 +25,16 @@ pub(crate) enum Mark {
     Met(usize, usize),
 }
 
+impl Mark {
+    /// The rule.
+    pub(crate) fn rule(self) -> usize {
+        match self {
+            Mark::Out(at) => at,
+            Mark::Met(at, _) => at,
+        }
+    }
+}
+
 // Since when a rule is out, and each of its conditions is met.
 #[derive(Clone, Copy)]
 struct Since {
@@ -36,8 +46,10 @@ struct Since {
 #[derive(Drop)]
 pub(crate) struct Standing {
     rules: Vec<Since>,
-    // In the order in which they came.
-    marks: Vec<Mark>,
+    // In the order in which they came, with the time before that.
+    marks: Vec<(Mark, u32)>,
+    // Until then conditions were met that count no more.
+    gate: u32,
     call: Option<Call>,
 }
 
@@ -51,6 +63,7 @@ impl Standing {
         Ok(Standing {
             rules: vec![in alloc; nothing; rules]?,
             marks: Vec::new(alloc),
+            gate: 0,
             call: None,
         })
     }
@@ -62,11 +75,27 @@ impl Standing {
 
     /// Since when something is known, if it is.
     pub(crate) fn since(&self, mark: Mark) -> Option<u32> {
-        let time = match mark {
-            Mark::Out(at) => self.rules.get(at)?.out,
-            Mark::Met(at, own) => *self.rules.get(at)?.met.get(own)?,
+        let time = self.time(mark);
+        let counts = match mark {
+            Mark::Out(_) => true,
+            Mark::Met(_, _) => self.gate == 0 || time > self.gate,
         };
-        if time == NEVER { None } else { Some(time) }
+        if counts && time != NEVER {
+            Some(time)
+        } else {
+            None
+        }
+    }
+
+    // Since when something was known last.
+    fn time(&self, mark: Mark) -> u32 {
+        let Some(rule) = self.rules.get(mark.rule()) else {
+            return NEVER;
+        };
+        match mark {
+            Mark::Out(_) => rule.out,
+            Mark::Met(_, own) => rule.met.get(own).copied().unwrap_or(NEVER),
+        }
     }
 
     fn set(&mut self, mark: Mark, time: u32) {
@@ -89,7 +118,8 @@ impl Standing {
     // Notes what is known now, if it was not before.
     fn note(&mut self, mark: Mark, now: u32) -> Result<(), AllocError> {
         if self.since(mark).is_none() {
-            self.marks.push(mark)?;
+            let before = self.time(mark);
+            self.marks.push((mark, before))?;
             self.set(mark, now);
         }
         Ok(())
@@ -159,16 +189,22 @@ impl Standing {
         Ok(())
     }
 
-    /// Forgets what is known only since a later time.
-    pub(crate) fn forget(&mut self, time: u32) {
+    /// Lets it count no more that conditions are met so far.
+    pub(crate) fn pass_gate(&mut self, time: u32) {
+        self.gate = time;
+    }
+
+    /// Forgets what is known only since a later time, and what counted no more but for a later one.
+    pub(crate) fn forget(&mut self, time: u32, gate: u32) {
+        self.gate = gate;
         for _ in 0..self.marks.len() {
-            let Some(mark) = self.marks.last().copied() else {
+            let Some((mark, before)) = self.marks.last().copied() else {
                 break;
             };
-            if self.since(mark).unwrap_or(NEVER) <= time {
+            if self.time(mark) <= time {
                 break;
             }
-            self.set(mark, NEVER);
+            self.set(mark, before);
             self.marks.truncate(self.marks.len().saturating_sub(1));
         }
         if let Some(call) = self.call {

@@ -7,6 +7,7 @@ ghost use Rattle.bpf_insn.specs.Causes.{IsPlain};
 use crate::clash::contradiction;
 use crate::essence::{add_essence, add_words, excluded};
 use crate::fault::CertifyError;
+use crate::gates::Gates;
 use crate::grounds::{Ground, ground_of};
 use crate::meetings::{after, meetings};
 use crate::needs::Needs;
@@ -42,14 +43,31 @@ enum Way {
     Cut(Split),
 }
 
-// A way that no record takes, by what was learned before paths met. It is gone all the same, since the nodes on it are for
-// other paths too.
+// A place to which the walk may go back.
 #[derive(Clone, Copy)]
-struct Tear {
+struct Turn {
     place: Place,
+    // What was known before the walk went on there.
     before: Moment,
     // How many nodes were to be made.
     visits: usize,
+}
+
+// To where the walk goes back from a return whose word is not settled.
+#[derive(Clone, Copy)]
+struct Turns {
+    // Where a way began that no record takes, by what was learned before paths met. It is gone all the same, since the nodes
+    // on it are for other paths too.
+    tear: Option<Turn>,
+    // The last gate.
+    gate: Option<Turn>,
+}
+
+impl Turns {
+    const NONE: Turns = Turns {
+        tear: None,
+        gate: None,
+    };
 }
 
 // A node to be made, once those are found that follow it.
@@ -60,6 +78,7 @@ struct Visit {
     way: Way,
     // What is known there.
     moment: Moment,
+    turns: Turns,
     first: Option<u32>,
     second: Option<u32>,
 }
@@ -71,6 +90,8 @@ pub(crate) enum Manner {
     Literals(usize),
     /// Also that rules are out, and that conditions are met.
     Marks,
+    /// The same, and where the filter begins to ask anew nothing more is known but which rules are out.
+    Gates,
 }
 
 /// A walk that has come so far.
@@ -80,10 +101,12 @@ pub(crate) struct Walk<'a> {
     program: Accepted<'a>,
     // At which positions paths meet, where nodes may say which rules are out.
     meetings: Vec<bool>,
+    // Where it begins to ask anew about the path's call, if that is looked for.
+    gates: Option<Gates>,
     // What is known on the path, and the nodes on it that are still to be made.
     path: Path<'a>,
     visits: Vec<Visit>,
-    tear: Option<Tear>,
+    turns: Turns,
     nodes: Nodes,
     // How many nodes there may be.
     most: usize,
@@ -139,6 +162,13 @@ fn steps(pc: u16, regs: Regs, insn: &Insn) -> (Place, Option<Place>)
     (next, None)
 }
 
+fn is_return(insn: &Insn) -> bool {
+    matches!(
+        insn.operation(),
+        Some(Operation::ReturnK | Operation::ReturnA)
+    )
+}
+
 impl Visit {
     // The places that follow.
     fn places(&self, insn: &Insn) -> (Place, Option<Place>)
@@ -185,16 +215,21 @@ impl<'a> Walk<'a> {
     ) -> Result<Walk<'a>, CertifyError> {
         let nodes = Nodes::new(alloc, program.program().len())?;
         let (meetings, most) = match manner {
-            Manner::Marks => (meetings(alloc, &program)?, MAX_NODES),
             Manner::Literals(most) => (Vec::new(alloc), most),
+            Manner::Marks | Manner::Gates => (meetings(alloc, &program)?, MAX_NODES),
+        };
+        let gates = match manner {
+            Manner::Gates => Some(Gates::none(alloc, program.program().len())?),
+            Manner::Marks | Manner::Literals(_) => None,
         };
         Ok(Walk {
             alloc,
             program,
             path: Path::new(alloc, profile, !meetings.is_empty())?,
             meetings,
+            gates,
             visits: Vec::new(alloc),
-            tear: None,
+            turns: Turns::NONE,
             nodes,
             most,
             needs: Needs::new(alloc)?,
@@ -256,6 +291,7 @@ impl<'a> Walk<'a> {
             return Err(undecided(visit.pc));
         };
         self.path.go_back(visit.moment)?;
+        self.turns = visit.turns;
         let (first, second) = visit.places(&insn);
         let visit = match visit.first {
             None => Visit {
@@ -362,9 +398,9 @@ impl<'a> Walk<'a> {
         let mut literals = Vec::new(self.alloc);
         self.path.learn(fact)?;
         for mark in marks {
-            match ground_of(&self.path, *mark, now.len) {
+            match ground_of(&self.path, *mark, now.len)? {
                 Ground::Recent(more) => words = words.and(more),
-                Ground::Before(since) => self.needs.add_mark(*mark, since)?,
+                Ground::Before => self.needs.add_mark(*mark)?,
                 Ground::Reasons(reasons) => {
                     for reason in reasons {
                         if let Some(literal) = reason {
@@ -421,24 +457,31 @@ impl<'a> Walk<'a> {
     fn enter(&mut self, place: &Place, by_step: bool) -> Result<Option<u32>, CertifyError> {
         let before = self.path.now();
         let was_torn = self.path.is_torn();
+        let was_called = self.path.call().is_some();
         if self.path.learn(place.fact)? {
             return self.end_dead(place, before);
         }
         if self.path.is_torn() && !was_torn {
-            self.tear = Some(Tear {
+            self.turns.tear = Some(Turn {
                 place: *place,
                 before,
                 visits: self.visits.len(),
             });
         }
-        if let Some(number) = self.nodes.find(place, &self.path) {
-            return Ok(Some(number));
-        }
         let Some(insn) = insn_at(&self.program, place.pc) else {
             return Err(undecided(place.pc));
         };
-        if by_step && self.do_meet(place.pc) {
-            self.path.meet()?;
+        let is_asked = self.path.call().is_some() && is_return(&insn);
+        if !is_asked {
+            if let Some(number) = self.nodes.find(place, &self.path) {
+                return Ok(Some(number));
+            }
+        }
+        if !was_called && self.path.call().is_some() {
+            self.look_for_gates(place.pc);
+        }
+        if by_step {
+            self.meet(place)?;
         }
         if let Some(split) = self.crowded(place.fact)? {
             return self.wait(place, Way::Cut(split));
@@ -453,13 +496,44 @@ impl<'a> Walk<'a> {
         }
     }
 
-    // Whether paths meet at a position, and nodes may say which rules are out.
-    fn do_meet(&self, pc: u16) -> bool {
-        self.meetings.get(pc as usize).copied().unwrap_or(false)
+    // Looks where the filter begins to ask anew behind a position, at which the call is known.
+    fn look_for_gates(&mut self, pc: u16) {
+        let default = self.path.rules().profile().default_word();
+        if let Some(gates) = &mut self.gates {
+            gates.look(&self.program, pc, default);
+        }
+    }
+
+    // Keeps what is known apart where paths meet, if nodes may say which rules are out.
+    fn meet(&mut self, place: &Place) -> Result<(), CertifyError> {
+        let is_gate = match &self.gates {
+            Some(gates) => gates.has(place.pc),
+            None => false,
+        };
+        if is_gate && self.path.call().is_some() {
+            let turn = Turn {
+                place: *place,
+                before: self.path.now(),
+                visits: self.visits.len(),
+            };
+            self.turns = Turns {
+                tear: None,
+                gate: Some(turn),
+            };
+            self.path.pass_gate()?;
+        } else if self
+            .meetings
+            .get(place.pc as usize)
+            .copied()
+            .unwrap_or(false)
+        {
+            self.path.meet()?;
+        }
+        Ok(())
     }
 
     // Ends a way where it began to be one that no record takes.
-    fn undo(&mut self, tear: &Tear) -> Result<Option<u32>, CertifyError> {
+    fn undo(&mut self, tear: &Turn) -> Result<Option<u32>, CertifyError> {
         self.visits.truncate(tear.visits);
         self.path.go_back(tear.before)?;
         let Some(fact) = tear.place.fact else {
@@ -470,6 +544,21 @@ impl<'a> Walk<'a> {
         };
         let few = contradiction(self.alloc, own, Some(fact))?;
         self.make_dead(&tear.place, &few)
+    }
+
+    // Goes back to a gate behind which what was learned before it is of use, and goes on there as where paths meet.
+    fn shut(&mut self, gate: &Turn) -> Result<Option<u32>, CertifyError> {
+        if let Some(gates) = &mut self.gates {
+            gates.shut(gate.place.pc);
+        }
+        self.visits.truncate(gate.visits);
+        self.path.go_back(gate.before)?;
+        self.turns = match self.visits.last() {
+            Some(visit) => visit.turns,
+            None => Turns::NONE,
+        };
+        self.path.meet()?;
+        self.wait(&gate.place, Way::Step)
     }
 
     // Ends a path that no record takes. What could be found together with the fact may ask for more than the nodes on the
@@ -529,6 +618,7 @@ impl<'a> Walk<'a> {
             regs: place.regs,
             way,
             moment: self.path.now(),
+            turns: self.turns,
             first: None,
             second: None,
         })?;
@@ -564,10 +654,16 @@ impl<'a> Walk<'a> {
         let mut marks = Vec::new(self.alloc);
         match by {
             By::Words => {}
-            By::Rule(at) => {
-                if let Some(rule) = self.path.rules().rule(at) {
-                    for own in 0..rule.conds.len() {
-                        marks.push(Mark::Met(at, own))?;
+            By::Match(call) => {
+                let question = Question {
+                    path: &self.path,
+                    word,
+                };
+                if let Some(at) = question.matching(call)? {
+                    if let Some(rule) = self.path.rules().rule(at) {
+                        for own in 0..rule.conds.len() {
+                            marks.push(Mark::Met(at, own))?;
+                        }
                     }
                 }
             }
@@ -590,8 +686,11 @@ impl<'a> Walk<'a> {
     // Comes to a return whose word is not the profile's, as far as is known. Who looks for a record tries some that come
     // here, and goes on elsewhere.
     fn stuck(&mut self, place: &Place) -> Result<Option<u32>, CertifyError> {
-        if let (true, Some(tear)) = (self.path.is_torn(), self.tear) {
+        if let (true, Some(tear)) = (self.path.is_torn(), self.turns.tear) {
             return self.undo(&tear);
+        }
+        if let Some(gate) = self.turns.gate {
+            return self.shut(&gate);
         }
         let Some(listed) = self.hunt else {
             return Err(undecided(place.pc));
