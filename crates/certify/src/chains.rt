@@ -2,15 +2,9 @@
 
 use crate::fault::CertifyError;
 use crate::known::list_of;
-use cert_form::Claim;
+use cert_form::{Claim, MAX_ENTRIES, MAX_LITERALS};
 use cert_state::Lit;
 use std::alloc::{AllocError, Global};
-
-/// The most entries of a certificate.
-const MAX_ENTRIES: usize = 65536;
-
-/// The most claims of a chain.
-pub(crate) const MAX_CLAIMS: usize = 512;
 
 // Into how many lists the entries are sorted.
 const LISTS: usize = 8192;
@@ -117,7 +111,7 @@ impl Chains {
 
     /// The chain of these claims.
     pub(crate) fn of(&mut self, claims: &[Claim]) -> Result<u32, CertifyError> {
-        if claims.len() > MAX_CLAIMS {
+        if claims.len() > MAX_LITERALS {
             return Err(CertifyError::TooLarge);
         }
         let mut chain = 0;
@@ -131,7 +125,7 @@ impl Chains {
     pub(crate) fn claims(&self, alloc: Global, chain: u32) -> Result<Vec<Claim>, AllocError> {
         let mut claims = Vec::new(alloc);
         let mut left = chain;
-        for _ in 0..MAX_CLAIMS {
+        for _ in 0..MAX_LITERALS {
             let Some((parent, claim)) = self.last(left) else {
                 break;
             };

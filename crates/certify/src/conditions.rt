@@ -1,5 +1,5 @@
 //! Whether what is known settles a condition, and of which words that is known.
-ghost use Rattle.std.specs.Prelude.{◌<◌};
+ghost use Rattle.std.specs.Prelude.{◌≡◌, ◌<◌, ◌+◌};
 
 use crate::known::Known;
 use crate::split::Split;
@@ -71,9 +71,11 @@ fn judge_bits(known: &Known, above: Half, below: Half) -> Judged
     }
 }
 
-// Whether an argument has these bits under a mask.
-fn judge_masked(known: &Known, word: u8, mask: u64, datum: u64) -> Judged
+// The high and the low half of an argument that has these bits under a mask.
+fn halves_of(word: u8, mask: u64, datum: u64) -> (Half, Half)
     requires { word < 15 }
+    ensures above { result.0.word ≡ word + 1 }
+    ensures below { result.1.word ≡ word }
 {
     let above = Half {
         word: word + 1,
@@ -85,6 +87,14 @@ fn judge_masked(known: &Known, word: u8, mask: u64, datum: u64) -> Judged
         mask: low(mask),
         datum: low(datum),
     };
+    (above, below)
+}
+
+// Whether an argument has these bits under a mask.
+fn judge_masked(known: &Known, word: u8, mask: u64, datum: u64) -> Judged
+    requires { word < 15 }
+{
+    let (above, below) = halves_of(word, mask, datum);
     judge_bits(known, above, below)
 }
 
@@ -231,17 +241,7 @@ fn halves(word: u8, cond: &Cond) -> (Half, Half)
         Op::MaskedEq => (cond.value, cond.datum),
         _ => (u64::MAX, cond.value),
     };
-    let above = Half {
-        word: word + 1,
-        mask: high(mask),
-        datum: high(datum),
-    };
-    let below = Half {
-        word,
-        mask: low(mask),
-        datum: low(datum),
-    };
-    (above, below)
+    halves_of(word, mask, datum)
 }
 
 /// Few literals by which a condition is settled that is so: they follow from what is known, and say no more than is

@@ -1,7 +1,6 @@
 //! Where a filter begins to ask anew.
 
 use crate::meetings::targets;
-use crate::position::insn_at;
 use bpf_insn::{Insn, Operation};
 use call_record::Word;
 use kernel_check::Accepted;
@@ -21,7 +20,7 @@ enum Landing {
 fn landed_at(program: &Accepted<'_>, pc: u16) -> Landing {
     let mut at = pc;
     for _ in 0..JUMPS {
-        let Some(insn) = insn_at(program, at) else {
+        let Some(insn) = program.insn_at(at) else {
             return Landing::Elsewhere;
         };
         match insn.operation() {
@@ -103,7 +102,7 @@ impl Gates {
 
     // Goes on from a position that is reached.
     fn pass(&mut self, program: &Accepted<'_>, pc: u16, from: u16, default: Word) {
-        let Some(insn) = insn_at(program, pc) else {
+        let Some(insn) = program.insn_at(pc) else {
             return;
         };
         if self.last == pc as usize && pc != from {

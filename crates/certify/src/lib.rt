@@ -22,7 +22,6 @@ mod nodes;
 mod path;
 mod plain;
 mod points;
-mod position;
 mod rules;
 mod settle;
 mod split;

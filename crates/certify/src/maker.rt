@@ -7,10 +7,10 @@ ghost use Rattle.certify.specs.declared.fault.CertifyError.TheVariants.{OutOfMem
 ghost use Rattle.certify.specs.Own.{IsOwnWork};
 
 use crate::fault::CertifyError;
-use crate::nodes::MAX_NODES;
 use crate::plain::plain_certificate;
 use crate::walk::{Manner, Walk};
 use bpf_insn::Program;
+use cert_form::MAX_NODES;
 use kernel_check::{Accepted, accept};
 use profile::{Profile, Rule};
 use std::alloc::Global;

@@ -1,6 +1,5 @@
 //! Where paths of a filter meet.
 
-use crate::position::insn_at;
 use bpf_insn::{Insn, Operation};
 use kernel_check::Accepted;
 use std::alloc::{AllocError, Global};
@@ -34,7 +33,7 @@ pub(crate) fn meetings(alloc: Global, program: &Accepted<'_>) -> Result<Vec<bool
     let mut meet = vec![in alloc; false; count]?;
     for at in 0..count {
         let pc = at.min(0xffff) as u16;
-        let Some(insn) = insn_at(program, pc) else {
+        let Some(insn) = program.insn_at(pc) else {
             break;
         };
         for target in targets(pc, &insn) {

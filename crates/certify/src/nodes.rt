@@ -1,16 +1,13 @@
 //! The nodes of a certificate, made from its last to its first.
 
-use crate::chains::{Chains, MAX_CLAIMS};
+use crate::chains::Chains;
 use crate::fault::{CertifyError, unwritten};
 use crate::path::Path;
 use crate::uses::are_so;
 use crate::words::BEGINNING;
-use cert_form::{ChainNode, Claim, Kind, write_chained, write_claims};
+use cert_form::{ChainNode, Claim, Kind, MAX_LITERALS, MAX_NODES, write_chained, write_claims};
 use cert_state::{Lit, Regs};
 use std::alloc::{AllocError, Global};
-
-/// The most nodes of a certificate.
-pub(crate) const MAX_NODES: usize = 16384;
 
 /// Stands for no node.
 const NOBODY: u32 = u32::MAX;
@@ -100,7 +97,7 @@ impl Nodes {
     fn follow(&self, path: &Path<'_>, fact: Option<Lit>, chain: u32) -> bool {
         let fact = fact.map(Claim::Knows);
         let mut left = chain;
-        for _ in 0..=MAX_CLAIMS {
+        for _ in 0..=MAX_LITERALS {
             let Some((parent, claim)) = self.chains.last(left) else {
                 return true;
             };

@@ -11,10 +11,9 @@ use crate::gates::Gates;
 use crate::grounds::{Ground, ground_of};
 use crate::meetings::{after, meetings};
 use crate::needs::Needs;
-use crate::nodes::{MAX_NODES, Nodes, Place, one_way};
+use crate::nodes::{Nodes, Place, one_way};
 use crate::path::{Moment, Path};
 use crate::points::Search;
-use crate::position::insn_at;
 use crate::settle::{By, Outcome, Question};
 use crate::split::Split;
 use crate::standing::Mark;
@@ -22,7 +21,7 @@ use crate::uses::Uses;
 use crate::words::{BEGINNING, NOTHING, Words, knowing, word_of};
 use bpf_insn::{Insn, Operation};
 use call_record::{Record, Word};
-use cert_form::{Claim, Kind};
+use cert_form::{Claim, Kind, MAX_NODES};
 use cert_state::{AVal, Listed, Lit, Regs, edge_fact, transfer};
 use kernel_check::Accepted;
 use profile::Profile;
@@ -287,7 +286,7 @@ impl<'a> Walk<'a> {
     // Goes a way from a node, or makes it where all are gone. A node that was found at the end of the last way, or
     // made, is answered.
     fn advance(&mut self, visit: Visit, found: Option<u32>) -> Result<Option<u32>, CertifyError> {
-        let Some(insn) = insn_at(&self.program, visit.pc) else {
+        let Some(insn) = self.program.insn_at(visit.pc) else {
             return Err(undecided(visit.pc));
         };
         self.path.go_back(visit.moment)?;
@@ -468,7 +467,7 @@ impl<'a> Walk<'a> {
                 visits: self.visits.len(),
             });
         }
-        let Some(insn) = insn_at(&self.program, place.pc) else {
+        let Some(insn) = self.program.insn_at(place.pc) else {
             return Err(undecided(place.pc));
         };
         let is_asked = self.path.call().is_some() && is_return(&insn);

@@ -21,10 +21,7 @@ use bpf_insn::Program;
 use call_tables::Arch;
 use cert_form::Kind;
 use cert_state::Lit;
-use profile::Profile;
-
-// The least number of an x32 call.
-const LEAST_X32_NUMBER: u32 = 0x40000000;
+use profile::{LEAST_X32_NUMBER, Profile};
 
 // So many halvings tell any two numbers of a table apart, once x32 calls are apart.
 const HALVINGS: u32 = 10;
