@@ -36,6 +36,15 @@ fn landed_at(program: &Accepted<'_>, pc: u16) -> Landing {
     Landing::Elsewhere
 }
 
+// Which place of the record is loaded at a position.
+fn loaded_at(program: &Accepted<'_>, pc: u16) -> Option<u32> {
+    let insn = insn_at(program, pc)?;
+    match insn.operation() {
+        Some(Operation::LoadWord) => Some(insn.k),
+        _ => None,
+    }
+}
+
 /// The positions behind one to which all ways lead on that do not end before, and where none ended yet with the word of a
 /// record that no rule matches. So the rules that were asked for before are out there, and nothing more of what was learned is
 /// of use. The filter may ask for it again.
@@ -93,6 +102,27 @@ impl Gates {
         }
     }
 
+    // Whether a question begins at a position: a word is loaded there or right before, and it is not the low half of an argument
+    // whose high half is the word that is loaded before it.
+    fn begins(&self, program: &Accepted<'_>, pc: u16) -> bool {
+        let load = match loaded_at(program, pc) {
+            Some(_) => pc,
+            None => pc.saturating_sub(1),
+        };
+        let Some(place) = loaded_at(program, load) else {
+            return false;
+        };
+        if place % 8 != 0 {
+            return true;
+        }
+        for at in (0..load).rev() {
+            if let Some(other) = loaded_at(program, at) {
+                return other != place.saturating_add(4);
+            }
+        }
+        true
+    }
+
     fn reach(&mut self, pc: u16) {
         if let Some(is_reached) = self.are_reached.get_mut(pc as usize) {
             *is_reached = true;
@@ -105,7 +135,7 @@ impl Gates {
         let Some(insn) = program.insn_at(pc) else {
             return;
         };
-        if self.last == pc as usize && pc != from {
+        if self.last == pc as usize && pc != from && self.begins(program, pc) {
             if let Some(is_gate) = self.are_gates.get_mut(pc as usize) {
                 *is_gate = true;
             }
