@@ -38,7 +38,7 @@ fn landed_at(program: &Accepted<'_>, pc: u16) -> Landing {
 
 // Which place of the record is loaded at a position.
 fn loaded_at(program: &Accepted<'_>, pc: u16) -> Option<u32> {
-    let insn = insn_at(program, pc)?;
+    let insn = program.insn_at(pc)?;
     match insn.operation() {
         Some(Operation::LoadWord) => Some(insn.k),
         _ => None,
