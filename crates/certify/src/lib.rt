@@ -8,6 +8,7 @@
 mod chains;
 mod clash;
 mod conditions;
+mod emptied;
 mod essence;
 mod evidence;
 mod fault;

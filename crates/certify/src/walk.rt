@@ -5,6 +5,7 @@
 ghost use Rattle.bpf_insn.specs.Causes.{IsPlain};
 
 use crate::clash::contradiction;
+use crate::emptied::cut_of_emptied;
 use crate::essence::{add_essence, add_words, excluded};
 use crate::fault::CertifyError;
 use crate::gates::Gates;
@@ -643,8 +644,12 @@ impl<'a> Walk<'a> {
                 self.need_marks(None, &marks)?;
                 self.make(Kind::Return, place.pc, uses.keep(&place.regs))
             }
-            Outcome::Cut(split) if !self.path.is_torn() => self.wait(place, Way::Cut(split)),
-            Outcome::Cut(_) | Outcome::Undecided => self.stuck(place),
+            Outcome::Cut(_) | Outcome::Undecided if self.path.is_torn() => self.stuck(place),
+            Outcome::Cut(split) => self.wait(place, Way::Cut(split)),
+            Outcome::Undecided => match cut_of_emptied(self.path.all()) {
+                Some(split) => self.wait(place, Way::Cut(split)),
+                None => self.stuck(place),
+            },
         }
     }
 
