@@ -11,7 +11,7 @@ use std::alloc::{AllocError, Global};
 // Into how many lists the literals are sorted.
 const LISTS: usize = 1024;
 
-// The same where they are few.
+// Into how many lists few literals are sorted.
 const FEW_LISTS: usize = 8;
 
 // How many numbers are tried for one of which all is true.
@@ -127,7 +127,7 @@ fn next_under(number: u32, mask: u32) -> Option<u32> {
 }
 
 impl WordFacts {
-    // The same between two numbers.
+    // What is known of a word that lies between two numbers besides.
     fn between(self, low: u32, high: u32) -> WordFacts {
         WordFacts {
             least: self.least.max(low),
@@ -136,7 +136,7 @@ impl WordFacts {
         }
     }
 
-    // The same with these bits.
+    // What is known of a word that has these bits besides.
     fn with_bits(self, mask: u32, datum: u32) -> WordFacts {
         let word = if mask == u32::MAX {
             self.between(datum, datum)
@@ -151,7 +151,7 @@ impl WordFacts {
         }
     }
 
-    // The same without these bits, as the literal at a place says.
+    // What is known of a word that lacks these bits besides, as the literal at a place says.
     fn without_bits(self, mask: u32, place: u32) -> WordFacts {
         if mask == u32::MAX {
             WordFacts {
@@ -166,7 +166,7 @@ impl WordFacts {
         }
     }
 
-    // The same with a literal, but for the points that it excludes one by one.
+    // What is known of a word with a literal more, but for the points that it excludes one by one.
     fn with(self, literal: Lit, place: u32) -> WordFacts {
         let word = match literal {
             Lit::In(_, low, high) => self.between(low, high),
@@ -270,7 +270,7 @@ impl Known {
         greatest
     }
 
-    // The same, with its points as they are.
+    // What is known of a word, with its least and greatest points as they are.
     fn with_points(&self, word: u8, facts: WordFacts) -> WordFacts {
         if !facts.has_points() || facts.excluded == 0 {
             return facts;

@@ -31,7 +31,7 @@ fn record_of(words: &[u32; 16]) -> Record {
     Record::from_bytes(&bytes)
 }
 
-// The same words with another one.
+// Words with another number at one place.
 fn with(words: &[u32; 16], word: u8, number: u32) -> [u32; 16] {
     let mut other = *words;
     other[(word % 16) as usize] = number;
@@ -174,7 +174,7 @@ impl Search<'_> {
         self.tried(&all)
     }
 
-    // The same words with an argument, as far as its halves may have this value.
+    // Words with an argument's value, as far as its halves may have it.
     fn with_argument(&self, words: &[u32; 16], index: u8, value: u64) -> [u32; 16] {
         let mut other = *words;
         let word = 4 + 2 * (index % 6);

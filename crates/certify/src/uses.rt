@@ -59,7 +59,7 @@ impl Uses {
         }
     }
 
-    // The same with A, if something else matters.
+    // These uses, and A's if something else matters.
     fn with_a(self, matters: bool) -> Uses {
         Uses {
             a: self.a || matters,

@@ -90,7 +90,7 @@ pub(crate) enum Manner {
     Literals(usize),
     /// Also that rules are out, and that conditions are met.
     Marks,
-    /// The same, and where the filter begins to ask anew nothing more is known but which rules are out.
+    /// What marks say, and where the filter begins to ask anew nothing more is known but which rules are out.
     Gates,
 }
 

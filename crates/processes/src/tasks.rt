@@ -11,11 +11,11 @@ use crate::task::{Task, end_by, is_live};
 /// Which tasks of a container are meant.
 #[derive(Clone, Copy)]
 pub(crate) enum Which {
-    /// The one with this number.
+    /// The task with this number.
     One(u64),
-    /// Those of a group.
+    /// The tasks of a group.
     Group(u64),
-    /// Those of a group but the one with this number.
+    /// The tasks of a group but the one with this number.
     Siblings(u64, u64),
     /// All.
     All,

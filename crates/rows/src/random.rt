@@ -55,7 +55,8 @@ const WORDS: [Word; 8] = [
 
 const NUMBERS: [u32; 8] = [0, 1, 1, 2, 3, 5, 100, 435];
 
-const OPS: [Op; 8] = [
+/// Operators of conditions, EQ twice as often as each other.
+pub const OPS: [Op; 8] = [
     Op::Ne,
     Op::Lt,
     Op::Le,

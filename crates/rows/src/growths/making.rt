@@ -58,7 +58,7 @@ impl Made {
         })
     }
 
-    /// The same, checked.
+    /// The filter and its certificate, checked.
     pub fn checked(&self, alloc: Global) -> Result<Checked<'_>> {
         let Made {
             profile,
@@ -106,7 +106,7 @@ fn listed(alloc: Global) -> Result<Vec<u8>, FormError> {
     write(alloc, &nodes)
 }
 
-// The same in form 2.
+// A certificate of form 2, of one return.
 fn chained(alloc: Global) -> Result<Vec<u8>, FormError> {
     let node = ChainNode {
         kind: Kind::Return,

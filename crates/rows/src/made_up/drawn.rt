@@ -2,6 +2,7 @@
 ghost use Rattle.std.specs.Prelude.{◌<◌};
 
 use crate::dice::Dice;
+use crate::random::OPS;
 use anyhow::{Context, Result};
 use arrayvec::ArrayVec;
 use bpf_asm::assemble;
@@ -32,17 +33,6 @@ const WORDS: [Word; 8] = [
     Word(0x50001),
     Word(0x50001),
     Word(0x8000_0000),
-];
-
-const OPS: [Op; 8] = [
-    Op::Ne,
-    Op::Lt,
-    Op::Le,
-    Op::Eq,
-    Op::Eq,
-    Op::Ge,
-    Op::Gt,
-    Op::MaskedEq,
 ];
 
 /// The halves of numbers that are drawn.

@@ -27,7 +27,7 @@ pub const AT_ONCE: Manner = Manner {
     how: GivesOut::Fails,
 };
 
-/// The same, and where an end has failed it goes on.
+/// As many bytes a call as there are, and where an end has failed it goes on.
 pub const AT_ONCE_AGAIN: Manner = Manner {
     most: usize::MAX,
     how: GivesOut::FailsOnce,

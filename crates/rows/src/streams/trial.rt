@@ -61,7 +61,7 @@ impl<'a> Case<'a> {
         self.run_on(&self.text, alloc, shelf, manner, calls, room)
     }
 
-    /// The same on another input.
+    /// Runs the program on another input.
     pub fn run_on(
         &self,
         text: &[u8],
