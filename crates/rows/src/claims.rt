@@ -1,6 +1,6 @@
 //! Nodes of certificates with all that form 4 lets them say: literals, rules that are out, conditions that are met.
 
-use crate::nodes::nodes_of;
+use crate::nodes::node_of;
 use anyhow::Result;
 use cert_form::{CertView, ChainNode, Claim, Node, NodeView, write_claims};
 use std::alloc::Global;
@@ -18,12 +18,12 @@ pub struct ClaimNode {
 pub fn claim_nodes_of(alloc: Global, bytes: &[u8]) -> Result<Vec<ClaimNode>> {
     let view = CertView::read(alloc, bytes)?;
     let mut all = Vec::new(alloc);
-    for (i, node) in nodes_of(alloc, bytes)?.into_iter().enumerate() {
-        let seen = view.node(i);
+    for i in 0..view.len() {
+        let node = view.node(i);
         all.push(ClaimNode {
-            node,
-            outs: outs_of(alloc, &seen)?,
-            mets: mets_of(alloc, &seen)?,
+            node: node_of(alloc, &node)?,
+            outs: outs_of(alloc, &node)?,
+            mets: mets_of(alloc, &node)?,
         })?;
     }
     Ok(all)

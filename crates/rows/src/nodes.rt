@@ -116,8 +116,8 @@ pub fn nodes_of(alloc: Global, bytes: &[u8]) -> Result<Vec<Node>> {
     Ok(nodes)
 }
 
-// A node with its literals.
-fn node_of(alloc: Global, node: &NodeView<'_>) -> Result<Node> {
+/// A node with its literals.
+pub fn node_of(alloc: Global, node: &NodeView<'_>) -> Result<Node> {
     Ok(Node {
         kind: node.kind(),
         pc: node.pc(),

@@ -73,22 +73,25 @@ impl<'a> Supply<'a> {
         self.left
     }
 
-    // What a call answers once so many were made.
-    fn give_out(&mut self) -> io::Result<usize> {
+    // The failure of a call once so many were made, if it fails.
+    fn failure(&mut self) -> Option<io::Error> {
         if self.manner.how == GivesOut::MovesNone {
-            return Ok(0);
+            return None;
         }
         if self.manner.how == GivesOut::FailsOnce {
             self.calls = usize::MAX;
         }
-        Err(io::Error::from(io::ErrorKind::Other))
+        Some(io::Error::from(io::ErrorKind::Other))
     }
 }
 
 impl io::Read for Supply<'_> {
     fn read(&mut self, buffer: &mut [u8]) -> io::Result<usize> {
         if self.calls == 0 {
-            return self.give_out();
+            return match self.failure() {
+                Some(error) => Err(error),
+                None => Ok(0),
+            };
         }
         self.calls -= 1;
         let n = buffer.len().min(self.left.len()).min(self.manner.most);
