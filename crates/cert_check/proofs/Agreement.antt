@@ -31,7 +31,7 @@ use Rattle.cert_state.proofs.KnownLaws.{entailed_is_true}
 use Rattle.cert_state.proofs.BitLaws.{and_all}
 use Rattle.cert_check.specs.Agree.{HasBits, LacksBits, AtBothEnds, all_64_bits, IsYesBy}
 use Rattle.cert_check.specs.Agree.{IsNoBy, IsYes, IsYesRule, IsNoRule, IsRefuted, IsLeft}
-use Rattle.cert_check.specs.Agree.{IsRuleOf, RulesAgree, MachineAgrees, ListedAgrees, Agrees}
+use Rattle.cert_check.specs.Agree.{RulesAgree, MachineAgrees, ListedAgrees, Agrees}
 
 -- a number of two halves under a mask, half by half
 masked_halves : (l h m : ℕ) → l < 2 ^ 32 → bit_and (l + 2 ^ 32 * h) m ≡ bit_and h (m / 2 ^ 32) * 2 ^ 32 + bit_and l (m % 2 ^ 32)

@@ -8,7 +8,7 @@ use Rattle.call_tables.specs.declared.arch.Arch.{Arch}
 use Rattle.profile.specs.declared.conditions.Cond.{Cond}
 use Rattle.profile.specs.declared.rules.Rule.{Rule}
 use Rattle.cert_state.specs.declared.literal.Lit.{Lit}
-use Rattle.cert_check.specs.Agree.{IsYes, IsNo, IsYesRule, IsNoRule, IsLeft, AllAreYes, OneIsNo}
+use Rattle.cert_check.specs.Agree.{IsYes, IsNo, IsYesRule, IsNoRule, IsLeft}
 use Rattle.cert_check.specs.inner.Judged.{ConditionsSoFar, LeftSoFar, IsYesOrMet, IsNoNorMet, RulesSoFar, IsOther}
 
 -- what holds of the first elements at their places and of the next one holds of one more

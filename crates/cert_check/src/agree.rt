@@ -114,7 +114,7 @@ pub(crate) fn answer_of<'a, S: State>(
 // met: that is no answer for a rule with conditions that are.
 fn answer_at<'a, S: State>(
     facts: &Facts<'_, S>,
-    mets: &Mets<'_>,
+    mets: &Mets<'_, '_>,
     place: usize,
     rule: &'a Rule,
     last: Answered<'a>,
@@ -136,7 +136,7 @@ fn answer_at<'a, S: State>(
 // Whether a rule of the record's machine is settled, by the answers to its number and to its conditions.
 fn judge_rule<S: State>(
     facts: &Facts<'_, S>,
-    mets: &Mets<'_>,
+    mets: &Mets<'_, '_>,
     place: usize,
     rule: &Rule,
     number: Number,
@@ -172,7 +172,7 @@ fn judge_rule<S: State>(
 // How a rule of the record's machine bears on a word, by whether it is settled.
 fn bearing_of<S: State>(
     facts: &Facts<'_, S>,
-    mets: &Mets<'_>,
+    mets: &Mets<'_, '_>,
     place: usize,
     rule: &Rule,
     word: Word,
@@ -205,7 +205,7 @@ fn is_for(rule: &Rule, arch: Arch) -> bool
 }
 
 // Whether a rule at a place is for the machine, and is not said to be out.
-fn is_left(outs: &Outs<'_>, place: usize, rule: &Rule, arch: Arch) -> bool
+fn is_left(outs: &Outs<'_, '_>, place: usize, rule: &Rule, arch: Arch) -> bool
     requires { place < 8192 }
     ensures { IsTrue result ↔ IsLeft (says outs.now.node).out arch place rule.now }
 {
@@ -219,7 +219,7 @@ fn is_left(outs: &Outs<'_>, place: usize, rule: &Rule, arch: Arch) -> bool
 // another number is not asked for.
 fn weigh<'a, S: State>(
     facts: &Facts<'_, S>,
-    mets: &Mets<'_>,
+    mets: &Mets<'_, '_>,
     place: usize,
     rule: &'a Rule,
     word: Word,
@@ -245,8 +245,8 @@ fn weigh<'a, S: State>(
 // Whether the rules that are left for a machine agree with a word.
 fn rules_agree<S: State>(
     profile: &Profile,
-    outs: &Outs<'_>,
-    mets: &Mets<'_>,
+    outs: &Outs<'_, '_>,
+    mets: &Mets<'_, '_>,
     facts: &Facts<'_, S>,
     word: Word,
     arch: Arch,
@@ -292,8 +292,8 @@ fn follows_or_kills<S: State>(facts: &Facts<'_, S>, literal: &Lit, word: Word) -
 // Whether an x86-64 agrees with a word: an x32 call is foreign.
 fn x86_64_agrees<S: State>(
     profile: &Profile,
-    outs: &Outs<'_>,
-    mets: &Mets<'_>,
+    outs: &Outs<'_, '_>,
+    mets: &Mets<'_, '_>,
     facts: &Facts<'_, S>,
     word: Word,
     arch: Arch,
@@ -313,8 +313,8 @@ fn x86_64_agrees<S: State>(
 // Whether a machine agrees with a word.
 fn machine_agrees<S: State>(
     profile: &Profile,
-    outs: &Outs<'_>,
-    mets: &Mets<'_>,
+    outs: &Outs<'_, '_>,
+    mets: &Mets<'_, '_>,
     facts: &Facts<'_, S>,
     word: Word,
     arch: Arch,
@@ -330,8 +330,8 @@ fn machine_agrees<S: State>(
 // Whether a listed machine is another than the record's, or agrees with a word.
 fn listed_agrees<S: State>(
     profile: &Profile,
-    outs: &Outs<'_>,
-    mets: &Mets<'_>,
+    outs: &Outs<'_, '_>,
+    mets: &Mets<'_, '_>,
     facts: &Facts<'_, S>,
     word: Word,
     arch: Arch,
@@ -347,8 +347,8 @@ fn listed_agrees<S: State>(
 // Whether each listed machine does.
 fn all_agree<S: State>(
     profile: &Profile,
-    outs: &Outs<'_>,
-    mets: &Mets<'_>,
+    outs: &Outs<'_, '_>,
+    mets: &Mets<'_, '_>,
     facts: &Facts<'_, S>,
     word: Word,
     machines: &[Arch],
@@ -385,8 +385,8 @@ fn foreign_agrees<S: State>(profile: &Profile, facts: &Facts<'_, S>, word: Word)
 /// and that the conditions are met that are said to be.
 pub(crate) fn agrees<S: State>(
     profile: &Profile,
-    outs: &Outs<'_>,
-    mets: &Mets<'_>,
+    outs: &Outs<'_, '_>,
+    mets: &Mets<'_, '_>,
     facts: &Facts<'_, S>,
     word: Word,
 ) -> bool

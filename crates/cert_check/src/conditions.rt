@@ -156,7 +156,7 @@ pub(crate) fn judge_conditions<S: State>(facts: &Facts<'_, S>, conds: &[Cond]) -
 // Whether a condition of the rule at a place is settled, or is said to be met, which counts as yes.
 fn judge_unless_met<S: State>(
     facts: &Facts<'_, S>,
-    mets: &Mets<'_>,
+    mets: &Mets<'_, '_>,
     place: usize,
     own: usize,
     cond: &Cond,
@@ -175,7 +175,7 @@ fn judge_unless_met<S: State>(
 /// Whether the conditions of the rule at a place, of which some are said to be met, are all yes, or one is no.
 pub(crate) fn judge_left<S: State>(
     facts: &Facts<'_, S>,
-    mets: &Mets<'_>,
+    mets: &Mets<'_, '_>,
     place: usize,
     conds: &[Cond],
 ) -> Judged

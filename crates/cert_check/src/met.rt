@@ -8,7 +8,7 @@ ghost use Rattle.cert_check.specs.inner.Ways.{edge_of};
 use crate::conditions::judge_condition;
 use crate::edges::Way;
 use crate::judged::Judged;
-use crate::mets::{Mets, has_no_met};
+use crate::mets::{Mets, has_no_met, mets_of};
 use cert_form::NodeView;
 use cert_state::{Facts, State, With};
 use profile::{Cond, Profile};
@@ -29,7 +29,7 @@ fn is_yes<S: State>(facts: &Facts<'_, S>, cond: &Cond) -> bool
 fn is_met<S: State>(
     profile: &Profile,
     facts: &Facts<'_, S>,
-    here: &Mets<'_>,
+    here: &Mets<'_, '_>,
     place: (u32, u32),
 ) -> bool
     ensures { IsTrue result ↔ IsMetBy profile.now (says here.now.node).met (S.known facts.now.state.now) place }
@@ -54,7 +54,7 @@ fn is_met<S: State>(
 fn all_are_met<S: State>(
     profile: &Profile,
     known: &With<'_, S>,
-    here: &Mets<'_>,
+    here: &Mets<'_, '_>,
     there: &NodeView<'_>,
 ) -> bool
     ensures { IsTrue result ↔ All (IsMetBy profile.now (says here.now.node).met
@@ -87,5 +87,9 @@ pub(crate) fn mets_follow(
         state: node,
         more: way.fact,
     };
-    all_are_met(profile, &known, &Mets::of(node), there)
+    if has_no_met(node) {
+        return all_are_met(profile, &known, &Mets::none(node), there);
+    }
+    let marked = mets_of(node);
+    all_are_met(profile, &known, &Mets::of(node, &marked), there)
 }

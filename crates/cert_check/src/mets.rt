@@ -8,11 +8,14 @@ use cert_form::NodeView;
 /// The conditions that a node says to be met, each marked at its place: a profile has at most 8,192 rules of at most six
 /// conditions.
 #[derive(Clone, Copy)]
-pub(crate) struct Mets<'a> {
+pub(crate) struct Mets<'t, 'a> {
     pub(crate) node: NodeView<'a>,
-    marked: [bool; 49152],
-    ghost whole: { AreMetMarked (says node).met marked },
+    marked: &'t [bool; 49152],
+    ghost whole: { AreMetMarked (says node).met marked.now },
 }
+
+// No condition is marked.
+const NO_CONDITION: &[bool; 49152] = &[false; 49152];
 
 // Marks a condition, if the table has it.
 fn mark(marked: &mut [bool; 49152], place: (u32, u32))
@@ -30,8 +33,8 @@ fn mark(marked: &mut [bool; 49152], place: (u32, u32))
     marked[6 * rule + own] = true;
 }
 
-// The conditions that a node says to be met, marked.
-fn marked_of(node: &NodeView<'_>) -> [bool; 49152]
+/// The conditions that a node says to be met, marked.
+pub(crate) fn mets_of(node: &NodeView<'_>) -> [bool; 49152]
     ensures { AreMetMarked (says node.now).met result }
 {
     let mut marked = [false; 49152];
@@ -43,17 +46,30 @@ fn marked_of(node: &NodeView<'_>) -> [bool; 49152]
     marked
 }
 
-impl<'a> Mets<'a> {
-    ghost use Rattle.std.specs.Prelude.{◌≡◌, ◌↔◌, ◌<◌, ℕ, Contains, IsTrue};
+impl<'t, 'a> Mets<'t, 'a> {
+    ghost use Rattle.std.specs.Prelude.{◌≡◌, ◌↔◌, ◌<◌, [], ℕ, Contains, IsTrue};
     ghost use Rattle.cert_form.specs.Views.{says};
+    ghost use Rattle.cert_check.specs.inner.Marked.{AreMetMarked};
 
-    /// The conditions that a node says to be met.
-    pub(crate) fn of(node: &NodeView<'a>) -> Mets<'a>
+    /// Of a node that says no condition to be met.
+    pub(crate) fn none(node: &NodeView<'a>) -> Mets<'t, 'a>
+        requires { (says node.now).met ≡ [] }
         ensures { result.node ≡ node.now }
     {
         Mets {
             node: *node,
-            marked: marked_of(node),
+            marked: NO_CONDITION,
+        }
+    }
+
+    /// The conditions that a node says to be met, by its table.
+    pub(crate) fn of(node: &NodeView<'a>, marked: &'t [bool; 49152]) -> Mets<'t, 'a>
+        requires { AreMetMarked (says node.now).met marked.now }
+        ensures { result.node ≡ node.now }
+    {
+        Mets {
+            node: *node,
+            marked,
         }
     }
 

@@ -7,11 +7,14 @@ use cert_form::NodeView;
 
 /// The rules that a node says to be out, each marked at its place: a profile has at most 8,192 rules.
 #[derive(Clone, Copy)]
-pub(crate) struct Outs<'a> {
+pub(crate) struct Outs<'t, 'a> {
     pub(crate) node: NodeView<'a>,
-    marked: [bool; 8192],
-    ghost whole: { AreMarked (says node).out marked },
+    marked: &'t [bool; 8192],
+    ghost whole: { AreMarked (says node).out marked.now },
 }
+
+// No rule is marked.
+const NO_RULE: &[bool; 8192] = &[false; 8192];
 
 // Marks a place, if the table has it.
 fn mark(marked: &mut [bool; 8192], place: u32)
@@ -24,8 +27,8 @@ fn mark(marked: &mut [bool; 8192], place: u32)
     }
 }
 
-// The places that a node says to be out, marked.
-fn marked_of(node: &NodeView<'_>) -> [bool; 8192]
+/// The places that a node says to be out, marked.
+pub(crate) fn marked_of(node: &NodeView<'_>) -> [bool; 8192]
     ensures { AreMarked (says node.now).out result }
 {
     let mut marked = [false; 8192];
@@ -37,17 +40,30 @@ fn marked_of(node: &NodeView<'_>) -> [bool; 8192]
     marked
 }
 
-impl<'a> Outs<'a> {
-    ghost use Rattle.std.specs.Prelude.{◌≡◌, ◌↔◌, ◌<◌, Contains, IsTrue};
+impl<'t, 'a> Outs<'t, 'a> {
+    ghost use Rattle.std.specs.Prelude.{◌≡◌, ◌↔◌, ◌<◌, [], Contains, IsTrue};
     ghost use Rattle.cert_form.specs.Views.{says};
+    ghost use Rattle.cert_check.specs.inner.Marked.{AreMarked};
 
-    /// The rules that a node says to be out.
-    pub(crate) fn of(node: &NodeView<'a>) -> Outs<'a>
+    /// Of a node that says no rule to be out.
+    pub(crate) fn none(node: &NodeView<'a>) -> Outs<'t, 'a>
+        requires { (says node.now).out ≡ [] }
         ensures { result.node ≡ node.now }
     {
         Outs {
             node: *node,
-            marked: marked_of(node),
+            marked: NO_RULE,
+        }
+    }
+
+    /// The rules that a node says to be out, by its table.
+    pub(crate) fn of(node: &NodeView<'a>, marked: &'t [bool; 8192]) -> Outs<'t, 'a>
+        requires { AreMarked (says node.now).out marked.now }
+        ensures { result.node ≡ node.now }
+    {
+        Outs {
+            node: *node,
+            marked,
         }
     }
 

@@ -10,7 +10,7 @@ ghost use Rattle.cert_check.specs.inner.Ways.{edge_of};
 use crate::agree::{NUMBER, TOKEN, answer_of};
 use crate::edges::Way;
 use crate::judged::{Answered, Judged};
-use crate::outs::{Outs, are_below, has_none};
+use crate::outs::{Outs, are_below, has_none, marked_of};
 use cert_form::NodeView;
 use cert_state::{Facts, Lit, State, With};
 use profile::{Profile, Rule};
@@ -42,7 +42,7 @@ fn refutes<S: State>(facts: &Facts<'_, S>, rule: &Rule, conds: Judged) -> bool
 }
 
 // Whether a rule at a place is said to be out by the one node and not by the other.
-fn is_new(here: &Outs<'_>, there: &Outs<'_>, place: usize) -> bool
+fn is_new(here: &Outs<'_, '_>, there: &Outs<'_, '_>, place: usize) -> bool
     requires { place < 8192 }
     ensures { IsTrue result ↔ Contains (says there.now.node).out place × (Contains (says here.now.node).out place → ⊥) }
 {
@@ -56,8 +56,8 @@ fn is_new(here: &Outs<'_>, there: &Outs<'_>, place: usize) -> bool
 fn all_are_out<S: State>(
     profile: &Profile,
     known: &With<'_, S>,
-    here: &Outs<'_>,
-    there: &Outs<'_>,
+    here: &Outs<'_, '_>,
+    there: &Outs<'_, '_>,
 ) -> bool
     ensures { IsTrue result ↔ ((k : ℕ) (rule : TheRule) → slice_get profile.now.rules k ≡ Some rule
         → IsOutThen (says here.now.node).out (says there.now.node).out (S.known known.now.state.now ++ option_to_list known.now.more) k rule) }
@@ -99,5 +99,11 @@ pub(crate) fn outs_follow(
         state: node,
         more: way.fact,
     };
-    all_are_out(profile, &known, &Outs::of(node), &Outs::of(there))
+    let newly = marked_of(there);
+    let there = Outs::of(there, &newly);
+    if has_none(node) {
+        return all_are_out(profile, &known, &Outs::none(node), &there);
+    }
+    let marked = marked_of(node);
+    all_are_out(profile, &known, &Outs::of(node, &marked), &there)
 }

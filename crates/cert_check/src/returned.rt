@@ -3,12 +3,13 @@ ghost use Rattle.std.specs.Prelude.{◌≡◌, ◌↔◌, IsTrue};
 ghost use Rattle.bpf_insn.specs.Code.{operation_of};
 ghost use Rattle.cert_form.specs.declared.node.Kind.TheVariants as kind;
 ghost use Rattle.cert_form.specs.Views.{says};
+ghost use Rattle.cert_check.specs.Agree.{Agrees};
 ghost use Rattle.cert_check.specs.Rules.{word_by};
 ghost use Rattle.cert_check.specs.inner.Broken.{ReturnsAt};
 
 use crate::agree::agrees;
-use crate::mets::Mets;
-use crate::outs::Outs;
+use crate::mets::{Mets, has_no_met, mets_of};
+use crate::outs::{Outs, has_none, marked_of};
 use bpf_insn::{Insn, Operation};
 use call_record::Word;
 use cert_form::{Kind, NodeView};
@@ -29,6 +30,19 @@ fn word_of(insn: &Insn, regs: &Regs) -> Option<u32>
     }
 }
 
+// Whether the profile says a word of all that a node knows, of which these rules are out.
+fn agrees_but_for(profile: &Profile, node: &NodeView<'_>, outs: &Outs<'_, '_>, word: Word) -> bool
+    requires { outs.now.node ≡ node.now }
+    ensures { let n = says node.now in IsTrue result ↔ Agrees profile.now n.out n.met n.known word }
+{
+    let facts = Facts::of(node);
+    if has_no_met(node) {
+        return agrees(profile, outs, &Mets::none(node), &facts, word);
+    }
+    let marked = mets_of(node);
+    agrees(profile, outs, &Mets::of(node, &marked), &facts, word)
+}
+
 // Whether the instruction returns a word that is known, and the profile's on all that the node knows.
 fn returns(profile: &Profile, insn: &Insn, node: &NodeView<'_>) -> bool
     ensures { IsTrue result ↔ ReturnsAt profile.now insn.now (says node.now) }
@@ -36,8 +50,11 @@ fn returns(profile: &Profile, insn: &Insn, node: &NodeView<'_>) -> bool
     let Some(word) = word_of(insn, &node.regs()) else {
         return false;
     };
-    let (outs, mets) = (Outs::of(node), Mets::of(node));
-    agrees(profile, &outs, &mets, &Facts::of(node), Word(word))
+    if has_none(node) {
+        return agrees_but_for(profile, node, &Outs::none(node), Word(word));
+    }
+    let marked = marked_of(node);
+    agrees_but_for(profile, node, &Outs::of(node, &marked), Word(word))
 }
 
 /// Whether a node, if it is a return, returns the profile's word at its instruction.

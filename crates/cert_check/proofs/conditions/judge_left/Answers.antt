@@ -1,9 +1,8 @@
-use Rattle.std.proofs.Common.{◌≡◌, ◌+◌, ℕ, true, false, refl, sym, subst, ap, ◌∙◌, arith}
+use Rattle.std.proofs.Common.{◌≡◌, ◌+◌, true, false, refl, sym, subst, ap, ◌∙◌, arith}
 use Rattle.std.specs.Prelude.{Some}
 use Rattle.std.proofs.lemmas.Option.{slice_get-get_or}
 use Rattle.cert_form.specs.Views.{says}
-use Rattle.cert_check.specs.declared.judged.Judged.{Judged}
-use Rattle.cert_check.specs.inner.Judged.{IsJudged, IsNoNorMet, IsYesOrMet, LeftSoFar}
+use Rattle.cert_check.specs.inner.Judged.{IsNoNorMet, IsYesOrMet, LeftSoFar}
 use Rattle.cert_check.proofs.RulesLaws.{each_at}
 use Rattle.cert_check.proofs.SoFar.{left_is_yes, left_is_open}
 use Rattle.cert_check.proofs.conditions.judge_left.Goals as goal

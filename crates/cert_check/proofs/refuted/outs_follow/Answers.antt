@@ -22,14 +22,24 @@ returns-then-not-are_below c =
           absurd (let e : false ≡ true = c.if-not-are_below.ensures.1 (subst Below (sym size) below) in cc),
     )
 
-pub returns : goal.returns
-returns c =
+pub returns-then-has_none-2 : goal.returns-then-has_none-2
+returns-then-has_none-2 c =
     let Below : ℕ → Type 0 = λ count. All (λ place. place < count) (says c.args.there.now).out in
-    let size = ap length c.rules.ensures.rules in
-    let below = subst Below size (c.if-not-are_below.ensures.0 refl) in
+    let below = subst Below (ap length c.rules.ensures.rules) (c.if-not-are_below.ensures.0 refl) in
     let policy = c.args.profile.now in
     let n = says c.args.node.now in
     let e = edge_of c.args.way.now in
     let m = says c.args.there.now in
-    let told = simp (c.of.ensures, c.of-2.ensures) at c.all_are_out.ensures in
+    let told = simp (c.none.ensures, c.of-there.ensures) at c.all_are_out.ensures in
+    (λ t. all_out policy n e m below (told.0 t), λ all. told.1 (out_of_each policy n e m all))
+
+pub returns : goal.returns
+returns c =
+    let Below : ℕ → Type 0 = λ count. All (λ place. place < count) (says c.args.there.now).out in
+    let below = subst Below (ap length c.rules.ensures.rules) (c.if-not-are_below.ensures.0 refl) in
+    let policy = c.args.profile.now in
+    let n = says c.args.node.now in
+    let e = edge_of c.args.way.now in
+    let m = says c.args.there.now in
+    let told = simp (c.of.ensures, c.of-there.ensures) at c.all_are_out-2.ensures in
     (λ t. all_out policy n e m below (told.0 t), λ all. told.1 (out_of_each policy n e m all))

@@ -1,6 +1,6 @@
 use Rattle.cert_form.specs.Views.{mets_from, says}
 use Rattle.cert_check.proofs.MetsLaws.{none_marked, one_marked, all_marked}
-use Rattle.cert_check.proofs.mets.marked_of.Goals as goal
+use Rattle.cert_check.proofs.mets.mets_of.Goals as goal
 
 pub loop-place-init : goal.loop-place-init
 loop-place-init c = none_marked (says c.args.node.now).met (mets_from c.args.node.now c.first_met-at.result) c.first_met-at.ensures
