@@ -28,14 +28,14 @@ pub(crate) struct Block {
 #[derive(Drop)]
 pub(crate) struct Blocks {
     pub(crate) blocks: Vec<Block>,
-    /// How many ranges may be added, until the rules are tried in turn.
+    /// How many ranges may be looked at, until the rules are no more asked all at once.
     room: usize,
 }
 
 /// How many words are asked for on a path at most: two of each argument, and each under some masks.
 const STEPS: usize = 4096;
 
-/// How many ranges there are for each question at most.
+/// How many ranges may be looked at for each question, before neighbours that go on alike are one.
 const RANGES: usize = 6;
 
 impl Blocks {
@@ -63,7 +63,8 @@ impl Blocks {
     }
 
     // The block of these rules. Rules with the word of what is gone on at without them make no
-    // difference. Where the block would be long, the first half of them is tried before the second.
+    // difference. They are asked all at once where that takes no more ranges than the first half of
+    // them before the second.
     fn add(&mut self, alloc: Global, rules: &[Open], other: &Leaf) -> Result<Leaf, AllocError> {
         if rules
             .iter()
@@ -71,20 +72,68 @@ impl Blocks {
         {
             return Ok(*other);
         }
+        let Some(place) = middle(rules) else {
+            return self.add_rule(alloc, rules, other);
+        };
         let before = self.blocks.len();
-        self.room = RANGES.saturating_mul(rules.len().saturating_add(1));
-        if let Some(leaf) = self.decide(alloc, rules, other, STEPS)? {
-            return Ok(leaf);
+        let (first, second) = rules.split_at(place);
+        let next = self.add(alloc, second, other)?;
+        let parted = self.add(alloc, first, &next)?;
+        let fewest = self.ranges_from(before);
+        let aside = self.set_aside(alloc, before)?;
+        self.room = room_for(rules, fewest);
+        if let Some(whole) = self.decide(alloc, rules, other, STEPS)?
+            && self.ranges_from(before) <= fewest
+        {
+            return Ok(whole);
         }
         self.blocks.truncate(before);
-        match middle(rules) {
-            Some(place) => {
-                let (first, second) = rules.split_at(place);
-                let next = self.add(alloc, second, other)?;
-                self.add(alloc, first, &next)
-            }
+        self.put_back(aside)?;
+        Ok(parted)
+    }
+
+    // The block of one rule.
+    fn add_rule(
+        &mut self,
+        alloc: Global,
+        rules: &[Open],
+        other: &Leaf,
+    ) -> Result<Leaf, AllocError> {
+        self.room = usize::MAX;
+        match self.decide(alloc, rules, other, STEPS)? {
+            Some(leaf) => Ok(leaf),
             None => Ok(Leaf::Word(Word::KILL_THREAD)),
         }
+    }
+
+    // How many ranges the blocks have from a place on.
+    fn ranges_from(&self, place: usize) -> usize {
+        let mut count = 0usize;
+        for block in self.blocks.iter().skip(place) {
+            count = count.saturating_add(block.ranges.len());
+        }
+        count
+    }
+
+    // Takes the blocks out from a place on, from the last to the first.
+    fn set_aside(&mut self, alloc: Global, place: usize) -> Result<Vec<Block>, AllocError> {
+        let mut aside = Vec::new(alloc);
+        for _ in place..self.blocks.len() {
+            if let Some(block) = self.blocks.pop() {
+                aside.push(block)?;
+            }
+        }
+        Ok(aside)
+    }
+
+    // Puts blocks back that were taken out.
+    fn put_back(&mut self, mut aside: Vec<Block>) -> Result<(), AllocError> {
+        for _ in 0..aside.len() {
+            if let Some(block) = aside.pop() {
+                self.blocks.push(block)?;
+            }
+        }
+        Ok(())
     }
 
     // The block that looks at all questions for the same bits at once, unless it is too long.
@@ -153,6 +202,12 @@ impl Blocks {
         self.blocks.iter().position(|block| block.other.is_like(other)
             && block.rules.as_slice() == rules)
     }
+}
+
+// How many ranges may be looked at where rules are asked all at once, that are to be no more than these.
+fn room_for(rules: &[Open], fewest: usize) -> usize {
+    let looked_at = RANGES.saturating_mul(rules.len().saturating_add(1));
+    looked_at.max(fewest.saturating_mul(2))
 }
 
 // The bits that are asked for first: a low word where the high one is known, or those of the first
