@@ -7,7 +7,7 @@ use crate::path::Path;
 use crate::rules::Rules;
 use crate::split::Split;
 use crate::standing::{Call, Mark};
-use crate::words::{NUMBER, TOKEN, Words};
+use crate::words::{NUMBER, TOKEN, Words, word_of};
 use call_record::Word;
 use call_tables::Arch;
 use cert_state::Lit;
@@ -247,12 +247,12 @@ impl Question<'_> {
                 Judged::Yes(_) if same => is_matched = true,
                 Judged::Yes(_) => refuted = refuted || self.path.since(Mark::Out(at)).is_none(),
                 Judged::Open(split) if same != self.is_default() => {
-                    let count = self.open_conditions(at, rule);
+                    let count = self.open_words(at, rule);
                     open = fewer(open, count, split);
                 }
                 Judged::No(_) if same && !self.is_default() => {
                     if let Some(split) = self.reopened(at, rule) {
-                        let count = self.open_conditions(at, rule).saturating_add(OUT);
+                        let count = self.open_words(at, rule).saturating_add(OUT);
                         open = fewer(open, count, split);
                     }
                 }
@@ -301,13 +301,12 @@ impl Question<'_> {
         }
     }
 
-    // How many conditions of a rule are not known to be met.
-    fn open_conditions(&self, at: usize, rule: &Rule) -> usize {
+    // How many words are to be known until a rule matches, by its conditions that are not known to be met.
+    fn open_words(&self, at: usize, rule: &Rule) -> usize {
         let mut count = 0usize;
         for (own, cond) in rule.conds.as_slice().iter().enumerate() {
-            let is_met = matches!(judge_condition(self.path.recent(), cond), Judged::Yes(_));
-            if !is_met && self.path.since(Mark::Met(at, own)).is_none() {
-                count = count.saturating_add(1);
+            if self.path.since(Mark::Met(at, own)).is_none() {
+                count = count.saturating_add(words_of(judge_condition(self.known(), cond)));
             }
         }
         count
@@ -335,7 +334,16 @@ impl Question<'_> {
     }
 }
 
-// Of two splits the one for the rule with fewer open conditions.
+// How many words of an argument are to be known: both, unless the high one is known, which is asked for first.
+fn words_of(judged: Judged) -> usize {
+    match judged {
+        Judged::Yes(_) => 0,
+        Judged::Open(split) if word_of(split.first) % 2 == 0 => 1,
+        Judged::Open(_) | Judged::No(_) => 2,
+    }
+}
+
+// Of two splits the one for the rule with fewer words to be known.
 fn fewer(best: Option<(usize, Split)>, count: usize, split: Split) -> Option<(usize, Split)> {
     match best {
         Some((least, _)) if least <= count => best,
