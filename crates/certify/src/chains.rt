@@ -2,7 +2,7 @@
 
 use crate::fault::CertifyError;
 use crate::known::list_of;
-use cert_form::{Claim, MAX_ENTRIES, MAX_LITERALS};
+use cert_form::{Claim, MAX_LITERALS};
 use cert_state::Lit;
 use std::alloc::{AllocError, Global};
 
@@ -19,6 +19,8 @@ pub(crate) struct Chains {
     // For each entry the place of the one before it in its list, and for each list that of the last one.
     alike: Vec<u32>,
     lists: Vec<u32>,
+    // How many entries there may be.
+    most: u32,
 }
 
 /// The list of a claim, of so many.
@@ -39,12 +41,13 @@ fn list_of_entry(parent: u32, claim: Claim) -> usize {
 }
 
 impl Chains {
-    /// No entries.
-    pub(crate) fn new(alloc: Global) -> Result<Chains, AllocError> {
+    /// No entries, where there may be so many.
+    pub(crate) fn new(alloc: Global, most: u32) -> Result<Chains, AllocError> {
         Ok(Chains {
             entries: Vec::new(alloc),
             alike: Vec::new(alloc),
             lists: vec![in alloc; NOBODY; LISTS]?,
+            most,
         })
     }
 
@@ -98,7 +101,7 @@ impl Chains {
             return Ok(number);
         }
         let count = self.entries.len();
-        if count >= MAX_ENTRIES {
+        if count >= self.most as usize {
             return Err(CertifyError::TooLarge);
         }
         self.entries.push((chain, claim))?;
@@ -109,16 +112,39 @@ impl Chains {
         Ok(count as u32 + 1)
     }
 
-    /// The chain of these claims.
-    pub(crate) fn of(&mut self, claims: &[Claim]) -> Result<u32, CertifyError> {
+    /// A chain with these claims more.
+    pub(crate) fn of(&mut self, before: u32, claims: &[Claim]) -> Result<u32, CertifyError> {
         if claims.len() > MAX_LITERALS {
             return Err(CertifyError::TooLarge);
         }
-        let mut chain = 0;
+        let mut chain = before;
         for claim in claims {
             chain = self.longer(chain, *claim)?;
         }
         Ok(chain)
+    }
+
+    /// The longest chain with which both begin. An entry stands behind its parent.
+    pub(crate) fn shared(&self, one: u32, other: u32) -> u32 {
+        let (mut one, mut other) = (one, other);
+        for _ in 0..2 * MAX_LITERALS {
+            if one == other {
+                return one;
+            }
+            if one > other {
+                one = self.parent(one);
+            } else {
+                other = self.parent(other);
+            }
+        }
+        0
+    }
+
+    fn parent(&self, chain: u32) -> u32 {
+        match self.last(chain) {
+            Some((parent, _)) => parent,
+            None => 0,
+        }
     }
 
     /// The claims of a chain, from the last to the first.

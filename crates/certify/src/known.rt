@@ -407,6 +407,19 @@ impl Known {
         }
     }
 
+    /// Whether a literal says more than is known: it does not follow, or it excludes the least or the greatest point of its word.
+    pub(crate) fn gains(&self, literal: Lit) -> bool {
+        if !self.entails(literal) {
+            return true;
+        }
+        match (literal, self.range(word_of(literal))) {
+            (Lit::NotBits(_, u32::MAX, number), Some((least, greatest))) => {
+                number == least || number == greatest
+            }
+            _ => false,
+        }
+    }
+
     /// Whether the literals of a word can not all be true.
     pub(crate) fn is_dead(&self, word: u8) -> bool {
         let facts = self.word(word);

@@ -25,6 +25,7 @@ mod plain;
 mod points;
 mod rules;
 mod settle;
+mod sharing;
 mod split;
 mod standing;
 mod suffix;

@@ -3,9 +3,12 @@
 use crate::chains::Chains;
 use crate::fault::{CertifyError, unwritten};
 use crate::path::Path;
+use crate::sharing::Sharing;
 use crate::uses::are_so;
 use crate::words::BEGINNING;
-use cert_form::{ChainNode, Claim, Kind, MAX_LITERALS, MAX_NODES, write_chained, write_claims};
+use cert_form::{
+    ChainNode, Claim, Kind, MAX_ENTRIES, MAX_LITERALS, MAX_NODES, write_chained, write_claims,
+};
 use cert_state::{Lit, Regs};
 use std::alloc::{AllocError, Global};
 
@@ -14,6 +17,9 @@ const NOBODY: u32 = u32::MAX;
 
 // How many nodes of a position are tried.
 const TRIES: usize = 64;
+
+// How many entries chains may have that do not share what they may.
+const ROOM: u32 = 4 * MAX_ENTRIES as u32;
 
 /// Where a path stands, with the fact of the way that it came.
 #[derive(Clone, Copy)]
@@ -43,7 +49,7 @@ impl Nodes {
             nodes: Vec::new(alloc),
             before: Vec::new(alloc),
             latest,
-            chains: Chains::new(alloc)?,
+            chains: Chains::new(alloc, ROOM)?,
         })
     }
 
@@ -60,7 +66,7 @@ impl Nodes {
             return Err(CertifyError::TooLarge);
         }
         let number = count as u32;
-        let chain = self.chains.of(claims)?;
+        let chain = self.chains.of(0, claims)?;
         if matches!(kind, Kind::Dead | Kind::Return) {
             if let Some(same) = self.same(kind, pc, regs, chain) {
                 return Ok(same);
@@ -142,8 +148,17 @@ impl Nodes {
         self.nodes.len()
     }
 
-    /// The certificate: the last node comes first.
-    pub(crate) fn written(&self) -> Result<Vec<u8>, CertifyError> {
+    /// The certificate of a profile with so many rules.
+    pub(crate) fn written(&self, rules: usize) -> Result<Vec<u8>, CertifyError> {
+        let nodes = self.turned()?;
+        match self.chains.literals_alone(self.alloc)? {
+            Some(entries) => write_chained(self.alloc, &entries, &nodes).map_err(unwritten),
+            None => self.shared(nodes, rules),
+        }
+    }
+
+    // The nodes from the first to the last, which was made first.
+    fn turned(&self) -> Result<Vec<ChainNode>, AllocError> {
         let mut turned = Vec::new(self.alloc);
         for node in self.nodes.iter().rev() {
             let regs = if turned.is_empty() {
@@ -157,10 +172,18 @@ impl Nodes {
                 ..*node
             })?;
         }
-        match self.chains.literals_alone(self.alloc)? {
-            Some(entries) => write_chained(self.alloc, &entries, &turned).map_err(unwritten),
-            None => write_claims(self.alloc, self.chains.entries(), &turned).map_err(unwritten),
+        Ok(turned)
+    }
+
+    // The certificate, with chains that share what they may.
+    fn shared(&self, mut nodes: Vec<ChainNode>, rules: usize) -> Result<Vec<u8>, CertifyError> {
+        let mut sharing = Sharing::new(self.alloc, nodes.len(), rules)?;
+        for (number, node) in nodes.iter_mut().enumerate() {
+            let mut claims = self.chains.claims(self.alloc, node.chain)?;
+            claims.reverse();
+            node.chain = sharing.chain(number, node.kind, &claims)?;
         }
+        write_claims(self.alloc, sharing.entries(), &nodes).map_err(unwritten)
     }
 }
 

@@ -170,7 +170,7 @@ impl<'a> Path<'a> {
         let Some(fact) = fact else {
             return Ok(false);
         };
-        if self.recent().entails(fact) {
+        if !self.recent().gains(fact) {
             return Ok(false);
         }
         let word = word_of(fact);
@@ -179,7 +179,7 @@ impl<'a> Path<'a> {
         if self.from > 0 {
             add(&mut self.recent, fact)?;
         }
-        if !self.all.entails(fact) {
+        if self.all.gains(fact) {
             add(&mut self.all, fact)?;
         }
         if self.recent().is_dead(word) {
@@ -315,7 +315,7 @@ impl<'a> Path<'a> {
         for place in self.from..self.lessons.len() {
             if let Some(lesson) = self.lessons.get_mut(place) {
                 lesson.recent = self.recent.len();
-                if !self.recent.entails(lesson.literal) {
+                if self.recent.gains(lesson.literal) {
                     add(&mut self.recent, lesson.literal)?;
                 }
             }

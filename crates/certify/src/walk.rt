@@ -273,7 +273,8 @@ impl<'a> Walk<'a> {
     /// The certificate, once all paths are gone.
     pub(crate) fn run(mut self) -> Result<Vec<u8>, CertifyError> {
         self.go_all()?;
-        self.nodes.written()
+        self.nodes
+            .written(self.path.rules().profile().rules().len())
     }
 
     /// The record that was looked for. Where there is too much to go over, what is left is given up.
