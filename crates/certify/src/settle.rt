@@ -43,8 +43,8 @@ fn cut_or_undecided(split: Option<Split>) -> Outcome {
     }
 }
 
-// Rules that were out before the last gate are asked for last.
-const OUT: usize = 16;
+// Rules that were out before the last gate are asked for last, unless one word alone is to be known of them.
+const OUT: usize = 32;
 
 // How a rule bears on a word where several numbers are possible.
 enum Bearing {
@@ -247,13 +247,13 @@ impl Question<'_> {
                 Judged::Yes(_) if same => is_matched = true,
                 Judged::Yes(_) => refuted = refuted || self.path.since(Mark::Out(at)).is_none(),
                 Judged::Open(split) if same != self.is_default() => {
-                    let count = self.open_words(at, rule);
-                    open = fewer(open, count, split);
+                    let turn = turn_of(self.open_words(at, rule), false);
+                    open = sooner(open, turn, split);
                 }
                 Judged::No(_) if same && !self.is_default() => {
                     if let Some(split) = self.reopened(at, rule) {
-                        let count = self.open_words(at, rule).saturating_add(OUT);
-                        open = fewer(open, count, split);
+                        let turn = turn_of(self.open_words(at, rule), true);
+                        open = sooner(open, turn, split);
                     }
                 }
                 Judged::No(_) | Judged::Open(_) => {}
@@ -343,11 +343,21 @@ fn words_of(judged: Judged) -> usize {
     }
 }
 
-// Of two splits the one for the rule with fewer words to be known.
-fn fewer(best: Option<(usize, Split)>, count: usize, split: Split) -> Option<(usize, Split)> {
+// In which turn a rule is asked for of which so many words are to be known, and which was out before the last gate or not.
+fn turn_of(words: usize, was_out: bool) -> usize {
+    let turn = words.saturating_mul(2);
+    match (was_out, words) {
+        (false, _) => turn,
+        (true, 0 | 1) => turn.saturating_add(1),
+        (true, _) => turn.saturating_add(OUT),
+    }
+}
+
+// Of two splits the one for the rule that is asked for sooner.
+fn sooner(best: Option<(usize, Split)>, turn: usize, split: Split) -> Option<(usize, Split)> {
     match best {
-        Some((least, _)) if least <= count => best,
-        _ => Some((count, split)),
+        Some((least, _)) if least <= turn => best,
+        _ => Some((turn, split)),
     }
 }
 

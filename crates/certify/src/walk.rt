@@ -646,10 +646,11 @@ impl<'a> Walk<'a> {
                 self.make(Kind::Return, place.pc, uses.keep(&place.regs))
             }
             Outcome::Cut(_) | Outcome::Undecided if self.path.is_torn() => self.stuck(place),
-            Outcome::Cut(split) => self.wait(place, Way::Cut(split)),
-            Outcome::Undecided => match cut_of_emptied(self.path.all()) {
-                Some(split) => self.wait(place, Way::Cut(split)),
-                None => self.stuck(place),
+            other => match (cut_of_emptied(self.path.all()), other) {
+                (Some(split), _) | (None, Outcome::Cut(split)) => {
+                    self.wait(place, Way::Cut(split))
+                }
+                (None, _) => self.stuck(place),
             },
         }
     }
