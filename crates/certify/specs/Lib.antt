@@ -1,4 +1,3 @@
-pub mod Fault
 pub mod Own
 pub mod Tables
 pub mod inner

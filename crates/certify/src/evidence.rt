@@ -4,10 +4,9 @@ ghost use Rattle.call_record.specs.Record.{words};
 ghost use Rattle.kernel_check.specs.Lent.{accepted_insns};
 ghost use Rattle.certify.specs.Conviction.{Convicts};
 
-use crate::fault::CertifyError;
-use crate::walk::Walk;
 use bpf_interp::verdict;
 use call_record::{Record, Word};
+use cert_walk::{CertifyError, hunt};
 use kernel_check::Accepted;
 use profile::Profile;
 use std::alloc::Global;
@@ -43,12 +42,7 @@ pub fn convict(
     ensures { IfOk result (λ answer. IfSome answer (λ found.
         Convicts profile.now (accepted_insns program.now) (words found.call) found.given found.said)) }
 {
-    let listed = Walk::hunting(alloc, profile, *program, true)?.hunt()?;
-    let call = match listed {
-        Some(call) => Some(call),
-        None => Walk::hunting(alloc, profile, *program, false)?.hunt()?,
-    };
-    match call {
+    match hunt(alloc, profile, *program)? {
         Some(call) => Ok(unlike(profile, program, call)),
         None => Ok(None),
     }

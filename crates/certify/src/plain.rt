@@ -8,7 +8,7 @@ ghost use Rattle.bpf_insn.specs.Program.{insns};
 ghost use Rattle.profile.specs.Policy.{IsProfile};
 ghost use Rattle.kernel_check.specs.Accepted.{IsAccepted};
 ghost use Rattle.rule_compile.specs.Shape.{IsCallFilter, IsPlain};
-ghost use Rattle.certify.specs.declared.fault.CertifyError.TheVariants.{OutOfMemory};
+ghost use Rattle.cert_walk.specs.declared.fault.CertifyError.TheVariants.{OutOfMemory};
 ghost use Rattle.certify.specs.Own.{IsOwnWork};
 
 mod chain;
@@ -19,9 +19,9 @@ mod store;
 mod unlike;
 mod ways;
 
-use crate::fault::{CertifyError, unwritten};
 use bpf_insn::Program;
 use cert_form::write_chained;
+use cert_walk::CertifyError;
 use place::Place;
 use profile::Profile;
 use std::alloc::Global;
@@ -44,6 +44,6 @@ pub(crate) fn plain_certificate(
     let _root = enter(&mut store, profile, program, Place::FIRST)?;
     match write_chained(alloc, &store.entries, &store.nodes) {
         Ok(bytes) => Ok(bytes),
-        Err(error) => Err(unwritten(error)),
+        Err(error) => Err(CertifyError::from(error)),
     }
 }

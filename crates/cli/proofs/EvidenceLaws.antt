@@ -12,8 +12,8 @@ use Rattle.kernel_check.specs.declared.fault.Refused.{Refused}
 use Rattle.cert_check.proofs.FirstLaws.{first_kernel, first_view}
 use Rattle.cert_check.specs.declared.fault.CheckError.TheVariants as error
 use Rattle.cert_check.specs.Right.{IsRight}
-use Rattle.certify.specs.declared.fault.CertifyError.{CertifyError}
-use Rattle.certify.specs.declared.fault.CertifyError.TheVariants as maker
+use Rattle.cert_walk.specs.declared.fault.CertifyError.{CertifyError}
+use Rattle.cert_walk.specs.declared.fault.CertifyError.TheVariants as maker
 use Rattle.certify.specs.Conviction.{Convicts}
 use Rattle.export.specs.Sink.{StopsAt, Writes, WritesMade}
 use Rattle.export.specs.declared.fault.ExportFault.{ExportFault}

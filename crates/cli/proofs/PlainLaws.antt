@@ -21,8 +21,8 @@ use Rattle.profile_json.proofs.unbroken.Unbroken.{meaning_is_one, meaning_is_unb
 use Rattle.rule_compile.specs.declared.fault.CompileError.{CompileError}
 use Rattle.rule_compile.specs.declared.fault.CompileError.TheVariants as compiler
 use Rattle.rule_compile.specs.Shape.{IsCallFilter, IsPlain}
-use Rattle.certify.specs.declared.fault.CertifyError.{CertifyError}
-use Rattle.certify.specs.declared.fault.CertifyError.TheVariants as maker
+use Rattle.cert_walk.specs.declared.fault.CertifyError.{CertifyError}
+use Rattle.cert_walk.specs.declared.fault.CertifyError.TheVariants as maker
 use Rattle.certify.specs.Own.{IsOwnWork}
 use Rattle.certify.proofs.OwnLaws.{accepted}
 use Rattle.certify.proofs.TableLaws.{table_rule_is_plain}

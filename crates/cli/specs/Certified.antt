@@ -9,7 +9,7 @@ use Rattle.bpf_insn.specs.Bytes.{insns_of, view_fault}
 use Rattle.kernel_check.specs.Accepted.{IsAccepted}
 use Rattle.profile.specs.Policy.{Policy}
 use Rattle.certify.specs.Conviction.{Convicts}
-use Rattle.certify.specs.declared.fault.CertifyError.TheVariants as maker
+use Rattle.cert_walk.specs.declared.fault.CertifyError.TheVariants as maker
 use Rattle.cert_check.specs.Certified.{IsFirst}
 use Rattle.cert_check.specs.declared.fault.CheckError.TheVariants as error
 use Rattle.export.specs.Sink.{WritesMade}

@@ -10,8 +10,8 @@ use Rattle.profile_json.specs.Breaks.{Breaks}
 use Rattle.profile_json.specs.Fault.{fault_of, text_of as refusal_text}
 use Rattle.rule_compile.specs.declared.fault.CompileError.TheVariants as compiler
 use Rattle.rule_compile.specs.Fault.{text_of as compile_text}
-use Rattle.certify.specs.declared.fault.CertifyError.TheVariants as maker
-use Rattle.certify.specs.Fault.{text_of as certify_text}
+use Rattle.cert_walk.specs.declared.fault.CertifyError.TheVariants as maker
+use Rattle.cert_walk.specs.Fault.{text_of as certify_text}
 use Rattle.cert_check.specs.declared.checked.Checked.{Checked}
 use Rattle.cert_check.specs.declared.fault.CheckError.{CheckError}
 use Rattle.cert_check.specs.declared.fault.CheckError.TheVariants as error

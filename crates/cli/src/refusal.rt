@@ -71,7 +71,7 @@ impl From<CompileError> for Unready {
 }
 
 impl From<CertifyError> for Unready {
-    ghost use Rattle.certify.specs.declared.fault.CertifyError.TheVariants.{OutOfMemory};
+    ghost use Rattle.cert_walk.specs.declared.fault.CertifyError.TheVariants.{OutOfMemory};
     ghost use Rattle.cli.specs.Exported.{IsToldAs};
     ghost use Rattle.cli.specs.declared.refusal.Unready.TheVariants.{Certify};
 

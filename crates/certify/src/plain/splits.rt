@@ -6,14 +6,13 @@ ghost use Rattle.bpf_insn.specs.Program.{insns};
 ghost use Rattle.profile.specs.Policy.{least_x32_number};
 ghost use Rattle.cert_check.specs.Agree.{Agrees};
 ghost use Rattle.cert_state.specs.Entailment.{IsDead};
-ghost use Rattle.certify.specs.declared.fault.CertifyError.TheVariants.{OutOfMemory};
+ghost use Rattle.cert_walk.specs.declared.fault.CertifyError.TheVariants.{OutOfMemory};
 ghost use Rattle.certify.specs.inner.Counts.{HasRoom, halves_cost, inside, return_cost};
 ghost use Rattle.certify.specs.inner.Leaf.{SaysThere};
 ghost use Rattle.certify.specs.inner.Meant.{IsMeant};
 ghost use Rattle.certify.specs.inner.Ways.{AreOutBefore, IsAtReturn, IsEnough, IsOfMachine, IsOnlyToken, IsReturnOf};
 ghost use Rattle.certify.specs.inner.Store.{IsMadeAt, IsPlace, IsStore, known_at};
 
-use crate::fault::CertifyError;
 use crate::plain::place::Place;
 use crate::plain::store::Store;
 use crate::plain::unlike::is_unlike;
@@ -21,6 +20,7 @@ use bpf_insn::Program;
 use call_tables::Arch;
 use cert_form::Kind;
 use cert_state::Lit;
+use cert_walk::CertifyError;
 use profile::{LEAST_X32_NUMBER, Profile};
 
 // So many halvings tell any two numbers of a table apart, once x32 calls are apart.

@@ -6,17 +6,17 @@ ghost use Rattle.cert_state.specs.declared.literal.Lit.TheVariants.{NotBits};
 ghost use Rattle.cert_state.specs.Entailment.{Entails};
 ghost use Rattle.cert_state.specs.Literals.{IsLit};
 ghost use Rattle.cert_state.specs.Points.{HasNoPoint, IsPoint, IsRange};
-ghost use Rattle.certify.specs.declared.fault.CertifyError.TheVariants.{OutOfMemory};
+ghost use Rattle.cert_walk.specs.declared.fault.CertifyError.TheVariants.{OutOfMemory};
 ghost use Rattle.certify.specs.inner.Leaf.{IsOfCalls};
 ghost use Rattle.certify.specs.inner.Made.{regs_of};
 ghost use Rattle.certify.specs.inner.Path.{HoldsCall};
 ghost use Rattle.certify.specs.inner.Store.{IsForked, IsStore, chain_node_of, known_at};
 
-use crate::fault::CertifyError;
 use crate::plain::chain::Chain;
 use crate::plain::place::{Fork, Place};
 use cert_form::{ChainNode, Kind};
 use cert_state::{AVal, Lit, Regs, entails, range};
+use cert_walk::CertifyError;
 use std::alloc::{AllocError, Global};
 
 /// The entries of the chains and the nodes that are made so far.

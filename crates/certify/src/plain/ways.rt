@@ -3,7 +3,7 @@ ghost use Rattle.std.specs.Prelude.{◌≡◌, ◌+◌, ◌<◌, ◌^◌, IfErr,
 ghost use Rattle.bpf_insn.specs.Program.{insns};
 ghost use Rattle.cert_state.specs.Literals.{IsLit};
 ghost use Rattle.rule_compile.specs.Shape.{depth};
-ghost use Rattle.certify.specs.declared.fault.CertifyError.TheVariants.{OutOfMemory};
+ghost use Rattle.cert_walk.specs.declared.fault.CertifyError.TheVariants.{OutOfMemory};
 ghost use Rattle.certify.specs.inner.Counts.{HasRoom, inside, path_cost};
 ghost use Rattle.certify.specs.inner.Leaf.{IsOfCalls};
 ghost use Rattle.certify.specs.inner.Meant.{IsMeant};
@@ -12,7 +12,6 @@ ghost use Rattle.certify.specs.inner.Path.{fact as fact_of};
 ghost use Rattle.certify.specs.inner.Store.{IsMadeAt, known_at};
 ghost use Rattle.certify.specs.inner.Ways.{IsOnWay};
 
-use crate::fault::CertifyError;
 use crate::plain::moves::{Comparison, Move, move_of};
 use crate::plain::place::Place;
 use crate::plain::splits::{dead, tokens};
@@ -20,6 +19,7 @@ use crate::plain::store::Store;
 use bpf_insn::{Insn, Program};
 use cert_form::Kind;
 use cert_state::Lit;
+use cert_walk::CertifyError;
 use profile::Profile;
 
 // The position after so many instructions are skipped, which is in the program.

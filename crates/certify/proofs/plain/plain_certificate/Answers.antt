@@ -64,4 +64,4 @@ returns-clause-never c = λ is shape.
     let two : R t.entries.items c.deref-2.result.now = subst (λ es. R es c.deref-2.result.now) c.deref.ensures.value one in
     let three : R t.entries.items t.nodes.items = subst (λ ns. R t.entries.items ns) c.deref-2.ensures.value two in
     let memory : c.in-Err.error ≡ NoMemory = is_writable t made.grown.store (omega (arith, some)) c.in-Err.error three in
-    c.unwritten.ensures memory
+    c.from.ensures memory

@@ -1,7 +1,7 @@
 use Rattle.std.proofs.Common.{ap, ◌∙◌}
 use Rattle.bpf_insn.specs.Bytes.{insns_of}
 use Rattle.rule_compile.specs.declared.fault.CompileError.TheVariants as compiler
-use Rattle.certify.specs.declared.fault.CertifyError.TheVariants as maker
+use Rattle.cert_walk.specs.declared.fault.CertifyError.TheVariants as maker
 use Rattle.cli.specs.declared.refusal.Unready.TheVariants.{Compile, Certify}
 use Rattle.cli.proofs.PlainLaws.{certifies, told_certify, told_compile, told_memory, unbroken}
 use Rattle.cli.proofs.making.work_of.Goals as goal

@@ -1,7 +1,7 @@
 //! The nodes of a certificate, made from its last to its first.
 
 use crate::chains::Chains;
-use crate::fault::{CertifyError, unwritten};
+use crate::fault::CertifyError;
 use crate::path::Path;
 use crate::sharing::Sharing;
 use crate::uses::are_so;
@@ -152,7 +152,7 @@ impl Nodes {
     pub(crate) fn written(&self, rules: usize) -> Result<Vec<u8>, CertifyError> {
         let nodes = self.turned()?;
         match self.chains.literals_alone(self.alloc)? {
-            Some(entries) => write_chained(self.alloc, &entries, &nodes).map_err(unwritten),
+            Some(entries) => Ok(write_chained(self.alloc, &entries, &nodes)?),
             None => self.shared(nodes, rules),
         }
     }
@@ -183,7 +183,7 @@ impl Nodes {
             claims.reverse();
             node.chain = sharing.chain(number, node.kind, &claims)?;
         }
-        write_claims(self.alloc, sharing.entries(), &nodes).map_err(unwritten)
+        Ok(write_claims(self.alloc, sharing.entries(), &nodes)?)
     }
 }
 

@@ -1,8 +1,8 @@
 -- How a fault is told: by its number, its name and the position that it names.
 use Rattle.std.specs.Prelude.{ℕ, List, ◌++◌, codes}
 use Rattle.std.specs.Fmt.{decimal}
-use Rattle.certify.specs.declared.fault.CertifyError.{CertifyError}
-use Rattle.certify.specs.declared.fault.CertifyError.TheVariants.{Undecided, TooLarge, OutOfMemory}
+use Rattle.cert_walk.specs.declared.fault.CertifyError.{CertifyError}
+use Rattle.cert_walk.specs.declared.fault.CertifyError.TheVariants.{Undecided, TooLarge, OutOfMemory}
 
 abbrev pub label_of : CertifyError → ℕ × List ℕ
 label_of (Undecided _) = (1, codes "Undecided")

@@ -1,9 +1,5 @@
 //! Why there is no certificate.
 
-ghost use Rattle.std.specs.Prelude.{◌≡◌};
-ghost use Rattle.cert_form.specs.declared.fault.FormError.TheVariants.{OutOfMemory as NoMemory};
-ghost use Rattle.certify.specs.declared.fault.CertifyError.TheVariants.{OutOfMemory};
-
 use cert_form::FormError;
 use std::alloc::{AllocError, AllocFailed};
 use std::error::Error;
@@ -22,7 +18,7 @@ pub enum CertifyError {
 
 impl CertifyError {
     ghost use Rattle.std.specs.Prelude.{◌≡◌};
-    ghost use Rattle.certify.specs.Fault.{label_of};
+    ghost use Rattle.cert_walk.specs.Fault.{label_of};
 
     // The number and the name by which it is told.
     fn label(self) -> (u32, &'static str)
@@ -53,7 +49,7 @@ impl CertifyError {
 
 impl fmt::Display for CertifyError {
     ghost use Rattle.std.specs.Prelude.{Some};
-    ghost use Rattle.certify.specs.Fault.{text_of};
+    ghost use Rattle.cert_walk.specs.Fault.{text_of};
 
     ghost output = { λ fault. Some (text_of fault) };
 
@@ -71,7 +67,7 @@ impl Error for CertifyError {}
 
 impl From<AllocError> for CertifyError {
     ghost use Rattle.std.specs.Prelude.{◌≡◌};
-    ghost use Rattle.certify.specs.declared.fault.CertifyError.TheVariants.{OutOfMemory};
+    ghost use Rattle.cert_walk.specs.declared.fault.CertifyError.TheVariants.{OutOfMemory};
 
     ghost from_gives = { λ _ e. e ≡ OutOfMemory };
 
@@ -82,7 +78,7 @@ impl From<AllocError> for CertifyError {
 
 impl<T: Drop> From<AllocFailed<T>> for CertifyError {
     ghost use Rattle.std.specs.Prelude.{◌≡◌};
-    ghost use Rattle.certify.specs.declared.fault.CertifyError.TheVariants.{OutOfMemory};
+    ghost use Rattle.cert_walk.specs.declared.fault.CertifyError.TheVariants.{OutOfMemory};
 
     ghost from_gives = { λ _ e. e ≡ OutOfMemory };
 
@@ -91,12 +87,18 @@ impl<T: Drop> From<AllocFailed<T>> for CertifyError {
     }
 }
 
-/// The error that a refusal to write is: the certificate breaks a limit, or memory ran out.
-pub(crate) fn unwritten(error: FormError) -> CertifyError
-    ensures { error ≡ NoMemory → result ≡ OutOfMemory }
-{
-    match error {
-        FormError::OutOfMemory => CertifyError::OutOfMemory,
-        _ => CertifyError::TooLarge,
+// A refusal to write: the certificate breaks a limit, or memory ran out.
+impl From<FormError> for CertifyError {
+    ghost use Rattle.std.specs.Prelude.{◌≡◌};
+    ghost use Rattle.cert_form.specs.declared.fault.FormError.TheVariants.{OutOfMemory as NoMemory};
+    ghost use Rattle.cert_walk.specs.declared.fault.CertifyError.TheVariants.{OutOfMemory};
+
+    ghost from_gives = { λ error e. error ≡ NoMemory → e ≡ OutOfMemory };
+
+    fn from(error: FormError) -> CertifyError {
+        match error {
+            FormError::OutOfMemory => CertifyError::OutOfMemory,
+            _ => CertifyError::TooLarge,
+        }
     }
 }
