@@ -45,15 +45,16 @@ pub fn walk_through(
     }
 }
 
-// With nodes that also say what follows for the rules. Where too much is let go, it is tried again.
+// With nodes that also say what follows for the rules. Where the gates let too much go, it is tried again without them.
 fn marked(
     alloc: Global,
     profile: &Profile,
     program: Accepted<'_>,
 ) -> Result<Vec<u8>, CertifyError> {
     match by_walk(alloc, profile, program, Manner::Gates) {
-        Err(CertifyError::Undecided(_)) => by_walk(alloc, profile, program, Manner::Marks),
-        outcome => outcome,
+        Ok(bytes) => Ok(bytes),
+        Err(CertifyError::OutOfMemory) => Err(CertifyError::OutOfMemory),
+        Err(_) => by_walk(alloc, profile, program, Manner::Marks),
     }
 }
 
