@@ -48,15 +48,40 @@ impl Needs {
         self.alike.clear();
     }
 
-    /// The literals of the word of a fact, with it, if they can not all be true.
-    pub(crate) fn clash(&self, alloc: Global, fact: Lit) -> Result<Option<Vec<Lit>>, AllocError> {
+    // What is known of a word by the literals.
+    fn known_of(&self, alloc: Global, word: u8) -> Result<Known, AllocError> {
         let mut known = Known::new(alloc)?;
         for literal in &self.literals {
-            if word_of(*literal) == word_of(fact) {
+            if word_of(*literal) == word {
                 known.push(*literal)?;
             }
         }
+        Ok(known)
+    }
+
+    /// The literals of the word of a fact, with it, if they can not all be true.
+    pub(crate) fn clash(&self, alloc: Global, fact: Lit) -> Result<Option<Vec<Lit>>, AllocError> {
+        let mut known = self.known_of(alloc, word_of(fact))?;
         clash_after(alloc, &mut known, fact)
+    }
+
+    /// Whether the literals with a fact give all that is claimed of the word of the fact.
+    pub(crate) fn give(
+        &self,
+        alloc: Global,
+        fact: Lit,
+        claims: &[Claim],
+    ) -> Result<bool, AllocError> {
+        let mut known = self.known_of(alloc, word_of(fact))?;
+        known.push(fact)?;
+        Ok(
+            claims.iter().all(|claim| match *claim {
+                Claim::Knows(literal) if word_of(literal) == word_of(fact) => {
+                    known.states(literal) || known.entails(literal)
+                }
+                _ => true,
+            }),
+        )
     }
 
     // Adds the literals of the call, or the others.

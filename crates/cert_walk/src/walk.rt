@@ -419,17 +419,25 @@ impl<'a> Walk<'a> {
         Ok(())
     }
 
-    // The node that follows: a dead one, where what the node before it states can not be true together with the fact.
+    // The node that follows: a dead one, where what the node before it states can not be true together with the fact. Where
+    // nothing was learned before paths met, it is one only if what the node that follows states would not follow beside the
+    // contradiction.
     fn or_dead(&mut self, place: &Place, node: u32) -> Result<u32, CertifyError> {
         let Some(fact) = place.fact else {
             return Ok(node);
         };
-        if self.path.is_fresh() || self.path.clash(fact)?.is_none() {
+        if self.path.clash(fact)?.is_none() {
             return Ok(node);
         }
         let Some(own) = self.needs.clash(self.alloc, fact)? else {
             return Ok(node);
         };
+        if self.path.is_fresh() {
+            let stated = self.nodes.claims(node)?;
+            if self.needs.give(self.alloc, fact, &stated)? {
+                return Ok(node);
+            }
+        }
         let mut claims = Vec::new(self.alloc);
         for literal in &contradiction(self.alloc, own, Some(fact))? {
             claims.push(Claim::Knows(*literal))?;
