@@ -1,5 +1,6 @@
 -- What is known after an instruction, and on an edge of a jump.
-use Rattle.std.specs.Prelude.{ℕ, ◌+◌, ◌-◌, ◌*◌, ◌/◌, ◌%◌, ◌^◌, ◌==◌, Bool, true, false, not, if◌then◌else◌, Option, Some, None, slice_index_or, slice_set, bit_and}
+use Rattle.std.specs.Prelude.{ℕ, ◌+◌, ◌-◌, ◌*◌, ◌/◌, ◌%◌, ◌^◌, ◌==◌, Bool, true, false, not, if◌then◌else◌}
+use Rattle.std.specs.Prelude.{Option, Some, None, slice_index_or, slice_set, bit_and}
 use Rattle.bpf_insn.specs.declared.code.Operand.{Operand}
 use Rattle.bpf_insn.specs.declared.code.Operand.TheVariants.{K, X}
 use Rattle.bpf_insn.specs.declared.code.Test.{Test}
@@ -7,7 +8,9 @@ use Rattle.bpf_insn.specs.declared.code.Test.TheVariants.{Equal, Greater, AtLeas
 use Rattle.bpf_insn.specs.declared.code.Arithmetic.{Arithmetic}
 use Rattle.bpf_insn.specs.declared.code.Arithmetic.TheVariants.{And}
 use Rattle.bpf_insn.specs.declared.code.Operation.{Operation}
-use Rattle.bpf_insn.specs.declared.code.Operation.TheVariants.{LoadWord, LoadScratch, LoadScratchX, Store, StoreX, SetA, SetX, ReturnK, ReturnA, Jump, Branch, Compute, ShiftLeft, ShiftRight, Negate, CopyToX, CopyToA}
+use Rattle.bpf_insn.specs.declared.code.Operation.TheVariants.{LoadWord, LoadScratch, LoadScratchX, Store, StoreX, SetA, SetX}
+use Rattle.bpf_insn.specs.declared.code.Operation.TheVariants.{ReturnK, ReturnA, Jump, Branch, Compute, ShiftLeft, ShiftRight}
+use Rattle.bpf_insn.specs.declared.code.Operation.TheVariants.{Negate, CopyToX, CopyToA}
 use Rattle.bpf_insn.specs.declared.instruction.Insn.{Insn}
 use Rattle.bpf_insn.specs.Code.{operation_of}
 use Rattle.bpf_insn.specs.Machine.{computed, holds}

@@ -37,7 +37,8 @@ IsOrderOf words (Check native bundle filter cert) =
     (machine : Bor (List ℕ)) × AreWords words (codes "check") (machine ∷ bundle ∷ filter ∷ cert ∷ []) ×
     (machine_called machine.now ≡ Some native)
 IsOrderOf words (Certify native bundle filter) =
-    (machine : Bor (List ℕ)) × AreWords words (codes "certify") (machine ∷ bundle ∷ filter ∷ []) × (machine_called machine.now ≡ Some native)
+    (machine : Bor (List ℕ)) × AreWords words (codes "certify") (machine ∷ bundle ∷ filter ∷ [])
+    × (machine_called machine.now ≡ Some native)
 IsOrderOf words (Export native bundle form) =
     (machine : Bor (List ℕ)) × (last : Bor (List ℕ)) × AreWords words (codes "export") (machine ∷ bundle ∷ last ∷ [])
     × (machine_called machine.now ≡ Some native) × (form_called last.now ≡ Some form)

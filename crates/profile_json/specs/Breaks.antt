@@ -95,7 +95,8 @@ pub data NamesBreak (family : Family) (d : Data) : Fault → Type 0 where
   no_list : (f : Fault) → NeededBreaks (member list key.names d) f → NamesBreak family d f
   none : member list key.names d ≡ holds [] → NamesBreak family d empty_names
   many : (ds : List Data) → member list key.names d ≡ holds ds → most_names family < length ds → NamesBreak family d too_many
-  no_text : (ds : List Data) (x : Data) → member list key.names d ≡ holds ds → Contains ds x → text x ≡ None → NamesBreak family d wrong_type
+  no_text : (ds : List Data) (x : Data) → member list key.names d ≡ holds ds → Contains ds x → text x ≡ None
+      → NamesBreak family d wrong_type
   unknown : (ds : List Data) (x : Data) (name : List ℕ) → member list key.names d ≡ holds ds → Contains ds x → text x ≡ Some name
       → is_known family name ≡ false → NamesBreak family d (unknown_call (short_name name))
 
@@ -120,12 +121,14 @@ pub data EntriesBreak (s : Data) (native : Arch) : Fault → Type 0 where
   many : (ds : List Data) → or_default [] (member list key.syscalls s) ≡ Some ds → 256 < length ds → EntriesBreak s native too_many
   in_entry : (ds : List Data) (d : Data) (f : Fault) → or_default [] (member list key.syscalls s) ≡ Some ds → Contains ds d
       → EntryBreaks (family_of native) d f → EntriesBreak s native f
-  many_rules : (archs : List Arch) (entries : List EntryParts) (said kept : List Rule) → ListsArchs s native archs → EntriesMean (family_of native) s entries
+  many_rules : (archs : List Arch) (entries : List EntryParts) (said kept : List Rule) → ListsArchs s native archs
+      → EntriesMean (family_of native) s entries
       → map rule_parts said ≡ rules_of (in_order archs) entries → KeepsOnce said kept → most_rules < length kept
       → EntriesBreak s native too_many
   overlapping : (archs : List Arch) (ds : List Data) (i j : ℕ) (d e : Data) (x y : EntryParts) (name : List ℕ) → ListsArchs s native archs
       → or_default [] (member list key.syscalls s) ≡ Some ds → i < j → slice_get ds i ≡ Some d → slice_get ds j ≡ Some e
-      → EntryMeans (family_of native) d x → EntryMeans (family_of native) e y → ClashUnder (in_order archs) x y name → EntriesBreak s native (overlap (short_name name) i j)
+      → EntryMeans (family_of native) d x → EntryMeans (family_of native) e y → ClashUnder (in_order archs) x y name
+      → EntriesBreak s native (overlap (short_name name) i j)
 
 -- the rules that the object under linux.seccomp breaks
 pub data SeccompBreaks (s : Data) (native : Arch) : Fault → Type 0 where

@@ -50,7 +50,8 @@ AreProgram fields (Some []) = ⊥
 AreProgram fields (Some (b ∷ bytes)) = (digits : List ℕ) × (fields ≡ codes "prog" ∷ digits ∷ []) × AreBytes digits (b ∷ bytes)
 
 -- the fields after the id of a call with six arguments
-pub record AreCall (native : Arch) (fields : List (List ℕ)) (task : ℕ) (arch : Arch) (nr : ℕ) (args : List ℕ) (program : Option (List ℕ)) : Type 0 where
+pub record AreCall (native : Arch) (fields : List (List ℕ)) (task : ℕ) (arch : Arch) (nr : ℕ) (args : List ℕ)
+    (program : Option (List ℕ)) : Type 0 where
   pub task_field : List ℕ
   pub what_field : List ℕ
   pub given : List (List ℕ)

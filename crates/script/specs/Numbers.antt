@@ -18,5 +18,6 @@ IsNumber text n = (n < 2 ^ 64) × (IsDecimal text n ⊎ IsMarked text n)
 abbrev pub AreBytes : List ℕ → List ℕ → Type 0
 AreBytes [] [] = Unit {0}
 AreBytes (high ∷ low ∷ ds) (b ∷ bytes) =
-    (is_hexadecimal_digit high ≡ true) × (is_hexadecimal_digit low ≡ true) × (b ≡ 16 * digit_value high + digit_value low) × AreBytes ds bytes
+    (is_hexadecimal_digit high ≡ true) × (is_hexadecimal_digit low ≡ true) × (b ≡ 16 * digit_value high + digit_value low)
+    × AreBytes ds bytes
 AreBytes ds bytes = ⊥

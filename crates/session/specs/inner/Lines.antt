@@ -18,7 +18,8 @@ pub record Standing : Type 0 where
   pub out : ℕ
 
 -- these lines were answered, and this is the part of a line behind them; what the sink held before, and holds
-pub record Stands (bundles : Bundles) (s : Standing) (held held' : Option (List ℕ)) (lines : List (List ℕ)) (part : List ℕ) (commands : List (Option Order)) : Type 0 where
+pub record Stands (bundles : Bundles) (s : Standing) (held held' : Option (List ℕ)) (lines : List (List ℕ)) (part : List ℕ)
+    (commands : List (Option Order)) : Type 0 where
   pub are : CommandsAre bundles lines commands
   pub world : s.world ≡ (run by_program (commands_of commands) []).1
   pub kept : s.kept ≡ kept_of part
@@ -27,12 +28,14 @@ pub record Stands (bundles : Bundles) (s : Standing) (held held' : Option (List 
   pub written : Appends held held' (answer_of by_program commands)
 
 -- one line more was answered
-pub record GoesOn (bundles : Bundles) (s : Standing) (held held' : Option (List ℕ)) (lines : List (List ℕ)) (part : List ℕ) (commands : List (Option Order)) : Type 0 where
+pub record GoesOn (bundles : Bundles) (s : Standing) (held held' : Option (List ℕ)) (lines : List (List ℕ)) (part : List ℕ)
+    (commands : List (Option Order)) : Type 0 where
   pub command : Option Order
   pub stands : Stands bundles s held held' (lines ++ part ∷ []) [] (commands ++ command ∷ [])
 
 -- of the answer to the line behind them a beginning was written, and of all answers so many bytes
-pub record BreaksOff (bundles : Bundles) (held held' : Option (List ℕ)) (part : List ℕ) (commands : List (Option Order)) (out : ℕ) : Type 0 where
+pub record BreaksOff (bundles : Bundles) (held held' : Option (List ℕ)) (part : List ℕ) (commands : List (Option Order))
+    (out : ℕ) : Type 0 where
   pub command : Option Order
   pub is : CommandIs bundles part command
   pub n : ℕ
@@ -42,7 +45,8 @@ pub record BreaksOff (bundles : Bundles) (held held' : Option (List ℕ)) (part 
   pub told : out ≡ counted n
 
 -- there was no memory for the line behind them
-pub record RunsOut (bundles : Bundles) (held held' : Option (List ℕ)) (part : List ℕ) (commands : List (Option Order)) (line : ℕ) : Type 0 where
+pub record RunsOut (bundles : Bundles) (held held' : Option (List ℕ)) (part : List ℕ) (commands : List (Option Order))
+    (line : ℕ) : Type 0 where
   pub command : Option Order
   pub is : CommandIs bundles part command
   pub written : Appends held held' (answer_of by_program commands)
