@@ -39,7 +39,8 @@ line_of (NoProgram e) = codes "refused view " ++ view.text_of e ++ line_feed ∷
 line_of (Refusal e) = codes "refused kernel " ++ kernel.text_of e ++ line_feed ∷ []
 
 -- what was written is the line of the answer, and the call tells whether that is a word
-pub record WritesAnswer {S : Type 0} (held : S → Option (List ℕ)) (failures : S → ℕ) (old new : S) (filter rec : List ℕ) (result : Result Bool ExportFault) : Type 0 where
+pub record WritesAnswer {S : Type 0} (held : S → Option (List ℕ)) (failures : S → ℕ) (old new : S) (filter rec : List ℕ)
+    (result : Result Bool ExportFault) : Type 0 where
   pub answer : Answer
   pub stands : IsAnswer filter rec answer
   pub written : Writes held failures old new (line_of answer) result

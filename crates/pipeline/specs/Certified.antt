@@ -1,6 +1,7 @@
 -- What is written of a bundle and a filter, both as bytes: a certificate, a call record that convicts the filter, or why there
 -- is neither.
-use Rattle.std.specs.Prelude.{ℕ, ◌≡◌, ◌≢◌, ◌<◌, ◌⊎◌, Bool, true, false, List, [], ◌∷◌, ◌++◌, length, slice_index, Option, None, Result, IfOk, codes}
+use Rattle.std.specs.Prelude.{ℕ, ◌≡◌, ◌≢◌, ◌<◌, ◌⊎◌, Bool, true, false, List, [], ◌∷◌, ◌++◌, length, slice_index}
+use Rattle.std.specs.Prelude.{Option, None, Result, IfOk, codes}
 use Rattle.hex.specs.Hex.{encode_lower}
 use Rattle.call_tables.specs.declared.arch.Arch.{Arch}
 use Rattle.call_record.specs.Text as word

@@ -59,16 +59,20 @@ abbrev pub line_of : Finding → List ℕ
 line_of finding = text_of finding ++ line_feed ∷ []
 
 -- what was written is the line of what is found, and the call tells whether that is a yes
-pub record TellsFinding {S : Type 0} (held : S → Option (List ℕ)) (failures : S → ℕ) (old new : S) (native : Arch) (bundle filter cert : List ℕ) (result : Result Bool ExportFault) : Type 0 where
+pub record TellsFinding {S : Type 0} (held : S → Option (List ℕ)) (failures : S → ℕ) (old new : S) (native : Arch)
+    (bundle filter cert : List ℕ) (result : Result Bool ExportFault) : Type 0 where
   pub finding : Finding
   pub stands : IsFinding native bundle filter cert finding
   pub written : Writes held failures old new (line_of finding) result
   pub told : IfOk result (λ yes. yes ≡ is_yes finding)
 
 -- the line was written, or a beginning of it; or memory was refused, and nothing was written
-abbrev pub WritesFinding : {S : Type 0} → (S → Option (List ℕ)) → (S → ℕ) → S → S → Arch → List ℕ → List ℕ → List ℕ → Result Bool ExportFault → Type 0
-WritesFinding held failures old new native bundle filter cert (Ok told) = TellsFinding held failures old new native bundle filter cert (Ok told)
-WritesFinding held failures old new native bundle filter cert (Err (Write out)) = TellsFinding held failures old new native bundle filter cert (Err (Write out))
+abbrev pub WritesFinding : {S : Type 0} → (S → Option (List ℕ)) → (S → ℕ) → S → S → Arch → List ℕ → List ℕ → List ℕ
+    → Result Bool ExportFault → Type 0
+WritesFinding held failures old new native bundle filter cert (Ok told) =
+    TellsFinding held failures old new native bundle filter cert (Ok told)
+WritesFinding held failures old new native bundle filter cert (Err (Write out)) =
+    TellsFinding held failures old new native bundle filter cert (Err (Write out))
 WritesFinding held failures old new native bundle filter cert (Err OutOfMemory) = new ≡ old
 
 -- Only one of the three stands. A yes leaves no fault of the bundle and no broken rule, and a bundle that means a profile has
