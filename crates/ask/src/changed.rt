@@ -28,17 +28,16 @@ pub fn change(dice: &mut Dice, nodes: &mut Vec<Said>) -> Result<()> {
 
 // Changes one node. Where it says nothing or has no edge to change, it stays.
 fn change_node(dice: &mut Dice, said: &mut Said, other: u32) -> Result<()> {
-    match dice.below(12) {
+    match dice.below(8) {
         0 => drop_claim(dice, &mut said.claims),
-        1 | 2 => said.claims.push(draw_claim(dice))?,
-        3 | 4 => {
+        1 => said.claims.push(draw_claim(dice))?,
+        2 => {
             drop_claim(dice, &mut said.claims);
             said.claims.push(draw_claim(dice))?;
         }
-        5 => weaken_one(dice, &mut said.claims),
-        6 => said.kind = led_elsewhere(dice, said.kind, other),
-        7 | 8 => said.kind = exchanged(dice, said.kind),
-        9 | 10 => said.regs.a = draw_value(dice),
+        3 => weaken_one(dice, &mut said.claims),
+        4 | 5 => said.kind = changed_kind(dice, said.kind, other),
+        6 => said.regs.a = draw_value(dice),
         _ => said.regs.scratch[1] = draw_value(dice),
     }
     Ok(())
@@ -99,28 +98,23 @@ fn draw_value(dice: &mut Dice) -> AVal {
     }
 }
 
-// The kind with one edge to another node.
-fn led_elsewhere(dice: &mut Dice, kind: Kind, other: u32) -> Kind {
-    let is_first = dice.below(2) == 0;
+// A step or a split with one edge to another node or both exchanged, or a split with its literals exchanged, its edges with
+// them or not, or with a literal that says less.
+fn changed_kind(dice: &mut Dice, kind: Kind, other: u32) -> Kind {
+    let way = dice.below(8);
     match kind {
-        Kind::Step(_, second) if is_first => Kind::Step(other, second),
-        Kind::Step(first, _) => Kind::Step(first, other),
-        Kind::Split(a, b, _, second) if is_first => Kind::Split(a, b, other, second),
-        Kind::Split(a, b, first, _) => Kind::Split(a, b, first, other),
-        Kind::Return | Kind::Dead => kind,
-    }
-}
-
-// A split with its literals exchanged, and its edges with them or not, or with a literal that says less; a step with its
-// edges exchanged.
-fn exchanged(dice: &mut Dice, kind: Kind) -> Kind {
-    match kind {
-        Kind::Split(a, b, first, second) => match dice.below(3) {
-            0 => Kind::Split(b, a, first, second),
-            1 => Kind::Split(b, a, second, first),
+        Kind::Step(first, second) => match way {
+            0 | 1 => Kind::Step(other, second),
+            2 | 3 => Kind::Step(first, other),
+            _ => Kind::Step(second, first),
+        },
+        Kind::Split(a, b, first, second) => match way {
+            0 | 1 => Kind::Split(a, b, other, second),
+            2 | 3 => Kind::Split(a, b, first, other),
+            4 => Kind::Split(b, a, first, second),
+            5 => Kind::Split(b, a, second, first),
             _ => Kind::Split(weakened(a, dice.pick(&HALVES)), b, first, second),
         },
-        Kind::Step(first, second) => Kind::Step(second, first),
         Kind::Return | Kind::Dead => kind,
     }
 }

@@ -2,7 +2,7 @@
 
 use crate::words::tell;
 use anyhow::Result;
-use bpf_insn::{Insn, Operation, Program};
+use bpf_insn::{Operation, Program};
 use bpf_interp::verdict_counted;
 use call_record::Record;
 use kernel_check::{Accepted, accept};
@@ -30,36 +30,30 @@ pub fn tell_figures(out: &mut String, alloc: Global, profile: &Profile) -> Resul
 }
 
 // How many instructions are on the longest path. Each jump goes forward, so what is longest from an instruction is known
-// once it is known from those behind it.
+// once it is known from those behind it: the last one's length stands first.
 fn longest_path(alloc: Global, program: &Program<'_>) -> Result<usize, AllocError> {
     let mut lengths: Vec<usize> = Vec::new(alloc);
     for place in (0..program.len()).rev() {
-        let length = longest_from(&program.get(place), &lengths);
-        lengths.push(length)?;
+        let insn = program.get(place);
+        let rest = match insn.operation() {
+            Some(Operation::ReturnK) => 0,
+            Some(Operation::Jump) => behind(&lengths, insn.k as usize),
+            Some(Operation::Branch(_, _)) => {
+                let yes = behind(&lengths, insn.jt as usize);
+                yes.max(behind(&lengths, insn.jf as usize))
+            }
+            _ => behind(&lengths, 0),
+        };
+        lengths.push(rest.saturating_add(1))?;
     }
     Ok(behind(&lengths, 0))
 }
 
-// The longest path from an instruction, by the longest paths from those behind it, the last one first.
-fn longest_from(insn: &Insn, lengths: &[usize]) -> usize {
-    let rest = match insn.operation() {
-        Some(Operation::ReturnK) => 0,
-        Some(Operation::Jump) => behind(lengths, insn.k as usize),
-        Some(Operation::Branch(_, _)) => {
-            let yes = behind(lengths, insn.jt as usize);
-            yes.max(behind(lengths, insn.jf as usize))
-        }
-        _ => behind(lengths, 0),
-    };
-    rest.saturating_add(1)
-}
-
-// The longest path from the instruction that stands behind this many others.
+// The length that stands before this many others from the end.
 fn behind(lengths: &[usize], skipped: usize) -> usize {
-    if skipped < lengths.len() {
-        lengths[lengths.len() - 1 - skipped]
-    } else {
-        0
+    match lengths.iter().rev().nth(skipped) {
+        Some(length) => *length,
+        None => 0,
     }
 }
 

@@ -1,5 +1,6 @@
 //! Bundles, what their profiles say of calls, and what is compiled of them.
 
+use crate::cases::first_wrong;
 use crate::figures::tell_figures;
 use crate::filters::assembled;
 use crate::grid::Grid;
@@ -10,7 +11,6 @@ use bpf_insn::Program;
 use cert_check::check;
 use cert_form::CertView;
 use certify::certify;
-use kernel_check::accept;
 use profile::Profile;
 use profile_json::{Bundle, ProfileError, read_bundle};
 use rule_compile::compile;
@@ -112,8 +112,9 @@ fn tell_agreement(out: &mut String, alloc: Global, profile: &Profile) -> Result<
         Ok(filter) => filter,
         Err(e) => return tell(out, e),
     };
-    let program = Program::view(&filter)?;
-    match Grid::of_calls(alloc, profile)?.first_difference(&accept(&program)?, profile) {
+    let mut grid = Grid::near(alloc, profile)?;
+    grid.add_calls(profile)?;
+    match first_wrong(&grid, profile, &filter)? {
         None => tell(out, "agrees"),
         Some(call) => tell(out, format_args!("differs at {call:?}")),
     }

@@ -19,11 +19,13 @@ pub fn first(text: &str) -> (&str, &str) {
 
 /// The first words of a text, empty where there are fewer.
 pub fn words(text: &str) -> [&str; 4] {
-    let mut all = [""; 4];
-    for (place, word) in all.iter_mut().zip(text.split_whitespace()) {
-        *place = word;
-    }
-    all
+    let mut words = text.split_whitespace();
+    [
+        words.next().unwrap_or(""),
+        words.next().unwrap_or(""),
+        words.next().unwrap_or(""),
+        words.next().unwrap_or(""),
+    ]
 }
 
 /// A number in decimal, or in hexadecimal after `0x`.
