@@ -6,6 +6,7 @@ pub mod Lookup
 pub mod Names
 pub mod Rules
 pub mod Meaning
+pub mod ByEntry
 pub mod Breaks
 pub mod Laws
 pub mod inner

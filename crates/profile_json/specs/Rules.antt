@@ -1,5 +1,5 @@
 -- The rules that entries say on the listed machines.
-use Rattle.std.specs.Prelude.{ℕ, ◌==◌, List, [], ◌∷◌, filter, Bool, option_map}
+use Rattle.std.specs.Prelude.{ℕ, ◌+◌, ◌==◌, List, [], ◌∷◌, length, filter, Bool, option_map}
 use Rattle.std.specs.List.{list_any, filter_map, flat_map}
 use Rattle.call_tables.specs.declared.arch.Arch.{Arch}
 use Rattle.call_tables.specs.declared.arch.Arch.TheVariants.{X86_64, Aarch64, LinuxX86_64, LinuxAarch64}
@@ -38,3 +38,8 @@ rules_of_entry machines e = flat_map (rules_under machines e) e.names
 
 abbrev pub rules_of : List Arch → List EntryParts → List RuleParts
 rules_of machines es = flat_map (rules_of_entry machines) es
+
+-- how many rules there are up to the end of each entry, after n rules
+abbrev pub ends_after : ℕ → List Arch → List EntryParts → List ℕ
+ends_after n machines [] = []
+ends_after n machines (e ∷ es) = (n + length (rules_of_entry machines e)) ∷ ends_after (n + length (rules_of_entry machines e)) machines es

@@ -33,7 +33,7 @@ pub struct Bundle {
     pub profile: Profile,
 }
 
-fn value_of(alloc: Global, text: &[u8], native: Arch) -> Result<Value, ProfileError>
+pub(crate) fn value_of(alloc: Global, text: &[u8], native: Arch) -> Result<Value, ProfileError>
     ensures ok { IfOk result (λ v. IsText text.now (view v)) }
     ensures err { IfErr result (λ e. IfSome (fault_of e) (Breaks text.now native)) }
 {
@@ -50,7 +50,11 @@ fn value_of(alloc: Global, text: &[u8], native: Arch) -> Result<Value, ProfileEr
 }
 
 #[tactic(auto, unfolding(crate::specs::inner::Reading::said_of))]
-fn said_of<'a>(alloc: Global, seccomp: &'a Value, native: Arch) -> Result<Said<'a>, ProfileError>
+pub(crate) fn said_of<'a>(
+    alloc: Global,
+    seccomp: &'a Value,
+    native: Arch,
+) -> Result<Said<'a>, ProfileError>
     ensures reading { GivesWithMemory said_parts result (spec.said_of native (view seccomp.now)) }
     ensures native_listed { IfOk result (λ s. list_any (same_arch native) s.archs.items ≡ true) }
 {

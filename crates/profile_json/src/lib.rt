@@ -5,6 +5,7 @@
 mod action;
 mod argument;
 mod bundle;
+mod by_entry;
 mod entry;
 mod fault;
 mod key;
@@ -21,5 +22,6 @@ mod syscalls;
 
 pub use action::Action;
 pub use bundle::{Bundle, read_bundle};
+pub use by_entry::{EntryRules, rules_by_entry};
 pub use fault::ProfileError;
 pub use law::{meaning_is_kept, meaning_is_one, meaning_is_unbroken};

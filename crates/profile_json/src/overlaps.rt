@@ -6,7 +6,7 @@ ghost use Rattle.profile_json.specs.Breaks.{ClashUnder};
 ghost use Rattle.profile_json.specs.inner.Clashes.{OverlapOn, NoClash, IsOverlap, HasClash};
 ghost use Rattle.profile_json.specs.inner.View.{entry_parts};
 ghost use Rattle.profile_json.specs.Fault.{fault_of};
-ghost use Rattle.profile_json.specs.inner.Clashes.{ends_after};
+ghost use Rattle.profile_json.specs.Rules.{ends_after};
 
 use crate::entry::Entry;
 use crate::fault::ProfileError;

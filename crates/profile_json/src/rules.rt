@@ -5,7 +5,7 @@ ghost use Rattle.call_tables.specs.Table.{number_in};
 ghost use Rattle.profile_json.specs.inner.View.{entry_parts};
 ghost use Rattle.profile_json.specs.Parts.{rule_parts};
 ghost use Rattle.profile_json.specs.Rules as spec;
-ghost use Rattle.profile_json.specs.inner.Clashes.{ends_after};
+ghost use Rattle.profile_json.specs.Rules.{ends_after};
 
 use crate::entry::Entry;
 use call_tables::Arch;

@@ -5,8 +5,7 @@ use Rattle.std.specs.List.{Contains, slice_get, position_from}
 use Rattle.std.proofs.lemmas.Bool.{cases_Bool, ltb-true, ltb-false}
 use Rattle.call_tables.specs.declared.arch.Arch.{Arch}
 use Rattle.profile_json.specs.Parts.{EntryParts, RuleParts}
-use Rattle.profile_json.specs.Rules.{rules_of_entry, rules_of}
-use Rattle.profile_json.specs.inner.Clashes.{ends_after}
+use Rattle.profile_json.specs.Rules.{rules_of_entry, rules_of, ends_after}
 use Rattle.profile_json.proofs.Lists.{contains_at}
 
 get_left : {A : Type 0} (xs ys : List A) (i : ℕ) → i < length xs → slice_get (xs ++ ys) i ≡ slice_get xs i

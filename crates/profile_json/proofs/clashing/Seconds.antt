@@ -11,9 +11,9 @@ use Rattle.call_tables.specs.declared.arch.Arch.{Arch}
 use Rattle.profile.specs.declared.rules.Rule.{Rule}
 use Rattle.profile_json.specs.declared.entry.Entry.{Entry}
 use Rattle.profile_json.specs.Parts.{EntryParts, RuleParts, rule_parts}
-use Rattle.profile_json.specs.Rules.{rules_under, rules_of_entry, rules_of}
+use Rattle.profile_json.specs.Rules.{rules_under, rules_of_entry, rules_of, ends_after}
 use Rattle.profile_json.specs.inner.View.{entry_parts}
-use Rattle.profile_json.specs.inner.Clashes.{ends_after, NoClash, HasClash}
+use Rattle.profile_json.specs.inner.Clashes.{NoClash, HasClash}
 use Rattle.profile_json.proofs.Lists.{contains_flat_back}
 use Rattle.profile_json.proofs.clashing.Clashing.{IsUnder, under_back, must_clash}
 use Rattle.profile_json.proofs.clashing.Places.{IsEntryOf, entry_of_place}

@@ -1,5 +1,5 @@
 -- Two entries that overlap, as the search for them sees it.
-use Rattle.std.specs.Prelude.{◌≡◌, ◌≢◌, ℕ, ◌+◌, ◌<◌, List, [], ◌∷◌, length, map, Some, slice_get}
+use Rattle.std.specs.Prelude.{◌≡◌, ◌≢◌, ℕ, ◌<◌, List, map, Some, slice_get}
 use Rattle.std.specs.List.{Any, Contains}
 use Rattle.call_tables.specs.declared.arch.Arch.{Arch}
 use Rattle.call_tables.specs.Arch.{table_of}
@@ -9,14 +9,9 @@ use Rattle.profile.specs.Rule.{Overlap, Clash}
 use Rattle.profile.specs.Policy.{InOrder}
 use Rattle.profile_json.specs.Fault.{Fault, overlap}
 use Rattle.profile_json.specs.Parts.{EntryParts, rule_parts}
-use Rattle.profile_json.specs.Rules.{rule_of, rules_of_entry, rules_of}
+use Rattle.profile_json.specs.Rules.{rule_of, rules_of}
 use Rattle.profile_json.specs.CallName.{short_name}
 use Rattle.profile_json.specs.Breaks.{ClashUnder}
-
--- how many rules there are up to the end of each entry, after n rules
-abbrev pub ends_after : ℕ → List Arch → List EntryParts → List ℕ
-ends_after n machines [] = []
-ends_after n machines (e ∷ es) = (n + length (rules_of_entry machines e)) ∷ ends_after (n + length (rules_of_entry machines e)) machines es
 
 -- one record matches rules of both entries for this name and machine
 pub record OverlapOn (x y : EntryParts) (name : List ℕ) (arch : Arch) : Type 0 where

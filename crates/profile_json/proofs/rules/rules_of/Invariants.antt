@@ -1,8 +1,7 @@
 use Rattle.std.proofs.Common.{◌≡◌, ◌++◌, length, map}
 use Rattle.profile_json.specs.Parts.{rule_parts}
 use Rattle.profile_json.specs.inner.View.{entry_parts}
-use Rattle.profile_json.specs.Rules.{rules_of}
-use Rattle.profile_json.specs.inner.Clashes.{ends_after}
+use Rattle.profile_json.specs.Rules.{rules_of, ends_after}
 use Rattle.profile_json.proofs.rules.rules_of.Given as goal
 
 abbrev pub invariant-loop-left : goal.invariant-loop-left

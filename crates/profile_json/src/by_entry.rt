@@ -1,0 +1,46 @@
+//! The rules of a bundle, entry by entry.
+ghost use Rattle.std.specs.Prelude.{IfOk};
+ghost use Rattle.profile_json.specs.ByEntry.{AreRulesOf};
+
+use crate::bundle::{said_of, value_of};
+use crate::fault::ProfileError;
+use crate::machines::machines_of;
+use crate::root::root_of;
+use crate::rules::rules_of;
+use call_tables::Arch;
+use profile::Rule;
+use std::alloc::Global;
+
+/// The rules that a bundle says, in the order of its entries; an equal one may stand there again.
+#[derive(Drop)]
+pub struct EntryRules {
+    pub rules: Vec<Rule>,
+    /// For each entry how many rules there are up to its end.
+    pub ends: Vec<usize>,
+}
+
+impl EntryRules {
+    ghost use Rattle.std.specs.Prelude.{◌≡◌, nat_lt, position};
+
+    /// The place of the entry that has the rule at a place.
+    pub fn entry_of(&self, place: usize) -> Option<usize>
+        ensures { result ≡ position (λ end. nat_lt place end) self.now.ends.items }
+    {
+        self.ends.iter().position(|end| place < *end)
+    }
+}
+
+/// Reads the rules that the entries of a bundle say on its machines.
+pub fn rules_by_entry(alloc: Global, text: &[u8], native: Arch) -> Result<EntryRules, ProfileError>
+    ensures { IfOk result (λ all. AreRulesOf native text.now all.rules.items all.ends.items) }
+{
+    let value = value_of(alloc, text, native)?;
+    let seccomp = root_of(&value)?;
+    let said = said_of(alloc, seccomp, native)?;
+    let machines = machines_of(native.family(), &said.archs);
+    let all = rules_of(alloc, &said.entries, machines)?;
+    Ok(EntryRules {
+        rules: all.list,
+        ends: all.ends,
+    })
+}
