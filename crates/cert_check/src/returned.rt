@@ -30,17 +30,37 @@ fn word_of(insn: &Insn, regs: &Regs) -> Option<u32>
     }
 }
 
+// The same by a table of the conditions that the node says to be met. A table is made in a function of its own, and where
+// the node names something alone: so no other return makes room for it.
+#[inline(never)]
+fn agrees_by_mets(profile: &Profile, node: &NodeView<'_>, outs: &Outs<'_, '_>, word: Word) -> bool
+    requires { outs.now.node ≡ node.now }
+    ensures { let n = says node.now in IsTrue result ↔ Agrees profile.now n.out n.met n.known word }
+{
+    let facts = Facts::of(node);
+    let marked = mets_of(node);
+    agrees(profile, outs, &Mets::of(node, &marked), &facts, word)
+}
+
 // Whether the profile says a word of all that a node knows, of which these rules are out.
 fn agrees_but_for(profile: &Profile, node: &NodeView<'_>, outs: &Outs<'_, '_>, word: Word) -> bool
     requires { outs.now.node ≡ node.now }
     ensures { let n = says node.now in IsTrue result ↔ Agrees profile.now n.out n.met n.known word }
 {
-    let facts = Facts::of(node);
     if has_no_met(node) {
+        let facts = Facts::of(node);
         return agrees(profile, outs, &Mets::none(node), &facts, word);
     }
-    let marked = mets_of(node);
-    agrees(profile, outs, &Mets::of(node, &marked), &facts, word)
+    agrees_by_mets(profile, node, outs, word)
+}
+
+// The same by a table of the rules that the node says to be out.
+#[inline(never)]
+fn agrees_by_outs(profile: &Profile, node: &NodeView<'_>, word: Word) -> bool
+    ensures { let n = says node.now in IsTrue result ↔ Agrees profile.now n.out n.met n.known word }
+{
+    let marked = marked_of(node);
+    agrees_but_for(profile, node, &Outs::of(node, &marked), word)
 }
 
 // Whether the instruction returns a word that is known, and the profile's on all that the node knows.
@@ -53,8 +73,7 @@ fn returns(profile: &Profile, insn: &Insn, node: &NodeView<'_>) -> bool
     if has_none(node) {
         return agrees_but_for(profile, node, &Outs::none(node), Word(word));
     }
-    let marked = marked_of(node);
-    agrees_but_for(profile, node, &Outs::of(node, &marked), Word(word))
+    agrees_by_outs(profile, node, Word(word))
 }
 
 /// Whether a node, if it is a return, returns the profile's word at its instruction.
