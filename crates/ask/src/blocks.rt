@@ -4,14 +4,14 @@
 //!
 //! - `kernel MACHINE ..`: its lines are calls of the kernel itself: `admit ID BUNDLE`, which expels that id first;
 //!   `call ..` as in a script; `signal ID SIG`, `expel ID`, `live ID`, and `task ID TASK`, which shows a task. `every-call
-//!   BUNDLE` presents each call of the machine, without arguments, as the first of a container of its own. Both kernels
-//!   are called, and a line tells where their answers differ.
+//!   BUNDLE` presents each call of the machine, without arguments, as the first of a container of its own.
 //! - `runtime MACHINE ..`: its lines are commands of a script, or `id N`, which asks for the id of a container by its place.
-//!   They are carried out by single calls, one after the other, over the kernel whose tasks have lists of their own, and
-//!   once more by one call over the kernel whose filters stand in a tree; an answer of that run is told only where it is
-//!   another. Of a state the status is told, and `''` is the empty id.
+//!   Of a state the status is told, and `''` is the empty id.
 //! - `scripts MACHINE SEED COUNT COMMANDS`: so many random scripts of so many commands, from a seed, on containers of the
-//!   bundles b0 and b1: both kernels are asked, and it is told whether a reply differs.
+//!   bundles b0 and b1.
+//!
+//! Each is carried out over both kernels, that whose tasks have lists of filters and that whose filters stand in a tree, and
+//! fails where their answers differ.
 //!
 //! In all of these a line `bundle NAME TEXT` reads a bundle, and gets it a filter that is checked. Behind the answers to
 //! each line goes a line `.`.

@@ -55,7 +55,12 @@ fn calls(out: &mut String, family: Family) -> Result<()> {
 // How many calls each machine has.
 fn counts(out: &mut String, family: Family) -> Result<()> {
     for arch in family.machines() {
-        let count = (0..1024).filter(|nr| arch.name(*nr).is_some()).count();
+        let mut count = 0u32;
+        for nr in 0..1024 {
+            if arch.name(nr).is_some() {
+                count = count.saturating_add(1);
+            }
+        }
         tell(out, format_args!("{} {count}", arch.word()))?;
     }
     Ok(())

@@ -112,10 +112,11 @@ impl Grid {
 
     /// Adds the numbers of all calls that a machine of the profile's has.
     pub fn add_calls(&mut self, profile: &Profile) -> Result<(), AllocError> {
-        let machines = profile.native().family().machines();
-        for nr in 0..1024 {
-            if machines.iter().any(|arch| arch.name(nr).is_some()) {
-                self.numbers.push(nr)?;
+        for arch in profile.native().family().machines() {
+            for nr in 0..1024 {
+                if arch.name(nr).is_some() {
+                    self.numbers.push(nr)?;
+                }
             }
         }
         Ok(())

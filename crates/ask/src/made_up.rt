@@ -58,7 +58,12 @@ fn tell_made_up(out: &mut String, alloc: Global, dice: &mut Dice, count: u64) ->
     for _ in 0..count {
         try_filter(alloc, dice, &grid, &mut tally)?;
     }
-    let is_each_met = REFUSALS.iter().all(|refusal| tally.of(refusal) > 0);
+    let mut is_each_met = true;
+    for refusal in REFUSALS {
+        if tally.of(refusal) == 0 {
+            is_each_met = false;
+        }
+    }
     if is_each_met && tally.of("yes") > tally.all() / 5 && tally.of(WRONG) == 0 {
         return tell(
             out,
@@ -104,7 +109,7 @@ fn made_of(alloc: Global, dice: &mut Dice, cert: &[u8]) -> Result<Vec<u8>> {
     for _ in 0..dice.pick(&[0, 1, 1, 1, 1, 1, 2, 2]) {
         change(dice, &mut all)?;
     }
-    if dice.below(8) == 0 || !all.iter().all(knows_words_alone) {
+    if dice.below(8) == 0 || !know_words_alone(&all) {
         return Ok(claimed(alloc, &all)?);
     }
     // Form 1 has no word for what is stated of a scratch word.
@@ -116,11 +121,13 @@ fn made_of(alloc: Global, dice: &mut Dice, cert: &[u8]) -> Result<Vec<u8>> {
     Ok(chained(alloc, &all)?)
 }
 
-// Whether a node says of no rule that it is out, and of no condition that it is met.
-fn knows_words_alone(said: &Said) -> bool {
-    for claim in &said.claims {
-        if !matches!(claim, Claim::Knows(_)) {
-            return false;
+// Whether the nodes say of no rule that it is out, and of no condition that it is met.
+fn know_words_alone(all: &[Said]) -> bool {
+    for said in all {
+        for claim in &said.claims {
+            if !matches!(claim, Claim::Knows(_)) {
+                return false;
+            }
         }
     }
     true

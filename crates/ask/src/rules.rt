@@ -1,7 +1,7 @@
 //! Rules of profiles.
 
 use crate::words::{machine, narrow, number, tell, verdict_word, words};
-use anyhow::{Context, Result};
+use anyhow::{Context, Result, bail};
 use arrayvec::ArrayVec;
 use call_record::Word;
 use call_tables::Arch;
@@ -34,15 +34,21 @@ const OPS: [(&str, Op); 7] = [
 ];
 
 fn op_of(word: &str) -> Result<Op> {
-    let found = OPS.iter().find(|(name, _)| *name == word);
-    Ok(found.context("an operator")?.1)
+    for (name, op) in OPS {
+        if name == word {
+            return Ok(op);
+        }
+    }
+    bail!("no operator {word}")
 }
 
 fn op_name(op: Op) -> &'static str {
-    match OPS.iter().find(|(_, other)| *other == op) {
-        Some((name, _)) => *name,
-        None => "?",
+    for (name, other) in OPS {
+        if other == op {
+            return name;
+        }
     }
+    "?"
 }
 
 // The condition `INDEX OP VALUE DATUM`, where a missing datum is 0.
@@ -56,8 +62,10 @@ fn condition(text: &str) -> Result<Option<Cond>> {
 // A rule under conditions with commas between.
 fn rule(arch: Arch, nr: u32, text: &str, word: Word) -> Result<Rule> {
     let mut conds = ArrayVec::new();
-    for part in text.split(',').filter(|part| !part.is_empty()) {
-        conds.try_push(condition(part)?.context("a condition")?)?;
+    for part in text.split(',') {
+        if !part.is_empty() {
+            conds.try_push(condition(part)?.context("a condition")?)?;
+        }
     }
     Rule::new(arch, nr, conds, word).context("a rule")
 }
@@ -84,8 +92,10 @@ fn build(out: &mut String, alloc: Global, text: &str) -> Result<()> {
         archs.push(machine(name)?)?;
     }
     let mut rules = Vec::new(alloc);
-    for part in parts.split(';').filter(|part| !part.is_empty()) {
-        rules.push(read_rule(part.trim())?)?;
+    for part in parts.split(';') {
+        if !part.is_empty() {
+            rules.push(read_rule(part.trim())?)?;
+        }
     }
     match Profile::build(
         alloc,

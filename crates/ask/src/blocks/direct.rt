@@ -4,7 +4,7 @@ use crate::blocks::bundles::{Made, checked};
 use crate::blocks::orders::Order;
 use crate::blocks::replies::{tell_outcome, tell_view};
 use crate::words::{first, number, tell};
-use anyhow::{Context, Result, bail};
+use anyhow::{Context, Result, bail, ensure};
 use call_record::Record;
 use call_tables::Arch;
 use cert_check::Checked;
@@ -13,7 +13,7 @@ use script::Request;
 use shared_table::SharedTable;
 use std::alloc::{AllocError, Global};
 
-/// Adds a block's answers, by both kernels, to which no container is admitted.
+/// Adds a block's answers, of both kernels, to which no container is admitted. It fails where they differ.
 pub fn tell_kernels(
     out: &mut String,
     alloc: Global,
@@ -21,19 +21,26 @@ pub fn tell_kernels(
     bundles: &[Made<'_>],
     block: &str,
 ) -> Result<()> {
+    let mut own = String::new(alloc);
     let mut lists = TaskTable::new(alloc);
+    tell_kernel(&mut own, alloc, &mut lists, native, bundles, block)?;
     let mut tree = SharedTable::new(alloc);
+    tell_kernel(out, alloc, &mut tree, native, bundles, block)?;
+    ensure!(out.as_str().ends_with(own.as_str()), "the kernels differ");
+    Ok(())
+}
+
+// Adds the answers of a kernel.
+fn tell_kernel<K: Kernel>(
+    out: &mut String,
+    alloc: Global,
+    kernel: &mut K,
+    native: Arch,
+    bundles: &[Made<'_>],
+    block: &str,
+) -> Result<()> {
     for line in block.lines() {
-        let mut own = String::new(alloc);
-        let mut shared = String::new(alloc);
-        tell_line(&mut own, alloc, &mut lists, native, bundles, line).context(format_args!(
-            "at {line}"
-        ))?;
-        tell_line(&mut shared, alloc, &mut tree, native, bundles, line)?;
-        out.push_str(own.as_str())?;
-        if own != shared {
-            tell(out, "the kernels differ")?;
-        }
+        tell_line(out, alloc, kernel, native, bundles, line).context(format_args!("at {line}"))?;
         tell(out, ".")?;
     }
     Ok(())

@@ -1,70 +1,51 @@
-//! Commands of a runtime, by single calls and by one call for all.
+//! Commands of a runtime, over both kernels.
 ghost use Rattle.std.specs.Prelude.{ℕ, ◌≡◌, List, None};
 
-use crate::blocks::bundles::Made;
-use crate::blocks::orders::{commands_of, is_order, orders_in};
+use crate::blocks::bundles::{Made, checked};
+use crate::blocks::orders::Order;
 use crate::blocks::replies::tell_reply;
-use crate::words::{number, tell};
-use anyhow::{Context, Result};
+use crate::words::{first, number, tell};
+use anyhow::{Result, ensure};
 use call_tables::Arch;
-use lifecycle::{Command, Reply, Runtime};
+use lifecycle::{Reply, Runtime};
 use processes::{Kernel, TaskTable};
+use script::Request;
 use shared_table::SharedTable;
-use std::alloc::{AllocError, Global};
+use std::alloc::Global;
 
-// The reply to a command, by the call that it names.
+// An id of a script, where two quotes are the empty one.
+fn id_of(field: &str) -> &str {
+    if field == "''" { "" } else { field }
+}
+
+// The reply to an order.
 fn reply_to<'a, K: Kernel>(
-    runtime: &mut Runtime<'a, K>,
-    command: &Command<'a>,
-) -> Result<Reply, AllocError> {
-    match *command {
-        Command::Create(id, checked) => runtime.create(id, checked),
-        Command::Start(id) => runtime.start(id),
-        Command::Kill(id, sig) => Ok(runtime.kill(id, sig)),
-        Command::Delete(id) => Ok(runtime.delete(id)),
-        Command::State(id) => Ok(runtime.state(id)),
-        Command::Call(id, task, rec, program) => runtime.call(id, task, rec, program),
-    }
-}
-
-// The replies to all commands, by one run over a kernel to which no container is admitted.
-fn replies_of_run<'a, K: Kernel + Drop>(
     alloc: Global,
-    kernel: K,
-    commands: &[Command<'a>],
-) -> Result<Vec<Reply>, AllocError>
-    requires { (id : List ℕ) → K.processes kernel id ≡ None }
-{
-    let mut runtime = Runtime::new(alloc, kernel);
-    let (replies, end) = runtime.run(commands);
-    end?;
-    Ok(replies)
-}
-
-// Adds the answer to a command, beside the reply of the run.
-fn tell_command<'a, K: Kernel>(
-    out: &mut String,
     runtime: &mut Runtime<'a, K>,
-    command: &Command<'a>,
-    other: &Reply,
-) -> Result<()> {
-    let reply = reply_to(runtime, command)?;
-    if reply != *other {
-        tell(out, format_args!("by one run: {other:?}"))?;
+    bundles: &'a [Made<'_>],
+    order: &Order<'_>,
+) -> Result<Reply> {
+    match order.request {
+        Request::Create { id, bundle } => {
+            Ok(runtime.create(id_of(id), checked(alloc, bundles, bundle)?)?)
+        }
+        Request::Start { id } => Ok(runtime.start(id_of(id))?),
+        Request::Kill { id, signal } => Ok(runtime.kill(id_of(id), signal)),
+        Request::Delete { id } => Ok(runtime.delete(id_of(id))),
+        Request::State { id } => Ok(runtime.state(id_of(id))),
+        Request::Call { id, task, .. } => {
+            Ok(runtime.call(id_of(id), task, &order.rec, order.program.as_deref())?)
+        }
     }
-    tell_reply(out, reply)
 }
 
-// Adds the id at a place, where a line asks for one.
-fn tell_id<K: Kernel>(out: &mut String, runtime: &Runtime<'_, K>, line: &str) -> Result<()> {
-    let Some(place) = line.strip_prefix("id ") else {
-        return Ok(());
-    };
+// Adds the id at a place.
+fn tell_id<K: Kernel>(out: &mut String, runtime: &Runtime<'_, K>, place: &str) -> Result<()> {
     let place = usize::try_from(number(place)?)?;
     tell(out, runtime.id_at(place).unwrap_or("none"))
 }
 
-/// Adds a block's answers by single calls over one kernel, beside those of a run over the other.
+/// Adds a block's answers, of both kernels, which fails where they differ.
 pub fn tell_runtime(
     out: &mut String,
     alloc: Global,
@@ -72,28 +53,25 @@ pub fn tell_runtime(
     bundles: &[Made<'_>],
     block: &str,
 ) -> Result<()> {
-    let orders = orders_in(alloc, native, block)?;
-    let commands = commands_of(alloc, bundles, &orders)?;
-    let replies = replies_of_run(alloc, SharedTable::new(alloc), &commands)?;
-    let mut runtime = Runtime::new(alloc, TaskTable::new(alloc));
-    let mut told = commands.iter().zip(&replies);
+    let mut lists = Runtime::new(alloc, TaskTable::new(alloc));
+    let mut tree = Runtime::new(alloc, SharedTable::new(alloc));
     for line in block.lines() {
-        if is_order(line) {
-            let (command, other) = told.next().context("a reply")?;
-            tell_command(out, &mut runtime, command, other)?;
-        } else {
-            tell_id(out, &runtime, line)?;
+        let (word, rest) = first(line);
+        match word {
+            "#" | "runtime" | "scripts" | "bundle" => {}
+            "id" => tell_id(out, &lists, rest)?,
+            _ => {
+                let order = Order::read(alloc, native, line)?;
+                let reply = reply_to(alloc, &mut lists, bundles, &order)?;
+                let other = reply_to(alloc, &mut tree, bundles, &order)?;
+                ensure!(
+                    reply == other,
+                    "the kernels differ at {line}: {reply:?}, {other:?}"
+                );
+                tell_reply(out, reply)?;
+            }
         }
         tell(out, ".")?;
     }
     Ok(())
-}
-
-/// Whether the two kernels give the same replies to a script.
-pub fn are_alike(alloc: Global, native: Arch, bundles: &[Made<'_>], script: &str) -> Result<bool> {
-    let orders = orders_in(alloc, native, script)?;
-    let commands = commands_of(alloc, bundles, &orders)?;
-    let shared = replies_of_run(alloc, SharedTable::new(alloc), &commands)?;
-    let own = replies_of_run(alloc, TaskTable::new(alloc), &commands)?;
-    Ok(shared == own)
 }
