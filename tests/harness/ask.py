@@ -5,7 +5,7 @@ from harness.places import ASK
 from harness.rows import Fault
 
 # The seconds that all questions of one file may take.
-LIMIT = 120
+LIMIT = 600
 
 
 def answers(questions):
@@ -20,7 +20,8 @@ def answers(questions):
         else:
             answer.append(line)
     if ran.returncode != 0 or len(told) != len(questions):
-        raise Fault(f"ask: status {ran.returncode}, {len(told)} answers to {len(questions)} lines: {ran.stderr.decode()}")
+        said = ran.stderr.decode()[:400].rstrip()
+        raise Fault(f"ask: status {ran.returncode}, {len(told)} answers to {len(questions)} lines: {said}")
     return told
 
 
