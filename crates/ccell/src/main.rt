@@ -20,21 +20,27 @@ fn texts_of(alloc: Global, words: &[String]) -> Result<Vec<&str>, AllocError> {
     Ok(texts)
 }
 
-fn status_of(rt: &HostRuntime) -> Result<u8, Stop<'static>> {
-    let words = words_of(rt, rt.alloc())?;
-    let texts = texts_of(rt.alloc(), &words).map_err(|_| Stop::OutOfMemory)?;
-    let input = BufReader::new(rt.alloc(), rt.stdin()).map_err(|_| Stop::OutOfMemory)?;
-    let mut input = FromRead::new(input);
-    let mut out = ToWrite::new(rt.stdout());
-    let mut err = ToWrite::new(rt.stderr());
+// Runs the program on these words, and gives the exit status.
+fn run(rt: &HostRuntime, words: &[&str]) -> Result<u8, Stop<'static>> {
+    let Ok(input) = BufReader::new(rt.alloc(), rt.stdin()) else {
+        return Err(Stop::OutOfMemory);
+    };
     Ok(dispatch(
         rt.alloc(),
-        &texts,
+        words,
         &mut Disk(rt),
-        &mut input,
-        &mut out,
-        &mut err,
+        &mut FromRead::new(input),
+        &mut ToWrite::new(rt.stdout()),
+        &mut ToWrite::new(rt.stderr()),
     ))
+}
+
+fn status_of(rt: &HostRuntime) -> Result<u8, Stop<'static>> {
+    let words = words_of(rt, rt.alloc())?;
+    let Ok(texts) = texts_of(rt.alloc(), &words) else {
+        return Err(Stop::OutOfMemory);
+    };
+    run(rt, &texts)
 }
 
 fn main(rt: HostRuntime) -> ExitCode {
