@@ -24,27 +24,16 @@ const WORDS: [Word; 8] = [
 
 const NUMBERS: [u32; 8] = [0, 1, 1, 2, 3, 5, 7, 435];
 
-// Operators of conditions, EQ twice as often as each other.
-const OPS: [Op; 8] = [
-    Op::Ne,
-    Op::Lt,
-    Op::Le,
-    Op::Eq,
-    Op::Eq,
-    Op::Ge,
-    Op::Gt,
-    Op::MaskedEq,
-];
-
-const OPPOSITES: [(Op, Op); 8] = [
+// Operators of conditions, each with one that is mostly its opposite.
+const PAIRS: [(Op, Op); 8] = [
+    (Op::Ne, Op::Eq),
     (Op::Lt, Op::Ge),
-    (Op::Lt, Op::Ge),
-    (Op::Le, Op::Gt),
     (Op::Le, Op::Gt),
     (Op::Eq, Op::Ne),
     (Op::Eq, Op::Ne),
     (Op::Ge, Op::Lt),
-    (Op::Ne, Op::Eq),
+    (Op::Gt, Op::Le),
+    (Op::MaskedEq, Op::Ne),
 ];
 
 /// The halves of numbers that are drawn.
@@ -81,7 +70,7 @@ pub fn draw_profile(
             continue;
         }
         let (nr, index, value) = (dice.pick(&NUMBERS), dice.below(2) as u8, draw_value(dice));
-        let (op, opposite) = dice.pick(&OPPOSITES);
+        let (op, opposite) = dice.pick(&PAIRS);
         let word = dice.pick(&WORDS);
         add(
             &mut rules,
@@ -110,7 +99,7 @@ fn draw_rule(dice: &mut Dice, arch: Arch, most: u8) -> Result<Rule> {
     let mut conds = ArrayVec::new();
     let count = dice.pick(&[0u8, 0, 0, 1, 1, 2, 3, 6]).min(most);
     for index in 0..count {
-        let op = dice.pick(&OPS);
+        let (op, _) = dice.pick(&PAIRS);
         let value = draw_value(dice);
         let datum = value & draw_value(dice) & op.mask(value);
         conds.try_push(Cond::new(index, op, value, datum).context("a condition")?)?;

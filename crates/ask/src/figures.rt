@@ -1,10 +1,9 @@
 //! How long a compiled filter is, and the paths through it.
 
-use crate::words::tell;
+use crate::words::{record, tell};
 use anyhow::Result;
 use bpf_insn::{Operation, Program};
 use bpf_interp::verdict_counted;
-use call_record::Record;
 use kernel_check::{Accepted, accept};
 use profile::Profile;
 use rule_compile::compile;
@@ -77,12 +76,7 @@ fn mean_in_hundredths(accepted: &Accepted<'_>, profile: &Profile) -> u64 {
     let mut steps = 0u64;
     let mut calls = 0u64;
     for rule in profile.rules() {
-        let call = Record {
-            nr: rule.nr,
-            arch: rule.arch.token(),
-            ip: 0,
-            args: [0; 6],
-        };
+        let call = record(rule.nr, rule.arch.token(), [0; 6]);
         let (_, count) = verdict_counted(accepted, &call);
         steps = steps.saturating_add(u64::from(count));
         calls = calls.saturating_add(1);

@@ -1,6 +1,7 @@
 //! Records to run a filter on beside its profile.
 ghost use Rattle.std.specs.Prelude.{◌<◌};
 
+use crate::words::record;
 use bpf_interp::verdict;
 use call_record::Record;
 use call_tables::Arch;
@@ -14,23 +15,6 @@ pub struct Grid {
     numbers: Vec<u32>,
     arguments: Vec<[u64; 6]>,
 }
-
-// Small numbers, the numbers on both sides of the least x32 call, and the greatest.
-const NUMBERS: [u32; 13] = [
-    0,
-    1,
-    2,
-    3,
-    4,
-    5,
-    6,
-    7,
-    8,
-    435,
-    0x3fff_ffff,
-    0x4000_0000,
-    0xffff_ffff,
-];
 
 const HALVES: [u32; 6] = [0, 1, 2, 0x7fff_ffff, 0x8000_0000, 0xffff_ffff];
 
@@ -57,12 +41,7 @@ impl Grid {
         nr: u32,
     ) -> Option<Record> {
         for args in &self.arguments {
-            let call = Record {
-                nr,
-                arch,
-                ip: 0,
-                args: *args,
-            };
+            let call = record(nr, arch, *args);
             if verdict(accepted, &call) != profile.decide(&call) {
                 return Some(call);
             }
@@ -70,7 +49,7 @@ impl Grid {
         None
     }
 
-    /// Small and great numbers, with any halves of two arguments.
+    /// Small numbers, those on both sides of the least x32 call, and great ones, with any halves of two arguments.
     pub fn of_halves(alloc: Global) -> Result<Grid, AllocError> {
         let mut wholes = Vec::new(alloc);
         for high in HALVES {
@@ -84,10 +63,11 @@ impl Grid {
                 arguments.push([*first, *second, 0, 0, 0, 0])?;
             }
         }
-        Ok(Grid {
-            numbers: Vec::from_slice(alloc, &NUMBERS)?,
-            arguments,
-        })
+        let mut numbers = vec![in alloc; 435, 0x3fff_ffff, 0x4000_0000, u32::MAX]?;
+        for nr in 0..9 {
+            numbers.push(nr)?;
+        }
+        Ok(Grid { numbers, arguments })
     }
 
     /// The numbers of the rules and of the least x32 call, and their neighbours; with the arguments that meet a rule, and

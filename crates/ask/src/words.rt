@@ -64,16 +64,23 @@ fn token(word: &str) -> Result<u32> {
 pub fn call(text: &str) -> Result<Record> {
     let (nr, rest) = first(text);
     let (arch, arguments) = first(rest);
+    let nr = narrow(nr)?;
+    let arch = token(arch)?;
     let mut args = [0; 6];
     for (place, word) in args.iter_mut().zip(arguments.split_whitespace()) {
         *place = number(word)?;
     }
-    Ok(Record {
-        nr: narrow(nr)?,
-        arch: token(arch)?,
+    Ok(record(nr, arch, args))
+}
+
+/// The record of these parts, with 0 for the pointer.
+pub fn record(nr: u32, arch: u32, args: [u64; 6]) -> Record {
+    Record {
+        nr,
+        arch,
         ip: 0,
         args,
-    })
+    }
 }
 
 /// A listing, with its line feeds and carriage returns.

@@ -3,9 +3,8 @@
 use crate::blocks::bundles::{Made, checked};
 use crate::blocks::orders::Order;
 use crate::blocks::replies::{tell_outcome, tell_view};
-use crate::words::{first, number, tell};
+use crate::words::{first, number, record, tell};
 use anyhow::{Context, Result, bail, ensure};
-use call_record::Record;
 use call_tables::Arch;
 use cert_check::Checked;
 use processes::{Id, Kernel, TaskTable};
@@ -134,12 +133,7 @@ fn tell_every_call<K: Kernel>(
     for nr in 0..1000 {
         if let Some(name) = native.name(nr) {
             admit(kernel, &id, filter)?;
-            let call = Record {
-                nr,
-                arch: native.token(),
-                ip: 0,
-                args: [0; 6],
-            };
+            let call = record(nr, native.token(), [0; 6]);
             out.push_str(name)?;
             out.push_str(": ")?;
             tell_outcome(out, kernel.present(&id, 1, &call, None)?)?;

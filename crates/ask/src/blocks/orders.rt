@@ -1,9 +1,10 @@
 //! From the lines of a block to what they order.
 
+use crate::words::record;
 use anyhow::{Context, Result};
 use call_record::Record;
 use call_tables::Arch;
-use script::{Request, read_line};
+use script::{Hex, Request, read_line};
 use std::alloc::Global;
 
 /// What a line orders, with the record and the program of a call.
@@ -20,12 +21,7 @@ impl<'a> Order<'a> {
         let request = read_line(native, line.as_bytes()).context("a command")?;
         let mut order = Order {
             request,
-            rec: Record {
-                nr: 0,
-                arch: 0,
-                ip: 0,
-                args: [0; 6],
-            },
+            rec: record(0, 0, [0; 6]),
             program: None,
         };
         if let Request::Call {
@@ -36,15 +32,19 @@ impl<'a> Order<'a> {
             ..
         } = request
         {
-            order.rec.nr = nr;
-            order.rec.arch = arch.token();
-            order.rec.args = args;
-            if let Some(digits) = program {
-                let mut bytes = Vec::with_capacity(alloc, digits.byte_count())?;
-                digits.put_into(&mut bytes);
-                order.program = Some(bytes);
-            }
+            order.rec = record(nr, arch.token(), args);
+            order.program = bytes_of(alloc, program)?;
         }
         Ok(order)
     }
+}
+
+// The bytes of a program, if there is one.
+fn bytes_of(alloc: Global, program: Option<Hex<'_>>) -> Result<Option<Vec<u8>>> {
+    let Some(digits) = program else {
+        return Ok(None);
+    };
+    let mut bytes = Vec::with_capacity(alloc, digits.byte_count())?;
+    digits.put_into(&mut bytes);
+    Ok(Some(bytes))
 }
