@@ -24,8 +24,8 @@ use Rattle.session.specs.declared.bundles.Bundle.{Bundle}
 use Rattle.session.specs.declared.bundles.Bundles.{Bundles}
 use Rattle.session.specs.Answer.{answer_of, commands_of}
 use Rattle.session.specs.Commands.{CommandIs, CommandsAre, OrderedIs, first_called, named}
-use Rattle.cli.specs.Exported.{IsCheckedOf}
-use Rattle.cli.specs.Finding.{IsBundle}
+use Rattle.pipeline.specs.Exported.{IsCheckedOf}
+use Rattle.pipeline.specs.Finding.{IsBundle}
 use Rattle.cli.specs.Headline.{Headline, IsRightFor}
 use Rattle.cli.specs.Running.{InTurn, IsBundleOf}
 

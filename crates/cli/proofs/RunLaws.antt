@@ -1,17 +1,22 @@
 -- What a run of bundles reads and writes, by what its parts do.
-use Rattle.std.proofs.Common.{◌≡◌, ℕ, ◌⊎◌, inl, inr, Bool, List, refl, ap, ◌∙◌}
+use Rattle.std.proofs.Common.{◌≡◌, ℕ, ◌⊎◌, inl, inr, Bool, List, ◌∷◌, ◌++◌, refl, ap, subst, ◌∙◌}
 use Rattle.std.specs.Prelude.{Option, Result, Ok, Err, IfOk, ◌≢◌}
+use Rattle.std.specs.List.{All, Contains}
+use Rattle.std.proofs.lemmas.List.Elements.{All-contains, Contains-append_right}
 use Rattle.call_tables.specs.declared.arch.Arch.{Arch}
 use Rattle.export.specs.declared.fault.ExportFault.{ExportFault}
+use Rattle.profile_json.proofs.Lists.{contains_head}
 use Rattle.session.specs.declared.bundles.Bundles.{Bundles}
 use Rattle.session.specs.declared.fault.ScriptFault.{ScriptFault}
 use Rattle.session.specs.declared.fault.ScriptFault.TheVariants.{Read, Write, Memory}
 use Rattle.session.specs.Scripts.{IsAnswered, StopsForMemory, StopsReading, StopsWriting, TellsFailedRead, TellsFailedWrite}
-use Rattle.cli.specs.declared.refusal.Unready.{Unready}
-use Rattle.cli.specs.declared.refusal.Unready.TheVariants.{OutOfMemory}
+use Rattle.pipeline.specs.declared.unready.Unready.{Unready}
+use Rattle.pipeline.specs.declared.unready.Unready.TheVariants.{OutOfMemory}
 use Rattle.cli.specs.declared.stops.Stop.{Stop}
-use Rattle.cli.specs.Exported.{Refuses}
-use Rattle.cli.specs.Running.{AnswersScript, AreBundlesOf, FirstUnready, Runs, RunsBundles, told_line, told_script}
+use Rattle.pipeline.proofs.PlainLaws.{not_refused}
+use Rattle.pipeline.specs.Exported.{Refuses}
+use Rattle.pipeline.specs.Plain.{IsPlainBundle}
+use Rattle.cli.specs.Running.{AnswersScript, AreBundlesOf, FirstUnready, Runs, RunsBundles, RunsScript, told_line, told_script}
 
 module _ {I O : Type 0} (left : I → Option (List ℕ)) (given : I → ℕ) (held : O → Option (List ℕ)) (taken : O → ℕ)
     (source source' : I) (sink sink' : O) (native : Arch) (texts : List (List ℕ)) where
@@ -65,3 +70,25 @@ module _ {I O : Type 0} (left : I → Option (List ℕ)) (given : I → ℕ) (he
   }))
   refused_script u r result why (inr h) told =
       inr (inr (record { unread = refl; unwritten = h.1; told = told ∙ ap told_line h.0 }))
+
+-- ---- bundles without conditions
+
+-- there is no first of such texts without a checked filter
+none_is_refused : (native : Arch) (texts : List (List ℕ)) (u : Unready) → All (IsPlainBundle native) texts
+    → FirstUnready native texts u → ⊥
+none_is_refused native texts u all first =
+    let parts : All (IsPlainBundle native) (first.before ++ first.text ∷ first.after) =
+    subst (All (IsPlainBundle native)) first.split all in
+    let there : Contains (first.before ++ first.text ∷ first.after) first.text =
+    Contains-append_right first.before (first.text ∷ first.after) first.text (contains_head first.text first.after) in
+    not_refused native first.text u (All-contains (IsPlainBundle native) (first.before ++ first.text ∷ first.after) first.text parts there)
+    first.is
+
+pub script_is_run : {I O : Type 0} (left : I → Option (List ℕ)) (given : I → ℕ) (held : O → Option (List ℕ)) (taken : O → ℕ)
+    (source source' : I) (sink sink' : O) (native : Arch) (texts : List (List ℕ)) (result : Result Bool Stop)
+    → RunsBundles left given held taken source source' sink sink' native texts result → All (IsPlainBundle native) texts
+    → RunsScript left given held taken source source' sink sink' native texts result
+script_is_run left given held taken source source' sink sink' native texts result (inl h) all = inl h
+script_is_run left given held taken source source' sink sink' native texts result (inr (inl h)) all =
+    absurd (none_is_refused native texts h.unready all h.is)
+script_is_run left given held taken source source' sink sink' native texts result (inr (inr h)) all = inr h

@@ -8,10 +8,10 @@ use Rattle.std.specs.List.{All}
 use Rattle.std.proofs.lemmas.List.Elements.{All-cons, All-nil}
 use Rattle.call_tables.specs.declared.arch.Arch.{Arch}
 use Rattle.session.specs.declared.bundles.Bundle.{Bundle}
-use Rattle.cli.specs.declared.refusal.Unready.{Unready}
-use Rattle.cli.specs.declared.refusal.Unready.TheVariants.{OutOfMemory}
-use Rattle.cli.specs.declared.running.Named.{Named}
-use Rattle.cli.specs.Exported.{IsUnready}
+use Rattle.pipeline.specs.declared.unready.Unready.{Unready}
+use Rattle.pipeline.specs.declared.unready.Unready.TheVariants.{OutOfMemory}
+use Rattle.cli.specs.declared.run.Named.{Named}
+use Rattle.pipeline.specs.Exported.{IsUnready}
 use Rattle.cli.specs.Running.{FirstUnready, HasChecked, InTurn, IsBundleOf}
 use Rattle.cli.specs.inner.Made.{IsLent, IsMade, IsNamed, IsPreparedOf, MadeBefore}
 

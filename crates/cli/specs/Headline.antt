@@ -31,7 +31,7 @@ use Rattle.lifecycle.specs.Worlds.{Container, container_at}
 use Rattle.session.specs.declared.bundles.Bundles.{Bundles}
 use Rattle.session.specs.Answer.{answer_of, commands_of}
 use Rattle.session.specs.Laws.{IsScript}
-use Rattle.cli.specs.Finding.{IsBundle}
+use Rattle.pipeline.specs.Finding.{IsBundle}
 use Rattle.cli.specs.Running.{AreBundlesOf}
 
 -- The bundle means the profile, the kernel accepts the filter, and its verdict on every call record is the word that the

@@ -1,10 +1,5 @@
-pub mod Answer
 pub mod Stop
 pub mod Fault
-pub mod Finding
-pub mod Plain
-pub mod Exported
-pub mod Certified
 pub mod Running
 pub mod Headline
 pub mod inner

@@ -1,3 +1,1 @@
-pub mod Prepared
 pub mod Made
-pub mod Told

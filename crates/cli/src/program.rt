@@ -1,82 +1,30 @@
 //! The whole program, from the words after its name to its exit status.
 ghost use Rattle.std.specs.Prelude.{◌≤◌};
 
-use crate::certifying::certify_bundle;
-use crate::exporting::export_bundle;
-use crate::fault::FileFault;
-use crate::files::Files;
-use crate::finding::check_line;
-use crate::line::verdict_line;
-use crate::running::run_bundles;
+use crate::files::{Files, read, read_certificate, read_each, read_filter, read_record};
+use crate::run::run_bundles;
 use crate::stops::{Stop, report};
-use bpf_insn::MAX_INSNS;
 use call_tables::Arch;
-use cert_form::MAX_BYTES;
-use command_line::{Order, read_words};
+use command_line::{Form, Order, read_words};
 use export::{Sink, Source};
+use pipeline::{certify_bundle, check_line, export_bundle, verdict_line};
 use std::alloc::Global;
 
-// The longest files that are judged by more than their length, in bytes: a call record, a filter, a certificate.
-const RECORD_SIZE: u32 = 64;
-
-const FILTER_SIZE: u32 = 8 * MAX_INSNS as u32;
-
-const CERTIFICATE_SIZE: u32 = MAX_BYTES as u32;
-
-fn stop_of<'a>(fault: FileFault, name: &'a str) -> Stop<'a> {
-    match fault {
-        FileFault::CannotRead => Stop::CannotRead(name),
-        FileFault::OutOfMemory => Stop::OutOfMemory,
-    }
-}
-
-fn read<'a>(alloc: Global, files: &mut impl Files, name: &'a str) -> Result<Vec<u8>, Stop<'a>> {
-    files
-        .read(alloc, name)
-        .map_err(|fault| stop_of(fault, name))
-}
-
-fn read_up_to<'a>(
-    alloc: Global,
-    files: &mut impl Files,
-    name: &'a str,
-    most: u32,
-) -> Result<Vec<u8>, Stop<'a>> {
-    files
-        .read_up_to(alloc, name, most)
-        .map_err(|fault| stop_of(fault, name))
-}
-
-// The bytes of files, in the order of their names.
-fn read_each<'a>(
-    alloc: Global,
-    files: &mut impl Files,
-    names: &'a [&'a str],
-) -> Result<Vec<Vec<u8>>, Stop<'a>> {
-    let mut texts = Vec::new(alloc);
-    for name in names {
-        let Ok(()) = texts.push(read(alloc, files, name)?) else {
-            return Err(Stop::OutOfMemory);
-        };
-    }
-    Ok(texts)
-}
-
 // Answers a filter to a record.
-fn answer<'a>(
+fn verdict<'a>(
     alloc: Global,
     filter: &'a str,
     record: &'a str,
     files: &mut impl Files,
     out: &mut impl Sink,
 ) -> Result<bool, Stop<'a>> {
-    let filter = read_up_to(alloc, files, filter, FILTER_SIZE)?;
-    let record = read_up_to(alloc, files, record, RECORD_SIZE)?;
+    let filter = read_filter(alloc, files, filter)?;
+    let record = read_record(alloc, files, record)?;
     Ok(verdict_line(&filter, &record, out)?)
 }
 
 // Says whether a certificate shows that a filter answers what a bundle says.
-fn judge<'a>(
+fn check<'a>(
     alloc: Global,
     native: Arch,
     [bundle, filter, certificate]: [&'a str; 3],
@@ -84,8 +32,8 @@ fn judge<'a>(
     out: &mut impl Sink,
 ) -> Result<bool, Stop<'a>> {
     let bundle = read(alloc, files, bundle)?;
-    let filter = read_up_to(alloc, files, filter, FILTER_SIZE)?;
-    let certificate = read_up_to(alloc, files, certificate, CERTIFICATE_SIZE)?;
+    let filter = read_filter(alloc, files, filter)?;
+    let certificate = read_certificate(alloc, files, certificate)?;
     Ok(check_line(alloc, native, &bundle, &filter, &certificate, out)?)
 }
 
@@ -98,8 +46,34 @@ fn certify<'a>(
     out: &mut impl Sink,
 ) -> Result<bool, Stop<'a>> {
     let bundle = read(alloc, files, bundle)?;
-    let filter = read_up_to(alloc, files, filter, FILTER_SIZE)?;
+    let filter = read_filter(alloc, files, filter)?;
     Ok(certify_bundle(alloc, native, &bundle, &filter, out)?)
+}
+
+// Writes the filter of a bundle in a form, once it is checked, or why it has none.
+fn export<'a>(
+    alloc: Global,
+    native: Arch,
+    bundle: &'a str,
+    form: Form,
+    files: &mut impl Files,
+    out: &mut impl Sink,
+) -> Result<bool, Stop<'a>> {
+    let bundle = read(alloc, files, bundle)?;
+    Ok(export_bundle(alloc, native, &bundle, form, out)?)
+}
+
+// Answers a script with the filters of bundles, once they are checked, or says why the first without one has none.
+fn run<'a>(
+    alloc: Global,
+    native: Arch,
+    bundles: &'a [&'a str],
+    files: &mut impl Files,
+    input: &mut impl Source,
+    out: &mut impl Sink,
+) -> Result<bool, Stop<'a>> {
+    let texts = read_each(alloc, files, bundles)?;
+    run_bundles(alloc, native, &texts, input, out)
 }
 
 // Carries the order out: true where it answered a word or yes, wrote what was asked for or ran a script, false where it
@@ -112,13 +86,13 @@ fn carry_out<'a>(
     out: &mut impl Sink,
 ) -> Result<bool, Stop<'a>> {
     match read_words(alloc, words)? {
-        Order::Verdict { filter, record } => answer(alloc, filter, record, files, out),
+        Order::Verdict { filter, record } => verdict(alloc, filter, record, files, out),
         Order::Check {
             native,
             bundle,
             filter,
             certificate,
-        } => judge(alloc, native, [bundle, filter, certificate], files, out),
+        } => check(alloc, native, [bundle, filter, certificate], files, out),
         Order::Certify {
             native,
             bundle,
@@ -128,14 +102,8 @@ fn carry_out<'a>(
             native,
             bundle,
             form,
-        } => {
-            let bundle = read(alloc, files, bundle)?;
-            Ok(export_bundle(alloc, native, &bundle, form, out)?)
-        }
-        Order::Run { native, bundles } => {
-            let texts = read_each(alloc, files, bundles)?;
-            run_bundles(alloc, native, &texts, input, out)
-        }
+        } => export(alloc, native, bundle, form, files, out),
+        Order::Run { native, bundles } => run(alloc, native, bundles, files, input, out),
     }
 }
 

@@ -6,8 +6,8 @@ use Rattle.call_tables.specs.Arch.{machine_called}
 use denote.Ref.{Bor}
 use Rattle.command_line.specs.declared.Order.{Order}
 use Rattle.command_line.specs.declared.Order.TheVariants.{Verdict, Check, Certify, Export, Run}
-use Rattle.command_line.specs.declared.Form.{Form}
-use Rattle.command_line.specs.declared.Form.TheVariants.{Raw, Listing, Certificate}
+use Rattle.export.specs.declared.form.Form.{Form}
+use Rattle.export.specs.declared.form.Form.TheVariants.{Raw, Listing, Certificate}
 
 abbrev pub hyphen : ℕ
 hyphen = 45

@@ -7,18 +7,8 @@ ghost use Rattle.command_line.specs.Words.{IsDashed, IsOrderOf, form_called};
 use call_tables::Arch;
 use clap::error::ErrorKind;
 use clap::{Arg, ArgMatches, Command, Error};
+pub use export::Form;
 use std::alloc::{AllocError, Global};
-
-/// What is written of a checked filter.
-#[derive(Clone, Copy, Debug, PartialEq, Eq)]
-pub enum Form {
-    /// The filter's bytes.
-    Raw,
-    /// Its listing.
-    Listing,
-    /// The bytes of its certificate.
-    Certificate,
-}
 
 /// What the words after the program's name ask for.
 #[derive(Clone, Copy, Debug, PartialEq, Eq)]

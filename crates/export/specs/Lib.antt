@@ -1,3 +1,4 @@
 pub mod Failures
 pub mod Sink
 pub mod Fault
+pub mod Forms

@@ -2,9 +2,11 @@
 ghost use Rattle.bpf_insn.specs.Bytes.{spelling};
 ghost use Rattle.bpf_asm.specs.Listing.{listing};
 ghost use Rattle.cert_check.specs.Checked.{cert_of, program_of};
+ghost use Rattle.export.specs.Forms.{bytes_in};
 ghost use Rattle.export.specs.Sink.{Writes, WritesMade};
 
 use crate::fault::ExportFault;
+use crate::form::Form;
 use crate::sink::{Sink, write_all};
 use bpf_asm::disassemble;
 use cert_check::Checked;
@@ -36,4 +38,20 @@ pub fn export_listing<S: Sink>(
     let program = checked.program().program();
     let text = disassemble(alloc, &program)?;
     write_all(text.as_str().as_bytes(), sink)
+}
+
+/// Writes the filter in a form.
+pub fn export_form<S: Sink>(
+    alloc: Global,
+    checked: &Checked<'_>,
+    form: Form,
+    sink: &mut S,
+) -> Result<(), ExportFault>
+    ensures { WritesMade S.held S.failures sink.old sink.new (bytes_in form checked.now) result }
+{
+    match form {
+        Form::Raw => export_raw(checked, sink),
+        Form::Listing => export_listing(alloc, checked, sink),
+        Form::Certificate => export_cert(checked, sink),
+    }
 }

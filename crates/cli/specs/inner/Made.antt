@@ -2,13 +2,13 @@
 use Rattle.std.specs.Prelude.{ℕ, ◌≡◌, ◌≢◌, List, ◌∷◌, ◌++◌, Option, None, Some, string_bytes}
 use Rattle.call_tables.specs.declared.arch.Arch.{Arch}
 use Rattle.session.specs.declared.bundles.Bundle.{Bundle}
-use Rattle.cli.specs.declared.refusal.Unready.{Unready}
-use Rattle.cli.specs.declared.refusal.Unready.TheVariants.{OutOfMemory}
-use Rattle.cli.specs.declared.exporting.Prepared.{Prepared}
-use Rattle.cli.specs.declared.running.Named.{Named}
-use Rattle.cli.specs.Exported.{IsCheckedOf, IsUnready}
+use Rattle.pipeline.specs.declared.unready.Unready.{Unready}
+use Rattle.pipeline.specs.declared.unready.Unready.TheVariants.{OutOfMemory}
+use Rattle.pipeline.specs.declared.pipeline.Prepared.{Prepared}
+use Rattle.cli.specs.declared.run.Named.{Named}
+use Rattle.pipeline.specs.Exported.{IsCheckedOf, IsUnready}
 use Rattle.cli.specs.Running.{InTurn, name_of}
-use Rattle.cli.specs.inner.Prepared.{IsPrepared}
+use Rattle.pipeline.specs.Prepared.{IsPrepared}
 
 -- this was made of the text
 abbrev pub IsPreparedOf : Arch → List ℕ → Prepared → Type 0

@@ -1,5 +1,0 @@
-use Rattle.cli.proofs.AnswerLaws as laws
-use Rattle.cli.proofs.law.one_answer.Goals as goal
-
-pub returns : goal.returns
-returns c = laws.one_answer c.one_refusal.ensures

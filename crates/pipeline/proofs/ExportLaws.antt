@@ -1,0 +1,40 @@
+-- What export writes, by what its parts do.
+use Rattle.std.proofs.Common.{◌≡◌, ℕ, inl, inr, Bool, true, List, refl, sym, subst}
+use Rattle.std.specs.Prelude.{Option, Result, Ok, Err, ◌≢◌}
+use Rattle.call_tables.specs.declared.arch.Arch.{Arch}
+use Rattle.cert_check.specs.declared.checked.Checked.{Checked}
+use Rattle.export.specs.declared.form.Form.{Form}
+use Rattle.export.specs.Forms.{bytes_in}
+use Rattle.export.specs.Sink.{WritesMade}
+use Rattle.export.specs.declared.fault.ExportFault.{ExportFault}
+use Rattle.export.specs.declared.fault.ExportFault.TheVariants.{Write, OutOfMemory}
+use Rattle.pipeline.specs.declared.unready.Unready.{Unready}
+use Rattle.pipeline.specs.declared.unready.Unready.TheVariants as unready
+use Rattle.pipeline.specs.Exported.{Exports, IsCheckedOf, IsUnready, Refuses, WritesFilter}
+
+module _ {S : Type 0} (held : S → Option (List ℕ)) (failures : S → ℕ) (old new : S) where
+  -- a fault of writing, whatever was to be told
+  pub as_failed : (T : Type 0) (bytes : List ℕ) (fault : ExportFault) → WritesMade {S = S} {T = T} held failures old new bytes (Err fault)
+      → WritesMade {S = S} {T = Bool} held failures old new bytes (Err fault)
+  as_failed T bytes (Write out) h = h
+  as_failed T bytes OutOfMemory h = h
+
+  module _ (native : Arch) (bundle : List ℕ) (form : Form) where
+    pub filter_written : (checked : Checked) → IsCheckedOf native bundle checked
+        → WritesMade {S = S} {T = Bool} held failures old new (bytes_in form checked) (Ok true)
+        → Exports held failures old new native bundle form (Ok true)
+    filter_written checked is written = inl (record { checked = checked; is = is; written = written; told = refl })
+
+    pub filter_failed : (T : Type 0) (checked : Checked) (fault : ExportFault) (result : Result Bool ExportFault)
+        → IsCheckedOf native bundle checked
+        → WritesMade {S = S} {T = T} held failures old new (bytes_in form checked) (Err fault) → result ≡ Err fault
+        → Exports held failures old new native bundle form result
+    filter_failed T checked fault result is written e =
+        let here : WritesFilter held failures old new native bundle form (Err fault) =
+        record { checked = checked; is = is; written = as_failed T (bytes_in form checked) fault written; told = tt } in
+        inl (subst (λ (r : Result Bool ExportFault). WritesFilter held failures old new native bundle form r) (sym e) here)
+
+    pub refused : (u : Unready) (result : Result Bool ExportFault) → (u ≢ unready.OutOfMemory → IsUnready native bundle u)
+        → Refuses held failures old new u result → Exports held failures old new native bundle form result
+    refused u result why (inl h) = inr (inl (record { unready = u; is = why h.0; written = h.1; told = h.2 }))
+    refused u result why (inr h) = inr (inr h)

@@ -1,0 +1,5 @@
+mod AnswerLaws
+mod ExportLaws
+mod FindingLaws
+pub mod PlainLaws
+mod EvidenceLaws

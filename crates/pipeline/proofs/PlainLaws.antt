@@ -1,0 +1,201 @@
+-- A bundle whose profile has no conditions is not refused for what is made of it.
+use Rattle.std.proofs.Common.{◌≡◌, ℕ, inl, inr, Bool, List, [], sym, ap, subst, ◌∙◌}
+use Rattle.std.specs.Prelude.{◌≢◌, Option, Some, None, Result, Ok, Err, IfErr, IfOk}
+use Rattle.std.specs.Result.{IsErrAnd}
+use Rattle.std.specs.List.{All, Contains}
+use Rattle.std.proofs.lemmas.List.Elements.{All-contains, All-contains_itself, All-weaker}
+use Rattle.bpf_insn.specs.declared.instruction.Insn.{Insn}
+use Rattle.bpf_insn.specs.Bytes.{insns_of, view_fault}
+use Rattle.call_tables.specs.declared.arch.Arch.{Arch}
+use Rattle.call_tables.specs.Arch.{table_of}
+use Rattle.call_tables.specs.Table.{name_in}
+use Rattle.call_tables.proofs.ArchLaws.{table_of-inverse}
+use Rattle.profile.specs.declared.rules.Rule.{Rule}
+use Rattle.profile.specs.Policy.{Policy}
+use Rattle.profile.proofs.KeptLaws.{kept_in}
+use Rattle.profile_json.specs.Parts.{RuleParts, rule_parts}
+use Rattle.profile_json.specs.Rules.{rules_of, rules_of_entry, rules_under}
+use Rattle.profile_json.proofs.Lists.{contains_flat_back, contains_map}
+use Rattle.profile_json.proofs.clashing.Clashing.{IsUnder, under_back}
+use Rattle.profile_json.proofs.unbroken.Unbroken.{meaning_is_one, meaning_is_unbroken}
+use Rattle.rule_compile.specs.declared.fault.CompileError.{CompileError}
+use Rattle.rule_compile.specs.declared.fault.CompileError.TheVariants as compiler
+use Rattle.rule_compile.specs.Shape.{IsCallFilter, IsPlain}
+use Rattle.cert_walk.specs.declared.fault.CertifyError.{CertifyError}
+use Rattle.cert_walk.specs.declared.fault.CertifyError.TheVariants as maker
+use Rattle.certify.specs.Own.{IsOwnWork}
+use Rattle.certify.proofs.OwnLaws.{accepted}
+use Rattle.certify.proofs.TableLaws.{table_rule_is_plain}
+use Rattle.cert_check.specs.declared.fault.CheckError.{CheckError}
+use Rattle.cert_check.specs.declared.fault.CheckError.TheVariants as error
+use Rattle.cert_check.specs.Certified.{IsFirst}
+use Rattle.export.specs.declared.fault.ExportFault.{ExportFault}
+use Rattle.export.specs.declared.form.Form.{Form}
+use Rattle.pipeline.specs.declared.pipeline.Prepared.{Prepared}
+use Rattle.pipeline.specs.declared.unready.Unready.{Unready}
+use Rattle.pipeline.specs.declared.unready.Unready.TheVariants.{Profile, Compile, Certify, Check, OutOfMemory}
+use Rattle.pipeline.specs.Exported.{Exports, ExportsFilter, IsToldAs, IsUnready}
+use Rattle.pipeline.specs.Finding.{IsBundle}
+use Rattle.pipeline.specs.Plain.{HasConditions, HasNoConditions, IsPlainBundle}
+use Rattle.pipeline.specs.Prepared.{IsPrepared, IsUnbroken}
+use Rattle.pipeline.proofs.FindingLaws.{no_fault, one_policy}
+
+-- ---- the calls of a bundle's profile
+
+-- each rule's number stands in its machine's table
+in_table : (native : Arch) (bundle : List ℕ) (p : Policy) → IsBundle native bundle p → (rule : Rule) → Contains p.rules rule
+    → (name : List ℕ) × (name_in (table_of rule.arch) rule.nr ≡ Some name)
+in_table native bundle p is rule stands =
+    let calls = is.2.calls in
+    let r = rule_parts rule in
+    let in_said : Contains calls.said rule = kept_in calls.said p.rules calls.kept rule stands in
+    let here : Contains (rules_of p.machines calls.entries) r =
+    subst (λ (l : List RuleParts). Contains l r) calls.said_is (contains_map rule_parts calls.said rule in_said) in
+    let entry = contains_flat_back (rules_of_entry p.machines) calls.entries r here in
+    let named = contains_flat_back (rules_under p.machines entry.0) entry.0.names r entry.2 in
+    let from : IsUnder p.machines entry.0 named.0 r = under_back p.machines entry.0 named.0 r named.2 in
+    let arch : rule.arch ≡ from.arch = ap (λ (s : RuleParts). s.arch) from.is in
+    let nr : rule.nr ≡ from.nr = ap (λ (s : RuleParts). s.nr) from.is in (
+      named.0,
+      ap (λ a. name_in (table_of a) rule.nr) arch ∙ ap (name_in (table_of from.arch)) nr
+          ∙ (table_of-inverse from.arch named.0 from.nr).0 from.nr_is,
+    )
+
+-- so a bundle's profile without conditions is plain
+pub plain : (native : Arch) (bundle : List ℕ) (p : Policy) → IsBundle native bundle p → HasNoConditions p → IsPlain p
+plain native bundle p is none = record {
+  rules = All-weaker (Contains p.rules) _
+      (λ rule stands. table_rule_is_plain rule
+      (All-contains (λ (r : Rule). r.conds.items ≡ []) p.rules rule none stands, in_table native bundle p is rule stands))
+      p.rules (All-contains_itself p.rules);
+  clear = is.2.calls.clear;
+}
+
+-- ---- steps
+
+-- a step that lacks memory is told so
+pub told_memory : {E T : Type 0} (step : E → Unready) (memory e : E) (r : Result T Unready) → IsErrAnd r (IsToldAs step memory e)
+    → e ≡ memory → IfErr r (λ u. u ≡ OutOfMemory)
+told_memory step memory e (Ok x) told is = tt
+told_memory step memory e (Err u) (inl h) is = h.1
+told_memory step memory e (Err u) (inr h) is = absurd (h.0 is)
+
+-- a bundle of which a step gives nothing has conditions, if memory is not what it lacks
+has_conditions : {E : Type 0} (memory e : E) (native : Arch) (bundle : List ℕ) (policy : Policy) → e ≢ memory
+    → (IsPlain policy → e ≡ memory) → IsBundle native bundle policy → HasConditions native bundle
+has_conditions memory e native bundle policy other never is =
+    (policy, is, λ none. other (never (plain native bundle policy is none)))
+
+not_compiled : (policy : Policy) (e : CompileError) (u : Unready) → (IsPlain policy → e ≡ compiler.OutOfMemory)
+    → IsToldAs Compile compiler.OutOfMemory e u → (native : Arch) (bundle : List ℕ) → IsBundle native bundle policy → u ≢ OutOfMemory
+    → IsUnready native bundle u
+not_compiled policy e u never (inl h) native bundle is other = absurd (other h.1)
+not_compiled policy e u never (inr h) native bundle is other =
+    subst (IsUnready native bundle) (sym h.1) (h.0, has_conditions compiler.OutOfMemory e native bundle policy h.0 never is)
+
+not_certified : (policy : Policy) (e : CertifyError) (u : Unready) → (IsPlain policy → e ≡ maker.OutOfMemory)
+    → IsToldAs Certify maker.OutOfMemory e u → (native : Arch) (bundle : List ℕ) → IsBundle native bundle policy → u ≢ OutOfMemory
+    → IsUnready native bundle u
+not_certified policy e u never (inl h) native bundle is other = absurd (other h.1)
+not_certified policy e u never (inr h) native bundle is other =
+    subst (IsUnready native bundle) (sym h.1) (h.0, has_conditions maker.OutOfMemory e native bundle policy h.0 never is)
+
+not_checked : (policy : Policy) (filter cert : List ℕ) (e : CheckError) (u : Unready)
+    → (e ≢ error.OutOfMemory → IsFirst policy filter cert e)
+    → IsToldAs Check error.OutOfMemory e u → (native : Arch) (bundle : List ℕ) → IsPrepared native bundle policy filter cert
+    → u ≢ OutOfMemory → IsUnready native bundle u
+not_checked policy filter cert e u first (inl h) native bundle is other = absurd (other h.1)
+not_checked policy filter cert e u first (inr h) native bundle is other =
+    subst (IsUnready native bundle) (sym h.1)
+    (h.0, (policy, is.means, λ none. (first h.0).broken (is.own none e), record { filter = filter; cert = cert; first = first h.0 }))
+
+-- what is told of a step that stops
+module _ {T : Type 0} (policy : Policy) (r : Result T Unready) where
+  pub told_compile : (e : CompileError) → IsErrAnd r (IsToldAs Compile compiler.OutOfMemory e)
+      → (IsPlain policy → e ≡ compiler.OutOfMemory) → (native : Arch) (bundle : List ℕ) → IsBundle native bundle policy
+      → IfErr r (λ u. u ≢ OutOfMemory → IsUnready native bundle u)
+  told_compile e told never native bundle is = at r told where
+    at : (r : Result T Unready) → IsErrAnd r (IsToldAs Compile compiler.OutOfMemory e)
+        → IfErr r (λ u. u ≢ OutOfMemory → IsUnready native bundle u)
+    at (Ok x) told = tt
+    at (Err u) told = not_compiled policy e u never told native bundle is
+
+  pub told_certify : (e : CertifyError) → IsErrAnd r (IsToldAs Certify maker.OutOfMemory e)
+      → (IsPlain policy → e ≡ maker.OutOfMemory) → (native : Arch) (bundle : List ℕ) → IsBundle native bundle policy
+      → IfErr r (λ u. u ≢ OutOfMemory → IsUnready native bundle u)
+  told_certify e told never native bundle is = at r told where
+    at : (r : Result T Unready) → IsErrAnd r (IsToldAs Certify maker.OutOfMemory e)
+        → IfErr r (λ u. u ≢ OutOfMemory → IsUnready native bundle u)
+    at (Ok x) told = tt
+    at (Err u) told = not_certified policy e u never told native bundle is
+
+  module _ (filter cert : List ℕ) (e : CheckError) (first : e ≢ error.OutOfMemory → IsFirst policy filter cert e)
+      (told : IsErrAnd r (IsToldAs Check error.OutOfMemory e)) where
+    pub told_check : (native : Arch) (bundle : List ℕ) → IsPrepared native bundle policy filter cert
+        → IfErr r (λ u. u ≢ OutOfMemory → IsUnready native bundle u)
+    told_check native bundle is = at r told where
+      at : (r : Result T Unready) → IsErrAnd r (IsToldAs Check error.OutOfMemory e)
+          → IfErr r (λ u. u ≢ OutOfMemory → IsUnready native bundle u)
+      at (Ok x) told = tt
+      at (Err u) told = not_checked policy filter cert e u first told native bundle is
+
+    -- where no rule is broken, memory was refused
+    pub only_memory : IsUnbroken policy filter cert → IfErr r (λ u. u ≡ OutOfMemory)
+    only_memory kept = at r told where
+      at : (r : Result T Unready) → IsErrAnd r (IsToldAs Check error.OutOfMemory e) → IfErr r (λ u. u ≡ OutOfMemory)
+      at (Ok x) told = tt
+      at (Err u) (inl h) = h.1
+      at (Err u) (inr h) = absurd ((first h.0).broken (kept e))
+
+-- ---- what is made of a plain profile
+
+module _ (policy : Policy) (p : List Insn) (filter : List ℕ) (same : p ≡ insns_of filter)
+    (shape : IsPlain policy → IsCallFilter policy (insns_of filter)) where
+  seen : IsPlain policy → IsCallFilter policy p
+  seen is = subst (IsCallFilter policy) (sym same) (shape is)
+
+  pub certifies : (e : CertifyError) → (IsPlain policy → IsCallFilter policy p → e ≡ maker.OutOfMemory) → IsPlain policy
+      → e ≡ maker.OutOfMemory
+  certifies e never is = never is (seen is)
+
+  pub unbroken : (cert : List ℕ) → view_fault filter ≡ None → (IsPlain policy → IsCallFilter policy p → IsOwnWork policy p cert)
+      → IsPlain policy → IsUnbroken policy filter cert
+  unbroken cert view own is = accepted policy filter cert view (shape is)
+      (subst (λ (q : List Insn). IsOwnWork policy q cert) same (own is (seen is)))
+
+-- what is made of the profile that a bundle means
+pub prepared : (native : Arch) (bundle : List ℕ) (policy : Policy) (r : Result Prepared Unready) → IsBundle native bundle policy
+    → IfOk r (λ made. made.profile ≡ policy)
+    → (IsPlain policy → IfOk r (λ made. IsUnbroken policy made.filter.items made.certificate.items))
+    → IfOk r (λ made. IsPrepared native bundle made.profile made.filter.items made.certificate.items)
+prepared native bundle policy (Ok made) is same own = record {
+  means = subst (IsBundle native bundle) (sym same) is;
+  own = λ none. subst (λ (p : Policy). IsUnbroken p made.filter.items made.certificate.items) (sym same)
+      (own (plain native bundle policy is (subst HasNoConditions same none)));
+}
+prepared native bundle policy (Err u) is same own = tt
+
+-- ---- bundles without conditions
+
+same_policy : (native : Arch) (bundle : List ℕ) (p q : Policy) → IsBundle native bundle p → IsBundle native bundle q → p ≡ q
+same_policy = one_policy meaning_is_one
+
+-- is not one of a profile with conditions
+has_none : (native : Arch) (bundle : List ℕ) (q : Policy) → IsPlainBundle native bundle → IsBundle native bundle q
+    → (HasNoConditions q → ⊥) → ⊥
+has_none native bundle q (p, is, none) other some = some (subst HasNoConditions (same_policy native bundle p q is other) none)
+
+-- nor refused
+pub not_refused : (native : Arch) (bundle : List ℕ) (u : Unready) → IsPlainBundle native bundle → IsUnready native bundle u → ⊥
+not_refused native bundle (Profile e) (p, is, none) h = no_fault meaning_is_unbroken meaning_is_one native bundle p e is h.0 h.1
+not_refused native bundle (Compile e) is h = has_none native bundle h.1.0 is h.1.1 h.1.2
+not_refused native bundle (Certify e) is h = has_none native bundle h.1.0 is h.1.1 h.1.2
+not_refused native bundle (Check e) is h = has_none native bundle h.1.0 is h.1.1 h.1.2
+not_refused native bundle OutOfMemory is h = h
+
+pub filter_is_written : {S : Type 0} (held : S → Option (List ℕ)) (failures : S → ℕ) (old new : S) (native : Arch) (bundle : List ℕ)
+    (form : Form) (result : Result Bool ExportFault) → Exports held failures old new native bundle form result
+    → IsPlainBundle native bundle → ExportsFilter held failures old new native bundle form result
+filter_is_written held failures old new native bundle form result (inl h) is = inl h
+filter_is_written held failures old new native bundle form result (inr (inl h)) is = absurd (not_refused native bundle h.unready is h.is)
+filter_is_written held failures old new native bundle form result (inr (inr h)) is = inr h

@@ -1,0 +1,98 @@
+-- What is written of a bundle and a filter, both as bytes: a certificate, a call record that convicts the filter, or why there
+-- is neither.
+use Rattle.std.specs.Prelude.{ℕ, ◌≡◌, ◌≢◌, ◌<◌, ◌⊎◌, Bool, true, false, List, [], ◌∷◌, ◌++◌, length, slice_index, Option, None, Result, IfOk, codes}
+use Rattle.hex.specs.Hex.{encode_lower}
+use Rattle.call_tables.specs.declared.arch.Arch.{Arch}
+use Rattle.call_record.specs.Text as word
+use Rattle.call_record.specs.Words.{IsRecord, words_of}
+use Rattle.bpf_insn.specs.Bytes.{insns_of, view_fault}
+use Rattle.kernel_check.specs.Accepted.{IsAccepted}
+use Rattle.profile.specs.Policy.{Policy}
+use Rattle.certify.specs.Conviction.{Convicts}
+use Rattle.cert_walk.specs.declared.fault.CertifyError.TheVariants as maker
+use Rattle.cert_check.specs.Certified.{IsFirst}
+use Rattle.cert_check.specs.declared.fault.CheckError.TheVariants as error
+use Rattle.export.specs.Sink.{WritesMade}
+use Rattle.export.specs.declared.fault.ExportFault.{ExportFault}
+use Rattle.texts.specs.Lines.{line_feed}
+use Rattle.pipeline.specs.Exported.{IsUnready, LacksMemory, line_of}
+use Rattle.pipeline.specs.Finding.{IsBundle, IsFinding}
+use Rattle.pipeline.specs.declared.check.Finding.TheVariants.{Yes}
+use Rattle.pipeline.specs.declared.unready.Unready.{Unready}
+use Rattle.pipeline.specs.declared.unready.Unready.TheVariants.{Profile, Compile, Certify, Check, OutOfMemory}
+
+-- the bundle means the profile, and the filter's bytes are a program that the kernel accepts
+pub record AreJudged (native : Arch) (bundle filter : List ℕ) (policy : Policy) : Type 0 where
+  pub means : IsBundle native bundle policy
+  pub program : view_fault filter ≡ None
+  pub accepted : IsAccepted (insns_of filter)
+
+-- the bytes of a call record
+pub record AreRecord (rec : List ℕ) : Type 0 where
+  pub size : length rec ≡ 64
+  pub bytes : (i : ℕ) → slice_index rec i < 256
+  pub words : IsRecord (words_of rec)
+
+-- on a call record the filter gives one word, and the profile that the bundle means says another
+pub record IsConvicted (native : Arch) (bundle filter rec : List ℕ) (given said : ℕ) : Type 0 where
+  pub policy : Policy
+  pub judged : AreJudged native bundle filter policy
+  pub call : AreRecord rec
+  pub convicts : Convicts policy (insns_of filter) (words_of rec) given said
+
+-- the line that says it: two hexadecimal digits for each byte of the record, and both words
+abbrev pub digits_line : List ℕ → ℕ → ℕ → List ℕ
+digits_line digits given said =
+    codes "no record " ++ digits ++ codes " filter " ++ word.text_of given ++ codes " profile " ++ word.text_of said ++ line_feed ∷ []
+
+abbrev pub conviction_line : List ℕ → ℕ → ℕ → List ℕ
+conviction_line rec given said = digits_line (encode_lower rec) given said
+
+-- Why there is neither. The bundle breaks a rule of bundles; or it means a profile, and the checker names a rule that the filter
+-- and a certificate break first; or the maker of certificates gave nothing. Want of memory is no such reason.
+abbrev pub IsOpen : Arch → List ℕ → List ℕ → Unready → Type 0
+IsOpen native bundle filter (Profile e) = IsUnready native bundle (Profile e)
+IsOpen native bundle filter (Compile e) = ⊥
+IsOpen native bundle filter (Certify e) = (e ≢ maker.OutOfMemory) × ((policy : Policy) × AreJudged native bundle filter policy)
+IsOpen native bundle filter (Check e) =
+    (e ≢ error.OutOfMemory) × ((policy : Policy) × (cert : List ℕ) × IsBundle native bundle policy × IsFirst policy filter cert e)
+IsOpen native bundle filter OutOfMemory = ⊥
+
+-- what was written is a certificate with which the checker says yes, and the answer is true
+pub record WritesCertificate {S : Type 0} (held : S → Option (List ℕ)) (failures : S → ℕ) (old new : S) (native : Arch)
+    (bundle filter : List ℕ) (result : Result Bool ExportFault) : Type 0 where
+  pub cert : List ℕ
+  pub is : IsFinding native bundle filter cert Yes
+  pub written : WritesMade held failures old new cert result
+  pub told : IfOk result (λ done. done ≡ true)
+
+-- what was written is the line of a record that convicts the filter, and the answer is false
+pub record WritesConviction {S : Type 0} (held : S → Option (List ℕ)) (failures : S → ℕ) (old new : S) (native : Arch)
+    (bundle filter : List ℕ) (result : Result Bool ExportFault) : Type 0 where
+  pub rec : List ℕ
+  pub given : ℕ
+  pub said : ℕ
+  pub is : IsConvicted native bundle filter rec given said
+  pub written : WritesMade held failures old new (conviction_line rec given said) result
+  pub told : IfOk result (λ done. done ≡ false)
+
+-- what was written is the line that says why there is neither, and the answer is false
+pub record WritesOpen {S : Type 0} (held : S → Option (List ℕ)) (failures : S → ℕ) (old new : S) (native : Arch)
+    (bundle filter : List ℕ) (result : Result Bool ExportFault) : Type 0 where
+  pub unready : Unready
+  pub is : IsOpen native bundle filter unready
+  pub written : WritesMade held failures old new (line_of unready) result
+  pub told : IfOk result (λ done. done ≡ false)
+
+-- what `ccell certify` writes for a bundle and a filter
+abbrev pub Certifies : {S : Type 0} → (S → Option (List ℕ)) → (S → ℕ) → S → S → Arch → List ℕ → List ℕ → Result Bool ExportFault → Type 0
+Certifies held failures old new native bundle filter result =
+    WritesCertificate held failures old new native bundle filter result
+    ⊎ (WritesConviction held failures old new native bundle filter result
+    ⊎ (WritesOpen held failures old new native bundle filter result ⊎ LacksMemory old new result))
+
+-- no filter has both a certificate with which the checker says yes and a record that convicts it
+abbrev pub EvidenceExcludes : Type 0
+EvidenceExcludes =
+    (native : Arch) (bundle filter cert rec : List ℕ) (given said : ℕ) → IsFinding native bundle filter cert Yes
+    → IsConvicted native bundle filter rec given said → ⊥

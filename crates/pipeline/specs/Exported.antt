@@ -1,0 +1,105 @@
+-- What is exported of a bundle.
+use Rattle.std.specs.Prelude.{ℕ, ◌≡◌, ◌≢◌, ◌⊎◌, Bool, true, false, List, [], ◌∷◌, ◌++◌, Option, Result, Err, IfOk, IfSome, codes}
+use Rattle.call_tables.specs.declared.arch.Arch.{Arch}
+use Rattle.kernel_check.specs.Accepted.{IsAccepted}
+use Rattle.profile.specs.Policy.{Policy}
+use Rattle.profile_json.specs.declared.fault.ProfileError.TheVariants as refusal
+use Rattle.profile_json.specs.Breaks.{Breaks}
+use Rattle.profile_json.specs.Fault.{fault_of, text_of as refusal_text}
+use Rattle.rule_compile.specs.declared.fault.CompileError.TheVariants as compiler
+use Rattle.rule_compile.specs.Fault.{text_of as compile_text}
+use Rattle.cert_walk.specs.declared.fault.CertifyError.TheVariants as maker
+use Rattle.cert_walk.specs.Fault.{text_of as certify_text}
+use Rattle.cert_check.specs.declared.checked.Checked.{Checked}
+use Rattle.cert_check.specs.declared.fault.CheckError.{CheckError}
+use Rattle.cert_check.specs.declared.fault.CheckError.TheVariants as error
+use Rattle.cert_check.specs.Certified.{IsFirst}
+use Rattle.cert_check.specs.Checked.{profile_of, program_of}
+use Rattle.cert_check.specs.Fault.{text_of as error_text}
+use Rattle.cert_check.specs.Right.{IsRight}
+use Rattle.export.specs.Forms.{bytes_in}
+use Rattle.export.specs.Sink.{WritesMade}
+use Rattle.export.specs.declared.fault.ExportFault.{ExportFault}
+use Rattle.export.specs.declared.fault.ExportFault.TheVariants as fault
+use Rattle.export.specs.declared.form.Form.{Form}
+use Rattle.texts.specs.Lines.{line_feed}
+use Rattle.pipeline.specs.Finding.{IsBundle}
+use Rattle.pipeline.specs.Plain.{HasConditions, HasNoConditions}
+use Rattle.pipeline.specs.declared.unready.Unready.{Unready}
+use Rattle.pipeline.specs.declared.unready.Unready.TheVariants.{Profile, Compile, Certify, Check, OutOfMemory}
+
+-- the bundle means its profile, the kernel accepts its filter, and this gives each record the profile's word and no other
+pub record IsCheckedOf (native : Arch) (bundle : List ℕ) (c : Checked) : Type 0 where
+  pub means : IsBundle native bundle (profile_of c)
+  pub accepted : IsAccepted (program_of c)
+  pub right : IsRight (profile_of c) (program_of c)
+
+-- the checker names a rule that a filter and a certificate break first, beside a profile
+pub record IsNo (policy : Policy) (e : CheckError) : Type 0 where
+  pub filter : List ℕ
+  pub cert : List ℕ
+  pub first : IsFirst policy filter cert e
+
+-- Why a bundle has no checked filter. It breaks a rule of bundles; or it means a profile of which some rule has a condition,
+-- and of this the compiler or the maker of certificates gave nothing, or the checker said no of what they gave. Want of
+-- memory is no such reason.
+abbrev pub IsUnready : Arch → List ℕ → Unready → Type 0
+IsUnready native bundle (Profile e) = (e ≢ refusal.OutOfMemory) × IfSome (fault_of e) (Breaks bundle native)
+IsUnready native bundle (Compile e) = (e ≢ compiler.OutOfMemory) × HasConditions native bundle
+IsUnready native bundle (Certify e) = (e ≢ maker.OutOfMemory) × HasConditions native bundle
+IsUnready native bundle (Check e) =
+    (e ≢ error.OutOfMemory) × ((policy : Policy) × IsBundle native bundle policy × (HasNoConditions policy → ⊥) × IsNo policy e)
+IsUnready native bundle OutOfMemory = ⊥
+
+-- the text that says it
+abbrev pub text_of : Unready → List ℕ
+text_of (Profile e) = codes "refused profile " ++ refusal_text e
+text_of (Compile e) = codes "refused compile " ++ compile_text e
+text_of (Certify e) = codes "refused certify " ++ certify_text e
+text_of (Check e) = codes "no " ++ error_text e
+text_of OutOfMemory = codes "out of memory"
+
+-- the line that says it
+abbrev pub line_of : Unready → List ℕ
+line_of unready = text_of unready ++ line_feed ∷ []
+
+-- a fault by which a step stops: want of memory is told as that, and any other as the step's refusal
+abbrev pub IsToldAs : {E : Type 0} → (E → Unready) → E → E → Unready → Type 0
+IsToldAs step memory e unready = ((e ≡ memory) × (unready ≡ OutOfMemory)) ⊎ ((e ≢ memory) × (unready ≡ step e))
+
+-- what was written is a checked filter of the bundle in the form, and the answer is true
+pub record WritesFilter {S : Type 0} (held : S → Option (List ℕ)) (failures : S → ℕ) (old new : S) (native : Arch) (bundle : List ℕ)
+    (form : Form) (result : Result Bool ExportFault) : Type 0 where
+  pub checked : Checked
+  pub is : IsCheckedOf native bundle checked
+  pub written : WritesMade held failures old new (bytes_in form checked) result
+  pub told : IfOk result (λ done. done ≡ true)
+
+-- what was written is the line that says why there is none, and the answer is false
+pub record WritesUnready {S : Type 0} (held : S → Option (List ℕ)) (failures : S → ℕ) (old new : S) (native : Arch) (bundle : List ℕ)
+    (result : Result Bool ExportFault) : Type 0 where
+  pub unready : Unready
+  pub is : IsUnready native bundle unready
+  pub written : WritesMade held failures old new (line_of unready) result
+  pub told : IfOk result (λ done. done ≡ false)
+
+-- memory was refused, and nothing was written
+abbrev pub LacksMemory : {S : Type 0} → S → S → Result Bool ExportFault → Type 0
+LacksMemory old new result = (result ≡ Err fault.OutOfMemory) × (new ≡ old)
+
+-- what `ccell export` writes for a bundle
+abbrev pub Exports : {S : Type 0} → (S → Option (List ℕ)) → (S → ℕ) → S → S → Arch → List ℕ → Form → Result Bool ExportFault → Type 0
+Exports held failures old new native bundle form result =
+    WritesFilter held failures old new native bundle form result
+    ⊎ (WritesUnready held failures old new native bundle result ⊎ LacksMemory old new result)
+
+-- a checked filter of the bundle was written, or memory was refused
+abbrev pub ExportsFilter : {S : Type 0} → (S → Option (List ℕ)) → (S → ℕ) → S → S → Arch → List ℕ → Form → Result Bool ExportFault → Type 0
+ExportsFilter held failures old new native bundle form result =
+    WritesFilter held failures old new native bundle form result ⊎ LacksMemory old new result
+
+-- what is written of a refusal, if it is one
+abbrev pub Refuses : {S : Type 0} → (S → Option (List ℕ)) → (S → ℕ) → S → S → Unready → Result Bool ExportFault → Type 0
+Refuses held failures old new unready result =
+    ((unready ≢ OutOfMemory) × WritesMade held failures old new (line_of unready) result × IfOk result (λ done. done ≡ false))
+    ⊎ LacksMemory old new result

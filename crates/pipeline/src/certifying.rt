@@ -1,0 +1,171 @@
+//! From a bundle and a filter to a certificate, or to a call record that convicts the filter.
+ghost use Rattle.std.specs.Prelude.{◌≡◌, ◌≢◌, ◌<◌, ℕ, List, IfErr, IfOk, length, slice_index, string_bytes};
+ghost use Rattle.call_record.specs.Record.{words};
+ghost use Rattle.bpf_insn.specs.Bytes.{insns_of};
+ghost use Rattle.bpf_insn.specs.Program.{insns};
+ghost use Rattle.kernel_check.specs.Lent.{accepted_insns};
+ghost use Rattle.call_tables.specs.declared.arch.Arch.{Arch as TheArch};
+ghost use Rattle.pipeline.specs.declared.unready.Unready.TheVariants.{OutOfMemory};
+ghost use Rattle.pipeline.specs.Certified.{AreJudged, Certifies, IsOpen, conviction_line, digits_line};
+ghost use Rattle.pipeline.specs.Finding.{IsBundle, IsYes};
+ghost use Rattle.pipeline.specs.inner.Told.{IsLine, Tells};
+
+use crate::unready::{Unready, refuse};
+use bpf_insn::Program;
+use call_record::{Word, words_are_a_record};
+use call_tables::Arch;
+use cert_check::{CheckError, check};
+use certify::{Conviction, certify, convict};
+use export::{ExportFault, Sink, write_all};
+use kernel_check::{Accepted, accept};
+use profile::Profile;
+use profile_json::read_bundle;
+use std::alloc::{AllocError, Global};
+
+// The certificate that is made of a profile and a filter, once the checker says yes to it.
+fn certified(
+    alloc: Global,
+    profile: &Profile,
+    filter: &[u8],
+    program: &Program<'_>,
+) -> Result<Vec<u8>, Unready>
+    ensures ok { IfOk result (λ cert. IsYes profile.now filter.now cert.items) }
+    ensures err { (native : TheArch) (bundle : List ℕ) → AreJudged native bundle filter.now profile.now
+        → IfErr result (λ unready. unready ≢ OutOfMemory → IsOpen native bundle filter.now unready) }
+{
+    let certificate = match certify(alloc, profile, program) {
+        Ok(certificate) => certificate,
+        Err(error) => return Err(Unready::from(error)),
+    };
+    match check(alloc, profile, filter, &certificate) {
+        Ok(_) => Ok(certificate),
+        Err(error) => Err(Unready::from(error)),
+    }
+}
+
+// The bytes of a record are 64, each below 256.
+fn are_bytes(bytes: &[u8])
+    requires { length bytes.now ≡ 64 }
+    ensures size { length bytes.now ≡ 64 }
+    ensures small { (i : ℕ) → slice_index bytes.now i < 256 }
+{}
+
+// The line that tells a record by its digits, with two words.
+fn line_with(alloc: Global, digits: &str, given: Word, said: Word) -> Result<String, AllocError>
+    ensures { IfOk result (λ line. string_bytes line ≡ digits_line digits.now given said) }
+{
+    format!(in alloc; "no record {digits} filter {given} profile {said}\n")
+}
+
+// The line that tells a record by its bytes, with two words.
+fn line_text(alloc: Global, bytes: &[u8], given: Word, said: Word) -> Result<String, AllocError>
+    ensures { IfOk result (λ line. string_bytes line ≡ conviction_line bytes.now given said) }
+{
+    let digits = hex::encode(alloc, bytes)?;
+    line_with(alloc, digits.as_str(), given, said)
+}
+
+// The line that tells a conviction.
+fn line_of(alloc: Global, found: &Conviction) -> Result<String, AllocError>
+    ensures { IfOk result (λ line. IsLine (words found.now.call) found.now.given found.now.said (string_bytes line)) }
+{
+    let bytes = found.call.to_bytes();
+    are_bytes(&bytes);
+    line_text(alloc, &bytes, found.given, found.said)
+}
+
+// Writes the line that tells a conviction. The answer is false.
+fn tell<S: Sink>(alloc: Global, found: &Conviction, sink: &mut S) -> Result<bool, ExportFault>
+    ensures { Tells S.held S.failures sink.old sink.new (words found.now.call) found.now.given found.now.said result }
+{
+    let Ok(line) = line_of(alloc, found) else {
+        return Err(ExportFault::OutOfMemory);
+    };
+    write_all(line.as_bytes(), sink)?;
+    Ok(false)
+}
+
+// Writes the line of a call record that convicts a filter without a certificate, or else why it has none.
+fn convict_or_refuse<S: Sink>(
+    alloc: Global,
+    profile: &Profile,
+    program: &Accepted<'_>,
+    unready: &Unready,
+    sink: &mut S,
+) -> Result<bool, ExportFault>
+    ensures { (native : TheArch) (bundle filter : List ℕ) → AreJudged native bundle filter profile.now
+        → accepted_insns program.now ≡ insns_of filter
+        → (unready.now ≢ OutOfMemory → IsOpen native bundle filter unready.now)
+        → Certifies S.held S.failures sink.old sink.new native bundle filter result }
+{
+    if let Unready::OutOfMemory = unready {
+        return Err(ExportFault::OutOfMemory);
+    }
+    match convict(alloc, profile, program) {
+        Ok(Some(found)) => {
+            words_are_a_record(&found.call);
+            tell(alloc, &found, sink)
+        }
+        Ok(None) => refuse(alloc, unready, sink),
+        Err(error) => refuse(alloc, &Unready::from(error), sink),
+    }
+}
+
+// Writes the certificate of a filter that the kernel accepts, or what tells that it has none.
+fn certify_accepted<S: Sink>(
+    alloc: Global,
+    profile: &Profile,
+    filter: &[u8],
+    program: &Accepted<'_>,
+    sink: &mut S,
+) -> Result<bool, ExportFault>
+    ensures { (native : TheArch) (bundle : List ℕ) → AreJudged native bundle filter.now profile.now
+        → accepted_insns program.now ≡ insns_of filter.now
+        → Certifies S.held S.failures sink.old sink.new native bundle filter.now result }
+{
+    match certified(alloc, profile, filter, &program.program()) {
+        Ok(certificate) => {
+            write_all(&certificate, sink)?;
+            Ok(true)
+        }
+        Err(unready) => convict_or_refuse(alloc, profile, program, &unready, sink),
+    }
+}
+
+// Writes the certificate of a filter, or what tells that it has none.
+fn certify_filter<S: Sink>(
+    alloc: Global,
+    profile: &Profile,
+    filter: &[u8],
+    sink: &mut S,
+) -> Result<bool, ExportFault>
+    ensures { (native : TheArch) (bundle : List ℕ) → IsBundle native bundle profile.now
+        → Certifies S.held S.failures sink.old sink.new native bundle filter.now result }
+{
+    let program = match Program::view(filter) {
+        Ok(program) => program,
+        Err(fault) => return refuse(alloc, &Unready::Check(CheckError::View(fault)), sink),
+    };
+    match accept(&program) {
+        Ok(accepted) => certify_accepted(alloc, profile, filter, &accepted, sink),
+        Err(refused) => refuse(alloc, &Unready::Check(CheckError::Kernel(refused)), sink),
+    }
+}
+
+/// Writes a certificate that a filter answers what a bundle says, which is read for a native machine, once the checker says
+/// yes to it. Where there is none, the answer is false, and the line of a call record is written on which the filter gives
+/// another word than the bundle says; or, where none is found, the line that says why there is neither.
+pub fn certify_bundle<S: Sink>(
+    alloc: Global,
+    native: Arch,
+    bundle: &[u8],
+    filter: &[u8],
+    sink: &mut S,
+) -> Result<bool, ExportFault>
+    ensures { Certifies S.held S.failures sink.old sink.new native bundle.now filter.now result }
+{
+    match read_bundle(alloc, bundle, native) {
+        Ok(bundle) => certify_filter(alloc, &bundle.profile, filter, sink),
+        Err(error) => refuse(alloc, &Unready::from(error), sink),
+    }
+}

@@ -1,0 +1,53 @@
+//! From a bundle to a checked filter, which is written in one of its forms: what `ccell export` writes.
+ghost use Rattle.std.specs.Prelude.{ℕ, List};
+ghost use Rattle.call_tables.specs.declared.arch.Arch.{Arch as TheArch};
+ghost use Rattle.pipeline.specs.Exported.{Exports, ExportsFilter};
+ghost use Rattle.pipeline.specs.Plain.{IsPlainBundle};
+ghost use Rattle.pipeline.specs.Prepared.{IsPrepared};
+
+use crate::pipeline::Prepared;
+use crate::unready::refuse;
+use call_tables::Arch;
+use export::{ExportFault, Form, Sink, export_form};
+use std::alloc::Global;
+
+// Writes the filter in a form once it is checked.
+fn export_prepared<S: Sink>(
+    alloc: Global,
+    prepared: &Prepared,
+    form: Form,
+    sink: &mut S,
+) -> Result<bool, ExportFault>
+    ensures { (native : TheArch) (bundle : List ℕ)
+        → IsPrepared native bundle prepared.now.profile prepared.now.filter.items prepared.now.certificate.items
+        → Exports S.held S.failures sink.old sink.new native bundle form result }
+{
+    match prepared.checked(alloc) {
+        Ok(checked) => {
+            export_form(alloc, &checked, form, sink)?;
+            Ok(true)
+        }
+        Err(unready) => refuse(alloc, &unready, sink),
+    }
+}
+
+/// Writes the filter of a bundle, which is read for a native machine, in a form, once it is compiled, certified and
+/// checked. Where one of these refuses, the line that says so is written, and the answer is false.
+pub fn export_bundle<S: Sink>(
+    alloc: Global,
+    native: Arch,
+    bundle: &[u8],
+    form: Form,
+    sink: &mut S,
+) -> Result<bool, ExportFault>
+    ensures exports { Exports S.held S.failures sink.old sink.new native bundle.now form result }
+    // Of a bundle that means a profile without conditions the filter is written, unless memory is refused or the sink
+    // fails.
+    ensures own { IsPlainBundle native bundle.now
+        → ExportsFilter S.held S.failures sink.old sink.new native bundle.now form result }
+{
+    match Prepared::of(alloc, native, bundle) {
+        Ok(prepared) => export_prepared(alloc, &prepared, form, sink),
+        Err(unready) => refuse(alloc, &unready, sink),
+    }
+}

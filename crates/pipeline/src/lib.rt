@@ -1,0 +1,19 @@
+//! What is judged and made of a bundle, a filter and a certificate, and what each command writes of them: `verdict`, `check`,
+//! `certify` (`certifying`) and `export` (`exporting`). `pipeline` has the way from a bundle to its checked filter.
+#![tactic(auto)]
+
+mod certifying;
+mod check;
+mod exporting;
+mod law;
+mod pipeline;
+mod unready;
+mod verdict;
+
+pub use certifying::certify_bundle;
+pub use check::{Finding, check_line, finding_of};
+pub use exporting::export_bundle;
+pub use law::{evidence_excludes, findings_exclude, one_answer};
+pub use pipeline::Prepared;
+pub use unready::{Unready, refuse};
+pub use verdict::{Answer, answer_to, verdict_line};
