@@ -1,0 +1,16 @@
+//! Bundles and filters described: what a bundle means or where it is wrong, what the lines of a filter mean, and how the
+//! commands of the program are used.
+#![tactic(auto)]
+
+mod annotating;
+mod entries;
+mod flow;
+mod near;
+mod pages;
+mod place;
+mod reading;
+mod search;
+
+pub use annotating::annotated;
+pub use pages::manual;
+pub use reading::read_out;

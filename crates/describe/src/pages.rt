@@ -1,0 +1,102 @@
+//! How the commands are used: the one table of words of which the pages, the man page and the completions are made.
+use explain::Told;
+use std::alloc::{AllocError, Global};
+use std::fmt::Write;
+
+// A command: its name, what it is for, and its page.
+struct Page {
+    name: &'static str,
+    purpose: &'static str,
+    text: &'static str,
+}
+
+const PAGES: &[Page] = &[
+    Page {
+        name: "verdict",
+        purpose: "what a filter answers to one call",
+        text: "ccell verdict FILTER RECORD\n\nRuns a filter on a call record of 64 bytes, once it passed the kernel's check, and tells the word that it answers.\nStatus 0, or 1 and a line that begins with 'refused'.\n\nExample: ccell verdict web.bpf write.rec\n",
+    },
+    Page {
+        name: "check",
+        purpose: "whether a filter does what a bundle says, by a certificate",
+        text: "ccell check MACHINE BUNDLE FILTER CERTIFICATE\n\nTells yes where the certificate shows that the filter answers on every call record the word that the bundle says.\nStatus 0, or 1 and a line that begins with 'no' or 'refused'.\n\nExample: ccell check x86-64 web.json web.bpf web.cert\n",
+    },
+    Page {
+        name: "certify",
+        purpose: "a certificate for any filter, or a call that convicts it",
+        text: "ccell certify MACHINE BUNDLE FILTER\n\nWrites a certificate that the filter answers what the bundle says, or tells a call record of which it does not.\nStatus 0, or 1 and a line that begins with 'no' or 'refused'.\n\nExample: ccell certify linux-x86-64 web.json web.bpf > web.cert\n",
+    },
+    Page {
+        name: "export",
+        purpose: "a checked filter for a bundle",
+        text: "ccell export MACHINE BUNDLE FORM\n\nCompiles a bundle, and writes its filter once the checker said yes: FORM is raw, listing or cert.\nStatus 0, or 1 and a line that begins with 'no' or 'refused'.\n\nExample: ccell export linux-x86-64 web.json raw > web.bpf\n",
+    },
+    Page {
+        name: "run",
+        purpose: "containers on the modelled kernel, by a script",
+        text: "ccell run MACHINE BUNDLE...\n\nReads commands from standard input, a line each, and answers each with a line. The bundles are called b1, b2 and so on.\nStatus 0, or 1 where a bundle has no checked filter.\n\nExample: ccell run x86-64 web.json < life.script\n",
+    },
+    Page {
+        name: "explain",
+        purpose: "what a bundle says of one call, and why",
+        text: "ccell explain MACHINE BUNDLE WHAT [ARGUMENT..]\nccell explain MACHINE BUNDLE record HEX\n\nTells the call in words, the word that the bundle says, and why: the entry that matches, default or foreign. Under it each\nentry for that call, whether it matches, and which of its conditions hold. WHAT and the arguments are those of a script,\nHEX is what certify tells.\nStatus 0, or 1 and a line that begins with 'refused'.\n\nExample: ccell explain x86-64 web.json write 1 0 0x100000000\n",
+    },
+    Page {
+        name: "read",
+        purpose: "what a bundle means, or where it is wrong",
+        text: "ccell read MACHINE BUNDLE\n\nTells a bundle's machines, what is said of calls that no entry matches, and each entry in a line. Of a bundle that is\nrefused it tells why and, in a second line, the place.\nStatus 0, or 1 and a line that begins with 'refused'.\n\nExample: ccell read linux-x86-64 web.json\n",
+    },
+    Page {
+        name: "record",
+        purpose: "the call record of a call",
+        text: "ccell record MACHINE WHAT [ARGUMENT..]\n\nWrites the 64 bytes of a call record, as verdict takes it. WHAT and the arguments are those of a script.\nStatus 0, or 1 and the line 'refused call'.\n\nExample: ccell record x86-64 write 1 0 4097 > write.rec\n",
+    },
+    Page {
+        name: "assemble",
+        purpose: "the bytes of a listing",
+        text: "ccell assemble LISTING\n\nWrites the bytes of the filter whose listing the file is, as export writes listings.\nStatus 0, or 1 and a line that begins with 'refused listing'.\n\nExample: ccell assemble web.listing > web.bpf\n",
+    },
+    Page {
+        name: "annotate",
+        purpose: "the listing of any filter, with what its lines mean",
+        text: "ccell annotate MACHINE FILTER\n\nTells each instruction with its position, where jumps lead, and the names of calls, arguments and actions. An L stands\nbefore a position that jumps lead to.\nStatus 0, or 1 where the kernel refuses the filter, and the cause in the last line.\n\nExample: ccell annotate linux-x86-64 web.bpf\n",
+    },
+    Page {
+        name: "manual",
+        purpose: "how a command is used",
+        text: "ccell manual [COMMAND]\n\nTells how a command is used, or which commands there are.\n\nExample: ccell manual explain\n",
+    },
+    Page {
+        name: "version",
+        purpose: "the edition of the program",
+        text: "ccell version\n\nTells the edition of the program, what it reads, and with which kit it was proved.\n\nExample: ccell version\n",
+    },
+];
+
+// The line of each command.
+fn overview(alloc: Global) -> Result<String, AllocError> {
+    let mut text = String::new(alloc);
+    for page in PAGES {
+        let name = page.name;
+        let purpose = page.purpose;
+        writeln!(text, "{name:<10}{purpose}")?;
+    }
+    Ok(text)
+}
+
+/// How a command is used, or a line for each. `None` where there is no such command.
+pub fn manual(alloc: Global, command: Option<&str>) -> Result<Option<Told>, AllocError> {
+    let text = match command {
+        None => overview(alloc)?,
+        Some(name) => {
+            let Some(page) = PAGES.iter().find(|page| page.name == name) else {
+                return Ok(None);
+            };
+            String::from_str(alloc, page.text)?
+        }
+    };
+    Ok(Some(Told {
+        bytes: text.into_bytes(),
+        done: true,
+    }))
+}

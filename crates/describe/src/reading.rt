@@ -1,0 +1,171 @@
+//! What a bundle means, or where it is wrong.
+use crate::entries::put_bundle;
+use crate::near::put_nearest;
+use crate::place::{Place, shape_of};
+use crate::search::{Found, Wanted, find};
+use call_tables::{Arch, Family};
+use explain::{Told, refused_profile};
+use profile::Profile;
+use profile_json::{ProfileError, read_bundle, rules_by_entry};
+use serde_json::Value;
+use std::alloc::{AllocError, Global};
+use std::fmt::Write;
+
+// Adds why a text is no name that is known.
+fn put_unknown(text: &mut String, found: &Found<'_>, what: &str) -> Result<(), AllocError> {
+    let name = found.value.and_then(Value::as_str).unwrap_or("");
+    write!(text, "{name:?} is no {what}")
+}
+
+// Adds what is wrong at the place of a fault.
+fn put_why(
+    text: &mut String,
+    alloc: Global,
+    family: Family,
+    found: &Found<'_>,
+    error: &ProfileError,
+) -> Result<(), AllocError> {
+    let asked = found.asked.name();
+    match error {
+        ProfileError::WrongType => {
+            let shape = found.value.map_or("nothing", shape_of);
+            write!(text, "{shape}, where {asked} is asked for")
+        }
+        ProfileError::MissingKey => write!(text, "missing, where {asked} is asked for"),
+        ProfileError::NoSeccomp => write!(text, "missing, where {asked} is asked for"),
+        ProfileError::Version => put_unknown(text, found, "edition that is read: 1.0.2, 1.1.0"),
+        ProfileError::UnknownAction => put_unknown(text, found, "action that is known"),
+        ProfileError::UnknownArch => put_unknown(text, found, "architecture that is known"),
+        ProfileError::UnknownOp => put_unknown(text, found, "operator that is known"),
+        ProfileError::UnknownCall(name) => {
+            put_unknown(text, found, "call of these machines")?;
+            put_nearest(text, alloc, family, name.as_str())
+        }
+        ProfileError::NativeMissing => text.push_str("the native machine is not listed"),
+        ProfileError::EmptyNames => text.push_str("an empty list"),
+        ProfileError::ErrnoNotTaken => text.push_str("beside an action that takes no number"),
+        ProfileError::ErrnoRange => text.push_str("above 4095"),
+        ProfileError::BadIndex => text.push_str("above 5"),
+        ProfileError::RepeatedIndex => text.push_str("an argument that an earlier member names"),
+        ProfileError::StrayDatum => text.push_str("a bit that is not in value"),
+        ProfileError::UnsupportedKey => text.push_str("a key that is not supported"),
+        _ => text.push_str("too many"),
+    }
+}
+
+// Adds a place.
+fn put_at(text: &mut String, place: &Place) -> Result<(), AllocError> {
+    write!(text, "at {place}: ")
+}
+
+// Adds the line of the place of a fault that was found.
+fn put_found(
+    text: &mut String,
+    alloc: Global,
+    family: Family,
+    found: &Found<'_>,
+    error: &ProfileError,
+) -> Result<(), AllocError> {
+    put_at(text, &found.place)?;
+    put_why(text, alloc, family, found, error)?;
+    text.push_str("\n")
+}
+
+// The places of the entries that overlap, where that is the fault.
+fn overlap_in(error: &ProfileError) -> Option<(usize, usize)> {
+    match error {
+        ProfileError::Overlap { first, second, .. } => Some((*first, *second)),
+        _ => None,
+    }
+}
+
+// Adds the line of the entries that overlap.
+fn put_overlap(text: &mut String, first: usize, second: usize) -> Result<(), AllocError> {
+    writeln!(
+        text,
+        "at linux.seccomp.syscalls[{second}]: another action for a call that linux.seccomp.syscalls[{first}] matches too"
+    )
+}
+
+// Adds the line of the place of a fault.
+fn put_place(
+    text: &mut String,
+    alloc: Global,
+    family: Family,
+    value: &Value,
+    error: &ProfileError,
+) -> Result<(), AllocError> {
+    if let Some((first, second)) = overlap_in(error) {
+        return put_overlap(text, first, second);
+    }
+    let number = error.number();
+    let Some(found) = find(Wanted { number, family }, value) else {
+        return text.push_str("at linux.seccomp.syscalls: too many rules or entries\n");
+    };
+    put_found(text, alloc, family, &found, error)
+}
+
+// Adds the line of the place of a fault, which is a line and a column where the text is no JSON.
+fn put_fault(
+    text: &mut String,
+    alloc: Global,
+    family: Family,
+    bundle: &[u8],
+    error: &ProfileError,
+) -> Result<(), AllocError> {
+    match Value::from_slice(alloc, bundle) {
+        Ok(value) => put_place(text, alloc, family, &value, error),
+        Err(error) => {
+            if error.is_memory() {
+                return Err(AllocError);
+            }
+            let line = error.line();
+            let column = error.column();
+            writeln!(text, "at line {line}, column {column}: no JSON")
+        }
+    }
+}
+
+// What tells why and where a bundle is refused.
+fn fault(
+    alloc: Global,
+    family: Family,
+    bundle: &[u8],
+    error: ProfileError,
+) -> Result<Told, AllocError> {
+    let mut text = format!(in alloc; "refused profile {error}\n")?;
+    put_fault(&mut text, alloc, family, bundle, &error)?;
+    Ok(Told {
+        bytes: text.into_bytes(),
+        done: false,
+    })
+}
+
+// What tells what a bundle means, by its profile.
+fn meaning(
+    alloc: Global,
+    native: Arch,
+    bundle: &[u8],
+    profile: &Profile,
+) -> Result<Told, AllocError> {
+    let all = match rules_by_entry(alloc, bundle, native) {
+        Ok(all) => all,
+        Err(error) => return refused_profile(alloc, error),
+    };
+    let mut text = String::new(alloc);
+    put_bundle(&mut text, profile, &all)?;
+    Ok(Told {
+        bytes: text.into_bytes(),
+        done: true,
+    })
+}
+
+/// Tells what a bundle, which is read for a native machine, means: its machines, what is said of calls that no entry
+/// matches, and a line for each entry. Of a bundle that is refused, why, and the place of the fault.
+pub fn read_out(alloc: Global, native: Arch, bundle: &[u8]) -> Result<Told, AllocError> {
+    match read_bundle(alloc, bundle, native) {
+        Ok(read) => meaning(alloc, native, bundle, &read.profile),
+        Err(ProfileError::OutOfMemory) => Err(AllocError),
+        Err(error) => fault(alloc, native.family(), bundle, error),
+    }
+}

@@ -1,0 +1,18 @@
+use Rattle.explain.proofs.telling.explanation.Goals as goal
+
+pub returns : goal.returns
+returns c =
+    let means = c.in_ok-read.ensures.ok in
+    let told = c.in_ok-text.ensures in
+    record {
+      t = means.0;
+      is_text = means.1;
+      policy = c.in_ok-read.read.profile;
+      means = means.2;
+      rules = c.in_ok-all.all.rules.items;
+      ends = c.in_ok-all.all.ends.items;
+      are = c.in_ok-all.ensures;
+      said = told.0;
+      says = told.1;
+      told = told.2;
+    }

@@ -1,0 +1,60 @@
+-- Which call record words ask for: by a call and its arguments, as a line of a script does, or by its bytes.
+use Rattle.std.specs.Prelude.{ℕ, ◌≡◌, ◌==◌, ◌⊎◌, Bool, true, false, List, [], ◌∷◌, ◌++◌, Some, None, Ok, codes}
+use Rattle.std.specs.List.{flat_map, list_any}
+use Rattle.std.specs.Str.{bytes_eq}
+use denote.Ref.{Bor}
+use Rattle.hex.specs.Hex.{decode_of}
+use Rattle.texts.specs.Lines.{space}
+use Rattle.call_tables.specs.declared.arch.Arch.{Arch}
+use Rattle.call_tables.specs.Arch.{token_of}
+use Rattle.call_record.specs.declared.layout.Record.{Record}
+use Rattle.call_record.specs.Record.{words}
+use Rattle.call_record.specs.Words.{words_of}
+use Rattle.script.specs.Grammar.{LineIs}
+use Rattle.script.specs.Orders.{Call}
+
+-- the line of a script that the words make: a call of the first task of a container c
+abbrev pub line_of : List (Bor (List ℕ)) → List ℕ
+line_of given = codes "call c 1" ++ flat_map (λ w. space ∷ w.now) given
+
+abbrev pub has_space : List ℕ → Bool
+has_space word = list_any (λ b. b == space) word
+
+-- a call of a machine by its number, with its arguments, made at address 0
+pub record IsRecordOf (arch : Arch) (nr : ℕ) (args : List ℕ) (r : Record) : Type 0 where
+  pub number : r.nr ≡ nr
+  pub machine : r.arch ≡ token_of arch
+  pub pointer : r.ip ≡ 0
+  pub arguments : r.args ≡ args
+
+-- the line orders a call without a program, and the record is that of the call
+pub record IsOrdered (native : Arch) (line : List ℕ) (r : Record) : Type 0 where
+  pub id : List ℕ
+  pub task : ℕ
+  pub arch : Arch
+  pub nr : ℕ
+  pub args : List ℕ
+  pub is_line : LineIs native line (Some (Call id task arch nr args None))
+  pub is_record : IsRecordOf arch nr args r
+
+-- the words are the fields of such a line
+pub record IsAsked (native : Arch) (given : List (Bor (List ℕ))) (r : Record) : Type 0 where
+  pub fields : list_any (λ w. has_space w.now) given ≡ false
+  pub ordered : IsOrdered native (line_of given) r
+
+-- the digits are those of the record's bytes, two for each
+pub record IsSpelled (digits : List ℕ) (r : Record) : Type 0 where
+  pub bytes : List ℕ
+  pub decoded : decode_of digits ≡ Ok bytes
+  pub spelled : words_of bytes ≡ words r
+
+-- the words are `record` and digits
+pub record IsByBytes (given : List (Bor (List ℕ))) (r : Record) : Type 0 where
+  pub mark : Bor (List ℕ)
+  pub digits : Bor (List ℕ)
+  pub each : given ≡ mark ∷ digits ∷ []
+  pub named : bytes_eq mark.now (codes "record") ≡ true
+  pub spelled : IsSpelled digits.now r
+
+abbrev pub IsCall : Arch → List (Bor (List ℕ)) → Record → Type 0
+IsCall native given r = IsAsked native given r ⊎ IsByBytes given r

@@ -1,0 +1,5 @@
+pub mod Words
+pub mod Reason
+pub mod Explanation
+pub mod Asked
+pub mod Told

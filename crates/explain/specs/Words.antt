@@ -1,0 +1,85 @@
+-- How verdicts, conditions and calls are told.
+use Rattle.std.specs.Prelude.{ℕ, ◌==◌, Bool, true, false, if◌then◌else◌, List, [], ◌∷◌, ◌++◌, Option, Some, None, find, codes}
+use Rattle.std.specs.Fmt.{decimal, digits}
+use Rattle.std.specs.List.{flat_map}
+use Rattle.texts.specs.Lines.{line_feed}
+use Rattle.call_tables.specs.declared.arch.Arch.{Arch}
+use Rattle.call_tables.specs.declared.arch.Family.{Family}
+use Rattle.call_tables.specs.Arch.{machines_of, table_of, token_of, word_of}
+use Rattle.call_tables.specs.Table.{name_in}
+use Rattle.call_record.specs.declared.layout.Record.{Record}
+use Rattle.call_record.specs.Verdict.{action, datum, kill_process, kill_thread, trap, errno, user_notif, trace, log, allow}
+use Rattle.call_record.specs.Text as word
+use Rattle.profile.specs.declared.conditions.Cond.{Cond}
+use Rattle.profile.specs.declared.conditions.Op.{Op}
+use Rattle.profile.specs.declared.conditions.Op.TheVariants.{Ne, Lt, Le, Eq, Ge, Gt, MaskedEq}
+
+-- small letters, no leading zero
+abbrev pub hexadecimal : ℕ → List ℕ
+hexadecimal n = codes "0x" ++ digits 16 false n
+
+-- the name of a word's action (seccomp(2), the return values of a filter)
+abbrev pub action_name : ℕ → List ℕ
+action_name v =
+    if action v == kill_process then codes "KILL_PROCESS"
+    else if action v == kill_thread then codes "KILL_THREAD"
+    else if action v == trap then codes "TRAP"
+    else if action v == errno then codes "ERRNO"
+    else if action v == user_notif then codes "USER_NOTIF"
+    else if action v == trace then codes "TRACE"
+    else if action v == log then codes "LOG"
+    else if action v == allow then codes "ALLOW"
+    else codes "UNKNOWN"
+
+-- the action, and the data where they are not 0
+abbrev pub action_text : ℕ → List ℕ
+action_text v = if datum v == 0 then action_name v else action_name v ++ codes " " ++ decimal (datum v)
+
+-- the sign of a comparison, and of the bits that a mask takes
+abbrev pub sign_of : Op → List ℕ
+sign_of Ne = codes "!="
+sign_of Lt = codes "<"
+sign_of Le = codes "<="
+sign_of Eq = codes "=="
+sign_of Ge = codes ">="
+sign_of Gt = codes ">"
+sign_of MaskedEq = codes "&"
+
+abbrev pub is_masked : Op → Bool
+is_masked Ne = false
+is_masked Lt = false
+is_masked Le = false
+is_masked Eq = false
+is_masked Ge = false
+is_masked Gt = false
+is_masked MaskedEq = true
+
+-- an argument compared with a number, or the bits of it under a mask with a datum
+abbrev pub condition_text : Cond → List ℕ
+condition_text c =
+    if is_masked c.op
+    then codes "arg" ++ decimal c.index ++ codes " & " ++ hexadecimal c.value ++ codes " == " ++ hexadecimal c.datum
+    else codes "arg" ++ decimal c.index ++ codes " " ++ sign_of c.op ++ codes " " ++ decimal c.value
+
+-- the machine of a family that has a token
+abbrev pub machine_of : Family → ℕ → Option Arch
+machine_of family token = find (λ arch. token_of arch == token) (machines_of family)
+
+abbrev pub named_call : Option (List ℕ) → Arch → ℕ → List ℕ
+named_call (Some name) arch nr = codes "call " ++ name ++ codes ", number " ++ decimal nr ++ codes " of " ++ word_of arch ++ line_feed ∷ []
+named_call None arch nr = codes "call " ++ decimal nr ++ codes " of " ++ word_of arch ++ line_feed ∷ []
+
+abbrev pub call_on : Option Arch → ℕ → ℕ → List ℕ
+call_on (Some arch) token nr = named_call (name_in (table_of arch) nr) arch nr
+call_on None token nr = codes "call " ++ decimal nr ++ codes " of " ++ hexadecimal token ++ line_feed ∷ []
+
+-- the arguments, each in hexadecimal
+abbrev pub arguments_text : List ℕ → List ℕ
+arguments_text args = flat_map (λ a. codes " " ++ hexadecimal a) args
+
+-- the line of a call, by the names of a family, and the line of its arguments
+abbrev pub call_lines : Family → Record → List ℕ
+call_lines family r = call_on (machine_of family r.arch) r.arch r.nr ++ codes "arguments" ++ arguments_text r.args ++ line_feed ∷ []
+
+abbrev pub verdict_line : ℕ → List ℕ
+verdict_line v = codes "verdict " ++ word.text_of v ++ codes " " ++ action_text v ++ line_feed ∷ []

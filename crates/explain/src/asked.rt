@@ -1,0 +1,115 @@
+//! The call record that words ask for.
+ghost use Rattle.std.specs.Prelude.{◌≡◌, ◌++◌, ◌∷◌, IfOk, IfSome, string_bytes};
+ghost use Rattle.std.specs.List.{flat_map, list_any};
+ghost use Rattle.texts.specs.Lines.{space};
+ghost use Rattle.explain.specs.Asked as spec;
+
+use call_record::Record;
+use call_tables::Arch;
+use hex::FromHex;
+use script::{Request, read_line};
+use std::alloc::{AllocError, Global};
+
+fn has_space(word: &str) -> bool
+    ensures { result ≡ spec.has_space word.now }
+{
+    word.bytes().any(|b| b == b' ')
+}
+
+fn any_has_space(words: &[&str]) -> bool
+    ensures { result ≡ list_any (λ w. spec.has_space w.now) words.now }
+{
+    words.iter().any(|word| has_space(word))
+}
+
+// Adds words, each behind a space.
+fn put_words(text: &mut String, mut words: &[&str]) -> Result<(), AllocError>
+    ensures { IfOk result (λ _. string_bytes text.new ≡ string_bytes text.old ++ flat_map (λ w. space ∷ w.now) words.entry.now) }
+{
+    while let [word, rest @ ..] = words {
+        text.push_str(" ")?;
+        text.push_str(word)?;
+        words = rest;
+    }
+    Ok(())
+}
+
+// The line of a script that the words make.
+fn line_of(alloc: Global, words: &[&str]) -> Result<String, AllocError>
+    ensures { IfOk result (λ text. string_bytes text ≡ spec.line_of words.now) }
+{
+    let mut text = String::from_str(alloc, "call c 1")?;
+    put_words(&mut text, words)?;
+    Ok(text)
+}
+
+// The record of a call.
+fn record_of(arch: Arch, nr: u32, args: [u64; 6]) -> Record
+    ensures { spec.IsRecordOf arch nr args result }
+{
+    Record {
+        nr,
+        arch: arch.token(),
+        ip: 0,
+        args,
+    }
+}
+
+// The record of the call that a line of a script orders, without a program.
+fn call_on(native: Arch, line: &str) -> Option<Record>
+    ensures { IfSome result (λ r. spec.IsOrdered native line.now r) }
+{
+    match read_line(native, line.as_bytes()) {
+        Some(
+            Request::Call {
+                arch,
+                nr,
+                args,
+                program: None,
+                ..
+            },
+        ) => Some(record_of(arch, nr, args)),
+        _ => None,
+    }
+}
+
+/// The record of a call that words ask for: its name or number, and its arguments, as in a line of a script.
+pub(crate) fn asked(
+    alloc: Global,
+    native: Arch,
+    words: &[&str],
+) -> Result<Option<Record>, AllocError>
+    ensures { IfOk result (λ found. IfSome found (spec.IsAsked native words.now)) }
+{
+    if any_has_space(words) {
+        return Ok(None);
+    }
+    let line = line_of(alloc, words)?;
+    Ok(call_on(native, line.as_str()))
+}
+
+// The record whose bytes are spelled by 128 hexadecimal digits.
+fn spelled(digits: &str) -> Option<Record>
+    ensures { IfSome result (spec.IsSpelled digits.now) }
+{
+    match <[u8; 64] as FromHex>::from_hex(digits) {
+        Ok(bytes) => Some(Record::from_bytes(&bytes)),
+        Err(_) => None,
+    }
+}
+
+/// The record that words ask for: `record` and its digits, or a call and its arguments.
+pub(crate) fn call_in(
+    alloc: Global,
+    native: Arch,
+    words: &[&str],
+) -> Result<Option<Record>, AllocError>
+    ensures { IfOk result (λ found. IfSome found (spec.IsCall native words.now)) }
+{
+    if let [mark, digits] = words {
+        if *mark == "record" {
+            return Ok(spelled(digits));
+        }
+    }
+    asked(alloc, native, words)
+}

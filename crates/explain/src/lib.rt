@@ -1,0 +1,16 @@
+//! Calls, verdicts and the reasons for them, told in words.
+#![tactic(auto)]
+
+mod asked;
+mod calls;
+mod reason;
+mod rules;
+mod telling;
+mod told;
+mod words;
+
+pub use calls::machine_of;
+pub use reason::Reason;
+pub use telling::explanation;
+pub use told::{Told, assembled, explain, record, refused_profile, version};
+pub use words::{ActionText, ConditionText};

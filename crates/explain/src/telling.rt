@@ -1,0 +1,91 @@
+//! What a bundle says of a call record, and why.
+ghost use Rattle.std.specs.Prelude.{◌≡◌, ◌++◌, ℕ, IfOk, string_bytes};
+ghost use Rattle.call_record.specs.Record.{words};
+ghost use Rattle.call_tables.specs.Arch.{family_of};
+ghost use Rattle.profile.specs.Policy.{Says};
+ghost use Rattle.explain.specs.Explanation as spec;
+ghost use Rattle.explain.specs.Reason.{reason_of};
+ghost use Rattle.explain.specs.Words.{verdict_line};
+
+use crate::calls::put_record;
+use crate::reason::{Reason, reason_of};
+use crate::rules::put_rules;
+use crate::words::ActionText;
+use call_record::{Record, Word};
+use call_tables::{Arch, Family};
+use profile::Profile;
+use profile_json::{EntryRules, ProfileError, read_bundle, rules_by_entry};
+use std::alloc::{AllocError, Global};
+use std::fmt::Write;
+
+// Adds the line of a word.
+fn put_word(text: &mut String, word: Word) -> Result<(), AllocError>
+    ensures { IfOk result (λ _. string_bytes text.new ≡ string_bytes text.old ++ verdict_line word) }
+{
+    let action = ActionText(word);
+    writeln!(text, "verdict {word} {action}")
+}
+
+// Adds the line of a reason.
+fn put_reason(text: &mut String, reason: Reason) -> Result<(), AllocError>
+    ensures { IfOk result (λ _. string_bytes text.new ≡ string_bytes text.old ++ spec.reason_line reason) }
+{
+    match reason {
+        Reason::Foreign => writeln!(text, "why foreign"),
+        Reason::Entry(entry) => writeln!(text, "why entry {entry}"),
+        Reason::Default => writeln!(text, "why default"),
+    }
+}
+
+// Adds a record, the word that is said of it, why, and the rules for its call.
+fn put_explanation(
+    text: &mut String,
+    family: Family,
+    word: Word,
+    reason: Reason,
+    all: &EntryRules,
+    call: &Record,
+) -> Result<(), AllocError>
+    ensures { IfOk result (λ _. string_bytes text.new ≡ string_bytes text.old
+        ++ spec.told_by family word reason all.now.rules.items all.now.ends.items call.now) }
+{
+    put_record(text, family, call)?;
+    put_word(text, word)?;
+    put_reason(text, reason)?;
+    put_rules(text, all, call)
+}
+
+// What a profile says of a record, and why, as a text.
+fn explained(
+    alloc: Global,
+    native: Arch,
+    profile: &Profile,
+    all: &EntryRules,
+    call: &Record,
+) -> Result<String, AllocError>
+    ensures { IfOk result (λ text. (said : ℕ) × Says profile.now (words call.now) said × (string_bytes text
+        ≡ spec.told_by (family_of native) said (reason_of profile.now all.now.rules.items all.now.ends.items call.now)
+        all.now.rules.items all.now.ends.items call.now)) }
+{
+    let word = profile.decide(call);
+    let reason = reason_of(profile, all, call);
+    let mut text = String::new(alloc);
+    put_explanation(&mut text, native.family(), word, reason, all, call)?;
+    Ok(text)
+}
+
+/// The text that explains what a bundle, which is read for a native machine, says of a call record: the call, the word, why
+/// it is said, and of each rule for that call whether it matches, and which of its conditions hold.
+pub fn explanation(
+    alloc: Global,
+    native: Arch,
+    bundle: &[u8],
+    call: &Record,
+) -> Result<String, ProfileError>
+    ensures { IfOk result (λ text. spec.Explains native bundle.now call.now (string_bytes text)) }
+{
+    let read = read_bundle(alloc, bundle, native)?;
+    let all = rules_by_entry(alloc, bundle, native)?;
+    let text = explained(alloc, native, &read.profile, &all, call)?;
+    Ok(text)
+}

@@ -1,0 +1,125 @@
+//! What commands answer.
+ghost use Rattle.std.specs.Prelude.{◌≡◌, IfOk, false};
+ghost use Rattle.call_record.specs.Record.{words as words_in};
+ghost use Rattle.call_record.specs.Words.{words_of};
+ghost use Rattle.explain.specs.Told as spec;
+
+use crate::asked::{asked, call_in};
+use crate::telling::explanation;
+use bpf_asm::{AsmError, assemble};
+use call_record::Record;
+use call_tables::Arch;
+use profile_json::ProfileError;
+use std::alloc::{AllocError, Global};
+
+/// What a command answers: bytes for standard output, and whether it did what it was asked for.
+#[derive(Drop)]
+pub struct Told {
+    pub bytes: Vec<u8>,
+    pub done: bool,
+}
+
+// The line that tells why a command did not do what it was asked for.
+fn refused(alloc: Global, why: &str) -> Result<Told, AllocError>
+    ensures { IfOk result (λ told. told.done ≡ false) }
+{
+    let line = format!(in alloc; "refused {why}\n")?;
+    Ok(Told {
+        bytes: line.into_bytes(),
+        done: false,
+    })
+}
+
+/// The line that tells why a bundle is refused.
+pub fn refused_profile(alloc: Global, error: ProfileError) -> Result<Told, AllocError>
+    ensures { IfOk result (λ told. told.done ≡ false) }
+{
+    if let ProfileError::OutOfMemory = error {
+        return Err(AllocError);
+    }
+    let line = format!(in alloc; "refused profile {error}\n")?;
+    Ok(Told {
+        bytes: line.into_bytes(),
+        done: false,
+    })
+}
+
+// The line that tells why a text is no listing.
+fn refused_listing(alloc: Global, error: AsmError) -> Result<Told, AllocError>
+    ensures { IfOk result (λ told. told.done ≡ false) }
+{
+    if let AsmError::OutOfMemory = error {
+        return Err(AllocError);
+    }
+    let line = format!(in alloc; "refused listing {error}\n")?;
+    Ok(Told {
+        bytes: line.into_bytes(),
+        done: false,
+    })
+}
+
+/// Explains what a bundle, which is read for a native machine, says of the call record that words ask for, and why.
+pub fn explain(
+    alloc: Global,
+    native: Arch,
+    bundle: &[u8],
+    words: &[&str],
+) -> Result<Told, AllocError>
+    ensures { IfOk result (spec.IsExplained native bundle.now words.now) }
+{
+    let Some(call) = call_in(alloc, native, words)? else {
+        return refused(alloc, "call");
+    };
+    match explanation(alloc, native, bundle, &call) {
+        Ok(text) => Ok(Told {
+            bytes: text.into_bytes(),
+            done: true,
+        }),
+        Err(error) => refused_profile(alloc, error),
+    }
+}
+
+// The bytes of a record.
+fn recorded(alloc: Global, call: &Record) -> Result<Told, AllocError>
+    ensures { IfOk result (λ told. words_of told.bytes.items ≡ words_in call.now) }
+{
+    let bytes = call.to_bytes();
+    let bytes = Vec::from_slice(alloc, &bytes)?;
+    Ok(Told { bytes, done: true })
+}
+
+/// The 64 bytes of the call record that words ask for.
+pub fn record(alloc: Global, native: Arch, words: &[&str]) -> Result<Told, AllocError>
+    ensures { IfOk result (spec.IsRecorded native words.now) }
+{
+    let Some(call) = asked(alloc, native, words)? else {
+        return refused(alloc, "call");
+    };
+    let told = recorded(alloc, &call)?;
+    Ok(told)
+}
+
+/// The bytes of the program whose listing a text is.
+pub fn assembled(alloc: Global, listing: &[u8]) -> Result<Told, AllocError>
+    ensures { IfOk result (spec.IsAssembled listing.now) }
+{
+    let Ok(text) = str::from_utf8(listing) else {
+        return refused(alloc, "listing, which is no UTF-8");
+    };
+    match assemble(alloc, text) {
+        Ok(bytes) => Ok(Told { bytes, done: true }),
+        Err(error) => refused_listing(alloc, error),
+    }
+}
+
+const VERSION: &str = "ccell 0.1.0\n\
+    reads OCI Runtime Specification 1.0.2 and 1.1.0; calls of Linux 6.1 on x86-64 and AArch64\n\
+    proved and built with rattle-kit-13f logic dac8208d650f15bf; docs/PROMISES.md says what is proved\n";
+
+/// The edition of the program, and with what it was proved.
+pub fn version(alloc: Global) -> Result<Told, AllocError> {
+    Ok(Told {
+        bytes: Vec::from_slice(alloc, VERSION.as_bytes())?,
+        done: true,
+    })
+}
