@@ -6,7 +6,8 @@ use crate::run::run_bundles;
 use crate::stops::{Stop, report};
 use call_tables::Arch;
 use command_line::{Form, Order, read_words};
-use export::{Sink, Source};
+use explain::Told;
+use export::{Sink, Source, write_all};
 use pipeline::{certify_bundle, check_line, export_bundle, verdict_line};
 use std::alloc::Global;
 
@@ -76,6 +77,72 @@ fn run<'a>(
     run_bundles(alloc, native, &texts, input, out)
 }
 
+// Writes what a command tells.
+fn tell<'a>(told: &Told, out: &mut impl Sink) -> Result<bool, Stop<'a>> {
+    write_all(&told.bytes, out)?;
+    Ok(told.done)
+}
+
+// Tells what a bundle says of a call record, and why.
+fn explain<'a>(
+    alloc: Global,
+    native: Arch,
+    bundle: &'a str,
+    call: &'a [&'a str],
+    files: &mut impl Files,
+    out: &mut impl Sink,
+) -> Result<bool, Stop<'a>> {
+    let bundle = read(alloc, files, bundle)?;
+    tell(&explain::explain(alloc, native, &bundle, call)?, out)
+}
+
+// Tells what a bundle means, or where it is wrong.
+fn read_out<'a>(
+    alloc: Global,
+    native: Arch,
+    bundle: &'a str,
+    files: &mut impl Files,
+    out: &mut impl Sink,
+) -> Result<bool, Stop<'a>> {
+    let bundle = read(alloc, files, bundle)?;
+    tell(&describe::read_out(alloc, native, &bundle)?, out)
+}
+
+// Writes the bytes of the filter of a listing.
+fn assemble<'a>(
+    alloc: Global,
+    listing: &'a str,
+    files: &mut impl Files,
+    out: &mut impl Sink,
+) -> Result<bool, Stop<'a>> {
+    let listing = read(alloc, files, listing)?;
+    tell(&explain::assembled(alloc, &listing)?, out)
+}
+
+// Tells what the lines of a filter's listing mean.
+fn annotate<'a>(
+    alloc: Global,
+    native: Arch,
+    filter: &'a str,
+    files: &mut impl Files,
+    out: &mut impl Sink,
+) -> Result<bool, Stop<'a>> {
+    let filter = read_filter(alloc, files, filter)?;
+    tell(&describe::annotated(alloc, native, &filter)?, out)
+}
+
+// Tells how a command is used, or which there are.
+fn manual<'a>(
+    alloc: Global,
+    command: Option<&'a str>,
+    out: &mut impl Sink,
+) -> Result<bool, Stop<'a>> {
+    match describe::manual(alloc, command)? {
+        Some(told) => tell(&told, out),
+        None => Err(Stop::Usage),
+    }
+}
+
 // Carries the order out: true where it answered a word or yes, wrote what was asked for or ran a script, false where it
 // refused.
 fn carry_out<'a>(
@@ -104,6 +171,17 @@ fn carry_out<'a>(
             form,
         } => export(alloc, native, bundle, form, files, out),
         Order::Run { native, bundles } => run(alloc, native, bundles, files, input, out),
+        Order::Explain {
+            native,
+            bundle,
+            call,
+        } => explain(alloc, native, bundle, call, files, out),
+        Order::Read { native, bundle } => read_out(alloc, native, bundle, files, out),
+        Order::Record { native, call } => tell(&explain::record(alloc, native, call)?, out),
+        Order::Assemble { listing } => assemble(alloc, listing, files, out),
+        Order::Annotate { native, filter } => annotate(alloc, native, filter, files, out),
+        Order::Manual { command } => manual(alloc, command, out),
+        Order::Version => tell(&explain::version(alloc)?, out),
     }
 }
 

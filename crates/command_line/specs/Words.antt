@@ -5,7 +5,7 @@ use Rattle.call_tables.specs.declared.arch.Arch.{Arch}
 use Rattle.call_tables.specs.Arch.{machine_called}
 use denote.Ref.{Bor}
 use Rattle.command_line.specs.declared.Order.{Order}
-use Rattle.command_line.specs.declared.Order.TheVariants.{Verdict, Check, Certify, Export, Run}
+use Rattle.command_line.specs.declared.Order.TheVariants.{Verdict, Check, Certify, Export, Run, Explain, Read, Record, Assemble, Annotate, Manual, Version}
 use Rattle.export.specs.declared.form.Form.{Form}
 use Rattle.export.specs.declared.form.Form.TheVariants.{Raw, Listing, Certificate}
 
@@ -30,7 +30,7 @@ pub record AreWords (words : List (Bor (List ℕ))) (order : List ℕ) (parts : 
   pub each : words ≡ first ∷ parts
   pub named : bytes_eq first.now order ≡ true
 
--- What the words of an order are: its name, and its parts in this order. Bundles are one at least.
+-- What the words of an order are: its name, and its parts in this order. Bundles, and the words of a call, are one at least.
 abbrev pub IsOrderOf : List (Bor (List ℕ)) → Order → Type 0
 IsOrderOf words (Verdict filter rec) = AreWords words (codes "verdict") (filter ∷ rec ∷ [])
 IsOrderOf words (Check native bundle filter cert) =
@@ -45,3 +45,17 @@ IsOrderOf words (Export native bundle form) =
 IsOrderOf words (Run native bundles) =
     (machine : Bor (List ℕ)) × AreWords words (codes "run") (machine ∷ bundles.now) × (machine_called machine.now ≡ Some native)
     × (0 < length bundles.now)
+IsOrderOf words (Explain native bundle call) =
+    (machine : Bor (List ℕ)) × AreWords words (codes "explain") (machine ∷ bundle ∷ call.now) × (machine_called machine.now ≡ Some native)
+    × (0 < length call.now)
+IsOrderOf words (Read native bundle) =
+    (machine : Bor (List ℕ)) × AreWords words (codes "read") (machine ∷ bundle ∷ []) × (machine_called machine.now ≡ Some native)
+IsOrderOf words (Record native call) =
+    (machine : Bor (List ℕ)) × AreWords words (codes "record") (machine ∷ call.now) × (machine_called machine.now ≡ Some native)
+    × (0 < length call.now)
+IsOrderOf words (Assemble listing) = AreWords words (codes "assemble") (listing ∷ [])
+IsOrderOf words (Annotate native filter) =
+    (machine : Bor (List ℕ)) × AreWords words (codes "annotate") (machine ∷ filter ∷ []) × (machine_called machine.now ≡ Some native)
+IsOrderOf words (Manual (Some command)) = AreWords words (codes "manual") (command ∷ [])
+IsOrderOf words (Manual None) = AreWords words (codes "manual") []
+IsOrderOf words Version = AreWords words (codes "version") []

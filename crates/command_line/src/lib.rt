@@ -40,6 +40,38 @@ pub enum Order<'a> {
         bundle: &'a str,
         form: Form,
     },
+    /// What a bundle, read for a native machine, says of a call record, and why. The bundle is given as the name of a file,
+    /// and the record by a call and its arguments, or by `record` and its digits: one word at least.
+    Explain {
+        native: Arch,
+        bundle: &'a str,
+        call: &'a [&'a str],
+    },
+    /// What a bundle, read for a native machine, means, or where it is wrong. It is given as the name of a file.
+    Read {
+        native: Arch,
+        bundle: &'a str,
+    },
+    /// The bytes of the call record that one word at least asks for: a call of a native machine, and its arguments.
+    Record {
+        native: Arch,
+        call: &'a [&'a str],
+    },
+    /// The bytes of the filter whose listing is given as the name of a file.
+    Assemble {
+        listing: &'a str,
+    },
+    /// The listing of a filter, with what its lines mean on a native machine. It is given as the name of a file.
+    Annotate {
+        native: Arch,
+        filter: &'a str,
+    },
+    /// The page of a command by its name, or the list of them.
+    Manual {
+        command: Option<&'a str>,
+    },
+    /// The edition of the program.
+    Version,
     /// The replies to a script, with bundles that are read for a native machine. They are given as names of files, one
     /// at least.
     Run {
@@ -94,12 +126,19 @@ const ORDERS: &[(&str, &[&str])] = &[
     ("certify", &["machine", "bundle", "filter"]),
     ("export", &["machine", "bundle", "form"]),
     ("run", &["machine", "bundles"]),
+    ("explain", &["machine", "bundle", "call"]),
+    ("read", &["machine", "bundle"]),
+    ("record", &["machine", "call"]),
+    ("assemble", &["listing"]),
+    ("annotate", &["machine", "filter"]),
+    ("manual", &["command"]),
+    ("version", &[]),
 ];
 
-// A part of an order. It is one word, but bundles are one word at least.
+// A part of an order. It is one word, but bundles and a call are one word at least, and a command's name may be left out.
 fn part_named<'a>(alloc: Global, name: &'a str) -> Arg<'a> {
-    let part = Arg::new(alloc, name).required(true);
-    if name == "bundles" {
+    let part = Arg::new(alloc, name).required(name != "command");
+    if name == "bundles" || name == "call" {
         part.num_args(1..)
     } else {
         part
@@ -144,7 +183,7 @@ fn has_dashed(words: &[&str]) -> bool
     words.iter().any(|word| is_dashed(word))
 }
 
-// Each of the next five takes the parts of its order by their places.
+// Each of the next functions takes the parts of its order by their places.
 
 fn verdict_order<'a>(words: &'a [&'a str]) -> Result<Order<'a>, Misuse>
     ensures { IfOk result (IsOrderOf words.entry.now) }
@@ -237,6 +276,122 @@ fn run_order<'a>(words: &'a [&'a str]) -> Result<Order<'a>, Misuse>
     Ok(Order::Run { native, bundles })
 }
 
+fn explain_order<'a>(words: &'a [&'a str]) -> Result<Order<'a>, Misuse>
+    ensures { IfOk result (IsOrderOf words.entry.now) }
+{
+    let [name, machine, bundle, call @ ..] = words else {
+        return Err(Misuse::Usage);
+    };
+    if *name != "explain" {
+        return Err(Misuse::Usage);
+    }
+    if call.is_empty() {
+        return Err(Misuse::Usage);
+    }
+    let Some(native) = Arch::called(machine) else {
+        return Err(Misuse::Usage);
+    };
+    Ok(Order::Explain {
+        native,
+        bundle,
+        call,
+    })
+}
+
+fn read_order<'a>(words: &'a [&'a str]) -> Result<Order<'a>, Misuse>
+    ensures { IfOk result (IsOrderOf words.entry.now) }
+{
+    let [name, machine, bundle] = words else {
+        return Err(Misuse::Usage);
+    };
+    if *name != "read" {
+        return Err(Misuse::Usage);
+    }
+    let Some(native) = Arch::called(machine) else {
+        return Err(Misuse::Usage);
+    };
+    Ok(Order::Read { native, bundle })
+}
+
+fn record_order<'a>(words: &'a [&'a str]) -> Result<Order<'a>, Misuse>
+    ensures { IfOk result (IsOrderOf words.entry.now) }
+{
+    let [name, machine, call @ ..] = words else {
+        return Err(Misuse::Usage);
+    };
+    if *name != "record" {
+        return Err(Misuse::Usage);
+    }
+    if call.is_empty() {
+        return Err(Misuse::Usage);
+    }
+    let Some(native) = Arch::called(machine) else {
+        return Err(Misuse::Usage);
+    };
+    Ok(Order::Record { native, call })
+}
+
+fn assemble_order<'a>(words: &'a [&'a str]) -> Result<Order<'a>, Misuse>
+    ensures { IfOk result (IsOrderOf words.entry.now) }
+{
+    let [name, listing] = words else {
+        return Err(Misuse::Usage);
+    };
+    if *name != "assemble" {
+        return Err(Misuse::Usage);
+    }
+    Ok(Order::Assemble { listing })
+}
+
+fn annotate_order<'a>(words: &'a [&'a str]) -> Result<Order<'a>, Misuse>
+    ensures { IfOk result (IsOrderOf words.entry.now) }
+{
+    let [name, machine, filter] = words else {
+        return Err(Misuse::Usage);
+    };
+    if *name != "annotate" {
+        return Err(Misuse::Usage);
+    }
+    let Some(native) = Arch::called(machine) else {
+        return Err(Misuse::Usage);
+    };
+    Ok(Order::Annotate { native, filter })
+}
+
+fn manual_order<'a>(words: &'a [&'a str]) -> Result<Order<'a>, Misuse>
+    ensures { IfOk result (IsOrderOf words.entry.now) }
+{
+    match words {
+        [name] => {
+            if *name != "manual" {
+                return Err(Misuse::Usage);
+            }
+            Ok(Order::Manual { command: None })
+        }
+        [name, command] => {
+            if *name != "manual" {
+                return Err(Misuse::Usage);
+            }
+            Ok(Order::Manual {
+                command: Some(command),
+            })
+        }
+        _ => Err(Misuse::Usage),
+    }
+}
+
+fn version_order<'a>(words: &'a [&'a str]) -> Result<Order<'a>, Misuse>
+    ensures { IfOk result (IsOrderOf words.entry.now) }
+{
+    let [name] = words else {
+        return Err(Misuse::Usage);
+    };
+    if *name != "version" {
+        return Err(Misuse::Usage);
+    }
+    Ok(Order::Version)
+}
+
 // The order of words that the command takes.
 fn order_of<'a>(matches: &ArgMatches<'a>, words: &'a [&'a str]) -> Result<Order<'a>, Misuse>
     ensures { IfOk result (IsOrderOf words.entry.now) }
@@ -247,6 +402,13 @@ fn order_of<'a>(matches: &ArgMatches<'a>, words: &'a [&'a str]) -> Result<Order<
         Some(("certify", _)) => certify_order(words),
         Some(("export", _)) => export_order(words),
         Some(("run", _)) => run_order(words),
+        Some(("explain", _)) => explain_order(words),
+        Some(("read", _)) => read_order(words),
+        Some(("record", _)) => record_order(words),
+        Some(("assemble", _)) => assemble_order(words),
+        Some(("annotate", _)) => annotate_order(words),
+        Some(("manual", _)) => manual_order(words),
+        Some(("version", _)) => version_order(words),
         _ => Err(Misuse::Usage),
     }
 }
