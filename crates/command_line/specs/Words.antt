@@ -5,7 +5,8 @@ use Rattle.call_tables.specs.declared.arch.Arch.{Arch}
 use Rattle.call_tables.specs.Arch.{machine_called}
 use denote.Ref.{Bor}
 use Rattle.command_line.specs.declared.Order.{Order}
-use Rattle.command_line.specs.declared.Order.TheVariants.{Verdict, Check, Certify, Export, Run, Explain, Read, Record, Assemble, Annotate, Manual, Version}
+use Rattle.command_line.specs.declared.Order.TheVariants.{Verdict, Check, Certify, Export, Run}
+use Rattle.command_line.specs.declared.Order.TheVariants.{Explain, Read, Record, Assemble, Annotate, Manual, Version}
 use Rattle.export.specs.declared.form.Form.{Form}
 use Rattle.export.specs.declared.form.Form.TheVariants.{Raw, Listing, Certificate}
 

@@ -39,7 +39,8 @@ condition_line args c =
 -- a rule of an entry, and each of its conditions
 abbrev pub rule_lines : ℕ → Rule → Record → List ℕ
 rule_lines entry rule r =
-    codes "entry " ++ decimal entry ++ codes " " ++ action_text rule.word ++ codes " " ++ matching (matches rule (words r)) ++ line_feed ∷ []
+    codes "entry " ++ decimal entry ++ codes " " ++ action_text rule.word ++ codes " " ++ matching (matches rule (words r))
+    ++ line_feed ∷ []
     ++ flat_map (condition_line r.args) rule.conds.items
 
 -- the rule is for this call of this machine
