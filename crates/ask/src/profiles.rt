@@ -39,11 +39,9 @@ impl Profiles {
     ) -> Result<bool> {
         match word {
             "bundle" => self.read(out, alloc, rest)?,
-            "profile" => self.last = Some(bundle_of(alloc, rest)??.profile),
+            "profile" => self.keep(alloc, rest)?,
             "decide" => tell(out, self.asked()?.decide(&call(rest)?))?,
-            "compile" => tell_size(out, alloc, &bundle_of(alloc, rest)??.profile)?,
-            "figures" => tell_figures(out, alloc, &bundle_of(alloc, rest)??.profile)?,
-            "conforms" => tell_agreement(out, alloc, &bundle_of(alloc, rest)??.profile)?,
+            "compile" | "figures" | "conforms" => tell_compiler(out, alloc, word, rest)?,
             "compiled" => tell_compiled(out, alloc, self.asked()?)?,
             "filter" => tell_filter(out, alloc, self.asked()?, rest)?,
             _ => return Ok(false),
@@ -55,17 +53,33 @@ impl Profiles {
         self.last.as_ref().context("a profile")
     }
 
+    // Reads a bundle that is not refused.
+    fn keep(&mut self, alloc: Global, line: &str) -> Result<()> {
+        self.last = Some(bundle_of(alloc, line)??.profile);
+        Ok(())
+    }
+
     // Reads a bundle, and adds its profile or its refusal.
     fn read(&mut self, out: &mut String, alloc: Global, line: &str) -> Result<()> {
         self.last = None;
         match bundle_of(alloc, line)? {
             Ok(bundle) => {
-                tell_profile(out, alloc, &bundle.profile)?;
+                tell_profile(out, &bundle.profile)?;
                 self.last = Some(bundle.profile);
                 Ok(())
             }
             Err(e) => tell(out, e),
         }
+    }
+}
+
+// Adds the answer to a question on what is compiled of a bundle.
+fn tell_compiler(out: &mut String, alloc: Global, word: &str, line: &str) -> Result<()> {
+    let profile = bundle_of(alloc, line)??.profile;
+    match word {
+        "compile" => tell_size(out, alloc, &profile),
+        "figures" => tell_figures(out, alloc, &profile),
+        _ => tell_agreement(out, alloc, &profile),
     }
 }
 

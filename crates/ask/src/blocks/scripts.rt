@@ -80,18 +80,12 @@ fn add_line(script: &mut String, dice: &mut Dice) -> Result<(), AllocError> {
         return writeln!(script, "{word} {id}{rest}");
     }
     let task = dice.below(7).wrapping_add(1);
-    match dice.below(12) {
-        0 => writeln!(script, "call {id} {task} {}", dice.pick(&ENDS)),
-        1..=4 => {
-            let load = dice.pick(&LOADS);
-            writeln!(
-                script,
-                "call {id} {task} {load} prog {}",
-                dice.pick(&PROGRAMS)
-            )
-        }
-        _ => writeln!(script, "call {id} {task} {}", dice.pick(&CALLS)),
-    }
+    let (call, beside, program) = match dice.below(12) {
+        0 => (dice.pick(&ENDS), "", ""),
+        1..=4 => (dice.pick(&LOADS), " prog ", dice.pick(&PROGRAMS)),
+        _ => (dice.pick(&CALLS), "", ""),
+    };
+    writeln!(script, "call {id} {task} {call}{beside}{program}")
 }
 
 /// Adds a block's answer: both kernels reply alike to its random scripts, of which `SEED COUNT COMMANDS` tells, or it fails. Each
