@@ -7,7 +7,7 @@ use anyhow::{Result, bail};
 use bpf_insn::Program;
 use call_record::Record;
 use call_tables::Arch;
-use cert_check::check;
+use cert_check::{CheckError, check};
 use kernel_check::accept;
 use profile::Profile;
 use profile_json::read_bundle;
@@ -39,6 +39,17 @@ pub fn flip(bytes: &mut [u8], bit: usize) {
     if let Some(byte) = bytes.get_mut(bit / 8) {
         *byte ^= 1 << (bit % 8);
     }
+}
+
+/// What the checker says.
+pub fn judge(
+    alloc: Global,
+    profile: &Profile,
+    filter: &[u8],
+    cert: &[u8],
+) -> Result<(), CheckError> {
+    check(alloc, profile, filter, cert)?;
+    Ok(())
 }
 
 /// The first record of a grid on which a filter's word is not the profile's.
@@ -83,7 +94,7 @@ impl Case {
 
     // Counts the answer on a filter and a certificate. A yes is tried on the grid.
     fn try_on(&mut self, alloc: Global, filter: &[u8], cert: &[u8]) -> Result<()> {
-        if let Err(e) = check(alloc, &self.profile, filter, cert) {
+        if let Err(e) = judge(alloc, &self.profile, filter, cert) {
             return self.tally.count(alloc, format_args!("no {e}"));
         }
         match first_wrong(&self.grid, &self.profile, filter)? {

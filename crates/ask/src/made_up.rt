@@ -1,7 +1,7 @@
 //! Random profiles, and certificates made by changing accepted ones, with a slow checker beside the check.
 ghost use Rattle.std.specs.Prelude.{◌<◌};
 
-use crate::cases::first_wrong;
+use crate::cases::{first_wrong, judge};
 use crate::certificates::{Said, chained, claimed, said_in, written};
 use crate::changed::change;
 use crate::dice::Dice;
@@ -13,7 +13,6 @@ use crate::words::{first, number, tell};
 use anyhow::Result;
 use bpf_insn::Program;
 use call_tables::Arch;
-use cert_check::check;
 use cert_form::Claim;
 use certify::certify;
 use profile::Profile;
@@ -90,7 +89,7 @@ fn try_filter(alloc: Global, dice: &mut Dice, grid: &Grid, tally: &mut Tally) ->
     } else {
         Arch::Aarch64
     };
-    let entries = dice.below(3);
+    let entries = dice.pick(&[0, 1, 1, 1, 1, 1, 2, 2]);
     let profile = draw_profile(alloc, dice, [arch, arch], entries, 1)?;
     let filter = draw_filter(alloc, dice, &profile)?;
     let Ok(cert) = certify(alloc, &profile, &Program::view(&filter)?) else {
@@ -115,7 +114,7 @@ fn try_changes(
     let mut is_yes = false;
     for _ in 0..MADE {
         let made = made_of(alloc, dice, cert)?;
-        match check(alloc, profile, filter, &made) {
+        match judge(alloc, profile, filter, &made) {
             Ok(_) => {
                 is_yes = true;
                 tally.count(alloc, "yes")?;

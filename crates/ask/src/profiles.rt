@@ -1,6 +1,6 @@
 //! Bundles, what their profiles say of calls, and what is compiled of them.
 
-use crate::cases::first_wrong;
+use crate::cases::{first_wrong, judge};
 use crate::figures::tell_figures;
 use crate::filters::assembled;
 use crate::grid::Grid;
@@ -8,7 +8,6 @@ use crate::rules::tell_profile;
 use crate::words::{call, first, machine, tell};
 use anyhow::{Context, Result};
 use bpf_insn::Program;
-use cert_check::check;
 use cert_form::CertView;
 use certify::certify;
 use profile::Profile;
@@ -86,8 +85,13 @@ fn tell_compiler(out: &mut String, alloc: Global, word: &str, line: &str) -> Res
 /// How many nodes the certificate of a filter has, which the checker takes; or why there is none.
 pub fn certified(alloc: Global, profile: &Profile, filter: &[u8]) -> Result<usize> {
     let cert = certify(alloc, profile, &Program::view(filter)?)?;
-    check(alloc, profile, filter, &cert)?;
-    Ok(CertView::read(alloc, &cert)?.len())
+    count_of_nodes(alloc, profile, filter, &cert)
+}
+
+// How many nodes a certificate has, which the checker takes.
+fn count_of_nodes(alloc: Global, profile: &Profile, filter: &[u8], cert: &[u8]) -> Result<usize> {
+    judge(alloc, profile, filter, cert)?;
+    Ok(CertView::read(alloc, cert)?.len())
 }
 
 // Adds whether the compiled filter of a profile is certified.

@@ -100,25 +100,31 @@ pub fn tell_scripts(
 ) -> Result<()> {
     let [seed, count, commands, _] = words(rest);
     let mut dice = Dice::new(number(seed)?);
+    let orders = number(commands)?;
     for _ in 0..number(count)? {
-        let mut script = String::from_str(alloc, START)?;
-        for _ in 0..number(commands)? {
-            add_line(&mut script, &mut dice)?;
-        }
-        tell_runtime(
-            &mut String::new(alloc),
-            alloc,
-            native,
-            bundles,
-            script.as_str(),
-        )?;
+        try_script(alloc, native, bundles, &mut dice, orders)?;
     }
     for _ in block.lines().skip(1) {
         tell(out, ".")?;
     }
     tell(
         out,
-        format_args!("{count} scripts of {commands} commands, alike over both kernels"),
-    )?;
-    tell(out, ".")
+        format_args!("{count} scripts of {commands} commands, alike over both kernels\n."),
+    )
+}
+
+// Fails where both kernels reply otherwise to a random script of so many commands.
+fn try_script(
+    alloc: Global,
+    native: Arch,
+    bundles: &[Made<'_>],
+    dice: &mut Dice,
+    commands: u64,
+) -> Result<()> {
+    let mut script = String::from_str(alloc, START)?;
+    for _ in 0..commands {
+        add_line(&mut script, dice)?;
+    }
+    let mut told = String::new(alloc);
+    tell_runtime(&mut told, alloc, native, bundles, script.as_str())
 }
