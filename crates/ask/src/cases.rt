@@ -3,10 +3,11 @@
 use crate::grid::Grid;
 use crate::tally::Tally;
 use crate::words::{machine, words};
-use anyhow::Result;
+use anyhow::{Result, bail};
 use bpf_insn::Program;
 use call_record::Record;
-use cert_check::check;
+use call_tables::Arch;
+use cert_check::{CheckError, check};
 use kernel_check::accept;
 use profile::Profile;
 use profile_json::read_bundle;
@@ -18,22 +19,12 @@ pub fn answer(rt: &HostRuntime, out: &mut String, word: &str, rest: &str) -> Res
     if !word.starts_with("check-") {
         return Ok(false);
     }
-    let alloc = rt.alloc();
     let [native, bundle, filter, cert] = words(rest);
     let bundle = fs::read(rt, bundle)?;
     let mut filter = fs::read(rt, filter)?;
     let mut cert = fs::read(rt, cert)?;
-    let mut case = Case {
-        profile: read_bundle(alloc, &bundle, machine(native)?)?.profile,
-        grid: Grid::of_halves(alloc)?,
-        tally: Tally::new(alloc),
-    };
-    match word {
-        "check-beginnings" => case.try_beginnings(alloc, &filter, &cert)?,
-        "check-flipped-filter" => case.try_filters(alloc, &mut filter, &cert)?,
-        "check-flipped-certificate" => case.try_certificates(alloc, &filter, &mut cert)?,
-        _ => return Ok(false),
-    }
+    let mut case = Case::of(rt.alloc(), machine(native)?, &bundle)?;
+    case.try_changes(rt.alloc(), word, &mut filter, &mut cert)?;
     case.tally.tell(out)?;
     Ok(true)
 }
@@ -48,6 +39,17 @@ pub fn flip(bytes: &mut [u8], bit: usize) {
     if let Some(byte) = bytes.get_mut(bit / 8) {
         *byte ^= 1 << (bit % 8);
     }
+}
+
+/// What the checker says.
+pub fn judge(
+    alloc: Global,
+    profile: &Profile,
+    filter: &[u8],
+    cert: &[u8],
+) -> Result<(), CheckError> {
+    check(alloc, profile, filter, cert)?;
+    Ok(())
 }
 
 /// The first record of a grid on which a filter's word is not the profile's.
@@ -65,9 +67,34 @@ struct Case {
 }
 
 impl Case {
+    fn of(alloc: Global, native: Arch, bundle: &[u8]) -> Result<Case> {
+        let profile = read_bundle(alloc, bundle, native)?.profile;
+        Ok(Case {
+            profile,
+            grid: Grid::of_halves(alloc)?,
+            tally: Tally::new(alloc),
+        })
+    }
+
+    // Tries the changes that a word asks for.
+    fn try_changes(
+        &mut self,
+        alloc: Global,
+        word: &str,
+        filter: &mut [u8],
+        cert: &mut [u8],
+    ) -> Result<()> {
+        match word {
+            "check-beginnings" => self.try_beginnings(alloc, filter, cert),
+            "check-flipped-filter" => self.try_filters(alloc, filter, cert),
+            "check-flipped-certificate" => self.try_certificates(alloc, filter, cert),
+            _ => bail!("no changes of this name"),
+        }
+    }
+
     // Counts the answer on a filter and a certificate. A yes is tried on the grid.
     fn try_on(&mut self, alloc: Global, filter: &[u8], cert: &[u8]) -> Result<()> {
-        if let Err(e) = check(alloc, &self.profile, filter, cert) {
+        if let Err(e) = judge(alloc, &self.profile, filter, cert) {
             return self.tally.count(alloc, format_args!("no {e}"));
         }
         match first_wrong(&self.grid, &self.profile, filter)? {

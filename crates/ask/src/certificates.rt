@@ -29,25 +29,35 @@ pub fn answer(rt: &HostRuntime, out: &mut String, word: &str, rest: &str) -> Res
         "nodes-flipped" => tell_flipped(out, alloc, fs::read(rt, rest)?)?,
         "written" | "chained" | "claimed" => {
             let [name, other, ..] = words(rest);
-            let nodes = said_in(alloc, &fs::read(rt, name)?)?;
-            let bytes = match word {
-                "written" => written(alloc, &nodes)?,
-                "chained" => chained(alloc, &nodes)?,
-                _ => claimed(alloc, &nodes)?,
-            };
-            let is_same = bytes == fs::read(rt, other)?;
-            tell(
-                out,
-                if is_same {
-                    "the same bytes"
-                } else {
-                    "other bytes"
-                },
-            )?;
+            let bytes = fs::read(rt, name)?;
+            tell_alike(out, &rewritten(alloc, word, &bytes)?, &fs::read(rt, other)?)?;
         }
         _ => return Ok(false),
     }
     Ok(true)
+}
+
+// A certificate whose nodes are written again.
+fn rewritten(alloc: Global, word: &str, bytes: &[u8]) -> Result<Vec<u8>, FormError> {
+    let nodes = said_in(alloc, bytes)?;
+    match word {
+        "written" => written(alloc, &nodes),
+        "chained" => chained(alloc, &nodes),
+        _ => claimed(alloc, &nodes),
+    }
+}
+
+// Whether bytes are those of another file.
+fn tell_alike(out: &mut String, bytes: &[u8], others: &[u8]) -> Result<()> {
+    let is_same = bytes == others;
+    tell(
+        out,
+        if is_same {
+            "the same bytes"
+        } else {
+            "other bytes"
+        },
+    )
 }
 
 // How many nodes a certificate has, or its fault.

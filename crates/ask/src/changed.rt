@@ -16,14 +16,29 @@ pub fn change(dice: &mut Dice, nodes: &mut Vec<Said>) -> Result<()> {
     }
     let i = dice.below(count) as usize;
     let other = dice.below(count) as usize;
-    if dice.below(8) == 0 {
-        nodes.swap(i, other);
-        return Ok(());
-    }
-    match nodes.get_mut(i) {
+    let changed = match dice.below(8) {
+        0 => {
+            nodes.swap(i, other);
+            return Ok(());
+        }
+        1 | 2 => last_split(nodes).unwrap_or(i),
+        _ => i,
+    };
+    match nodes.get_mut(changed) {
         Some(node) => change_node(dice, node, u32::try_from(other)?),
         None => Ok(()),
     }
+}
+
+// The place of the last split: there are few.
+fn last_split(nodes: &[Said]) -> Option<usize> {
+    let mut found = None;
+    for (place, said) in nodes.iter().enumerate() {
+        if matches!(said.kind, Kind::Split(_, _, _, _)) {
+            found = Some(place);
+        }
+    }
+    found
 }
 
 // Changes one node. Where it says nothing or has no edge to change, it stays.
@@ -109,10 +124,10 @@ fn changed_kind(dice: &mut Dice, kind: Kind, other: u32) -> Kind {
             _ => Kind::Step(second, first),
         },
         Kind::Split(a, b, first, second) => match way {
-            0 | 1 => Kind::Split(a, b, other, second),
-            2 | 3 => Kind::Split(a, b, first, other),
-            4 => Kind::Split(b, a, first, second),
-            5 => Kind::Split(b, a, second, first),
+            0 => Kind::Split(a, b, other, second),
+            1 => Kind::Split(a, b, first, other),
+            2 | 3 => Kind::Split(b, a, first, second),
+            4 => Kind::Split(b, a, second, first),
             _ => Kind::Split(weakened(a, dice.pick(&HALVES)), b, first, second),
         },
         Kind::Return | Kind::Dead => kind,

@@ -64,28 +64,35 @@ pub fn draw_profile(
 ) -> Result<Profile> {
     let mut rules: Vec<Rule> = Vec::new(alloc);
     for _ in 0..entries {
-        let arch = machines[dice.below(2) as usize];
-        if dice.below(2) == 0 {
-            add(&mut rules, draw_rule(dice, arch, most)?)?;
-            continue;
-        }
-        let (nr, index, value) = (dice.pick(&NUMBERS), dice.below(2) as u8, draw_value(dice));
-        let (op, opposite) = dice.pick(&PAIRS);
-        let word = dice.pick(&WORDS);
-        add(
-            &mut rules,
-            rule_on(arch, nr, Cond::new(index, op, value, 0), word)?,
-        )?;
-        add(
-            &mut rules,
-            rule_on(arch, nr, Cond::new(index, opposite, value, 0), word)?,
-        )?;
+        add_entry(&mut rules, dice, machines, most)?;
     }
-    Ok(Profile::build(alloc, machines[0], &machines, dice.pick(&WORDS), rules)?)
+    let default = dice.pick(&WORDS);
+    Ok(Profile::build(alloc, machines[0], &machines, default, rules)?)
+}
+
+// Adds a rule, or two of one word with opposite conditions.
+fn add_entry(rules: &mut Vec<Rule>, dice: &mut Dice, machines: [Arch; 2], most: u8) -> Result<()> {
+    let arch = machines[dice.below(2) as usize];
+    if dice.below(2) == 0 {
+        return add(rules, draw_rule(dice, arch, most)?);
+    }
+    let nr = dice.pick(&NUMBERS);
+    let index = dice.below(2) as u8;
+    let value = draw_value(dice);
+    let word = dice.pick(&WORDS);
+    let (op, opposite) = dice.pick(&PAIRS);
+    add(
+        rules,
+        rule_on(arch, nr, Cond::new(index, op, value, 0), word)?,
+    )?;
+    add(
+        rules,
+        rule_on(arch, nr, Cond::new(index, opposite, value, 0), word)?,
+    )
 }
 
 // Adds a rule, unless a record may match it and one of these with another word.
-fn add(rules: &mut Vec<Rule>, rule: Rule) -> Result<(), AllocError> {
+fn add(rules: &mut Vec<Rule>, rule: Rule) -> Result<()> {
     for other in rules.iter() {
         if other.word != rule.word && overlap(other, &rule) {
             return Ok(());

@@ -51,23 +51,34 @@ impl Grid {
 
     /// Small numbers, those on both sides of the least x32 call, and great ones, with any halves of two arguments.
     pub fn of_halves(alloc: Global) -> Result<Grid, AllocError> {
-        let mut wholes = Vec::new(alloc);
+        let mut grid = Grid {
+            numbers: vec![in alloc; 435, 0x3fff_ffff, 0x4000_0000, u32::MAX]?,
+            arguments: Vec::new(alloc),
+        };
+        grid.add_halves()?;
+        Ok(grid)
+    }
+
+    fn add_halves(&mut self) -> Result<(), AllocError> {
+        for nr in 0..9 {
+            self.numbers.push(nr)?;
+        }
         for high in HALVES {
             for low in HALVES {
-                wholes.push(joined(high, low))?;
+                self.add_first(joined(high, low))?;
             }
         }
-        let mut arguments = Vec::new(alloc);
-        for first in &wholes {
-            for second in &wholes {
-                arguments.push([*first, *second, 0, 0, 0, 0])?;
+        Ok(())
+    }
+
+    // Adds the arguments that begin with this one.
+    fn add_first(&mut self, first: u64) -> Result<(), AllocError> {
+        for high in HALVES {
+            for low in HALVES {
+                self.arguments.push([first, joined(high, low), 0, 0, 0, 0])?;
             }
         }
-        let mut numbers = vec![in alloc; 435, 0x3fff_ffff, 0x4000_0000, u32::MAX]?;
-        for nr in 0..9 {
-            numbers.push(nr)?;
-        }
-        Ok(Grid { numbers, arguments })
+        Ok(())
     }
 
     /// The numbers of the rules and of the least x32 call, and their neighbours; with the arguments that meet a rule, and

@@ -1,7 +1,7 @@
 //! Random profiles, and certificates made by changing accepted ones, with a slow checker beside the check.
 ghost use Rattle.std.specs.Prelude.{◌<◌};
 
-use crate::cases::first_wrong;
+use crate::cases::{first_wrong, judge};
 use crate::certificates::{Said, chained, claimed, said_in, written};
 use crate::changed::change;
 use crate::dice::Dice;
@@ -13,9 +13,9 @@ use crate::words::{first, number, tell};
 use anyhow::Result;
 use bpf_insn::Program;
 use call_tables::Arch;
-use cert_check::check;
 use cert_form::Claim;
 use certify::certify;
+use profile::Profile;
 use std::alloc::Global;
 
 // How many certificates are made of an accepted one.
@@ -54,23 +54,32 @@ pub fn answer(out: &mut String, alloc: Global, word: &str, rest: &str) -> Result
 // yes, and none of them wrongly; else how often each answer came.
 fn tell_made_up(out: &mut String, alloc: Global, dice: &mut Dice, count: u64) -> Result<()> {
     let mut tally = Tally::new(alloc);
-    let grid = Grid::of_halves(alloc)?;
-    for _ in 0..count {
-        try_filter(alloc, dice, &grid, &mut tally)?;
-    }
-    let mut is_each_met = true;
-    for refusal in REFUSALS {
-        if tally.of(refusal) == 0 {
-            is_each_met = false;
-        }
-    }
-    if is_each_met && tally.of("yes") > tally.all() / 5 && tally.of(WRONG) == 0 {
+    try_filters(alloc, dice, count, &mut tally)?;
+    if are_as_wanted(&tally) {
         return tell(
             out,
             "each answer comes, more than a fifth are yes, none is wrong",
         );
     }
     tally.tell(out)
+}
+
+fn are_as_wanted(tally: &Tally) -> bool {
+    for refusal in REFUSALS {
+        if tally.of(refusal) == 0 {
+            return false;
+        }
+    }
+    tally.of("yes") > tally.all() / 5 && tally.of(WRONG) == 0
+}
+
+// Counts the answers to certificates made of those of so many random filters.
+fn try_filters(alloc: Global, dice: &mut Dice, count: u64, tally: &mut Tally) -> Result<()> {
+    let grid = Grid::of_halves(alloc)?;
+    for _ in 0..count {
+        try_filter(alloc, dice, &grid, tally)?;
+    }
+    Ok(())
 }
 
 // Counts the answers to certificates made of that of a random filter, if it has one.
@@ -80,16 +89,32 @@ fn try_filter(alloc: Global, dice: &mut Dice, grid: &Grid, tally: &mut Tally) ->
     } else {
         Arch::Aarch64
     };
-    let entries = dice.below(3);
+    let entries = dice.pick(&[0, 1, 1, 1, 1, 1, 2, 2]);
     let profile = draw_profile(alloc, dice, [arch, arch], entries, 1)?;
     let filter = draw_filter(alloc, dice, &profile)?;
     let Ok(cert) = certify(alloc, &profile, &Program::view(&filter)?) else {
         return Ok(());
     };
+    let is_yes = try_changes(alloc, dice, tally, &profile, &filter, &cert)?;
+    if is_yes && first_wrong(grid, &profile, &filter)?.is_some() {
+        tally.count(alloc, WRONG)?;
+    }
+    Ok(())
+}
+
+// Counts the answers to certificates made of one, and says whether one is yes.
+fn try_changes(
+    alloc: Global,
+    dice: &mut Dice,
+    tally: &mut Tally,
+    profile: &Profile,
+    filter: &[u8],
+    cert: &[u8],
+) -> Result<bool> {
     let mut is_yes = false;
     for _ in 0..MADE {
-        let made = made_of(alloc, dice, &cert)?;
-        match check(alloc, &profile, &filter, &made) {
+        let made = made_of(alloc, dice, cert)?;
+        match judge(alloc, profile, filter, &made) {
             Ok(_) => {
                 is_yes = true;
                 tally.count(alloc, "yes")?;
@@ -97,10 +122,7 @@ fn try_filter(alloc: Global, dice: &mut Dice, grid: &Grid, tally: &mut Tally) ->
             Err(e) => tally.count(alloc, format_args!("no {e}"))?,
         }
     }
-    if is_yes && first_wrong(grid, &profile, &filter)?.is_some() {
-        tally.count(alloc, WRONG)?;
-    }
-    Ok(())
+    Ok(is_yes)
 }
 
 // A certificate with none, one or two changes, in one of the forms.

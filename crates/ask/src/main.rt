@@ -1,7 +1,7 @@
 //! Answers questions to the library, which tests/rows puts: a question a line on standard input.
 //!
 //! Under each line go its answers, a line each, and then a line `.`. An empty line, and one that begins with `#`, asks nothing.
-//! `reset` forgets what earlier lines made. tests/README.md says what a line may ask, and these differ here: a bundle is told
+//! tests/README.md says what a line may ask, and these differ here: a bundle is told
 //! by its whole text, with no name of a frame; files are told by their paths; bytes are hexadecimal digits and no more; no
 //! text has a run, and in listings alone `\n` is a line feed and `\r` a carriage return.
 //!
@@ -40,13 +40,6 @@ struct Desk {
 }
 
 impl Desk {
-    fn new() -> Desk {
-        Desk {
-            profiles: Profiles { last: None },
-            filters: Filters { program: None },
-        }
-    }
-
     // Adds the answer to a question, from the module whose question it is.
     fn answer(&mut self, rt: &HostRuntime, out: &mut String, word: &str, rest: &str) -> Result<()> {
         let alloc = rt.alloc();
@@ -64,26 +57,15 @@ impl Desk {
         tell(out, "? no word of this program")
     }
 
-    // Adds what a line that begins no block makes.
-    fn tell_line(&mut self, rt: &HostRuntime, out: &mut String, line: &str) -> Result<()> {
-        let (word, rest) = first(line);
-        match word {
-            "" | "#" => {}
-            "reset" => *self = Desk::new(),
-            _ => self
-                .answer(rt, out, word, rest)
-                .context(format_args!("at {line}"))?,
-        }
-        tell(out, ".")
-    }
-
     // Adds the answers to lines between two that are empty.
     fn tell_lines(&mut self, rt: &HostRuntime, out: &mut String, block: &str) -> Result<()> {
-        if blocks::tell_block(out, rt.alloc(), block)? {
-            return Ok(());
-        }
         for line in block.lines() {
-            self.tell_line(rt, out, line)?;
+            let (word, rest) = first(line);
+            if word != "" && word != "#" {
+                self.answer(rt, out, word, rest)
+                    .context(format_args!("at {line}"))?;
+            }
+            tell(out, ".")?;
         }
         Ok(())
     }
@@ -92,12 +74,17 @@ impl Desk {
 fn main(rt: HostRuntime) -> Result<()> {
     let text = io::read_to_string(rt.alloc(), rt.stdin())?;
     let mut out = String::new(rt.alloc());
-    let mut desk = Desk::new();
+    let mut desk = Desk {
+        profiles: Profiles { last: None },
+        filters: Filters { program: None },
+    };
     for (place, block) in text.split("\n\n").enumerate() {
         if place > 0 {
             tell(&mut out, ".")?;
         }
-        desk.tell_lines(&rt, &mut out, block)?;
+        if !blocks::tell_block(&mut out, rt.alloc(), block)? {
+            desk.tell_lines(&rt, &mut out, block)?;
+        }
     }
     rt.print(out)?;
     Ok(())

@@ -1,6 +1,6 @@
 //! Bundles, what their profiles say of calls, and what is compiled of them.
 
-use crate::cases::first_wrong;
+use crate::cases::{first_wrong, judge};
 use crate::figures::tell_figures;
 use crate::filters::assembled;
 use crate::grid::Grid;
@@ -8,7 +8,6 @@ use crate::rules::tell_profile;
 use crate::words::{call, first, machine, tell};
 use anyhow::{Context, Result};
 use bpf_insn::Program;
-use cert_check::check;
 use cert_form::CertView;
 use certify::certify;
 use profile::Profile;
@@ -39,11 +38,9 @@ impl Profiles {
     ) -> Result<bool> {
         match word {
             "bundle" => self.read(out, alloc, rest)?,
-            "profile" => self.last = Some(bundle_of(alloc, rest)??.profile),
+            "profile" => self.keep(alloc, rest)?,
             "decide" => tell(out, self.asked()?.decide(&call(rest)?))?,
-            "compile" => tell_size(out, alloc, &bundle_of(alloc, rest)??.profile)?,
-            "figures" => tell_figures(out, alloc, &bundle_of(alloc, rest)??.profile)?,
-            "conforms" => tell_agreement(out, alloc, &bundle_of(alloc, rest)??.profile)?,
+            "compile" | "figures" | "conforms" => tell_compiler(out, alloc, word, rest)?,
             "compiled" => tell_compiled(out, alloc, self.asked()?)?,
             "filter" => tell_filter(out, alloc, self.asked()?, rest)?,
             _ => return Ok(false),
@@ -55,12 +52,18 @@ impl Profiles {
         self.last.as_ref().context("a profile")
     }
 
+    // Reads a bundle that is not refused.
+    fn keep(&mut self, alloc: Global, line: &str) -> Result<()> {
+        self.last = Some(bundle_of(alloc, line)??.profile);
+        Ok(())
+    }
+
     // Reads a bundle, and adds its profile or its refusal.
     fn read(&mut self, out: &mut String, alloc: Global, line: &str) -> Result<()> {
         self.last = None;
         match bundle_of(alloc, line)? {
             Ok(bundle) => {
-                tell_profile(out, alloc, &bundle.profile)?;
+                tell_profile(out, &bundle.profile)?;
                 self.last = Some(bundle.profile);
                 Ok(())
             }
@@ -69,11 +72,26 @@ impl Profiles {
     }
 }
 
+// Adds the answer to a question on what is compiled of a bundle.
+fn tell_compiler(out: &mut String, alloc: Global, word: &str, line: &str) -> Result<()> {
+    let profile = bundle_of(alloc, line)??.profile;
+    match word {
+        "compile" => tell_size(out, alloc, &profile),
+        "figures" => tell_figures(out, alloc, &profile),
+        _ => tell_agreement(out, alloc, &profile),
+    }
+}
+
 /// How many nodes the certificate of a filter has, which the checker takes; or why there is none.
 pub fn certified(alloc: Global, profile: &Profile, filter: &[u8]) -> Result<usize> {
     let cert = certify(alloc, profile, &Program::view(filter)?)?;
-    check(alloc, profile, filter, &cert)?;
-    Ok(CertView::read(alloc, &cert)?.len())
+    count_of_nodes(alloc, profile, filter, &cert)
+}
+
+// How many nodes a certificate has, which the checker takes.
+fn count_of_nodes(alloc: Global, profile: &Profile, filter: &[u8], cert: &[u8]) -> Result<usize> {
+    judge(alloc, profile, filter, cert)?;
+    Ok(CertView::read(alloc, cert)?.len())
 }
 
 // Adds whether the compiled filter of a profile is certified.

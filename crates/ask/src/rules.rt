@@ -104,7 +104,7 @@ fn build(out: &mut String, alloc: Global, text: &str) -> Result<()> {
         verdict_word(default)?,
         rules,
     ) {
-        Ok(profile) => tell_profile(out, alloc, &profile),
+        Ok(profile) => tell_profile(out, &profile),
         Err(e) => tell(out, e),
     }
 }
@@ -119,17 +119,12 @@ fn read_rule(text: &str) -> Result<Rule> {
 }
 
 /// Adds the parts of a profile: machines, default word and rules, or just their number where they are many.
-pub fn tell_profile(out: &mut String, alloc: Global, profile: &Profile) -> Result<()> {
-    let mut line = String::new(alloc);
+pub fn tell_profile(out: &mut String, profile: &Profile) -> Result<()> {
+    write!(out, "native {}, machines", profile.native().word())?;
     for arch in profile.machines() {
-        write!(line, " {}", arch.word())?;
+        write!(out, " {}", arch.word())?;
     }
-    let native = profile.native().word();
-    let default_word = profile.default_word();
-    tell(
-        out,
-        format_args!("native {native}, machines{line}, default {default_word}"),
-    )?;
+    tell(out, format_args!(", default {}", profile.default_word()))?;
     let rules = profile.rules();
     if rules.len() > 9 {
         return tell(out, format_args!("{} rules", rules.len()));

@@ -4,7 +4,7 @@ use crate::words::first;
 use anyhow::{Result, bail};
 use bpf_insn::Program;
 use call_tables::Arch;
-use cert_check::{Checked, check};
+use cert_check::{CheckError, Checked, check};
 use certify::certify;
 use profile::Profile;
 use profile_json::read_bundle;
@@ -24,32 +24,51 @@ pub struct Made<'a> {
 pub fn bundles_in<'a>(alloc: Global, native: Arch, block: &'a str) -> Result<Vec<Made<'a>>> {
     let mut all = Vec::new(alloc);
     for line in block.lines() {
-        if let Some(rest) = line.strip_prefix("bundle ") {
-            let (name, text) = first(rest);
-            all.push(made_of(alloc, native, name, text)?)?;
-        }
+        add_bundle(&mut all, alloc, native, line)?;
     }
     Ok(all)
 }
 
-fn made_of<'a>(alloc: Global, native: Arch, name: &'a str, text: &str) -> Result<Made<'a>> {
-    let profile = read_bundle(alloc, text.as_bytes(), native)?.profile;
-    let filter = compile(alloc, &profile)?;
-    let cert = certify(alloc, &profile, &Program::view(&filter)?)?;
-    Ok(Made {
-        name,
-        profile,
-        filter,
-        cert,
-    })
+// Adds what is made of the bundle that a line names, if it names one.
+fn add_bundle<'a>(
+    all: &mut Vec<Made<'a>>,
+    alloc: Global,
+    native: Arch,
+    line: &'a str,
+) -> Result<()> {
+    let (word, rest) = first(line);
+    if word == "bundle" {
+        let (name, text) = first(rest);
+        let profile = read_bundle(alloc, text.as_bytes(), native)?.profile;
+        let filter = compile(alloc, &profile)?;
+        let cert = cert_of(alloc, &profile, &filter)?;
+        all.push(Made {
+            name,
+            profile,
+            filter,
+            cert,
+        })?;
+    }
+    Ok(())
 }
 
-/// The checked filter of the bundle with this name.
-pub fn checked<'a>(alloc: Global, bundles: &'a [Made<'_>], name: &str) -> Result<Checked<'a>> {
+fn cert_of(alloc: Global, profile: &Profile, filter: &[u8]) -> Result<Vec<u8>> {
+    Ok(certify(alloc, profile, &Program::view(filter)?)?)
+}
+
+/// What is made of the bundle with this name.
+pub fn found<'a>(bundles: &'a [Made<'_>], name: &str) -> Result<&'a Made<'a>> {
     for made in bundles {
         if made.name == name {
-            return Ok(check(alloc, &made.profile, &made.filter, &made.cert)?);
+            return Ok(made);
         }
     }
     bail!("no bundle {name}")
+}
+
+impl Made<'_> {
+    /// The filter, checked.
+    pub fn checked(&self, alloc: Global) -> Result<Checked<'_>, CheckError> {
+        check(alloc, &self.profile, &self.filter, &self.cert)
+    }
 }

@@ -1,6 +1,6 @@
 //! Calls of the kernel itself.
 
-use crate::blocks::bundles::{Made, checked};
+use crate::blocks::bundles::{Made, found};
 use crate::blocks::orders::Order;
 use crate::blocks::replies::{tell_outcome, tell_view};
 use crate::words::{first, number, record, tell};
@@ -21,25 +21,24 @@ pub fn tell_kernels(
     block: &str,
 ) -> Result<()> {
     let mut own = String::new(alloc);
-    let mut lists = TaskTable::new(alloc);
-    tell_kernel(&mut own, alloc, &mut lists, native, bundles, block)?;
-    let mut tree = SharedTable::new(alloc);
-    tell_kernel(out, alloc, &mut tree, native, bundles, block)?;
+    let lists = TaskTable::new(alloc);
+    tell_kernel(&mut own, alloc, lists, native, bundles, block)?;
+    tell_kernel(out, alloc, SharedTable::new(alloc), native, bundles, block)?;
     ensure!(out.as_str().ends_with(own.as_str()), "the kernels differ");
     Ok(())
 }
 
 // Adds the answers of a kernel.
-fn tell_kernel<K: Kernel>(
+fn tell_kernel<K: Kernel + Drop>(
     out: &mut String,
     alloc: Global,
-    kernel: &mut K,
+    mut kernel: K,
     native: Arch,
     bundles: &[Made<'_>],
     block: &str,
 ) -> Result<()> {
     for line in block.lines() {
-        tell_line(out, alloc, kernel, native, bundles, line).context(format_args!("at {line}"))?;
+        tell_line(out, alloc, &mut kernel, native, bundles, line)?;
         tell(out, ".")?;
     }
     Ok(())
@@ -57,13 +56,9 @@ fn tell_line<K: Kernel>(
     let (word, rest) = first(line);
     match word {
         "#" | "kernel" | "bundle" => Ok(()),
-        "every-call" => tell_every_call(out, kernel, native, checked(alloc, bundles, rest)?),
+        "every-call" => tell_every_call(out, alloc, kernel, native, found(bundles, rest)?),
         "call" => present(out, alloc, kernel, native, line),
-        "admit" => {
-            let (id, name) = first(rest);
-            admit(kernel, &id_of(id)?, checked(alloc, bundles, name)?)?;
-            tell(out, "ok")
-        }
+        "admit" => tell_admitted(out, alloc, kernel, bundles, rest),
         _ => command(out, kernel, word, rest),
     }
 }
@@ -78,32 +73,50 @@ fn admit<K: Kernel>(kernel: &mut K, id: &Id, first: Checked<'_>) -> Result<(), A
     kernel.admit(id, first)
 }
 
+// Admits the container `ID BUNDLE`.
+fn tell_admitted<K: Kernel>(
+    out: &mut String,
+    alloc: Global,
+    kernel: &mut K,
+    bundles: &[Made<'_>],
+    rest: &str,
+) -> Result<()> {
+    let (id, name) = first(rest);
+    let filter = found(bundles, name)?.checked(alloc)?;
+    admit(kernel, &id_of(id)?, filter)?;
+    tell(out, "ok")
+}
+
 // Adds the answer to a call of the kernel on a container.
 fn command<K: Kernel>(out: &mut String, kernel: &mut K, word: &str, rest: &str) -> Result<()> {
     let (id, last) = first(rest);
     let id = id_of(id)?;
-    match word {
-        "live" => tell(out, if kernel.live(&id) { "yes" } else { "no" }),
-        "task" => tell_view(out, kernel.task(&id, number(last)?)),
+    if word == "task" {
+        return tell_view(out, kernel.task(&id, number(last)?));
+    }
+    let answer = match word {
+        "live" if kernel.live(&id) => "yes",
+        "live" => "no",
         "expel" => {
             kernel.expel(&id);
-            tell(out, "ok")
+            "ok"
         }
-        "signal" => signal(out, kernel, &id, number(last)?),
-        _ => bail!("no call of the kernel"),
-    }
+        "signal" => signalled(kernel, &id, number(last)?),
+        _ => "no call of the kernel",
+    };
+    tell(out, answer)
 }
 
-// Sends a signal, which a live container takes.
-fn signal<K: Kernel>(out: &mut String, kernel: &mut K, id: &Id, sig: u64) -> Result<()> {
+// What becomes of a signal, which a live container takes.
+fn signalled<K: Kernel>(kernel: &mut K, id: &Id, sig: u64) -> &'static str {
     if !kernel.live(id) {
-        bail!("no live container");
+        return "no live container";
     }
     if sig > 64 {
-        bail!("no signal");
+        return "no signal";
     }
     kernel.signal(id, sig);
-    tell(out, "ok")
+    "ok"
 }
 
 // Adds what becomes of the call of a line.
@@ -125,18 +138,21 @@ fn present<K: Kernel>(
 // Adds what becomes of each call of the machine, as the first of a container.
 fn tell_every_call<K: Kernel>(
     out: &mut String,
+    alloc: Global,
     kernel: &mut K,
     native: Arch,
-    filter: Checked<'_>,
+    made: &Made<'_>,
 ) -> Result<()> {
     let id = id_of("c")?;
+    let filter = made.checked(alloc)?;
     for nr in 0..1000 {
         if let Some(name) = native.name(nr) {
             admit(kernel, &id, filter)?;
             let call = record(nr, native.token(), [0; 6]);
+            let outcome = kernel.present(&id, 1, &call, None)?;
             out.push_str(name)?;
             out.push_str(": ")?;
-            tell_outcome(out, kernel.present(&id, 1, &call, None)?)?;
+            tell_outcome(out, outcome)?;
         }
     }
     Ok(())

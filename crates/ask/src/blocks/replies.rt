@@ -8,25 +8,27 @@ use std::fmt::Write;
 
 /// Adds what became of a call.
 pub fn tell_outcome(out: &mut String, outcome: Outcome) -> Result<()> {
-    match outcome {
-        Outcome::Done(value) => tell(out, format_args!("done {value}")),
-        Outcome::Failed(error) => tell(out, format_args!("failed {error}")),
-        Outcome::Absent => tell(out, "absent"),
-        Outcome::Denied(word) => tell(out, format_args!("denied {word}")),
-        Outcome::NoTask => tell(out, "no task"),
-    }
+    let (text, number) = match outcome {
+        Outcome::Done(value) => ("done", value),
+        Outcome::Failed(error) => ("failed", u32::from(error)),
+        Outcome::Denied(word) => return tell(out, format_args!("denied {word}")),
+        Outcome::Absent => return tell(out, "absent"),
+        Outcome::NoTask => return tell(out, "no task"),
+    };
+    tell(out, format_args!("{text} {number}"))
 }
 
 /// Adds the answer to a command.
 pub fn tell_reply(out: &mut String, reply: Reply) -> Result<()> {
-    match reply {
-        Reply::Accepted => tell(out, "ok"),
-        Reply::Refused(refusal) => tell(out, format_args!("refused {refusal}")),
-        Reply::Presented(outcome) => tell_outcome(out, outcome),
-        Reply::IsIn(Status::Created) => tell(out, "created"),
-        Reply::IsIn(Status::Running) => tell(out, "running"),
-        Reply::IsIn(Status::Stopped) => tell(out, "stopped"),
-    }
+    let text = match reply {
+        Reply::Refused(refusal) => return tell(out, format_args!("refused {refusal}")),
+        Reply::Presented(outcome) => return tell_outcome(out, outcome),
+        Reply::Accepted => "ok",
+        Reply::IsIn(Status::Created) => "created",
+        Reply::IsIn(Status::Running) => "running",
+        Reply::IsIn(Status::Stopped) => "stopped",
+    };
+    tell(out, text)
 }
 
 /// Adds what is shown of a task.

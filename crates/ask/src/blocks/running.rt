@@ -1,7 +1,7 @@
 //! Commands of a runtime, over both kernels.
 ghost use Rattle.std.specs.Prelude.{ℕ, ◌≡◌, List, None};
 
-use crate::blocks::bundles::{Made, checked};
+use crate::blocks::bundles::{Made, found};
 use crate::blocks::orders::Order;
 use crate::blocks::replies::tell_reply;
 use crate::words::{first, number, tell};
@@ -27,7 +27,7 @@ fn reply_to<'a, K: Kernel>(
 ) -> Result<Reply> {
     match order.request {
         Request::Create { id, bundle } => {
-            Ok(runtime.create(id_of(id), checked(alloc, bundles, bundle)?)?)
+            Ok(runtime.create(id_of(id), found(bundles, bundle)?.checked(alloc)?)?)
         }
         Request::Start { id } => Ok(runtime.start(id_of(id))?),
         Request::Kill { id, signal } => Ok(runtime.kill(id_of(id), signal)),
@@ -45,7 +45,45 @@ fn tell_id<K: Kernel>(out: &mut String, runtime: &Runtime<'_, K>, place: &str) -
     tell(out, runtime.id_at(place).unwrap_or("none"))
 }
 
-/// Adds a block's answers, of both kernels, which fails where they differ.
+// The reply to the order of a line, of both kernels.
+fn reply_of_both<'a>(
+    alloc: Global,
+    native: Arch,
+    bundles: &'a [Made<'_>],
+    lists: &mut Runtime<'a, TaskTable>,
+    tree: &mut Runtime<'a, SharedTable>,
+    line: &str,
+) -> Result<Reply> {
+    let order = Order::read(alloc, native, line)?;
+    let reply = reply_to(alloc, lists, bundles, &order)?;
+    let other = reply_to(alloc, tree, bundles, &order)?;
+    ensure!(reply == other, "the kernels differ at {line}");
+    Ok(reply)
+}
+
+// Adds the answer to a line.
+fn tell_line<'a>(
+    out: &mut String,
+    alloc: Global,
+    native: Arch,
+    bundles: &'a [Made<'_>],
+    lists: &mut Runtime<'a, TaskTable>,
+    tree: &mut Runtime<'a, SharedTable>,
+    line: &str,
+) -> Result<()> {
+    let (word, rest) = first(line);
+    match word {
+        "#" | "runtime" | "scripts" | "bundle" => {}
+        "id" => tell_id(out, lists, rest)?,
+        _ => {
+            let reply = reply_of_both(alloc, native, bundles, lists, tree, line)?;
+            tell_reply(out, reply)?;
+        }
+    }
+    tell(out, ".")
+}
+
+/// Adds a block's answers, of both kernels. It fails where they differ.
 pub fn tell_runtime(
     out: &mut String,
     alloc: Global,
@@ -56,22 +94,7 @@ pub fn tell_runtime(
     let mut lists = Runtime::new(alloc, TaskTable::new(alloc));
     let mut tree = Runtime::new(alloc, SharedTable::new(alloc));
     for line in block.lines() {
-        let (word, rest) = first(line);
-        match word {
-            "#" | "runtime" | "scripts" | "bundle" => {}
-            "id" => tell_id(out, &lists, rest)?,
-            _ => {
-                let order = Order::read(alloc, native, line)?;
-                let reply = reply_to(alloc, &mut lists, bundles, &order)?;
-                let other = reply_to(alloc, &mut tree, bundles, &order)?;
-                ensure!(
-                    reply == other,
-                    "the kernels differ at {line}: {reply:?}, {other:?}"
-                );
-                tell_reply(out, reply)?;
-            }
-        }
-        tell(out, ".")?;
+        tell_line(out, alloc, native, bundles, &mut lists, &mut tree, line)?;
     }
     Ok(())
 }

@@ -80,18 +80,12 @@ fn add_line(script: &mut String, dice: &mut Dice) -> Result<(), AllocError> {
         return writeln!(script, "{word} {id}{rest}");
     }
     let task = dice.below(7).wrapping_add(1);
-    match dice.below(12) {
-        0 => writeln!(script, "call {id} {task} {}", dice.pick(&ENDS)),
-        1..=4 => {
-            let load = dice.pick(&LOADS);
-            writeln!(
-                script,
-                "call {id} {task} {load} prog {}",
-                dice.pick(&PROGRAMS)
-            )
-        }
-        _ => writeln!(script, "call {id} {task} {}", dice.pick(&CALLS)),
-    }
+    let (call, beside, program) = match dice.below(12) {
+        0 => (dice.pick(&ENDS), "", ""),
+        1..=4 => (dice.pick(&LOADS), " prog ", dice.pick(&PROGRAMS)),
+        _ => (dice.pick(&CALLS), "", ""),
+    };
+    writeln!(script, "call {id} {task} {call}{beside}{program}")
 }
 
 /// Adds a block's answer: both kernels reply alike to its random scripts, of which `SEED COUNT COMMANDS` tells, or it fails. Each
@@ -106,25 +100,31 @@ pub fn tell_scripts(
 ) -> Result<()> {
     let [seed, count, commands, _] = words(rest);
     let mut dice = Dice::new(number(seed)?);
+    let orders = number(commands)?;
     for _ in 0..number(count)? {
-        let mut script = String::from_str(alloc, START)?;
-        for _ in 0..number(commands)? {
-            add_line(&mut script, &mut dice)?;
-        }
-        tell_runtime(
-            &mut String::new(alloc),
-            alloc,
-            native,
-            bundles,
-            script.as_str(),
-        )?;
+        try_script(alloc, native, bundles, &mut dice, orders)?;
     }
     for _ in block.lines().skip(1) {
         tell(out, ".")?;
     }
     tell(
         out,
-        format_args!("{count} scripts of {commands} commands, alike over both kernels"),
-    )?;
-    tell(out, ".")
+        format_args!("{count} scripts of {commands} commands, alike over both kernels\n."),
+    )
+}
+
+// Fails where both kernels reply otherwise to a random script of so many commands.
+fn try_script(
+    alloc: Global,
+    native: Arch,
+    bundles: &[Made<'_>],
+    dice: &mut Dice,
+    commands: u64,
+) -> Result<()> {
+    let mut script = String::from_str(alloc, START)?;
+    for _ in 0..commands {
+        add_line(&mut script, dice)?;
+    }
+    let mut told = String::new(alloc);
+    tell_runtime(&mut told, alloc, native, bundles, script.as_str())
 }
