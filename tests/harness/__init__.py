@@ -1,0 +1,1 @@
+"""What tests/rows is made of, a module for each idea."""

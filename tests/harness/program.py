@@ -1,0 +1,90 @@
+"""Runs of the built program `ccell` on the files of rows, told as rows tell them."""
+import os
+import subprocess
+
+from harness.places import CCELL
+from harness.rows import Fault
+from harness.texts import expanded, grouped, lines_of
+
+# The seconds that one run may take.
+LIMIT = 60
+
+
+def words_of(line):
+    """The words after the program's name in `ccell WORD ..`, where two quotes are an empty word."""
+    name, *words = line.split()
+    if name != "ccell":
+        raise Fault(f"no program: {name}")
+    return ["" if word == "''" else word for word in words]
+
+
+def is_input(text):
+    """Whether a row is a line of standard input."""
+    return text.startswith(">")
+
+
+def line_of(text):
+    """What the row `> TEXT` gives: the text and a line feed, or the text alone where a backslash stands behind it."""
+    text = text[1:].removeprefix(" ")
+    return expanded(text[:-1]) if text.endswith("\\") else expanded(text) + "\n"
+
+
+class Program:
+    """The program in the folder of a shelf."""
+
+    def __init__(self, shelf, shim):
+        self.shelf, self.shim = shelf, shim
+
+    def environment(self, words):
+        """Where a word names a file for which there is no memory: what refuses all growths while that file is open."""
+        large = [word for word in words if word in self.shelf.large]
+        return {"PATH": os.environ["PATH"], **({"LD_PRELOAD": self.shim, "REFUSE_FILE": large[0]} if large else {})}
+
+    def run(self, words, given=b""):
+        """Runs it on words and standard input."""
+        how = {"cwd": self.shelf.folder, "env": self.environment(words), "timeout": LIMIT, "check": False}
+        return subprocess.run([CCELL, *words], input=given, capture_output=True, **how)
+
+    def session(self, row, words, inputs):
+        """Tells under a row what the program writes and its status, and under each row of its standard input the reply."""
+        ran = self.run(words, "".join(line_of(it.text) for it in inputs).encode())
+        last = inputs[-1] if inputs else row
+        if ran.stdout.startswith(b"CCRT"):
+            last.tell(grouped(ran.stdout))
+        else:
+            tell_replies(inputs, last, ran.stdout.decode())
+        if ran.stderr:
+            last.tell("on standard error:", *lines_of(ran.stderr.decode()))
+        last.tell(f"status {ran.returncode}")
+
+    def own(self, row, line):
+        """Has it export the filter and the certificate of `MACHINE BUNDLE`, and check the two."""
+        native, bundle = line.split()
+        for form in ("raw", "cert"):
+            ran = self.run(["export", native, bundle, form])
+            row.tell(f"export {form}: status {ran.returncode}")
+            self.shelf.keep(form, ran.stdout)
+        self.session(row, ["check", native, bundle, "raw", "cert"], [])
+
+    def certify(self, row, line):
+        """Asks for the evidence on `MACHINE BUNDLE FILTER`, and tells of a certificate what the check says of it."""
+        ran = self.run(["certify", *line.split()])
+        if ran.stderr:
+            raise Fault(ran.stderr.decode().rstrip("\n"))
+        if not ran.stdout.startswith(b"CCRT"):
+            row.tell(*lines_of(ran.stdout.decode()))
+            return
+        self.shelf.keep("told", ran.stdout)
+        checked = self.run(["check", *line.split(), "told"])
+        row.tell(f"a certificate: {checked.stdout.decode().rstrip()}")
+
+
+def tell_replies(inputs, last, written):
+    """Tells a line of what was written under each row of input, and the lines that are left under the last."""
+    left = written
+    for row in inputs:
+        reply, feed, rest = left.partition("\n")
+        if feed:
+            row.tell(reply)
+            left = rest
+    last.tell(*lines_of(left))
