@@ -96,8 +96,8 @@ def carry_out_rows(rows, room, shim):
     bench.questions.ask()
 
 
-def carry_out_blocks(rows):
+def carry_out_blocks(rows, room):
     """Carries out the blocks of a file."""
     questions = Questions()
-    put_blocks(rows, questions)
+    put_blocks(rows, questions, room)
     questions.ask()

@@ -1,13 +1,20 @@
 """Files of blocks for the modelled kernel, alone and with the runtime over it.
 
 An empty line stands between any two blocks. The first line of a block says how it is carried out: `kernel`, `runtime` or
-`scripts`, and on which machine (tests/README.md).
+`scripts`, and on which machine (tests/README.md). All blocks are questions to the library, and those of the runtime are
+scripts of `ccell run` besides.
 """
+import json
+import subprocess
+
+from harness.places import CCELL
+from harness.program import LIMIT
 from harness.rows import Fault
 from harness.texts import expanded
 
+WAYS = ("kernel", "runtime", "scripts")
 # The lines of a block that are sent as they are, and told as they are answered.
-SINGLE = ("kernel", "runtime", "scripts", "id", "every-call")
+SINGLE = (*WAYS, "bundle", "id", "every-call")
 
 
 def blocks_of(rows):
@@ -32,51 +39,87 @@ def lines_for(text):
     word, _, rest = text.partition(" ")
     if word == "#":
         return []
-    if word in SINGLE:
-        return [text]
     if word == "bundle":
         name, _, members = rest.partition(" ")
         return [f"bundle {name} {whole_bundle(members)}"]
+    if word in SINGLE:
+        return [text]
     if word == "repeat":
         count, _, part = expanded(rest).partition(" ")
         return [line for i in range(int(count)) for line in part.replace("@", str(i)).split("\n")]
     return expanded(text).split("\n")
 
 
+def is_single(text):
+    """Whether a row of a block is no command."""
+    return text.partition(" ")[0] in SINGLE
+
+
 class Repeats:
     """The answers to the lines of one row, of which the last is told, and how many of the last are alike."""
 
-    def __init__(self, row, left):
-        self.row, self.left, self.last, self.times = row, left, None, 0
+    def __init__(self, row, replies):
+        """The program's replies to the lines, or nothing for each."""
+        self.row, self.replies, self.last, self.times = row, replies, None, 0
 
     def take(self, answer):
-        """Takes the answer to one line. What stands above its own last line is told at once."""
-        self.row.tell(*answer[:-1])
-        last = answer[-1] if answer else None
+        """Takes the answer to the next line. What stands above its last line is told at once, and a reply that is another."""
+        *others, last = answer or [None]
+        self.row.tell(*others)
+        reply = self.replies.pop(0)
+        if reply not in (None, last):
+            self.row.tell(f"by ccell run: {reply}")
         self.last, self.times = last, self.times + 1 if last == self.last else 1
-        self.left -= 1
-        if self.left == 0 and last is not None:
+        if not self.replies and last is not None:
             self.row.tell(last if self.times == 1 else f"{last}, {self.times} times")
 
 
-def put_block(block, questions):
+def status_or_reply(reply):
+    """The status in the reply to `state`, and any other reply as it is."""
+    return json.loads(reply)["status"] if reply.startswith("{") else reply
+
+
+def replies_of_program(block, room):
+    """What `ccell run` replies to the commands of a block, and nothing for each where the block is none of the runtime."""
+    lines = [line for row in block if not is_single(row.text) for line in lines_for(row.text)]
+    way, native, *_ = block[0].text.split(" ")
+    if way != "runtime":
+        return [None] * len(lines)
+    bundles = [lines_for(row.text)[0].split(" ", 2) for row in block if row.text.startswith("bundle ")]
+    for place, (_, name, text) in enumerate(bundles, 1):
+        if name != f"b{place}":
+            raise Fault(f"the bundle {place} of a script is b{place}, and not {name}")
+        with open(f"{room}/{name}", "w", encoding="utf-8") as file:
+            file.write(text)
+    script = "".join(f"{line}\n" for line in lines)
+    words = [CCELL, "run", native, *(name for _, name, _ in bundles)]
+    ran = subprocess.run(words, input=script.encode(), cwd=room, capture_output=True, timeout=LIMIT, check=False)
+    replies = ran.stdout.decode().split("\n")[:-1]
+    if ran.returncode != 0 or len(replies) != len(lines):
+        raise Fault(f"{block[0].text}: ccell run: status {ran.returncode}, {len(replies)} replies to {len(lines)} lines")
+    return [status_or_reply(reply) for reply in replies]
+
+
+def put_block(block, questions, room):
     """Adds the lines of a block to the questions, with the empty line that begins it."""
     questions.put("", lambda answer: None)
+    replies = replies_of_program(block, room)
     for row in block:
         lines = lines_for(row.text)
-        if row.text.partition(" ")[0] in SINGLE:
+        if is_single(row.text):
             questions.put(lines[0], lambda answer, row=row: row.tell(*answer))
             continue
-        repeats = Repeats(row, len(lines))
+        repeats = Repeats(row, replies[: len(lines)])
+        replies = replies[len(lines) :]
         for line in lines:
             questions.put(line, repeats.take)
 
 
-def put_blocks(rows, questions):
+def put_blocks(rows, questions, room):
     """Adds the blocks of a file to the questions."""
     for block in blocks_of(rows):
         if not block or block[0].text.startswith("#"):
             continue
-        if block[0].text.partition(" ")[0] not in SINGLE[:3]:
+        if block[0].text.partition(" ")[0] not in WAYS:
             raise Fault(f"no way to carry out {block[0].text}")
-        put_block(block, questions)
+        put_block(block, questions, room)
