@@ -1,4 +1,6 @@
 """The questions of one file, and where their answers come from."""
+import subprocess
+
 from harness.ask import Questions
 from harness.blocks import put_blocks, whole_bundle
 from harness.program import Program, is_input, words_of
@@ -91,7 +93,7 @@ def carry_out_rows(rows, room, shim):
             inputs.append(below)
         try:
             bench.carry_out(row, inputs)
-        except (Fault, ValueError) as fault:
+        except (Fault, ValueError, subprocess.SubprocessError) as fault:
             row.tell(f"? {fault}")
     bench.questions.ask()
 

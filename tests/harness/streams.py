@@ -15,6 +15,7 @@ from harness.program import LIMIT, words_of
 FULL = ("from", "alone", "none")
 # How many bytes a call moves at most: as many as there are, or one.
 AT_ONCE, BY_BYTE = 2**63, 1
+STEP_TEXT = {AT_ONCE: "all bytes a call", BY_BYTE: "one byte a call"}
 
 
 @dataclass
@@ -83,8 +84,17 @@ class Streams:
 
 def first_wrong(is_right, ways):
     """The first of the ways that is not right, if there is one."""
-    with ThreadPoolExecutor(os.cpu_count()) as pool:
+    pool = ThreadPoolExecutor(os.cpu_count())
+    try:
         return next((way for way, right in zip(ways, pool.map(lambda way: is_right(*way), ways)) if not right), None)
+    finally:
+        pool.shutdown(cancel_futures=True)
+
+
+def told(wrong, text):
+    """The way that is not right: at which place, how many bytes a call moves, and what fails there."""
+    step, how, place = wrong
+    return f"{text.format(place)} ({STEP_TEXT[step]}, {how})"
 
 
 def outputs(case):
@@ -98,8 +108,9 @@ def outputs(case):
         is_read_on = step == BY_BYTE and ended.read > len(line)
         return ended.stopped(whole[:room], f"ccell: write failed after {room} bytes\n") and not is_read_on
 
-    wrong = first_wrong(is_right, [(step, full, room) for step in (AT_ONCE, BY_BYTE) for full in FULL for room in range(len(whole))])
-    return f"wrong with room for {wrong[2]} bytes: {wrong[1]}, step {wrong[0]}" if wrong else f"{len(whole)} beginnings"
+    ways = [(step, full, room) for step in (AT_ONCE, BY_BYTE) for full in FULL for room in range(len(whole))]
+    wrong = first_wrong(is_right, ways)
+    return told(wrong, "wrong with room for {} bytes") if wrong else f"{len(whole)} beginnings"
 
 
 def inputs(case):
@@ -117,7 +128,7 @@ def inputs(case):
     at_once = [(AT_ONCE, how, calls) for how in ("from", "alone") for calls in range(min(last, 1) + 1)]
     by_byte = [(BY_BYTE, how, calls) for how in ("from", "alone") for calls in range(last + 1)]
     wrong = first_wrong(is_right, at_once + by_byte)
-    return f"wrong after {wrong[2]} calls: {wrong[1]}, step {wrong[0]}" if wrong else f"{last + 1} calls"
+    return told(wrong, "wrong after {} calls") if wrong else f"{last + 1} calls"
 
 
 def ends(case):
