@@ -7,7 +7,7 @@ from harness.program import Program, is_input, words_of
 from harness.rows import Fault
 from harness.shelf import Shelf, assembled, split_in
 from harness.streams import Streams
-from harness.texts import bytes_of, expanded, grouped, written_out
+from harness.texts import bytes_of, grouped, is_digits, written_out
 
 # Questions whose words are files, but for the first where that is a machine.
 ON_FILES = ("nodes", "nodes-flipped", "written", "chained", "claimed")
@@ -76,8 +76,7 @@ class Bench:
 def tell_bytes(row, answer):
     """Tells an answer whose first line is bytes, or says why there are none."""
     first, *others = answer
-    is_bytes = all(digit in "0123456789abcdef" for digit in first)
-    row.tell(grouped(bytes.fromhex(first)) if is_bytes else first, *others)
+    row.tell(grouped(bytes.fromhex(first)) if is_digits(first) else first, *others)
 
 
 def carry_out_rows(rows, room, shim):

@@ -3,7 +3,7 @@ import os
 
 from harness.ask import answers
 from harness.rows import Fault
-from harness.texts import bytes_of, expanded, number, written_out
+from harness.texts import bytes_of, expanded, is_digits, number, written_out
 
 
 def split_in(text, count):
@@ -57,7 +57,7 @@ class Shelf:
         if kind == "text":
             return expanded(rest).encode()
         if kind == "program":
-            return bytes.fromhex(self.programs[rest])
+            return self.assembled(rest)
         if kind == "changed":
             other, place, digits = split_in(rest, 3)
             return changed(self.bytes_of(other), number(place), bytes_of(digits))
@@ -65,6 +65,12 @@ class Shelf:
             other, count = split_in(rest, 2)
             return beginning(self.bytes_of(other), number(count))
         raise Fault(f"no kind of file: {kind}")
+
+    def assembled(self, listing):
+        """The bytes of a listing."""
+        if not is_digits(self.programs[listing]):
+            raise Fault(f"no listing: {self.programs[listing]}")
+        return bytes.fromhex(self.programs[listing])
 
     def keep(self, name, data):
         """Keeps bytes as a file of this name. What stands for no bytes is a folder, which no program can read."""

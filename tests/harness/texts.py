@@ -29,6 +29,11 @@ def bytes_of(text):
     return bytes(data)
 
 
+def is_digits(text):
+    """Whether a text is bytes in hexadecimal digits."""
+    return re.fullmatch("([0-9a-f]{2})*", text) is not None
+
+
 def grouped(data):
     """Bytes as words of digits, in groups of eight bytes, where `N*GROUP` stands for so many times one."""
     groups = (data[i : i + 8] for i in range(0, len(data), 8))
