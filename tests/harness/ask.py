@@ -5,7 +5,7 @@ from harness.places import ASK
 from harness.rows import Fault
 
 # The seconds that all questions of one file may take.
-LIMIT = 120
+LIMIT = 600
 
 
 def answers(questions):

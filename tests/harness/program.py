@@ -7,7 +7,7 @@ from harness.rows import Fault
 from harness.texts import expanded, grouped, lines_of
 
 # The seconds that one run may take.
-LIMIT = 60
+LIMIT = 120
 
 
 def words_of(line):
