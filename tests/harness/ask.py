@@ -20,7 +20,8 @@ def answers(questions):
         else:
             answer.append(line)
     if ran.returncode != 0 or len(told) != len(questions):
-        raise Fault(f"ask: status {ran.returncode}, {len(told)} answers to {len(questions)} lines: {ran.stderr.decode()}")
+        said = ran.stderr.decode()[:400].rstrip()
+        raise Fault(f"ask: status {ran.returncode}, {len(told)} answers to {len(questions)} lines: {said}")
     return told
 
 
