@@ -101,8 +101,9 @@ def replies_of_program(block, room):
 
 
 def put_block(block, questions, room):
-    """Adds the lines of a block to the questions, with the empty line that begins it."""
-    questions.put("", lambda answer: None)
+    """Adds the lines of a block to the questions, with an empty line behind the block before it."""
+    if questions.lines:
+        questions.put("", lambda answer: None)
     replies = replies_of_program(block, room)
     for row in block:
         lines = lines_for(row.text)
