@@ -8,7 +8,8 @@ use cert_form::{Claim, Kind};
 use cert_state::{AVal, Lit};
 
 /// Changes a node: what it says of the record is dropped, added or weakened, an edge led elsewhere, the halves of a split
-/// exchanged, the node itself exchanged with another, or a value stated of a register or of a scratch word.
+/// exchanged, the node itself exchanged with another, or a value stated of a register or of a scratch word. Where it says
+/// nothing or has no edge to change, it stays.
 pub fn change(dice: &mut Dice, nodes: &mut Vec<Said>) -> Result<()> {
     let count = nodes.len() as u64;
     if count == 0 {
@@ -24,10 +25,22 @@ pub fn change(dice: &mut Dice, nodes: &mut Vec<Said>) -> Result<()> {
         1 | 2 => last_split(nodes).unwrap_or(i),
         _ => i,
     };
-    match nodes.get_mut(changed) {
-        Some(node) => change_node(dice, node, u32::try_from(other)?),
-        None => Ok(()),
+    let Some(said) = nodes.get_mut(changed) else {
+        return Ok(());
+    };
+    match dice.below(8) {
+        0 => drop_claim(dice, &mut said.claims),
+        1 => said.claims.push(draw_claim(dice))?,
+        2 => {
+            drop_claim(dice, &mut said.claims);
+            said.claims.push(draw_claim(dice))?;
+        }
+        3 => weaken_one(dice, &mut said.claims),
+        4 | 5 => said.kind = changed_kind(dice, said.kind, u32::try_from(other)?),
+        6 => said.regs.a = draw_value(dice),
+        _ => said.regs.scratch[1] = draw_value(dice),
     }
+    Ok(())
 }
 
 // The place of the last split: there are few.
@@ -41,29 +54,17 @@ fn last_split(nodes: &[Said]) -> Option<usize> {
     found
 }
 
-// Changes one node. Where it says nothing or has no edge to change, it stays.
-fn change_node(dice: &mut Dice, said: &mut Said, other: u32) -> Result<()> {
-    match dice.below(8) {
-        0 => drop_claim(dice, &mut said.claims),
-        1 => said.claims.push(draw_claim(dice))?,
-        2 => {
-            drop_claim(dice, &mut said.claims);
-            said.claims.push(draw_claim(dice))?;
-        }
-        3 => weaken_one(dice, &mut said.claims),
-        4 | 5 => said.kind = changed_kind(dice, said.kind, other),
-        6 => said.regs.a = draw_value(dice),
-        _ => said.regs.scratch[1] = draw_value(dice),
-    }
-    Ok(())
-}
-
 // A claim: of a word, of one of the two rules that a profile mostly has at most, or of its first condition.
 fn draw_claim(dice: &mut Dice) -> Claim {
     let rule = dice.pick(&[0, 0, 0, 0, 1, 1, 1, 2]);
-    match dice.below(3) {
-        0 => Claim::Knows(draw_literal(dice)),
-        1 => Claim::Out(rule),
+    let word = dice.pick(&[0, 0, 0, 1, 1, 4, 5, 6]);
+    let first = dice.pick(&HALVES);
+    let second = dice.pick(&HALVES);
+    match dice.below(9) {
+        0 => Claim::Knows(Lit::In(word, first, second)),
+        1 => Claim::Knows(Lit::Bits(word, first, first & second)),
+        2 => Claim::Knows(Lit::NotBits(word, first, first & second)),
+        3..=5 => Claim::Out(rule),
         _ => Claim::Met(rule, dice.pick(&[0, 0, 0, 0, 0, 1, 1, 2])),
     }
 }
@@ -91,17 +92,6 @@ fn weakened(literal: Lit, bits: u32) -> Lit {
         Lit::In(w, low, high) => Lit::In(w, low & bits, high | bits),
         Lit::Bits(w, mask, datum) => Lit::Bits(w, mask & bits, datum & bits),
         Lit::NotBits(w, mask, datum) => Lit::NotBits(w, mask | bits, datum),
-    }
-}
-
-fn draw_literal(dice: &mut Dice) -> Lit {
-    let word = dice.pick(&[0, 0, 0, 1, 1, 4, 5, 6]);
-    let first = dice.pick(&HALVES);
-    let second = dice.pick(&HALVES);
-    match dice.below(3) {
-        0 => Lit::In(word, first, second),
-        1 => Lit::Bits(word, first, first & second),
-        _ => Lit::NotBits(word, first, first & second),
     }
 }
 

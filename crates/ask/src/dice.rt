@@ -13,21 +13,17 @@ impl Dice {
         Dice { state: seed }
     }
 
-    /// The next number.
-    pub fn next_number(&mut self) -> u64 {
-        self.state = self
-            .state
-            .wrapping_mul(6364136223846793005)
-            .wrapping_add(1442695040888963407);
-        self.state ^ self.state >> 33
-    }
-
     /// The next number, below a limit.
     pub fn below(&mut self, limit: u64) -> u64
         requires { 0 < limit }
         ensures { result < limit }
     {
-        (self.next_number() >> 11) % limit
+        self.state = self
+            .state
+            .wrapping_mul(6364136223846793005)
+            .wrapping_add(1442695040888963407);
+        let mixed = self.state ^ self.state >> 33;
+        (mixed >> 11) % limit
     }
 
     /// One of these.

@@ -64,31 +64,38 @@ pub fn draw_profile(
 ) -> Result<Profile> {
     let mut rules: Vec<Rule> = Vec::new(alloc);
     for _ in 0..entries {
-        add_entry(&mut rules, dice, machines, most)?;
+        let arch = machines[dice.below(2) as usize];
+        add_entry(&mut rules, dice, arch, most)?;
     }
     let default = dice.pick(&WORDS);
     Ok(Profile::build(alloc, machines[0], &machines, default, rules)?)
 }
 
 // Adds a rule, or two of one word with opposite conditions.
-fn add_entry(rules: &mut Vec<Rule>, dice: &mut Dice, machines: [Arch; 2], most: u8) -> Result<()> {
-    let arch = machines[dice.below(2) as usize];
-    if dice.below(2) == 0 {
-        return add(rules, draw_rule(dice, arch, most)?);
-    }
+fn add_entry(rules: &mut Vec<Rule>, dice: &mut Dice, arch: Arch, most: u8) -> Result<()> {
     let nr = dice.pick(&NUMBERS);
-    let index = dice.below(2) as u8;
-    let value = draw_value(dice);
     let word = dice.pick(&WORDS);
-    let (op, opposite) = dice.pick(&PAIRS);
-    add(
-        rules,
-        rule_on(arch, nr, Cond::new(index, op, value, 0), word)?,
-    )?;
-    add(
-        rules,
-        rule_on(arch, nr, Cond::new(index, opposite, value, 0), word)?,
-    )
+    if dice.below(2) == 0 {
+        let index = dice.below(2) as u8;
+        let value = draw_value(dice);
+        let (op, opposite) = dice.pick(&PAIRS);
+        add(
+            rules,
+            rule_on(arch, nr, Cond::new(index, op, value, 0), word)?,
+        )?;
+        return add(
+            rules,
+            rule_on(arch, nr, Cond::new(index, opposite, value, 0), word)?,
+        );
+    }
+    let mut conds = ArrayVec::new();
+    for index in 0..dice.pick(&[0u8, 0, 0, 1, 1, 2, 3, 6]).min(most) {
+        let (op, _) = dice.pick(&PAIRS);
+        let value = draw_value(dice);
+        let datum = value & draw_value(dice) & op.mask(value);
+        conds.try_push(Cond::new(index, op, value, datum).context("a condition")?)?;
+    }
+    add(rules, Rule::new(arch, nr, conds, word).context("a rule")?)
 }
 
 // Adds a rule, unless a record may match it and one of these with another word.
@@ -102,18 +109,6 @@ fn add(rules: &mut Vec<Rule>, rule: Rule) -> Result<()> {
     Ok(())
 }
 
-fn draw_rule(dice: &mut Dice, arch: Arch, most: u8) -> Result<Rule> {
-    let mut conds = ArrayVec::new();
-    let count = dice.pick(&[0u8, 0, 0, 1, 1, 2, 3, 6]).min(most);
-    for index in 0..count {
-        let (op, _) = dice.pick(&PAIRS);
-        let value = draw_value(dice);
-        let datum = value & draw_value(dice) & op.mask(value);
-        conds.try_push(Cond::new(index, op, value, datum).context("a condition")?)?;
-    }
-    Rule::new(arch, dice.pick(&NUMBERS), conds, dice.pick(&WORDS)).context("a rule")
-}
-
 // The rule with one condition.
 fn rule_on(arch: Arch, nr: u32, cond: Option<Cond>, word: Word) -> Result<Rule> {
     let mut conds = ArrayVec::new();
@@ -123,7 +118,7 @@ fn rule_on(arch: Arch, nr: u32, cond: Option<Cond>, word: Word) -> Result<Rule> 
 
 fn draw_value(dice: &mut Dice) -> u64 {
     if dice.below(8) == 0 {
-        return dice.next_number();
+        return dice.below(u64::MAX) << 11 | dice.below(1 << 11);
     }
     let high = dice.pick(&HALVES);
     joined(high, dice.pick(&HALVES))

@@ -23,27 +23,12 @@ impl Grid {
     pub fn first_difference(&self, accepted: &Accepted<'_>, profile: &Profile) -> Option<Record> {
         for arch in [Arch::X86_64.token(), Arch::Aarch64.token(), 0] {
             for nr in &self.numbers {
-                let found = self.difference_at(accepted, profile, arch, *nr);
-                if found.is_some() {
-                    return found;
+                for args in &self.arguments {
+                    let call = record(*nr, arch, *args);
+                    if verdict(accepted, &call) != profile.decide(&call) {
+                        return Some(call);
+                    }
                 }
-            }
-        }
-        None
-    }
-
-    // The first one with this token and number.
-    fn difference_at(
-        &self,
-        accepted: &Accepted<'_>,
-        profile: &Profile,
-        arch: u32,
-        nr: u32,
-    ) -> Option<Record> {
-        for args in &self.arguments {
-            let call = record(nr, arch, *args);
-            if verdict(accepted, &call) != profile.decide(&call) {
-                return Some(call);
             }
         }
         None

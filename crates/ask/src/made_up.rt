@@ -1,4 +1,4 @@
-//! Random profiles, and certificates made by changing accepted ones, with a slow checker beside the check.
+//! Certificates made by changing accepted ones, with a slow checker beside the check.
 ghost use Rattle.std.specs.Prelude.{◌<◌};
 
 use crate::cases::{first_wrong, judge};
@@ -7,15 +7,13 @@ use crate::changed::change;
 use crate::dice::Dice;
 use crate::drawn::{draw_filter, draw_profile};
 use crate::grid::Grid;
-use crate::random::try_profiles;
 use crate::tally::Tally;
-use crate::words::{first, number, tell};
+use crate::words::{first, number};
 use anyhow::Result;
 use bpf_insn::Program;
 use call_tables::Arch;
 use cert_form::Claim;
 use certify::certify;
-use profile::Profile;
 use std::alloc::Global;
 
 // How many certificates are made of an accepted one.
@@ -33,35 +31,27 @@ const REFUSALS: [&str; 5] = [
 // What is counted where the checker says yes to a filter that answers a record another word than the profile.
 const WRONG: &str = "a yes that is wrong";
 
-/// Adds the answer to a question `SEED COUNT` on what is drawn, and says whether it is one.
+/// Adds the answer to `made-up SEED COUNT`, and says whether it is one. Certificates are made of those of random small
+/// filters: they have to get each answer, more than a fifth of them a yes, and none of them wrongly; else it is told how often
+/// each answer came.
 pub fn answer(out: &mut String, alloc: Global, word: &str, rest: &str) -> Result<bool> {
-    if word != "random" && word != "made-up" {
+    if word != "made-up" {
         return Ok(false);
     }
     let (seed, count) = first(rest);
     let mut dice = Dice::new(number(seed)?);
     let count = number(count)?;
-    if word == "random" {
-        try_profiles(alloc, &mut dice, count)?;
-        tell(out, format_args!("{count} profiles, all yes, all agree"))?;
+    let grid = Grid::of_halves(alloc)?;
+    let mut tally = Tally::new(alloc);
+    for _ in 0..count {
+        try_filter(alloc, &mut dice, &grid, &mut tally)?;
+    }
+    if are_as_wanted(&tally) {
+        out.push_str("each answer comes, more than a fifth are yes, none is wrong\n")?;
     } else {
-        tell_made_up(out, alloc, &mut dice, count)?;
+        tally.tell(out)?;
     }
     Ok(true)
-}
-
-// Makes certificates of those of random small filters, and tells whether they get each answer, more than a fifth of them a
-// yes, and none of them wrongly; else how often each answer came.
-fn tell_made_up(out: &mut String, alloc: Global, dice: &mut Dice, count: u64) -> Result<()> {
-    let mut tally = Tally::new(alloc);
-    try_filters(alloc, dice, count, &mut tally)?;
-    if are_as_wanted(&tally) {
-        return tell(
-            out,
-            "each answer comes, more than a fifth are yes, none is wrong",
-        );
-    }
-    tally.tell(out)
 }
 
 fn are_as_wanted(tally: &Tally) -> bool {
@@ -71,15 +61,6 @@ fn are_as_wanted(tally: &Tally) -> bool {
         }
     }
     tally.of("yes") > tally.all() / 5 && tally.of(WRONG) == 0
-}
-
-// Counts the answers to certificates made of those of so many random filters.
-fn try_filters(alloc: Global, dice: &mut Dice, count: u64, tally: &mut Tally) -> Result<()> {
-    let grid = Grid::of_halves(alloc)?;
-    for _ in 0..count {
-        try_filter(alloc, dice, &grid, tally)?;
-    }
-    Ok(())
 }
 
 // Counts the answers to certificates made of that of a random filter, if it has one.
@@ -95,26 +76,10 @@ fn try_filter(alloc: Global, dice: &mut Dice, grid: &Grid, tally: &mut Tally) ->
     let Ok(cert) = certify(alloc, &profile, &Program::view(&filter)?) else {
         return Ok(());
     };
-    let is_yes = try_changes(alloc, dice, tally, &profile, &filter, &cert)?;
-    if is_yes && first_wrong(grid, &profile, &filter)?.is_some() {
-        tally.count(alloc, WRONG)?;
-    }
-    Ok(())
-}
-
-// Counts the answers to certificates made of one, and says whether one is yes.
-fn try_changes(
-    alloc: Global,
-    dice: &mut Dice,
-    tally: &mut Tally,
-    profile: &Profile,
-    filter: &[u8],
-    cert: &[u8],
-) -> Result<bool> {
     let mut is_yes = false;
     for _ in 0..MADE {
-        let made = made_of(alloc, dice, cert)?;
-        match judge(alloc, profile, filter, &made) {
+        let made = made_of(alloc, dice, &cert)?;
+        match judge(alloc, &profile, &filter, &made) {
             Ok(_) => {
                 is_yes = true;
                 tally.count(alloc, "yes")?;
@@ -122,7 +87,10 @@ fn try_changes(
             Err(e) => tally.count(alloc, format_args!("no {e}"))?,
         }
     }
-    Ok(is_yes)
+    if is_yes && first_wrong(grid, &profile, &filter)?.is_some() {
+        tally.count(alloc, WRONG)?;
+    }
+    Ok(())
 }
 
 // A certificate with none, one or two changes, in one of the forms.

@@ -29,7 +29,7 @@ mod words;
 use crate::filters::Filters;
 use crate::profiles::Profiles;
 use crate::words::{first, tell};
-use anyhow::{Context, Result};
+use anyhow::Result;
 use std::io;
 
 // What earlier lines made.
@@ -40,32 +40,27 @@ struct Desk {
 }
 
 impl Desk {
-    // Adds the answer to a question, from the module whose question it is.
-    fn answer(&mut self, rt: &HostRuntime, out: &mut String, word: &str, rest: &str) -> Result<()> {
-        let alloc = rt.alloc();
-        let is_known = self.profiles.answer(out, alloc, word, rest)?
-            || self.filters.answer(out, alloc, word, rest)?
-            || rules::answer(out, alloc, word, rest)?
-            || verdicts::answer(out, alloc, word, rest)?
-            || calls::answer(out, word, rest)?
-            || certificates::answer(rt, out, word, rest)?
-            || cases::answer(rt, out, word, rest)?
-            || made_up::answer(out, alloc, word, rest)?;
-        if is_known {
-            return Ok(());
-        }
-        tell(out, "? no word of this program")
-    }
-
-    // Adds the answers to lines between two that are empty.
+    // Adds the answers to lines between two that are empty, each from the module whose question it is.
     fn tell_lines(&mut self, rt: &HostRuntime, out: &mut String, block: &str) -> Result<()> {
+        let alloc = rt.alloc();
         for line in block.lines() {
             let (word, rest) = first(line);
-            if word != "" && word != "#" {
-                self.answer(rt, out, word, rest)
-                    .context(format_args!("at {line}"))?;
-            }
-            tell(out, ".")?;
+            let is_known = word == ""
+                || word == "#"
+                || self.profiles.answer(out, alloc, word, rest)?
+                || self.filters.answer(out, alloc, word, rest)?
+                || rules::answer(out, alloc, word, rest)?
+                || verdicts::answer(out, alloc, word, rest)?
+                || calls::answer(out, word, rest)?
+                || certificates::answer(rt, out, word, rest)?
+                || cases::answer(rt, out, word, rest)?
+                || random::answer(out, alloc, word, rest)?
+                || made_up::answer(out, alloc, word, rest)?;
+            out.push_str(if is_known {
+                ".\n"
+            } else {
+                "? no word of this program\n.\n"
+            })?;
         }
         Ok(())
     }

@@ -6,6 +6,7 @@ use crate::dice::Dice;
 use crate::drawn::draw_profile;
 use crate::grid::Grid;
 use crate::profiles::certified;
+use crate::words::{first, number, tell};
 use anyhow::{Context, Result, bail};
 use call_tables::Arch;
 use profile::Profile;
@@ -27,16 +28,22 @@ const MACHINES: [[Arch; 2]; 8] = [
     [A, X],
 ];
 
-/// Fails where one of so many random profiles, of one machine or both and of one to twelve entries, is not certified or
-/// does not agree with its filter.
-pub fn try_profiles(alloc: Global, dice: &mut Dice, count: u64) -> Result<()> {
-    for i in 0..count {
+/// Adds the answer to `random SEED COUNT`, and says whether it is one. It fails where one of so many random profiles, of one
+/// machine or both and of one to twelve entries, is not certified or does not agree with its filter.
+pub fn answer(out: &mut String, alloc: Global, word: &str, rest: &str) -> Result<bool> {
+    if word != "random" {
+        return Ok(false);
+    }
+    let (seed, count) = first(rest);
+    let mut dice = Dice::new(number(seed)?);
+    for i in 0..number(count)? {
         let machines = dice.pick(&MACHINES);
         let entries = dice.below(12).wrapping_add(1);
-        let profile = draw_profile(alloc, dice, machines, entries, 6)?;
+        let profile = draw_profile(alloc, &mut dice, machines, entries, 6)?;
         try_profile(alloc, &profile).context(format_args!("the profile {i}"))?;
     }
-    Ok(())
+    tell(out, format_args!("{count} profiles, all yes, all agree"))?;
+    Ok(true)
 }
 
 // Fails where the compiled filter is not certified, or does not answer what the profile says.

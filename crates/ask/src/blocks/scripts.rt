@@ -101,8 +101,20 @@ pub fn tell_scripts(
     let [seed, count, commands, _] = words(rest);
     let mut dice = Dice::new(number(seed)?);
     let orders = number(commands)?;
+    let mut script = String::new(alloc);
     for _ in 0..number(count)? {
-        try_script(alloc, native, bundles, &mut dice, orders)?;
+        script.clear();
+        script.push_str(START)?;
+        for _ in 0..orders {
+            add_line(&mut script, &mut dice)?;
+        }
+        tell_runtime(
+            &mut String::new(alloc),
+            alloc,
+            native,
+            bundles,
+            script.as_str(),
+        )?;
     }
     for _ in block.lines().skip(1) {
         tell(out, ".")?;
@@ -111,20 +123,4 @@ pub fn tell_scripts(
         out,
         format_args!("{count} scripts of {commands} commands, alike over both kernels\n."),
     )
-}
-
-// Fails where both kernels reply otherwise to a random script of so many commands.
-fn try_script(
-    alloc: Global,
-    native: Arch,
-    bundles: &[Made<'_>],
-    dice: &mut Dice,
-    commands: u64,
-) -> Result<()> {
-    let mut script = String::from_str(alloc, START)?;
-    for _ in 0..commands {
-        add_line(&mut script, dice)?;
-    }
-    let mut told = String::new(alloc);
-    tell_runtime(&mut told, alloc, native, bundles, script.as_str())
 }
