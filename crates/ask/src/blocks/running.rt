@@ -45,20 +45,21 @@ fn tell_id<K: Kernel>(out: &mut String, runtime: &Runtime<'_, K>, place: &str) -
     tell(out, runtime.id_at(place).unwrap_or("none"))
 }
 
-// The reply to the order of a line, of both kernels.
-fn reply_of_both<'a>(
+// Adds the reply to the order of a line, of both kernels.
+fn tell_order<'a>(
+    out: &mut String,
     alloc: Global,
     native: Arch,
     bundles: &'a [Made<'_>],
     lists: &mut Runtime<'a, TaskTable>,
     tree: &mut Runtime<'a, SharedTable>,
     line: &str,
-) -> Result<Reply> {
+) -> Result<()> {
     let order = Order::read(alloc, native, line)?;
     let reply = reply_to(alloc, lists, bundles, &order)?;
     let other = reply_to(alloc, tree, bundles, &order)?;
     ensure!(reply == other, "the kernels differ at {line}");
-    Ok(reply)
+    tell_reply(out, reply)
 }
 
 // Adds the answer to a line.
@@ -75,10 +76,7 @@ fn tell_line<'a>(
     match word {
         "#" | "runtime" | "scripts" | "bundle" => {}
         "id" => tell_id(out, lists, rest)?,
-        _ => {
-            let reply = reply_of_both(alloc, native, bundles, lists, tree, line)?;
-            tell_reply(out, reply)?;
-        }
+        _ => tell_order(out, alloc, native, bundles, lists, tree, line)?,
     }
     tell(out, ".")
 }
