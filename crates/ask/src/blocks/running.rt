@@ -7,7 +7,7 @@ use crate::blocks::replies::tell_reply;
 use crate::words::{first, number, tell};
 use anyhow::{Result, ensure};
 use call_tables::Arch;
-use lifecycle::{Reply, Runtime};
+use lifecycle::Runtime;
 use processes::{Kernel, TaskTable};
 use script::Request;
 use shared_table::SharedTable;
@@ -18,25 +18,27 @@ fn id_of(field: &str) -> &str {
     if field == "''" { "" } else { field }
 }
 
-// The reply to an order.
-fn reply_to<'a, K: Kernel>(
+// Adds the reply to an order.
+fn tell_order<'a, K: Kernel>(
+    out: &mut String,
     alloc: Global,
     runtime: &mut Runtime<'a, K>,
     bundles: &'a [Made<'_>],
     order: &Order<'_>,
-) -> Result<Reply> {
-    match order.request {
+) -> Result<()> {
+    let reply = match order.request {
         Request::Create { id, bundle } => {
-            Ok(runtime.create(id_of(id), found(bundles, bundle)?.checked(alloc)?)?)
+            runtime.create(id_of(id), found(bundles, bundle)?.checked(alloc)?)?
         }
-        Request::Start { id } => Ok(runtime.start(id_of(id))?),
-        Request::Kill { id, signal } => Ok(runtime.kill(id_of(id), signal)),
-        Request::Delete { id } => Ok(runtime.delete(id_of(id))),
-        Request::State { id } => Ok(runtime.state(id_of(id))),
+        Request::Start { id } => runtime.start(id_of(id))?,
+        Request::Kill { id, signal } => runtime.kill(id_of(id), signal),
+        Request::Delete { id } => runtime.delete(id_of(id)),
+        Request::State { id } => runtime.state(id_of(id)),
         Request::Call { id, task, .. } => {
-            Ok(runtime.call(id_of(id), task, &order.rec, order.program.as_deref())?)
+            runtime.call(id_of(id), task, &order.rec, order.program.as_deref())?
         }
-    }
+    };
+    tell_reply(out, reply)
 }
 
 // Adds the id at a place.
@@ -45,40 +47,55 @@ fn tell_id<K: Kernel>(out: &mut String, runtime: &Runtime<'_, K>, place: &str) -
     tell(out, runtime.id_at(place).unwrap_or("none"))
 }
 
-// Adds the reply to the order of a line, of both kernels.
-fn tell_order<'a>(
-    out: &mut String,
+// The text of the reply to an order.
+fn reply_text<'a, K: Kernel>(
     alloc: Global,
-    native: Arch,
+    runtime: &mut Runtime<'a, K>,
     bundles: &'a [Made<'_>],
-    lists: &mut Runtime<'a, TaskTable>,
-    tree: &mut Runtime<'a, SharedTable>,
-    line: &str,
-) -> Result<()> {
-    let order = Order::read(alloc, native, line)?;
-    let reply = reply_to(alloc, lists, bundles, &order)?;
-    let other = reply_to(alloc, tree, bundles, &order)?;
-    ensure!(reply == other, "the kernels differ at {line}");
-    tell_reply(out, reply)
+    order: &Order<'_>,
+) -> Result<String> {
+    let mut text = String::new(alloc);
+    tell_reply(&mut text, reply_to(alloc, runtime, bundles, order)?)?;
+    Ok(text)
 }
 
 // Adds the answer to a line.
-fn tell_line<'a>(
+fn tell_line<'a, K: Kernel>(
     out: &mut String,
     alloc: Global,
     native: Arch,
     bundles: &'a [Made<'_>],
-    lists: &mut Runtime<'a, TaskTable>,
-    tree: &mut Runtime<'a, SharedTable>,
+    runtime: &mut Runtime<'a, K>,
     line: &str,
 ) -> Result<()> {
     let (word, rest) = first(line);
     match word {
         "#" | "runtime" | "scripts" | "bundle" => {}
-        "id" => tell_id(out, lists, rest)?,
-        _ => tell_order(out, alloc, native, bundles, lists, tree, line)?,
+        "id" => tell_id(out, runtime, rest)?,
+        _ => {
+            let order = Order::read(alloc, native, line)?;
+            tell_order(out, alloc, runtime, bundles, &order)?;
+        }
     }
     tell(out, ".")
+}
+
+// Adds the answers over a kernel to which no container is admitted.
+fn tell_run<'a, K: Kernel + Drop>(
+    out: &mut String,
+    alloc: Global,
+    kernel: K,
+    native: Arch,
+    bundles: &'a [Made<'_>],
+    block: &str,
+) -> Result<()>
+    requires { (id : List ℕ) → K.processes kernel id ≡ None }
+{
+    let mut runtime = Runtime::new(alloc, kernel);
+    for line in block.lines() {
+        tell_line(out, alloc, native, bundles, &mut runtime, line)?;
+    }
+    Ok(())
 }
 
 /// Adds a block's answers, of both kernels. It fails where they differ.
@@ -89,10 +106,16 @@ pub fn tell_runtime(
     bundles: &[Made<'_>],
     block: &str,
 ) -> Result<()> {
-    let mut lists = Runtime::new(alloc, TaskTable::new(alloc));
-    let mut tree = Runtime::new(alloc, SharedTable::new(alloc));
-    for line in block.lines() {
-        tell_line(out, alloc, native, bundles, &mut lists, &mut tree, line)?;
-    }
+    let mut own = String::new(alloc);
+    tell_run(
+        &mut own,
+        alloc,
+        TaskTable::new(alloc),
+        native,
+        bundles,
+        block,
+    )?;
+    tell_run(out, alloc, SharedTable::new(alloc), native, bundles, block)?;
+    ensure!(out.as_str().ends_with(own.as_str()), "the kernels differ");
     Ok(())
 }
