@@ -7,7 +7,7 @@ use crate::blocks::replies::tell_reply;
 use crate::words::{first, number, tell};
 use anyhow::{Result, ensure};
 use call_tables::Arch;
-use lifecycle::Runtime;
+use lifecycle::{Reply, Runtime};
 use processes::{Kernel, TaskTable};
 use script::Request;
 use shared_table::SharedTable;
@@ -18,27 +18,25 @@ fn id_of(field: &str) -> &str {
     if field == "''" { "" } else { field }
 }
 
-// Adds the reply to an order.
-fn tell_order<'a, K: Kernel>(
-    out: &mut String,
+// The reply to an order.
+fn reply_to<'a, K: Kernel>(
     alloc: Global,
     runtime: &mut Runtime<'a, K>,
     bundles: &'a [Made<'_>],
     order: &Order<'_>,
-) -> Result<()> {
-    let reply = match order.request {
+) -> Result<Reply> {
+    match order.request {
         Request::Create { id, bundle } => {
-            runtime.create(id_of(id), found(bundles, bundle)?.checked(alloc)?)?
+            Ok(runtime.create(id_of(id), found(bundles, bundle)?.checked(alloc)?)?)
         }
-        Request::Start { id } => runtime.start(id_of(id))?,
-        Request::Kill { id, signal } => runtime.kill(id_of(id), signal),
-        Request::Delete { id } => runtime.delete(id_of(id)),
-        Request::State { id } => runtime.state(id_of(id)),
+        Request::Start { id } => Ok(runtime.start(id_of(id))?),
+        Request::Kill { id, signal } => Ok(runtime.kill(id_of(id), signal)),
+        Request::Delete { id } => Ok(runtime.delete(id_of(id))),
+        Request::State { id } => Ok(runtime.state(id_of(id))),
         Request::Call { id, task, .. } => {
-            runtime.call(id_of(id), task, &order.rec, order.program.as_deref())?
+            Ok(runtime.call(id_of(id), task, &order.rec, order.program.as_deref())?)
         }
-    };
-    tell_reply(out, reply)
+    }
 }
 
 // Adds the id at a place.
@@ -59,43 +57,44 @@ fn reply_text<'a, K: Kernel>(
     Ok(text)
 }
 
-// Adds the answer to a line.
-fn tell_line<'a, K: Kernel>(
+// Adds the reply to the order of a line, of both kernels.
+fn tell_order<'a>(
     out: &mut String,
     alloc: Global,
     native: Arch,
     bundles: &'a [Made<'_>],
-    runtime: &mut Runtime<'a, K>,
+    lists: &mut Runtime<'a, TaskTable>,
+    tree: &mut Runtime<'a, SharedTable>,
+    line: &str,
+) -> Result<()> {
+    let order = Order::read(alloc, native, line)?;
+    let reply = reply_text(alloc, lists, bundles, &order)?;
+    let other = reply_text(alloc, tree, bundles, &order)?;
+    ensure!(
+        reply.as_str() == other.as_str(),
+        "the kernels differ at {line}"
+    );
+    out.push_str(reply.as_str())?;
+    Ok(())
+}
+
+// Adds the answer to a line.
+fn tell_line<'a>(
+    out: &mut String,
+    alloc: Global,
+    native: Arch,
+    bundles: &'a [Made<'_>],
+    lists: &mut Runtime<'a, TaskTable>,
+    tree: &mut Runtime<'a, SharedTable>,
     line: &str,
 ) -> Result<()> {
     let (word, rest) = first(line);
     match word {
         "#" | "runtime" | "scripts" | "bundle" => {}
-        "id" => tell_id(out, runtime, rest)?,
-        _ => {
-            let order = Order::read(alloc, native, line)?;
-            tell_order(out, alloc, runtime, bundles, &order)?;
-        }
+        "id" => tell_id(out, lists, rest)?,
+        _ => tell_order(out, alloc, native, bundles, lists, tree, line)?,
     }
     tell(out, ".")
-}
-
-// Adds the answers over a kernel to which no container is admitted.
-fn tell_run<'a, K: Kernel + Drop>(
-    out: &mut String,
-    alloc: Global,
-    kernel: K,
-    native: Arch,
-    bundles: &'a [Made<'_>],
-    block: &str,
-) -> Result<()>
-    requires { (id : List ℕ) → K.processes kernel id ≡ None }
-{
-    let mut runtime = Runtime::new(alloc, kernel);
-    for line in block.lines() {
-        tell_line(out, alloc, native, bundles, &mut runtime, line)?;
-    }
-    Ok(())
 }
 
 /// Adds a block's answers, of both kernels. It fails where they differ.
@@ -106,16 +105,10 @@ pub fn tell_runtime(
     bundles: &[Made<'_>],
     block: &str,
 ) -> Result<()> {
-    let mut own = String::new(alloc);
-    tell_run(
-        &mut own,
-        alloc,
-        TaskTable::new(alloc),
-        native,
-        bundles,
-        block,
-    )?;
-    tell_run(out, alloc, SharedTable::new(alloc), native, bundles, block)?;
-    ensure!(out.as_str().ends_with(own.as_str()), "the kernels differ");
+    let mut lists = Runtime::new(alloc, TaskTable::new(alloc));
+    let mut tree = Runtime::new(alloc, SharedTable::new(alloc));
+    for line in block.lines() {
+        tell_line(out, alloc, native, bundles, &mut lists, &mut tree, line)?;
+    }
     Ok(())
 }
