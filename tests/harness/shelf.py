@@ -1,9 +1,11 @@
 """The files that rows put, in a room of their own."""
 import os
+import subprocess
+import tempfile
 
-from harness.ask import answers
+from harness.places import CCELL
 from harness.rows import Fault
-from harness.texts import bytes_of, expanded, is_digits, number, written_out
+from harness.texts import bytes_of, expanded, is_digits, number
 
 
 def split_in(text, count):
@@ -15,10 +17,15 @@ def split_in(text, count):
 
 
 def assembled(rows):
-    """The bytes of each listing of which rows make files."""
-    listings = {listing_of(row.text) for row in rows} - {None}
-    told = answers([f"assemble {written_out(listing)}" for listing in listings])
-    return {listing: "".join(lines) for listing, lines in zip(listings, told)}
+    """The bytes of each listing of which rows make files, in digits, or what the program tells of it."""
+    told = {}
+    for listing in {listing_of(row.text) for row in rows} - {None}:
+        with tempfile.NamedTemporaryFile("w", encoding="utf-8", newline="") as file:
+            file.write(expanded(listing))
+            file.flush()
+            ran = subprocess.run([CCELL, "assemble", file.name], capture_output=True, timeout=60, check=False)
+        told[listing] = ran.stdout.decode(errors="replace").rstrip() if ran.returncode else ran.stdout.hex()
+    return told
 
 
 def listing_of(text):
