@@ -74,3 +74,11 @@ returns-else-all_yes g c =
       λ one. each_at (λ k x. IsNoNorMet met known c.args.place k x → ⊥) c.args.conds.now c.loop-cond.cond-index one.own one.cond
           (omega (arith, c.loop-cond-test.false)) one.stands so.none_no (one.not_met, one.is_no),
     )
+
+pub returns-then-all_yes : goal.returns-then-all_yes
+returns-then-all_yes g c =
+    let known = g.S.State.known c.args.facts.now.state.now in
+    let met = (says c.args.mets.now.node).met in
+    let so = c.loop-cond.invariant.conditions in
+    λ own cond stands. each_at (λ k x. IsYesOrMet met known c.args.place k x) c.args.conds.now c.loop-cond.cond-index own cond
+        (omega (arith, c.loop-cond-test.false)) stands (so.yes_so_far c.if-all_yes.true)

@@ -1,12 +1,36 @@
 use Rattle.std.proofs.Common.{◌≡◌, true, false, refl, sym, subst, ap, ◌∙◌, inl, inr, arith, length, List}
 use Rattle.std.specs.Prelude.{Some, slice_get}
-use Rattle.std.proofs.lemmas.Option.{slice_get-get_or}
+use Rattle.std.proofs.lemmas.Option.{slice_get-get_or, slice_get_within, same_Some}
 use Rattle.profile.specs.declared.conditions.Cond.{Cond}
 use Rattle.profile.specs.declared.rules.Rule.{Rule}
 use Rattle.cert_form.specs.Views.{says}
 use Rattle.cert_check.proofs.Elements.{element_at}
 use Rattle.cert_check.proofs.MetsLaws.{met_by}
 use Rattle.cert_check.proofs.met.is_met.Goals as goal
+
+pub returns-then-at-rules : goal.returns-then-at-rules
+returns-then-at-rules g c = (
+  λ t. absurd (let e : false ≡ true = t in cc),
+  λ is. absurd (let within = slice_get_within c.args.profile.now.rules c.args.place.0 is.rule is.stands in
+      omega (arith, c.if-at-rules.true, within, ap length c.rules-rules.ensures.rules)),
+)
+
+pub returns-then-own-conds : goal.returns-then-own-conds
+returns-then-own-conds g c =
+    let place = c.args.place in
+    let rule = c.index-rules-at.result in
+    let rules = c.rules-rules.result.now in
+    let at : slice_get rules place.0 ≡ Some rule =
+    slice_get-get_or rules place.0 rule (omega (arith, c.if-at-rules.false)) ∙ ap Some (sym c.index-rules-at.is) in
+    let stands = subst (λ (rs : List Rule). slice_get rs place.0 ≡ Some rule) c.rules-rules.ensures.rules at in
+    let value = c.as_slice-conds.ensures.value ∙ ap (λ (x : Rule). x.conds.items) (sym c.index-rules-at.is) in (
+      λ t. absurd (let e : false ≡ true = t in cc),
+      λ is. absurd (let same : is.rule ≡ rule = same_Some is.rule rule (sym is.stands ∙ stands) in
+          let within = slice_get_within is.rule.conds.items place.1 is.cond is.its in
+          let long = ap length value in
+          let alike = ap (λ (x : Rule). length x.conds.items) same in
+          omega (arith, c.if-own-conds.true, within, long, alike)),
+    )
 
 pub returns-then-has : goal.returns-then-has
 returns-then-has g c =
