@@ -81,4 +81,4 @@ returns-then-all_yes g c =
     let met = (says c.args.mets.now.node).met in
     let so = c.loop-cond.invariant.conditions in
     λ own cond stands. each_at (λ k x. IsYesOrMet met known c.args.place k x) c.args.conds.now c.loop-cond.cond-index own cond
-        (omega (arith, c.loop-cond-test.false)) stands (so.yes_so_far c.if-all_yes.true)
+    (omega (arith, c.loop-cond-test.false)) stands (so.yes_so_far c.if-all_yes.true)
