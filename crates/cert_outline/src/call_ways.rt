@@ -71,7 +71,7 @@ impl<'a> Maker<'a> {
             }
             Operation::Branch(test, Operand::K) => {
                 let cut = self.compared(subject, facts, test, insn.k)?;
-                self.compare_call(spot, insn, asked, block, cut)
+                self.compare_call(spot, insn, asked, block, subject, cut)
             }
             _ => Err(OutlineError::Unlike),
         }
@@ -98,9 +98,10 @@ impl<'a> Maker<'a> {
         insn: Insn,
         asked: Asked,
         block: usize,
+        subject: Subject,
         cut: Cut,
     ) -> Result<Ways, OutlineError> {
-        let dead = self.contradicted(spot, cut)?;
+        let dead = self.contradicted(spot, subject, cut)?;
         let pc = after(spot.pc, u32::from(insn.jt));
         let stage = match dead.first {
             Some(place) => Stage::Dead(place),
@@ -149,7 +150,7 @@ impl<'a> Maker<'a> {
         } else {
             self.cut_by(subject, facts, number)?
         };
-        self.split_ways(spot, asked, exit, cut)
+        self.split_ways(spot, asked, exit, subject, cut)
     }
 
     // The first number of a group: of that in the middle of a word, or else of the first one.
@@ -169,9 +170,10 @@ impl<'a> Maker<'a> {
         spot: &Spot,
         asked: Asked,
         exit: Exit,
+        subject: Subject,
         cut: Cut,
     ) -> Result<Ways, OutlineError> {
-        let dead = self.contradicted(spot, cut)?;
+        let dead = self.contradicted(spot, subject, cut)?;
         let pending = Pending::Left(asked.list);
         let stage = match dead.first {
             Some(place) => Stage::Dead(place),

@@ -1,10 +1,12 @@
 //! Ways on which what is stated contradicts itself. No record goes there.
 
 use crate::cuts::Cut;
+use crate::facts::word_of;
 use crate::maker::Maker;
 use crate::spot::Spot;
 use cert_form::Claim;
 use cert_state::{AVal, Listed, Lit, Regs, dead};
+use rule_compile::Subject;
 use std::alloc::AllocError;
 
 const NOTHING: Regs = Regs {
@@ -54,11 +56,8 @@ impl<'a> Maker<'a> {
         Ok(own)
     }
 
-    // The place of literals with one more, where these contradict each other.
-    fn contradiction(&mut self, own: &[Lit], told: Lit) -> Result<Option<usize>, AllocError> {
-        if !are_dead(own, told) {
-            return Ok(None);
-        }
+    // The place of literals with one more, which contradict each other.
+    fn add_contradiction(&mut self, own: &[Lit], told: Lit) -> Result<Option<usize>, AllocError> {
         let mut all = Vec::from_slice(self.alloc, own)?;
         all.push(told)?;
         let place = self.contradictions.len();
@@ -66,15 +65,37 @@ impl<'a> Maker<'a> {
         Ok(Some(place))
     }
 
-    /// The ways of a cut that contradict what a spot states.
+    // The place of literals which contradict what a way tells, or the one number that the bits are then known to be.
+    fn contradiction(
+        &mut self,
+        own: &[Lit],
+        told: Lit,
+        subject: Subject,
+        facts: usize,
+    ) -> Result<Option<usize>, AllocError> {
+        if are_dead(own, told) {
+            return self.add_contradiction(own, told);
+        }
+        let Some(number) = self.facts.get(facts).and_then(|facts| facts.only()) else {
+            return Ok(None);
+        };
+        let only = Lit::Bits(word_of(subject), subject.mask, number);
+        if are_dead(own, only) {
+            return self.add_contradiction(own, only);
+        }
+        Ok(None)
+    }
+
+    /// The ways of a cut of some bits that contradict what a spot states.
     pub(crate) fn contradicted(
         &mut self,
         spot: &Spot,
+        subject: Subject,
         cut: Cut,
     ) -> Result<Contradictions, AllocError> {
-        let own = self.literals_of(spot, cut.first_told.word())?;
-        let first = self.contradiction(&own, cut.first_told)?;
-        let second = self.contradiction(&own, cut.second_told)?;
+        let own = self.literals_of(spot, word_of(subject))?;
+        let first = self.contradiction(&own, cut.first_told, subject, cut.first)?;
+        let second = self.contradiction(&own, cut.second_told, subject, cut.second)?;
         Ok(Contradictions { first, second })
     }
 }
