@@ -66,7 +66,7 @@ impl<'a> Maker<'a> {
                 self.step(spot, whole, spot.stage)
             }
             Operation::Compute(Arithmetic::And, Operand::K) => {
-                let stage = self.within(spot.pc.saturating_add(1), asked, block, facts)?;
+                let stage = self.block_stage(spot.pc.saturating_add(1), asked, block, facts)?;
                 self.step(spot, subject, stage)
             }
             Operation::Branch(test, Operand::K) => {
@@ -78,7 +78,7 @@ impl<'a> Maker<'a> {
     }
 
     // How it goes on among the comparisons of a block, or where these end.
-    fn within(
+    fn block_stage(
         &mut self,
         pc: usize,
         asked: Asked,
@@ -105,13 +105,13 @@ impl<'a> Maker<'a> {
         let pc = after(spot.pc, u32::from(insn.jt));
         let stage = match dead.first {
             Some(place) => Stage::Dead(place),
-            None => self.within(pc, asked, block, cut.first)?,
+            None => self.block_stage(pc, asked, block, cut.first)?,
         };
         let taken = self.spot_with(pc, spot.loaded, stage)?;
         let pc = after(spot.pc, u32::from(insn.jf));
         let stage = match dead.second {
             Some(place) => Stage::Dead(place),
-            None => self.within(pc, asked, block, cut.second)?,
+            None => self.block_stage(pc, asked, block, cut.second)?,
         };
         let other = self.spot_with(pc, spot.loaded, stage)?;
         Ok(Ways::Branch(taken, other))

@@ -30,7 +30,7 @@ impl Cut {
 
 impl<'a> Maker<'a> {
     // Of bits of which something is known: they are below a number.
-    fn below(&mut self, facts: usize, number: u32) -> Result<usize, OutlineError> {
+    fn facts_below(&mut self, facts: usize, number: u32) -> Result<usize, OutlineError> {
         let Some(known) = self.facts.get(facts) else {
             return Err(OutlineError::Unlike);
         };
@@ -39,7 +39,7 @@ impl<'a> Maker<'a> {
     }
 
     // They are the number or above.
-    fn at_least(&mut self, facts: usize, number: u32) -> Result<usize, OutlineError> {
+    fn facts_from(&mut self, facts: usize, number: u32) -> Result<usize, OutlineError> {
         let Some(known) = self.facts.get(facts) else {
             return Err(OutlineError::Unlike);
         };
@@ -48,7 +48,7 @@ impl<'a> Maker<'a> {
     }
 
     // They are another number.
-    fn without(&mut self, mask: u32, facts: usize, number: u32) -> Result<usize, OutlineError> {
+    fn facts_without(&mut self, mask: u32, facts: usize, number: u32) -> Result<usize, OutlineError> {
         let Some(known) = self.facts.get(facts) else {
             return Err(OutlineError::Unlike);
         };
@@ -64,8 +64,8 @@ impl<'a> Maker<'a> {
         number: u32,
     ) -> Result<Cut, OutlineError> {
         let word = word_of(subject);
-        let first = self.below(facts, number)?;
-        let second = self.at_least(facts, number)?;
+        let first = self.facts_below(facts, number)?;
+        let second = self.facts_from(facts, number)?;
         Ok(Cut {
             first,
             first_told: Lit::In(word, 0, number.saturating_sub(1)),
@@ -83,7 +83,7 @@ impl<'a> Maker<'a> {
     ) -> Result<Cut, OutlineError> {
         let word = word_of(subject);
         let first = self.facts.place(Facts::one(self.alloc, number))?;
-        let second = self.without(subject.mask, facts, number)?;
+        let second = self.facts_without(subject.mask, facts, number)?;
         Ok(Cut {
             first,
             first_told: Lit::Bits(word, subject.mask, number),
