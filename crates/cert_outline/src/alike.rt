@@ -6,13 +6,13 @@
 
 use crate::exit::Exit;
 use crate::facts::{ANY, Facts};
+use crate::fault::OutlineError;
 use crate::learned::NOTHING;
 use crate::maker::Maker;
 use crate::numbers::Numbered;
 use crate::spot::{Calls, Several, Spot, Stage};
 use crate::spots::Spots;
 use cert_form::{MAX_LITERALS, MAX_NODES};
-use crate::fault::OutlineError;
 use rule_compile::Open;
 use std::alloc::AllocError;
 
@@ -32,6 +32,14 @@ pub(crate) struct Decided {
     numbers: usize,
     exit: Exit,
     calls: Option<Calls>,
+}
+
+// Where calls that are asked alike are come to: a position of the code, the exit whose code it is, and one of the calls.
+#[derive(Clone, Copy)]
+struct Door {
+    pc: usize,
+    exit: Exit,
+    call: usize,
 }
 
 // Whether both ask the same, of conditions at the same places among those of their rules.
@@ -122,15 +130,21 @@ impl<'a> Maker<'a> {
         Ok(places.get(places.len() / 2).copied())
     }
 
+    // The number of a call, if it is of one machine with another one and asked like it.
+    fn number_if_alike(&self, call: usize, other: usize) -> Option<u32> {
+        let (call, other) = (self.call(call)?, self.call(other)?);
+        if call.token == other.token && are_alike(&call, &other) {
+            return Some(call.number);
+        }
+        None
+    }
+
     // The numbers of all calls of a machine that are asked like one, in order.
-    fn numbers_alike(&self, call: &Numbered<'_>) -> Result<Vec<u32>, AllocError> {
+    fn numbers_alike(&self, call: usize) -> Result<Vec<u32>, AllocError> {
         let mut numbers = Vec::new(self.alloc);
         for place in 0..self.count_calls() {
-            if let Some(other) = self.call(place)
-                && other.token == call.token
-                && are_alike(call, &other)
-            {
-                numbers.push(other.number)?;
+            if let Some(number) = self.number_if_alike(place, call) {
+                numbers.push(number)?;
             }
         }
         Ok(numbers)
@@ -161,14 +175,13 @@ impl<'a> Maker<'a> {
     // adds to the chains, and that of each number that is excluded.
     fn size_from(
         &mut self,
-        pc: usize,
+        door: Door,
         calls: Calls,
-        exit: Exit,
         most: usize,
     ) -> Result<Option<usize>, OutlineError> {
         let spots = Spots::new(self.alloc)?;
         let spots = self.exchange(spots);
-        let size = self.explored(pc, calls, exit, most);
+        let size = self.explored(door, calls, most);
         self.exchange(spots);
         size
     }
@@ -191,23 +204,31 @@ impl<'a> Maker<'a> {
         }
     }
 
+    // Goes all ways on from some calls.
     fn explored(
         &mut self,
-        pc: usize,
+        door: Door,
         calls: Calls,
-        exit: Exit,
         most: usize,
     ) -> Result<Option<usize>, OutlineError> {
         let pending = self.beginning(calls.call)?;
-        let stage = self.arrive(pc, calls, pending, ANY, exit)?;
-        self.spot(pc, None, stage)?;
-        let mut size = 0usize;
+        let stage = self.arrive(door.pc, calls, pending, ANY, door.exit)?;
+        self.spot(door.pc, None, stage)?;
         let mut seen = Vec::new(self.alloc);
+        self.size_of_all(&mut seen, most)
+    }
+
+    fn size_of_all(
+        &mut self,
+        seen: &mut Vec<usize>,
+        most: usize,
+    ) -> Result<Option<usize>, OutlineError> {
+        let mut size = 0usize;
         for place in 0..MAX_NODES {
             let Some(spot) = self.get(place) else {
                 return Ok(Some(size));
             };
-            let excluded = self.newly_excluded(&spot, &mut seen)?;
+            let excluded = self.newly_excluded(&spot, seen)?;
             size = size.saturating_add(NODE).saturating_add(excluded);
             if size >= most {
                 return Ok(None);
@@ -221,25 +242,43 @@ impl<'a> Maker<'a> {
         Ok(None)
     }
 
-    // Calls for which nodes are made at once, where that is smaller than so much.
+    // Calls of some numbers for which nodes are made at once, and how large it is then, where that is smaller than so much.
     fn if_smaller(
         &mut self,
-        pc: usize,
-        call: usize,
+        door: Door,
         numbers: usize,
-        exit: Exit,
         most: usize,
     ) -> Result<Option<(Calls, usize)>, OutlineError> {
         let calls = Calls {
-            call,
+            call: door.call,
             several: Some(Several {
                 numbers,
                 learned: NOTHING,
             }),
         };
-        match self.size_from(pc, calls, exit, most)? {
+        match self.size_from(door, calls, most)? {
             Some(size) => Ok(Some((calls, size))),
             None => Ok(None),
+        }
+    }
+
+    // How large it is if nodes are made for a call by itself. Each has a split besides, which leads there.
+    fn size_by_itself(&mut self, door: Door) -> Result<usize, OutlineError> {
+        let calls = Calls {
+            call: door.call,
+            several: None,
+        };
+        match self.size_from(door, calls, LARGEST)? {
+            Some(size) if !self.is_wide(door.call) => Ok(size.saturating_add(NODE)),
+            _ => Ok(LARGEST),
+        }
+    }
+
+    // Whether nodes of a call by itself may state too much.
+    fn is_wide(&self, call: usize) -> bool {
+        match self.call(call) {
+            Some(call) => claims_of(&call) > MAX_LITERALS,
+            None => true,
         }
     }
 
@@ -255,31 +294,30 @@ impl<'a> Maker<'a> {
         let Some(call) = own.first().copied() else {
             return Ok(None);
         };
-        let Some(numbered) = self.call(call) else {
-            return Ok(None);
-        };
-        let all = self.numbers_alike(&numbered)?;
-        let is_wide = claims_of(&numbered) > MAX_LITERALS;
-        if all.len() == 1 && !is_wide {
+        let all = self.numbers_alike(call)?;
+        if all.len() == 1 && !self.is_wide(call) {
             return Ok(None);
         }
-        let one = Calls {
-            call,
-            several: None,
-        };
-        // Each has a split besides, which leads there.
-        let single = match self.size_from(pc, one, exit, LARGEST)? {
-            Some(size) if !is_wide => size.saturating_add(NODE),
-            _ => LARGEST,
-        };
-        let most = single.saturating_mul(own.len());
-        let these = self.if_smaller(pc, call, numbers, exit, most)?;
-        if all.len() > own.len()
-            && let Some(known) = self.just_these(&all)?
+        let door = Door { pc, exit, call };
+        self.smaller(door, own.len(), &all, numbers)
+    }
+
+    // The same, of so many calls that have these numbers, and of all numbers of calls that are asked alike.
+    fn smaller(
+        &mut self,
+        door: Door,
+        own: usize,
+        all: &[u32],
+        numbers: usize,
+    ) -> Result<Option<Calls>, OutlineError> {
+        let most = self.size_by_itself(door)?.saturating_mul(own);
+        let these = self.if_smaller(door, numbers, most)?;
+        if all.len() > own
+            && let Some(known) = self.just_these(all)?
         {
             let size = these.map_or(most, |(_, size)| size);
-            let most = size_of_runs(&all, own.len(), size);
-            if let Some((calls, _)) = self.if_smaller(pc, call, known, exit, most)? {
+            let most = size_of_runs(all, own, size);
+            if let Some((calls, _)) = self.if_smaller(door, known, most)? {
                 return Ok(Some(calls));
             }
         }

@@ -1,9 +1,9 @@
 //! The chains of a certificate: lists of claims that share their beginnings.
 
+use crate::fault::OutlineError;
 use crate::index::{Index, mixed};
 use cert_form::{ChainNode, Claim, FormError, MAX_ENTRIES, MAX_LITERALS, write_claims};
 use cert_state::Lit;
-use crate::fault::OutlineError;
 use std::alloc::{AllocError, Global};
 
 /// Entries, each with the number of its parent, or 0, and a claim. They are numbered from 1.

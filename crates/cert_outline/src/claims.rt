@@ -43,17 +43,14 @@ fn begins_with(rules: &[Open], rule: usize) -> bool {
     }
 }
 
-// The place of a rule.
-fn place_of(rule: usize) -> u32 {
-    rule.min(0xffff_ffff) as u32
+// The place of a rule or of a condition, as a claim tells it.
+fn place_of(place: usize) -> u32 {
+    place.min(0xffff_ffff) as u32
 }
 
 // The claim that a condition is met.
 fn met(open: &Open) -> Claim {
-    Claim::Met(
-        open.asker.rule.min(0xffff_ffff) as u32,
-        open.asker.condition.min(0xffff_ffff) as u32,
-    )
+    Claim::Met(place_of(open.asker.rule), place_of(open.asker.condition))
 }
 
 // What a question that is answered says of its bits.
@@ -83,6 +80,14 @@ impl Stated {
         Ok(())
     }
 
+    // Each rule of the first parts is out.
+    fn parts_out(&mut self, call: &Numbered<'_>, parts: usize) -> Result<(), AllocError> {
+        for part in 0..parts {
+            self.all_out(call.questions(part))?;
+        }
+        Ok(())
+    }
+
     // A condition is met.
     fn meet(&mut self, open: &Open) -> Result<(), AllocError> {
         let claim = met(open);
@@ -96,6 +101,13 @@ impl Stated {
     fn tell(&mut self, claim: Claim) -> Result<(), AllocError> {
         if !self.others.iter().any(|other| *other == claim) {
             self.others.push(claim)?;
+        }
+        Ok(())
+    }
+
+    fn tell_all(&mut self, claims: &[Claim]) -> Result<(), AllocError> {
+        for claim in claims {
+            self.tell(*claim)?;
         }
         Ok(())
     }
@@ -143,13 +155,13 @@ impl Stated {
         }
         Ok(())
     }
-}
 
-fn push_all(claims: &mut Vec<Claim>, lits: &[Lit]) -> Result<(), AllocError> {
-    for literal in lits {
-        claims.push(Claim::Knows(*literal))?;
+    fn meet_in_parts(&mut self, call: &Numbered<'_>, rule: usize) -> Result<(), AllocError> {
+        for part in 0..call.parts() {
+            self.meet_rule(call.questions(part), rule)?;
+        }
+        Ok(())
     }
-    Ok(())
 }
 
 impl<'a> Maker<'a> {
@@ -160,11 +172,10 @@ impl<'a> Maker<'a> {
         facts: usize,
         claims: &mut Vec<Claim>,
     ) -> Result<(), AllocError> {
-        let mut lits = Vec::new(self.alloc);
-        if let Some(facts) = self.facts.get(facts) {
-            facts.tell(subject, &mut lits)?;
+        match self.facts.get(facts) {
+            Some(facts) => facts.tell(subject, claims),
+            None => Ok(()),
         }
-        push_all(claims, &lits)
     }
 
     // What a node states that tells machines apart.
@@ -201,9 +212,7 @@ impl<'a> Maker<'a> {
         let Some(left) = self.left.get(list) else {
             return Ok(());
         };
-        for part in 0..left.part {
-            stated.all_out(call.questions(part))?;
-        }
+        stated.parts_out(call, left.part)?;
         stated.tell_part(call.questions(left.part), &left.rules)
     }
 
@@ -219,18 +228,8 @@ impl<'a> Maker<'a> {
         }
         match pending {
             Pending::Left(list) => self.left_claims(call, list, stated),
-            Pending::Met(rule) => {
-                for part in 0..call.parts() {
-                    stated.meet_rule(call.questions(part), rule)?;
-                }
-                Ok(())
-            }
-            Pending::End => {
-                for part in 0..call.parts() {
-                    stated.all_out(call.questions(part))?;
-                }
-                Ok(())
-            }
+            Pending::Met(rule) => stated.meet_in_parts(call, rule),
+            Pending::End => stated.parts_out(call, call.parts()),
         }
     }
 
@@ -238,13 +237,9 @@ impl<'a> Maker<'a> {
     fn learned_claims(&self, learned: usize, stated: &mut Stated) -> Result<(), AllocError> {
         let lessons = self.learned.lessons(self.alloc, learned)?;
         for lesson in &lessons {
-            let mut lits = Vec::new(self.alloc);
-            if let Some(facts) = self.facts.get(lesson.facts) {
-                facts.tell(lesson.subject, &mut lits)?;
-            }
-            for literal in &lits {
-                stated.tell(Claim::Knows(*literal))?;
-            }
+            let mut claims = Vec::new(self.alloc);
+            self.tell_facts(lesson.subject, lesson.facts, &mut claims)?;
+            stated.tell_all(&claims)?;
         }
         Ok(())
     }
@@ -281,19 +276,29 @@ impl<'a> Maker<'a> {
         Ok(())
     }
 
+    // What is known where no record comes.
+    fn dead_claims(&self, place: usize, stated: &mut Stated) -> Result<(), AllocError> {
+        if let Some(lits) = self.contradictions.get(place) {
+            for literal in lits {
+                stated.others.push(Claim::Knows(*literal))?;
+            }
+        }
+        Ok(())
+    }
+
+    fn stage_claims(&self, stage: Stage, stated: &mut Stated) -> Result<(), AllocError> {
+        match stage {
+            Stage::Machines(others) => self.machine_claims(others, stated),
+            Stage::Numbers(machine, facts) => self.number_claims(machine, facts, stated),
+            Stage::Call(calls, pending, at) => self.call_claims(calls, pending, at, stated),
+            Stage::Dead(place) => self.dead_claims(place, stated),
+        }
+    }
+
     /// What the node of a spot states.
     pub(crate) fn stated(&self, spot: &Spot) -> Result<Stated, AllocError> {
         let mut stated = Stated::new(self.alloc);
-        match spot.stage {
-            Stage::Machines(others) => self.machine_claims(others, &mut stated)?,
-            Stage::Numbers(machine, facts) => self.number_claims(machine, facts, &mut stated)?,
-            Stage::Call(calls, pending, at) => self.call_claims(calls, pending, at, &mut stated)?,
-            Stage::Dead(place) => {
-                if let Some(lits) = self.contradictions.get(place) {
-                    push_all(&mut stated.others, lits)?;
-                }
-            }
-        }
+        self.stage_claims(spot.stage, &mut stated)?;
         Ok(stated)
     }
 }

@@ -2,6 +2,7 @@
 
 use crate::exit::{Exit, Span};
 use crate::index::{Index, mixed};
+use cert_form::Claim;
 use cert_state::Lit;
 use rule_compile::Subject;
 use std::alloc::{AllocError, Global};
@@ -112,18 +113,18 @@ impl Facts {
         Ok(facts)
     }
 
-    /// Adds the literals that say this of a word.
-    pub(crate) fn tell(&self, subject: Subject, lits: &mut Vec<Lit>) -> Result<(), AllocError> {
+    /// Adds the claims that say this of a word.
+    pub(crate) fn tell(&self, subject: Subject, claims: &mut Vec<Claim>) -> Result<(), AllocError> {
         let word = word_of(subject);
         if let Some(number) = self.only() {
-            lits.push(Lit::Bits(word, subject.mask, number))?;
+            claims.push(Claim::Knows(Lit::Bits(word, subject.mask, number)))?;
             return Ok(());
         }
         if self.low != 0 || self.high != u32::MAX {
-            lits.push(Lit::In(word, self.low, self.high))?;
+            claims.push(Claim::Knows(Lit::In(word, self.low, self.high)))?;
         }
         for number in &self.excluded {
-            lits.push(Lit::NotBits(word, subject.mask, *number))?;
+            claims.push(Claim::Knows(Lit::NotBits(word, subject.mask, *number)))?;
         }
         Ok(())
     }

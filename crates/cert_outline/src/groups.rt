@@ -1,8 +1,8 @@
 //! For which numbers of the bits that are asked for the same is pending.
 
+use crate::fault::OutlineError;
 use crate::maker::Maker;
 use crate::spot::Pending;
-use crate::fault::OutlineError;
 use rule_compile::{Open, Subject, starts_of, subject_of};
 use std::alloc::{AllocError, Global};
 
@@ -34,66 +34,57 @@ fn end_of(starts: &[u32], place: usize) -> u32 {
     }
 }
 
+// Adds a group, where something else is pending than in the one before it.
+fn add_unlike(groups: &mut Vec<Group>, first: u32, pending: Pending) -> Result<(), AllocError> {
+    if groups.last().map(|group| group.pending) != Some(pending) {
+        groups.push(Group { first, pending })?;
+    }
+    Ok(())
+}
+
+// Bits that are asked for of a call, of which what stands at a place of the table is left.
+#[derive(Clone, Copy)]
+struct Asked {
+    call: usize,
+    list: usize,
+    subject: Subject,
+}
+
 impl<'a> Maker<'a> {
     /// The bits that are asked for first of what is left at a place of the table.
     pub(crate) fn subject(&self, list: usize) -> Option<Subject> {
         subject_of(&self.left.get(list)?.rules)
     }
 
-    // What is pending of a call where these bits are a number.
-    fn after(
-        &mut self,
-        call: usize,
-        list: usize,
-        subject: Subject,
-        number: u32,
-    ) -> Result<Pending, OutlineError> {
-        if let Some(pending) = self.left.after(self.alloc, list, subject, number)? {
-            return Ok(pending);
-        }
-        let part = self.left.get(list).map_or(0, |list| list.part);
-        self.part(call, part.saturating_add(1))
-    }
-
-    // The same by the numbers of a whole word.
-    fn groups_of_word(
-        &mut self,
-        call: usize,
-        list: usize,
-        subject: Subject,
-        facts: usize,
-        most: usize,
-    ) -> Result<Vec<Group>, OutlineError> {
-        let mut groups: Vec<Group> = Vec::new(self.alloc);
-        let starts = self.starts(list, subject)?;
-        for (place, start) in starts.iter().enumerate() {
-            if groups.len() >= most {
-                break;
-            }
-            let Some(first) = self.first_within(facts, *start, end_of(&starts, place)) else {
-                continue;
-            };
-            let pending = self.after(call, list, subject, first)?;
-            if groups.last().map(|group| group.pending) != Some(pending) {
-                groups.push(Group {
-                    first: *start,
-                    pending,
-                })?;
-            }
-        }
-        Ok(groups)
-    }
-
-    fn starts(&self, list: usize, subject: Subject) -> Result<Vec<u32>, AllocError> {
+    // The part of the call's rules that is asked after that of which something is left.
+    fn part_after(&self, list: usize) -> usize {
         match self.left.get(list) {
-            Some(left) => starts_of(self.alloc, &left.rules, subject),
+            Some(left) => left.part.saturating_add(1),
+            None => 0,
+        }
+    }
+
+    // What is pending where the bits are a number.
+    fn after(&mut self, asked: Asked, number: u32) -> Result<Pending, OutlineError> {
+        let next = self
+            .left
+            .after(self.alloc, asked.list, asked.subject, number)?;
+        match next {
+            Some(pending) => Ok(pending),
+            None => self.part(asked.call, self.part_after(asked.list)),
+        }
+    }
+
+    fn starts(&self, asked: Asked) -> Result<Vec<u32>, AllocError> {
+        match self.left.get(asked.list) {
+            Some(left) => starts_of(self.alloc, &left.rules, asked.subject),
             None => Ok(Vec::new(self.alloc)),
         }
     }
 
-    fn asked(&self, list: usize, subject: Subject) -> Result<Vec<u32>, AllocError> {
-        match self.left.get(list) {
-            Some(left) => asked_numbers(self.alloc, &left.rules, subject),
+    fn numbers(&self, asked: Asked) -> Result<Vec<u32>, AllocError> {
+        match self.left.get(asked.list) {
+            Some(left) => asked_numbers(self.alloc, &left.rules, asked.subject),
             None => Ok(Vec::new(self.alloc)),
         }
     }
@@ -114,37 +105,63 @@ impl<'a> Maker<'a> {
         self.facts.get(facts)?.only()
     }
 
-    // The same by the numbers of bits under a mask. A number with other bits is none that is asked for.
-    fn groups_of_bits(
+    // The groups by the numbers of a whole word.
+    fn groups_of_word(
         &mut self,
-        call: usize,
-        list: usize,
-        subject: Subject,
+        asked: Asked,
         facts: usize,
+        most: usize,
     ) -> Result<Vec<Group>, OutlineError> {
+        let starts = self.starts(asked)?;
         let mut groups = Vec::new(self.alloc);
-        if let Some(first) = self.only(facts) {
-            let pending = self.after(call, list, subject, first)?;
-            groups.push(Group { first, pending })?;
-            return Ok(groups);
-        }
-        let other = u32::MAX ^ subject.mask;
-        let rest = self.after(call, list, subject, other)?;
-        let asked = self.asked(list, subject)?;
-        for number in &asked {
-            if self.excludes(facts, *number) {
-                continue;
+        for (place, start) in starts.iter().enumerate() {
+            if groups.len() >= most {
+                break;
             }
-            let pending = self.after(call, list, subject, *number)?;
-            if pending != rest {
-                let first = *number;
-                groups.push(Group { first, pending })?;
+            if let Some(first) = self.first_within(facts, *start, end_of(&starts, place)) {
+                let pending = self.after(asked, first)?;
+                add_unlike(&mut groups, *start, pending)?;
+            }
+        }
+        Ok(groups)
+    }
+
+    // Adds the groups of bits under a mask: those of numbers that are asked for, and that of all others. A number with
+    // other bits is none that is asked for.
+    fn add_groups(
+        &mut self,
+        asked: Asked,
+        facts: usize,
+        groups: &mut Vec<Group>,
+    ) -> Result<(), OutlineError> {
+        let other = u32::MAX ^ asked.subject.mask;
+        let rest = self.after(asked, other)?;
+        let numbers = self.numbers(asked)?;
+        for number in &numbers {
+            if !self.excludes(facts, *number) {
+                let pending = self.after(asked, *number)?;
+                if pending != rest {
+                    let first = *number;
+                    groups.push(Group { first, pending })?;
+                }
             }
         }
         groups.push(Group {
             first: other,
             pending: rest,
         })?;
+        Ok(())
+    }
+
+    fn groups_of_bits(&mut self, asked: Asked, facts: usize) -> Result<Vec<Group>, OutlineError> {
+        let mut groups = Vec::new(self.alloc);
+        match self.only(facts) {
+            Some(first) => {
+                let pending = self.after(asked, first)?;
+                groups.push(Group { first, pending })?;
+            }
+            None => self.add_groups(asked, facts, &mut groups)?,
+        }
         Ok(groups)
     }
 
@@ -160,9 +177,14 @@ impl<'a> Maker<'a> {
         let Some(subject) = self.subject(list) else {
             return Ok(Vec::new(self.alloc));
         };
+        let asked = Asked {
+            call,
+            list,
+            subject,
+        };
         if subject.mask == u32::MAX {
-            return self.groups_of_word(call, list, subject, facts, most);
+            return self.groups_of_word(asked, facts, most);
         }
-        self.groups_of_bits(call, list, subject, facts)
+        self.groups_of_bits(asked, facts)
     }
 }

@@ -101,16 +101,9 @@ fn number_with<'a>(
     token: u32,
     number: u32,
 ) -> Numbered<'a> {
-    let (exit, beginning) = if let Some(call) = call_of(outline, token, number) {
-        let beginning = match &call.asked {
-            Asked::Nothing(rule) => Beginning::Met(*rule),
-            Asked::InParts(parts) => Beginning::Parts(parts.as_slice()),
-        };
-        (Exit::of(&call.leaf), beginning)
-    } else if let Some((place, word)) = first_plain(profile.rules(), token, number) {
-        (Exit::Word(word), Beginning::Met(place))
-    } else {
-        (Exit::Word(profile.default_word().0), Beginning::Default)
+    let (exit, beginning) = match call_of(outline, token, number) {
+        Some(call) => (Exit::of(&call.leaf), beginning_of(call)),
+        None => without_questions(profile, token, number),
     };
     Numbered {
         token,
@@ -120,22 +113,38 @@ fn number_with<'a>(
     }
 }
 
-// The calls of a machine of which there are rules, in order.
-fn calls_of<'a>(
+fn beginning_of(call: &Call) -> Beginning<'_> {
+    match &call.asked {
+        Asked::Nothing(rule) => Beginning::Met(*rule),
+        Asked::InParts(parts) => Beginning::Parts(parts.as_slice()),
+    }
+}
+
+// What decides a call of which no rule asks for arguments.
+fn without_questions<'a>(profile: &Profile, token: u32, number: u32) -> (Exit, Beginning<'a>) {
+    match first_plain(profile.rules(), token, number) {
+        Some((place, word)) => (Exit::Word(word), Beginning::Met(place)),
+        None => (Exit::Word(profile.default_word().0), Beginning::Default),
+    }
+}
+
+// Adds the calls of a machine of which there are rules, in order.
+fn add_calls<'a>(
     alloc: Global,
     profile: &Profile,
     outline: &'a Outline,
-    token: u32,
-    last: u32,
-) -> Result<Vec<Numbered<'a>>, AllocError> {
-    let mut calls = Vec::new(alloc);
+    machine: Arch,
+    calls: &mut Vec<Numbered<'a>>,
+) -> Result<(), AllocError> {
+    let token = machine.token();
+    let last = last_of(machine);
     let numbers = numbers_of(alloc, profile.rules(), token)?;
     for number in &numbers {
         if *number <= last {
             calls.push(number_with(profile, outline, token, *number))?;
         }
     }
-    Ok(calls)
+    Ok(())
 }
 
 /// The calls of all machines, machine by machine, and in the order of their numbers.
@@ -144,12 +153,11 @@ pub(crate) fn all_calls<'a>(
     profile: &Profile,
     outline: &'a Outline,
 ) -> Result<Vec<Numbered<'a>>, AllocError> {
-    let mut all = Vec::new(alloc);
+    let mut calls = Vec::new(alloc);
     for machine in profile.machines() {
-        let calls = calls_of(alloc, profile, outline, machine.token(), last_of(*machine))?;
-        all.extend_from_slice(&calls)?;
+        add_calls(alloc, profile, outline, *machine, &mut calls)?;
     }
-    Ok(all)
+    Ok(calls)
 }
 
 impl Numbers {
@@ -165,35 +173,38 @@ impl Numbers {
             spans: Vec::new(alloc),
             last: last_of(machine),
         };
-        let default = Exit::Word(profile.default_word().0);
-        let mut next = 0;
-        for call in calls {
-            let Numbered {
-                token,
-                number,
-                exit,
-                beginning: _,
-            } = *call;
-            if token == numbers.token {
-                numbers.add(next, number, default)?;
-                numbers.push(number, number, exit)?;
-                next = u64::from(number) + 1;
-            }
-        }
-        let behind = u64::from(numbers.last) + 1;
-        if next < behind {
-            numbers.push(next as u32, numbers.last, default)?;
-        }
-        if let Some(first) = numbers.last.checked_add(1) {
-            numbers.push(first, u32::MAX, Exit::Word(Word::KILL_THREAD.0))?;
-        }
+        numbers.add_all(calls, Exit::Word(profile.default_word().0))?;
         Ok(numbers)
     }
 
+    // Adds all numbers: those of calls, those between them, and those that are not the machine's own.
+    fn add_all(&mut self, calls: &[Numbered<'_>], default: Exit) -> Result<(), AllocError> {
+        let next = self.add_calls(calls, default)?;
+        self.add(next, u64::from(self.last) + 1, default)?;
+        match self.last.checked_add(1) {
+            Some(first) => self.push(first, u32::MAX, Exit::Word(Word::KILL_THREAD.0)),
+            None => Ok(()),
+        }
+    }
+
+    // Adds the numbers of calls and those before and between them, and answers the first one behind.
+    fn add_calls(&mut self, calls: &[Numbered<'_>], default: Exit) -> Result<u64, AllocError> {
+        let mut next = 0;
+        for call in calls {
+            let number = call.number;
+            if call.token == self.token {
+                self.add(next, u64::from(number), default)?;
+                self.push(number, number, call.exit)?;
+                next = u64::from(number) + 1;
+            }
+        }
+        Ok(next)
+    }
+
     // Adds the numbers from one on that are below another.
-    fn add(&mut self, from: u64, end: u32, exit: Exit) -> Result<(), AllocError> {
-        if from < u64::from(end) {
-            self.push(from as u32, end - 1, exit)?;
+    fn add(&mut self, from: u64, end: u64, exit: Exit) -> Result<(), AllocError> {
+        if from < end && end <= 1 << 32 {
+            return self.push(from as u32, (end - 1) as u32, exit);
         }
         Ok(())
     }

@@ -2,11 +2,11 @@
 
 use crate::chains::Chains;
 use crate::facts::word_of;
-use crate::maker::{Maker};
+use crate::fault::OutlineError;
+use crate::maker::Maker;
 use crate::spot::Spot;
 use cert_form::{ChainNode, Kind};
 use cert_state::{AVal, Lit, Regs};
-use crate::fault::OutlineError;
 use std::alloc::{AllocError, Global};
 
 /// Stands for no node.
@@ -162,26 +162,52 @@ fn regs_of(number: usize, spot: &Spot) -> Regs {
 /// The certificate of all spots with their ways.
 pub(crate) fn in_order(maker: &Maker<'_>, ways: &[Ways]) -> Result<Vec<u8>, OutlineError> {
     let order = sorted(maker.alloc, ways)?;
-    let numbers = numbers_of(maker.alloc, &order)?;
-    let mut chains = Chains::new(maker.alloc)?;
+    let mut listing = Listing::new(maker.alloc, &order)?;
+    for place in &order {
+        listing.add(maker, ways, *place as usize)?;
+    }
+    listing.chains.written(maker.alloc, &listing.nodes)
+}
+
+// The nodes so far, and the chains of what they state.
+#[derive(Drop)]
+struct Listing {
+    // For each spot the number of its node.
+    numbers: Vec<u32>,
     // For each node the chain of one before it.
-    let mut before = vec![in maker.alloc; 0u32; order.len()]?;
-    let mut nodes = Vec::new(maker.alloc);
-    for (number, place) in order.iter().enumerate() {
-        let (Some(spot), Some(own)) = (maker.get(*place as usize), ways.get(*place as usize)) else {
+    before: Vec<u32>,
+    chains: Chains,
+    nodes: Vec<ChainNode>,
+}
+
+impl Listing {
+    fn new(alloc: Global, order: &[u32]) -> Result<Listing, AllocError> {
+        Ok(Listing {
+            numbers: numbers_of(alloc, order)?,
+            before: vec![in alloc; 0u32; order.len()]?,
+            chains: Chains::new(alloc)?,
+            nodes: Vec::new(alloc),
+        })
+    }
+
+    // Adds the node of the spot at a place.
+    fn add(&mut self, maker: &Maker<'_>, ways: &[Ways], place: usize) -> Result<(), OutlineError> {
+        let (Some(spot), Some(own)) = (maker.get(place), ways.get(place)) else {
             return Err(OutlineError::Unlike);
         };
-        let chain = chain_of(maker, &mut chains, &spot, chain_at(&before, number))?;
-        let kind = kind_of(&numbers, *own);
-        hand_on(&mut before, &kind, chain);
-        nodes.push(ChainNode {
+        let number = self.nodes.len();
+        let before = chain_at(&self.before, number);
+        let chain = chain_of(maker, &mut self.chains, &spot, before)?;
+        let kind = kind_of(&self.numbers, *own);
+        hand_on(&mut self.before, &kind, chain);
+        self.nodes.push(ChainNode {
             kind,
             pc: spot.pc.min(0xffff) as u16,
             regs: regs_of(number, &spot),
             chain,
         })?;
+        Ok(())
     }
-    chains.written(maker.alloc, &nodes)
 }
 
 fn chain_at(chains: &[u32], number: usize) -> u32 {

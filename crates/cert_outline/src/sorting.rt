@@ -46,6 +46,18 @@ impl Stated {
         Ok(claims)
     }
 
+    // All claims, with the rules that are out in the order of a node before.
+    fn as_before(&self, alloc: Global, before: &[u32]) -> Result<Vec<Claim>, AllocError> {
+        let outs = as_before(alloc, &self.outs, before)?;
+        self.with(alloc, &outs)
+    }
+
+    // All claims, with the rules that are out in the order of halves that are out as wholes.
+    fn by_halves(&self, alloc: Global) -> Result<Vec<Claim>, AllocError> {
+        let outs = by_halves(alloc, &self.outs, &self.rules)?;
+        self.with(alloc, &outs)
+    }
+
     /// All claims, with the rules that are out in the better order. A node before says those out that are given, from the
     /// last to the first.
     pub(crate) fn sorted(
@@ -57,10 +69,8 @@ impl Stated {
         if self.outs.len() < 2 {
             return self.with(alloc, &self.outs);
         }
-        let outs = as_before(alloc, &self.outs, before)?;
-        let one = self.with(alloc, &outs)?;
-        let outs = by_halves(alloc, &self.outs, &self.rules)?;
-        let other = self.with(alloc, &outs)?;
+        let one = self.as_before(alloc, before)?;
+        let other = self.by_halves(alloc)?;
         if chains.shared(&one) >= chains.shared(&other) {
             return Ok(one);
         }
@@ -130,28 +140,57 @@ fn counts_of(alloc: Global, outs: &[u32], rules: &[u32]) -> Result<Vec<usize>, A
     Ok(counts)
 }
 
+// Rules, halves of them, and halves of halves.
+#[derive(Drop)]
+struct Halves<'a> {
+    rules: &'a [u32],
+    // How many rules are out before each place.
+    counts: Vec<usize>,
+    // The halves that are to be looked at, the greatest first.
+    left: Vec<(usize, usize)>,
+    // The rules of those that are out as wholes.
+    sorted: Vec<u32>,
+}
+
+impl<'a> Halves<'a> {
+    // Looks at the rules from one place to another.
+    fn look_at(&mut self, from: usize, to: usize) -> Result<(), AllocError> {
+        let count = count_between(&self.counts, from, to);
+        if count == 0 {
+            return Ok(());
+        }
+        if count < to.saturating_sub(from) {
+            let middle = from.saturating_add(to) / 2;
+            self.left.push((from, middle))?;
+            self.left.push((middle, to))?;
+            return Ok(());
+        }
+        if let Some(whole) = self.rules.get(from..to) {
+            self.sorted.extend_from_slice(whole)?;
+        }
+        Ok(())
+    }
+
+    fn look_at_all(&mut self) -> Result<(), AllocError> {
+        self.left.push((0, self.rules.len()))?;
+        for next in 0..self.rules.len().saturating_mul(2) {
+            let Some((from, to)) = self.left.get(next).copied() else {
+                break;
+            };
+            self.look_at(from, to)?;
+        }
+        Ok(())
+    }
+}
+
 // By halves, and halves of halves, which are out as wholes.
 fn by_halves(alloc: Global, outs: &[u32], rules: &[u32]) -> Result<Vec<u32>, AllocError> {
-    let counts = counts_of(alloc, outs, rules)?;
-    let mut sorted = Vec::new(alloc);
-    let mut parts = Vec::new(alloc);
-    parts.push((0usize, rules.len()))?;
-    let mut next = 0usize;
-    for _ in 0..2 * rules.len() {
-        let Some((from, to)) = parts.get(next).copied() else {
-            break;
-        };
-        next = next.saturating_add(1);
-        let count = count_between(&counts, from, to);
-        if count > 0 && count == to.saturating_sub(from) {
-            if let Some(part) = rules.get(from..to) {
-                sorted.extend_from_slice(part)?;
-            }
-        } else if count > 0 {
-            let middle = from.saturating_add(to) / 2;
-            parts.push((from, middle))?;
-            parts.push((middle, to))?;
-        }
-    }
-    Ok(sorted)
+    let mut halves = Halves {
+        rules,
+        counts: counts_of(alloc, outs, rules)?,
+        left: Vec::new(alloc),
+        sorted: Vec::new(alloc),
+    };
+    halves.look_at_all()?;
+    Ok(halves.sorted)
 }
