@@ -5,10 +5,10 @@ use crate::unready::Unready;
 use bpf_insn::Program;
 use call_tables::Arch;
 use cert_check::{Checked, check};
-use certify::certify;
+use certify::certify_made;
 use profile::Profile;
 use profile_json::read_bundle;
-use rule_compile::compile;
+use rule_compile::make;
 use std::alloc::Global;
 
 /// A profile, the filter that was compiled for it, and the certificate that was made of the two. None of it is checked.
@@ -53,14 +53,14 @@ impl Prepared {
         ensures err { (native : TheArch) (bundle : List ℕ) → IsBundle native bundle profile
             → IfErr result (λ unready. unready ≢ OutOfMemory → IsUnready native bundle unready) }
     {
-        let filter = compile(alloc, &profile)?;
-        let Ok(program) = Program::view(&filter) else {
+        let made = make(alloc, &profile)?;
+        let Ok(program) = Program::view(&made.bytes) else {
             unreachable!();
         };
-        let certificate = certify(alloc, &profile, &program)?;
+        let certificate = certify_made(alloc, &profile, &program, &made.outline)?;
         Ok(Prepared {
             profile,
-            filter,
+            filter: made.bytes,
             certificate,
         })
     }

@@ -6,28 +6,20 @@
 //! whichever calls and machines come to it.
 ghost use Rattle.std.specs.Prelude.{◌≡◌, ◌≤◌, ◌<◌, ◌^◌, length, vec_len, IfSome};
 
-use crate::open::{Open, Rest, left, questions_of};
+use crate::open::{Open, Placed, Rest, are_alike, left, questions_of};
+use crate::outline::{Asked, Block, Call, Outline, Part};
 use crate::question::Subject;
-use crate::ranges::{Leaf, Range, Ranges};
+use crate::ranges::{Leaf, Ranges};
 use call_record::Word;
-use profile::Rule;
 use std::alloc::{AllocError, Global};
-
-/// Where to go on, by some bits of a word.
-#[derive(Drop)]
-pub(crate) struct Block {
-    pub(crate) subject: Subject,
-    /// The numbers that the bits may have.
-    pub(crate) ranges: Vec<Range>,
-    // What it stands for: these questions, and where to go on if none of their rules holds.
-    rules: Vec<Open>,
-    other: Leaf,
-}
 
 /// Blocks. Each goes on at blocks before it.
 #[derive(Drop)]
 pub(crate) struct Blocks {
     pub(crate) blocks: Vec<Block>,
+    // The calls that they decide, and the parts of the one that is looked at, the last one first.
+    calls: Vec<Call>,
+    parts: Vec<Part>,
     /// How many ranges may be looked at, until the rules are no more asked all at once.
     room: usize,
 }
@@ -45,21 +37,63 @@ impl Blocks {
     {
         Blocks {
             blocks: Vec::new(alloc),
+            calls: Vec::new(alloc),
+            parts: Vec::new(alloc),
             room: 0,
         }
     }
 
-    /// What decides the calls of a number that has these rules.
+    /// The blocks, and the calls that they decide.
+    pub(crate) fn into_outline(self) -> Outline {
+        let Blocks {
+            blocks,
+            calls,
+            parts: _,
+            room: _,
+        } = self;
+        Outline { blocks, calls }
+    }
+
+    /// What decides the calls of a number of the machine with the token, which has these rules.
     pub(crate) fn leaf_of(
         &mut self,
         alloc: Global,
-        rules: &[&Rule],
+        token: u32,
+        number: u32,
+        rules: &[Placed<'_>],
         default: Word,
     ) -> Result<Leaf, AllocError> {
         match questions_of(alloc, rules, default)? {
-            Rest::Met(word) => Ok(Leaf::Word(word)),
-            Rest::Open(open) => self.add(alloc, &open, &Leaf::Word(default)),
+            Rest::Met(rule, word) => {
+                let leaf = Leaf::Word(word);
+                self.add_call(token, number, &leaf, Asked::Nothing(rule))?;
+                Ok(leaf)
+            }
+            Rest::Open(open) => {
+                let leaf = self.add(alloc, &open, &Leaf::Word(default))?;
+                let parts = std::mem::replace(&mut self.parts, Vec::new(alloc));
+                self.add_call(token, number, &leaf, Asked::InParts(parts))?;
+                Ok(leaf)
+            }
         }
+    }
+
+    // Notes what decides a call.
+    fn add_call(
+        &mut self,
+        token: u32,
+        number: u32,
+        leaf: &Leaf,
+        asked: Asked,
+    ) -> Result<(), AllocError> {
+        let leaf = *leaf;
+        self.calls.push(Call {
+            token,
+            number,
+            leaf,
+            asked,
+        })?;
+        Ok(())
     }
 
     // The block of these rules. Rules with the word of what is gone on at without them make no
@@ -73,8 +107,11 @@ impl Blocks {
             return Ok(*other);
         }
         let Some(place) = middle(rules) else {
-            return self.add_rule(alloc, rules, other);
+            let leaf = self.add_rule(alloc, rules, other)?;
+            self.add_part(alloc, rules, &leaf)?;
+            return Ok(leaf);
         };
+        let parts = self.parts.len();
         let before = self.blocks.len();
         let (first, second) = rules.split_at(place);
         let next = self.add(alloc, second, other)?;
@@ -85,11 +122,21 @@ impl Blocks {
         if let Some(whole) = self.decide(alloc, rules, other, STEPS)?
             && self.ranges_from(before) <= fewest
         {
+            self.parts.truncate(parts);
+            self.add_part(alloc, rules, &whole)?;
             return Ok(whole);
         }
         self.blocks.truncate(before);
         self.put_back(aside)?;
         Ok(parted)
+    }
+
+    // Notes that these are asked at once.
+    fn add_part(&mut self, alloc: Global, rules: &[Open], leaf: &Leaf) -> Result<(), AllocError> {
+        let rules = Vec::from_slice(alloc, rules)?;
+        let leaf = *leaf;
+        self.parts.push(Part { rules, leaf })?;
+        Ok(())
     }
 
     // The block of one rule.
@@ -158,7 +205,7 @@ impl Blocks {
         let mut ranges = Ranges::new(alloc);
         for (place, start) in starts.iter().enumerate() {
             let leaf = match left(alloc, rules, subject, *start)? {
-                Rest::Met(word) => Some(Leaf::Word(word)),
+                Rest::Met(_, word) => Some(Leaf::Word(word)),
                 Rest::Open(open) => self.decide(alloc, &open, other, steps - 1)?,
             };
             let Some(leaf) = leaf else {
@@ -200,7 +247,7 @@ impl Blocks {
     // The block that stands for this.
     fn find(&self, rules: &[Open], other: &Leaf) -> Option<usize> {
         self.blocks.iter().position(|block| block.other.is_like(other)
-            && block.rules.as_slice() == rules)
+            && are_alike(&block.rules, rules))
     }
 }
 
@@ -210,9 +257,9 @@ fn room_for(rules: &[Open], fewest: usize) -> usize {
     looked_at.max(fewest.saturating_mul(2))
 }
 
-// The bits that are asked for first: a low word where the high one is known, or those of the first
-// question.
-fn subject_of(rules: &[Open]) -> Option<Subject> {
+/// The bits that are asked for first: a low word where the high one is known, or those of the first
+/// question.
+pub fn subject_of(rules: &[Open]) -> Option<Subject> {
     let last = rules.iter().find(|open| open.question.is_last());
     let open = match last {
         Some(open) => open,
@@ -221,8 +268,8 @@ fn subject_of(rules: &[Open]) -> Option<Subject> {
     Some(open.question.subject)
 }
 
-// The numbers of the bits from which on something else may be left to ask, in order, from 0 on.
-fn starts_of(alloc: Global, rules: &[Open], subject: Subject) -> Result<Vec<u32>, AllocError> {
+/// The numbers of the bits from which on something else may be left to ask, in order, from 0 on.
+pub fn starts_of(alloc: Global, rules: &[Open], subject: Subject) -> Result<Vec<u32>, AllocError> {
     let mut starts = Vec::new(alloc);
     starts.push(0)?;
     for open in rules {

@@ -10,6 +10,7 @@ use crate::assembler::Assembler;
 use crate::blocks::Blocks;
 use crate::fault::CompileError;
 use crate::label::{Exits, Target};
+use crate::outline::Outline;
 use crate::ranges::ranges_of;
 use crate::search::{search_word, write_blocks};
 use crate::written::Written;
@@ -30,22 +31,49 @@ pub fn compile(alloc: Global, profile: &Profile) -> Result<Vec<u8>, CompileError
     ensures shape { IsPlain profile.now → IfOk result (λ bytes. IsCallFilter profile.now (insns_of bytes.items)) }
     ensures never { IsPlain profile.now → IfErr result (λ error. error ≡ CompileError.OutOfMemory) }
 {
+    let Made { bytes, outline: _ } = make(alloc, profile)?;
+    Ok(bytes)
+}
+
+/// A filter, and what the compiler knows of it.
+#[derive(Drop)]
+pub struct Made {
+    /// The bytes of its instructions.
+    pub bytes: Vec<u8>,
+    /// What is asked where, and for which rules. Nothing is promised of it.
+    pub outline: Outline,
+}
+
+/// The filter that `compile` gives, with its outline.
+pub fn make(alloc: Global, profile: &Profile) -> Result<Made, CompileError>
+    ensures program { IfOk result (λ made. view_fault made.bytes.items ≡ None) }
+    ensures shape { IsPlain profile.now → IfOk result (λ made. IsCallFilter profile.now (insns_of made.bytes.items)) }
+    ensures never { IsPlain profile.now → IfErr result (λ error. error ≡ CompileError.OutOfMemory) }
+{
     let mut code = Assembler::new(alloc);
-    filter(&mut code, alloc, profile)?;
-    Ok(code.into_bytes(alloc)?)
+    let mut blocks = Blocks::new(alloc);
+    filter(&mut code, alloc, profile, &mut blocks)?;
+    let bytes = code.into_bytes(alloc)?;
+    let outline = blocks.into_outline();
+    Ok(Made { bytes, outline })
 }
 
 // The whole code. A record of no listed machine is foreign.
-fn filter(code: &mut Assembler, alloc: Global, profile: &Profile) -> Result<(), CompileError>
-    requires { code.old ≡ [] }
+fn filter(
+    code: &mut Assembler,
+    alloc: Global,
+    profile: &Profile,
+    blocks: &mut Blocks,
+) -> Result<(), CompileError>
+    requires empty { code.old ≡ [] }
+    requires no_block { vec_len blocks.old.blocks ≡ 0 }
     ensures some { OnOk result (1 ≤ length code.new) }
     ensures shape { IsPlain profile.now → OnOk result (IsCallFilter profile.now code.new) }
     ensures never { IsPlain profile.now → IsErrOf result CompileError.TooLong → ⊥ }
 {
     let machines = profile.machines();
-    let mut blocks = Blocks::new(alloc);
     let mut written = Vec::new(alloc);
-    match tell_machines_apart(code, alloc, profile, machines, &mut blocks, &mut written)? {
+    match tell_machines_apart(code, alloc, profile, machines, blocks, &mut written)? {
         Target::Place(_) => {
             code.load(MACHINE)?;
             Ok(())

@@ -12,11 +12,17 @@ mod fronts;
 mod groups;
 mod label;
 mod open;
+mod outline;
 mod plan;
 mod question;
 mod ranges;
 mod search;
 mod written;
 
+pub use blocks::{starts_of, subject_of};
 pub use fault::CompileError;
-pub use filter::compile;
+pub use filter::{Made, compile, make};
+pub use open::{Asker, Open, Rest, are_alike, left};
+pub use outline::{Asked, Block, Call, Outline, Part};
+pub use question::{Comparison, Question, Subject};
+pub use ranges::{Leaf, Range};

@@ -6,21 +6,56 @@ use call_record::{Word, halves};
 use profile::{Cond, Op, Rule};
 use std::alloc::{AllocError, Global};
 
+/// A rule of a profile, with its place in the profile's order.
+#[derive(Clone, Copy)]
+pub(crate) struct Placed<'a> {
+    pub(crate) place: usize,
+    pub(crate) rule: &'a Rule,
+}
+
+/// Which condition asks a question.
+#[derive(Clone, Copy, PartialEq, Eq)]
+pub struct Asker {
+    /// The place of its rule in the profile's order.
+    pub rule: usize,
+    /// Its own place among the rule's.
+    pub condition: usize,
+}
+
 /// A question of a rule. Those of one rule stand together.
 #[derive(Clone, Copy, PartialEq, Eq)]
-pub(crate) struct Open {
+pub struct Open {
     /// Whether the question is the first one of its rule.
-    pub(crate) begins: bool,
+    pub begins: bool,
     /// The word of the rule.
-    pub(crate) answer: Word,
-    pub(crate) question: Question,
+    pub answer: Word,
+    pub question: Question,
+    pub asker: Asker,
+}
+
+impl Open {
+    // Whether both ask the same, for the same word, whoever asks it.
+    fn is_like(&self, other: &Open) -> bool {
+        self.begins == other.begins
+            && self.answer == other.answer
+            && self.question == other.question
+    }
+}
+
+/// Whether both are the same questions, whoever asks them.
+pub fn are_alike(these: &[Open], others: &[Open]) -> bool {
+    these.len() == others.len()
+        && these
+            .iter()
+            .zip(others)
+            .all(|(this, other)| this.is_like(other))
 }
 
 /// What rules come to.
 #[derive(Drop)]
-pub(crate) enum Rest {
-    /// One of the rules holds, and this is its word.
-    Met(Word),
+pub enum Rest {
+    /// The rule at this place of the profile's order holds, and this is its word.
+    Met(usize, Word),
     /// What is left to ask of those that may hold.
     Open(Vec<Open>),
 }
@@ -61,31 +96,40 @@ impl Questions {
         !self.failed && self.open.len() == self.start
     }
 
-    // Asks a question of the rule with this word.
-    fn ask(&mut self, answer: Word, question: Question) -> Result<(), AllocError> {
+    // Asks a question for a condition of the rule with this word.
+    fn ask(&mut self, asker: Asker, answer: Word, question: Question) -> Result<(), AllocError> {
         if !self.failed {
             let begins = self.open.len() == self.start;
             self.open.push(Open {
                 begins,
                 answer,
                 question,
+                asker,
             })?;
         }
         Ok(())
     }
 
     // Asks what a condition asks.
-    fn ask_condition(&mut self, answer: Word, cond: &Cond) -> Result<(), AllocError> {
+    fn ask_condition(&mut self, asker: Asker, answer: Word, cond: &Cond) -> Result<(), AllocError> {
         let low = ARGUMENTS + 8 * u32::from(cond.index);
         let above = cond.value.checked_add(1);
         match (cond.op, above) {
-            (Op::MaskedEq, _) => self.ask_bits(answer, low, cond),
-            (Op::Eq, _) => self.ask(answer, argument(low, Comparison::Equal, cond.value, true)),
-            (Op::Ne, _) => self.ask(answer, argument(low, Comparison::Equal, cond.value, false)),
-            (Op::Ge, _) => self.ask_least(answer, low, cond.value, true),
-            (Op::Lt, _) => self.ask_least(answer, low, cond.value, false),
-            (Op::Gt, Some(least)) => self.ask_least(answer, low, least, true),
-            (Op::Le, Some(least)) => self.ask_least(answer, low, least, false),
+            (Op::MaskedEq, _) => self.ask_bits(asker, answer, low, cond),
+            (Op::Eq, _) => self.ask(
+                asker,
+                answer,
+                argument(low, Comparison::Equal, cond.value, true),
+            ),
+            (Op::Ne, _) => self.ask(
+                asker,
+                answer,
+                argument(low, Comparison::Equal, cond.value, false),
+            ),
+            (Op::Ge, _) => self.ask_least(asker, answer, low, cond.value, true),
+            (Op::Lt, _) => self.ask_least(asker, answer, low, cond.value, false),
+            (Op::Gt, Some(least)) => self.ask_least(asker, answer, low, least, true),
+            (Op::Le, Some(least)) => self.ask_least(asker, answer, low, least, false),
             (Op::Gt, None) => {
                 self.fail();
                 Ok(())
@@ -97,13 +141,15 @@ impl Questions {
     // Asks whether the argument is at least a number. Each is at least 0.
     fn ask_least(
         &mut self,
+        asker: Asker,
         answer: Word,
         low: u32,
         least: u64,
         wanted: bool,
     ) -> Result<(), AllocError> {
         if least > 0 {
-            return self.ask(answer, argument(low, Comparison::AtLeast, least, wanted));
+            let question = argument(low, Comparison::AtLeast, least, wanted);
+            return self.ask(asker, answer, question);
         }
         if !wanted {
             self.fail();
@@ -112,7 +158,13 @@ impl Questions {
     }
 
     // Asks for the bits of both words under a mask. A mask of 0 asks for nothing.
-    fn ask_bits(&mut self, answer: Word, low: u32, cond: &Cond) -> Result<(), AllocError> {
+    fn ask_bits(
+        &mut self,
+        asker: Asker,
+        answer: Word,
+        low: u32,
+        cond: &Cond,
+    ) -> Result<(), AllocError> {
         let (mask, mask_above) = halves(cond.value);
         let (datum, datum_above) = halves(cond.datum);
         let words = [
@@ -128,7 +180,7 @@ impl Questions {
                     low: None,
                     wanted: true,
                 };
-                self.ask(answer, question)?;
+                self.ask(asker, answer, question)?;
             }
         }
         Ok(())
@@ -154,31 +206,36 @@ fn argument(low: u32, comparison: Comparison, number: u64, wanted: bool) -> Ques
 /// What is to be asked of rules. One with the default word makes no difference.
 pub(crate) fn questions_of(
     alloc: Global,
-    rules: &[&Rule],
+    rules: &[Placed<'_>],
     default: Word,
 ) -> Result<Rest, AllocError> {
     let mut questions = Questions::new(alloc);
-    for rule in rules {
-        if rule.word != default {
+    for placed in rules {
+        let word = placed.rule.word;
+        if word != default {
             questions.begin();
-            ask_rule(&mut questions, rule)?;
+            ask_rule(&mut questions, *placed)?;
             if questions.is_met() {
-                return Ok(Rest::Met(rule.word));
+                return Ok(Rest::Met(placed.place, word));
             }
         }
     }
     Ok(Rest::Open(questions.open))
 }
 
-fn ask_rule(questions: &mut Questions, rule: &Rule) -> Result<(), AllocError> {
-    for cond in &rule.conds {
-        questions.ask_condition(rule.word, cond)?;
+fn ask_rule(questions: &mut Questions, placed: Placed<'_>) -> Result<(), AllocError> {
+    for (condition, cond) in placed.rule.conds.iter().enumerate() {
+        let asker = Asker {
+            rule: placed.place,
+            condition,
+        };
+        questions.ask_condition(asker, placed.rule.word, cond)?;
     }
     Ok(())
 }
 
 /// What is left to ask of rules where these bits are this number.
-pub(crate) fn left(
+pub fn left(
     alloc: Global,
     rules: &[Open],
     subject: Subject,
@@ -192,10 +249,10 @@ pub(crate) fn left(
         match open.question.reply(subject, number) {
             Reply::Met => {}
             Reply::NotMet => questions.fail(),
-            Reply::Open(question) => questions.ask(open.answer, question)?,
+            Reply::Open(question) => questions.ask(open.asker, open.answer, question)?,
         }
         if ends(rules, place) && questions.is_met() {
-            return Ok(Rest::Met(open.answer));
+            return Ok(Rest::Met(open.asker.rule, open.answer));
         }
     }
     Ok(Rest::Open(questions.open))

@@ -5,30 +5,30 @@
 
 /// How a word compares with a number.
 #[derive(Clone, Copy, PartialEq, Eq)]
-pub(crate) enum Comparison {
+pub enum Comparison {
     Equal,
     AtLeast,
 }
 
 /// The bits of a word that are asked for.
 #[derive(Clone, Copy, PartialEq, Eq)]
-pub(crate) struct Subject {
+pub struct Subject {
     /// Where the word stands in a record.
-    pub(crate) word: u32,
-    pub(crate) mask: u32,
+    pub word: u32,
+    pub mask: u32,
 }
 
 /// How bits of a word compare with a number.
 #[derive(Clone, Copy, PartialEq, Eq)]
-pub(crate) struct Question {
-    pub(crate) subject: Subject,
-    pub(crate) comparison: Comparison,
-    pub(crate) number: u32,
+pub struct Question {
+    pub subject: Subject,
+    pub comparison: Comparison,
+    pub number: u32,
     /// Where this is the high word of an argument and has the number, the low word is compared with
     /// this one.
-    pub(crate) low: Option<u32>,
+    pub low: Option<u32>,
     /// The answer that is asked for.
-    pub(crate) wanted: bool,
+    pub wanted: bool,
 }
 
 /// What is known of a question where the bits are known.

@@ -6,14 +6,15 @@ ghost use Rattle.rule_compile.specs.inner.Numbers.{AreUnconditional, IsExtended,
 ghost use Rattle.rule_compile.specs.inner.Ranges.{IsLike};
 
 use crate::blocks::Blocks;
+use crate::open::Placed;
 use call_record::Word;
 use call_tables::Arch;
 use profile::{LEAST_X32_NUMBER, Profile, Rule, has_x32_calls};
 use std::alloc::{AllocError, Global};
 
 /// What decides a call.
-#[derive(Clone, Copy)]
-pub(crate) enum Leaf {
+#[derive(Clone, Copy, PartialEq, Eq)]
+pub enum Leaf {
     /// It gets this word.
     Word(Word),
     /// The block at this place decides, by the arguments.
@@ -66,7 +67,7 @@ impl Leaf {
     }
 
     /// Whether both decide alike.
-    pub(crate) fn is_like(&self, other: &Leaf) -> bool
+    pub fn is_like(&self, other: &Leaf) -> bool
         ensures { IsTrue result ↔ (self.now ≡ other.now) }
     {
         match other {
@@ -78,10 +79,10 @@ impl Leaf {
 
 /// Neighbouring numbers that are decided alike.
 #[derive(Clone, Copy)]
-pub(crate) struct Range {
-    pub(crate) first: u32,
-    pub(crate) last: u32,
-    pub(crate) leaf: Leaf,
+pub struct Range {
+    pub first: u32,
+    pub last: u32,
+    pub leaf: Leaf,
 }
 
 impl Range {
@@ -223,7 +224,7 @@ fn leaf_of(
         Some(leaf) => Ok(leaf),
         None => {
             let own = rules_for(alloc, rules, token, number)?;
-            blocks.leaf_of(alloc, &own, default)
+            blocks.leaf_of(alloc, token, number, &own, default)
         }
     }
 }
@@ -234,11 +235,11 @@ fn rules_for(
     rules: &[Rule],
     token: u32,
     number: u32,
-) -> Result<Vec<&Rule>, AllocError> {
+) -> Result<Vec<Placed<'_>>, AllocError> {
     let mut own = Vec::new(alloc);
-    for rule in rules {
+    for (place, rule) in rules.iter().enumerate() {
         if is_for(rule, token, number) {
-            own.push(rule)?;
+            own.push(Placed { place, rule })?;
         }
     }
     Ok(own)

@@ -13,8 +13,8 @@ pub returns-in_err-tell_machines_apart-clause-never : goal.returns-in_err-tell_m
 returns-in_err-tell_machines_apart-clause-never c plain too_long =
     let e : IsErrOf {T = Target} {E = CompileError} (Err c.in_err-tell_machines_apart.field-0.0) TooLong = search rules in
     all_fit c.args.profile.now c.args.code.now c.machines-machines.result.now c.machines-machines.ensures.machines
-    c.machines-machines.ensures.is_profile.machines_in_order c.requires
-    (c.in_err-tell_machines_apart.ensures.full e plain c.new-blocks.ensures)
+    c.machines-machines.ensures.is_profile.machines_in_order c.requires.empty
+    (c.in_err-tell_machines_apart.ensures.full e plain c.requires.no_block)
 
 pub returns-in_err-load-in-Place-clause-never : goal.returns-in_err-load-in-Place-clause-never
 returns-in_err-load-in-Place-clause-never c plain too_long =
@@ -24,8 +24,8 @@ returns-in_err-load-in-Place-clause-never c plain too_long =
     let ms = c.machines-machines.result.now in
     let apart : Apart p p.machines 0 [] mid to =
     subst (λ ms. Apart p ms 0 [] mid to) c.machines-machines.ensures.machines
-    (subst (λ n. Apart p ms n [] mid to) c.new-blocks.ensures
-    (subst (λ code. Apart p ms (vec_len c.new-blocks.result.blocks) code mid to) c.requires
+    (subst (λ n. Apart p ms n [] mid to) c.requires.no_block
+    (subst (λ code. Apart p ms (vec_len c.args.blocks.now.blocks) code mid to) c.requires.empty
     c.in_ok-tell_machines_apart.ensures.apart)) in
     let few = few_machines p.machines c.machines-machines.ensures.is_profile.machines_in_order in
     let e : IsErrOf {T = Label} {E = CompileError} (Err c.in_err-load-in-Place.field-0.0) TooLong = search rules in
@@ -39,8 +39,8 @@ returns-in_err-near_return-in-Return-clause-never c plain too_long =
     let ms = c.machines-machines.result.now in
     let apart : Apart p p.machines 0 [] mid to =
     subst (λ ms. Apart p ms 0 [] mid to) c.machines-machines.ensures.machines
-    (subst (λ n. Apart p ms n [] mid to) c.new-blocks.ensures
-    (subst (λ code. Apart p ms (vec_len c.new-blocks.result.blocks) code mid to) c.requires
+    (subst (λ n. Apart p ms n [] mid to) c.requires.no_block
+    (subst (λ code. Apart p ms (vec_len c.args.blocks.now.blocks) code mid to) c.requires.empty
     c.in_ok-tell_machines_apart.ensures.apart)) in
     let few = few_machines p.machines c.machines-machines.ensures.is_profile.machines_in_order in
     let e : IsErrOf {T = Label} {E = CompileError} (Err c.in_err-near_return-in-Return.field-0.0) TooLong = search rules in
@@ -54,8 +54,8 @@ returns-in-Place-clause-shape c plain =
     let ms = c.machines-machines.result.now in
     let apart : Apart p p.machines 0 [] mid to =
     subst (λ ms. Apart p ms 0 [] mid to) c.machines-machines.ensures.machines
-    (subst (λ n. Apart p ms n [] mid to) c.new-blocks.ensures
-    (subst (λ code. Apart p ms (vec_len c.new-blocks.result.blocks) code mid to) c.requires
+    (subst (λ n. Apart p ms n [] mid to) c.requires.no_block
+    (subst (λ code. Apart p ms (vec_len c.args.blocks.now.blocks) code mid to) c.requires.empty
     c.in_ok-tell_machines_apart.ensures.apart)) in
     let few = few_machines p.machines c.machines-machines.ensures.is_profile.machines_in_order in
     whole_load p plain mid to apart few c.in-Place.field-0 c.load.new.self c.in-Place.is c.in_ok-load-in-Place.ensures.written
@@ -68,8 +68,8 @@ returns-clause-shape c plain =
     let ms = c.machines-machines.result.now in
     let apart : Apart p p.machines 0 [] mid to =
     subst (λ ms. Apart p ms 0 [] mid to) c.machines-machines.ensures.machines
-    (subst (λ n. Apart p ms n [] mid to) c.new-blocks.ensures
-    (subst (λ code. Apart p ms (vec_len c.new-blocks.result.blocks) code mid to) c.requires
+    (subst (λ n. Apart p ms n [] mid to) c.requires.no_block
+    (subst (λ code. Apart p ms (vec_len c.args.blocks.now.blocks) code mid to) c.requires.empty
     c.in_ok-tell_machines_apart.ensures.apart)) in
     let few = few_machines p.machines c.machines-machines.ensures.is_profile.machines_in_order in
     whole_return p plain mid to apart few c.in-Return.word c.in_ok-near_return-in-Return.field-0 c.near_return.new.self c.in-Return.is
