@@ -100,7 +100,12 @@ impl Blocks {
         let leaf = self.add(alloc, open, 0, other)?;
         let spans = std::mem::replace(&mut self.spans, Vec::new(alloc));
         let open = Vec::from_slice(alloc, open)?;
-        let known = Known { key, open, leaf, spans };
+        let known = Known {
+            key,
+            open,
+            leaf,
+            spans,
+        };
         let parts = known.parts_of(alloc, &known.open)?;
         self.known.push(known)?;
         Ok((leaf, parts))
@@ -283,7 +288,15 @@ impl Blocks {
         let block = self.blocks.len();
         let rules = Vec::from_slice(alloc, rules)?;
         let other = *other;
-        self.put(alloc, Block { subject, ranges, rules, other })?;
+        self.put(
+            alloc,
+            Block {
+                subject,
+                ranges,
+                rules,
+                other,
+            },
+        )?;
         Ok(Some(Leaf::Block(block)))
     }
 
