@@ -212,7 +212,7 @@ impl<'a> Maker<'a> {
             if size >= most {
                 return Ok(None);
             }
-            match self.ways(&spot) {
+            match self.ways_of_call(&spot) {
                 Ok(_) => {}
                 Err(OutlineError::TooLarge) => return Ok(None),
                 Err(error) => return Err(error),

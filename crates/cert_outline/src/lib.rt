@@ -9,8 +9,12 @@
 #![tactic(auto)]
 
 mod alike;
+mod arriving;
+mod call_ways;
 mod chains;
 mod claims;
+mod contradictions;
+mod cuts;
 mod exit;
 mod facts;
 mod fault;

@@ -1,9 +1,9 @@
 //! The spots of a certificate, each of which stands there once.
 
+use crate::fault::OutlineError;
 use crate::index::Index;
 use crate::spot::Spot;
 use cert_form::MAX_NODES;
-use crate::fault::OutlineError;
 use std::alloc::{AllocError, Global};
 
 /// Spots, in the order in which they were come to.

@@ -6,21 +6,21 @@ use Rattle.pipeline.specs.declared.unready.Unready.TheVariants.{Compile, Certify
 use Rattle.pipeline.proofs.PlainLaws.{certifies, told_certify, told_compile, told_memory, unbroken}
 use Rattle.pipeline.proofs.pipeline.Prepared.of_profile.Goals as goal
 
-pub returns-in_err-filter-clause-never : goal.returns-in_err-filter-clause-never
-returns-in_err-filter-clause-never c = λ is.
-    told_memory Compile compiler.OutOfMemory c.in_err-filter.field-0.0 c.from_residual.result c.from_residual.ensures.1
-    (c.in_err-filter.ensures.never is)
+pub returns-in_err-made-clause-never : goal.returns-in_err-made-clause-never
+returns-in_err-made-clause-never c = λ is.
+    told_memory Compile compiler.OutOfMemory c.in_err-made.field-0.0 c.from_residual.result c.from_residual.ensures.1
+    (c.in_err-made.ensures.never is)
 
-pub returns-in_err-filter-clause-err : goal.returns-in_err-filter-clause-err
-returns-in_err-filter-clause-err c =
-    told_compile c.args.profile c.from_residual.result c.in_err-filter.field-0.0 c.from_residual.ensures.1 c.in_err-filter.ensures.never
+pub returns-in_err-made-clause-err : goal.returns-in_err-made-clause-err
+returns-in_err-made-clause-err c =
+    told_compile c.args.profile c.from_residual.result c.in_err-made.field-0.0 c.from_residual.ensures.1 c.in_err-made.ensures.never
 
 pub returns-in_err-certificate-clause-never : goal.returns-in_err-certificate-clause-never
 returns-in_err-certificate-clause-never c = λ is.
     let same = c.in-Ok.ensures.read ∙ ap insns_of c.deref.ensures.value in
     told_memory Certify maker.OutOfMemory c.in_err-certificate.field-0.0 c.from_residual-in_err-certificate.result
     c.from_residual-in_err-certificate.ensures.1
-    (certifies c.args.profile _ c.in_ok-filter.filter.items same c.in_ok-filter.ensures.shape c.in_err-certificate.field-0.0
+    (certifies c.args.profile _ c.in_ok-made.made.bytes.items same c.in_ok-made.ensures.shape c.in_err-certificate.field-0.0
     c.in_err-certificate.ensures.never is)
 
 pub returns-in_err-certificate-clause-err : goal.returns-in_err-certificate-clause-err
@@ -28,11 +28,11 @@ returns-in_err-certificate-clause-err c =
     let same = c.in-Ok.ensures.read ∙ ap insns_of c.deref.ensures.value in
     told_certify c.args.profile c.from_residual-in_err-certificate.result c.in_err-certificate.field-0.0
     c.from_residual-in_err-certificate.ensures.1
-    (certifies c.args.profile _ c.in_ok-filter.filter.items same c.in_ok-filter.ensures.shape c.in_err-certificate.field-0.0
+    (certifies c.args.profile _ c.in_ok-made.made.bytes.items same c.in_ok-made.ensures.shape c.in_err-certificate.field-0.0
     c.in_err-certificate.ensures.never)
 
 pub returns-clause-own : goal.returns-clause-own
 returns-clause-own c =
     let same = c.in-Ok.ensures.read ∙ ap insns_of c.deref.ensures.value in
-    unbroken c.args.profile _ c.in_ok-filter.filter.items same c.in_ok-filter.ensures.shape c.in_ok-certificate.certificate.items
-    c.in_ok-filter.ensures.program c.in_ok-certificate.ensures.own
+    unbroken c.args.profile _ c.in_ok-made.made.bytes.items same c.in_ok-made.ensures.shape c.in_ok-certificate.certificate.items
+    c.in_ok-made.ensures.program c.in_ok-certificate.ensures.own
