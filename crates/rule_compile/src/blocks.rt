@@ -6,6 +6,8 @@
 //! whichever calls and machines come to it.
 ghost use Rattle.std.specs.Prelude.{◌≡◌, ◌≤◌, ◌<◌, ◌^◌, length, vec_len, IfSome};
 
+use crate::index::{Index, key_of};
+use crate::known::{Known, Span};
 use crate::open::{Open, Placed, Rest, are_alike, left, questions_of};
 use crate::outline::{Asked, Block, Call, Outline, Part};
 use crate::question::Subject;
@@ -17,9 +19,12 @@ use std::alloc::{AllocError, Global};
 #[derive(Drop)]
 pub(crate) struct Blocks {
     pub(crate) blocks: Vec<Block>,
-    // The calls that they decide, and the parts of the one that is looked at, the last one first.
+    index: Index,
+    // The calls that they decide, and the questions of which these are known.
     calls: Vec<Call>,
-    parts: Vec<Part>,
+    known: Vec<Known>,
+    // The parts of the questions that are looked at, the last one first.
+    spans: Vec<Span>,
     /// How many ranges may be looked at, until the rules are no more asked all at once.
     room: usize,
 }
@@ -37,8 +42,10 @@ impl Blocks {
     {
         Blocks {
             blocks: Vec::new(alloc),
+            index: Index::new(alloc),
             calls: Vec::new(alloc),
-            parts: Vec::new(alloc),
+            known: Vec::new(alloc),
+            spans: Vec::new(alloc),
             room: 0,
         }
     }
@@ -47,8 +54,10 @@ impl Blocks {
     pub(crate) fn into_outline(self) -> Outline {
         let Blocks {
             blocks,
+            index: _,
             calls,
-            parts: _,
+            known: _,
+            spans: _,
             room: _,
         } = self;
         Outline { blocks, calls }
@@ -70,12 +79,36 @@ impl Blocks {
                 Ok(leaf)
             }
             Rest::Open(open) => {
-                let leaf = self.add(alloc, &open, &Leaf::Word(default))?;
-                let parts = std::mem::replace(&mut self.parts, Vec::new(alloc));
+                let (leaf, parts) = self.asked(alloc, &open, &Leaf::Word(default))?;
                 self.add_call(token, number, &leaf, Asked::InParts(parts))?;
                 Ok(leaf)
             }
         }
+    }
+
+    // What decides these questions, and the parts in which they are asked. Calls that ask the same have one answer.
+    fn asked(
+        &mut self,
+        alloc: Global,
+        open: &[Open],
+        other: &Leaf,
+    ) -> Result<(Leaf, Vec<Part>), AllocError> {
+        let key = key_of(open, other);
+        if let Some(known) = self.known.iter().find(|known| known.is_of(key, open)) {
+            return Ok((known.leaf, known.parts_of(alloc, open)?));
+        }
+        let leaf = self.add(alloc, open, 0, other)?;
+        let spans = std::mem::replace(&mut self.spans, Vec::new(alloc));
+        let open = Vec::from_slice(alloc, open)?;
+        let known = Known {
+            key,
+            open,
+            leaf,
+            spans,
+        };
+        let parts = known.parts_of(alloc, &known.open)?;
+        self.known.push(known)?;
+        Ok((leaf, parts))
     }
 
     // Notes what decides a call.
@@ -98,8 +131,14 @@ impl Blocks {
 
     // The block of these rules. Rules with the word of what is gone on at without them make no
     // difference. They are asked all at once where that takes no more ranges than the first half of
-    // them before the second.
-    fn add(&mut self, alloc: Global, rules: &[Open], other: &Leaf) -> Result<Leaf, AllocError> {
+    // them before the second. The first of them stands at a place among those of its call.
+    fn add(
+        &mut self,
+        alloc: Global,
+        rules: &[Open],
+        start: usize,
+        other: &Leaf,
+    ) -> Result<Leaf, AllocError> {
         if rules
             .iter()
             .all(|open| other.is_like(&Leaf::Word(open.answer)))
@@ -108,34 +147,33 @@ impl Blocks {
         }
         let Some(place) = middle(rules) else {
             let leaf = self.add_rule(alloc, rules, other)?;
-            self.add_part(alloc, rules, &leaf)?;
+            self.add_span(start, rules.len(), &leaf)?;
             return Ok(leaf);
         };
-        let parts = self.parts.len();
+        let spans = self.spans.len();
         let before = self.blocks.len();
         let (first, second) = rules.split_at(place);
-        let next = self.add(alloc, second, other)?;
-        let parted = self.add(alloc, first, &next)?;
+        let next = self.add(alloc, second, start.saturating_add(place), other)?;
+        let parted = self.add(alloc, first, start, &next)?;
         let fewest = self.ranges_from(before);
         let aside = self.set_aside(alloc, before)?;
         self.room = room_for(rules, fewest);
         if let Some(whole) = self.decide(alloc, rules, other, STEPS)?
             && self.ranges_from(before) <= fewest
         {
-            self.parts.truncate(parts);
-            self.add_part(alloc, rules, &whole)?;
+            self.spans.truncate(spans);
+            self.add_span(start, rules.len(), &whole)?;
             return Ok(whole);
         }
-        self.blocks.truncate(before);
-        self.put_back(aside)?;
+        self.drop_from(before);
+        self.put_back(alloc, aside)?;
         Ok(parted)
     }
 
-    // Notes that these are asked at once.
-    fn add_part(&mut self, alloc: Global, rules: &[Open], leaf: &Leaf) -> Result<(), AllocError> {
-        let rules = Vec::from_slice(alloc, rules)?;
+    // Notes that so many questions from a place on are asked at once.
+    fn add_span(&mut self, start: usize, count: usize, leaf: &Leaf) -> Result<(), AllocError> {
         let leaf = *leaf;
-        self.parts.push(Part { rules, leaf })?;
+        self.spans.push(Span { start, count, leaf })?;
         Ok(())
     }
 
@@ -166,18 +204,31 @@ impl Blocks {
     fn set_aside(&mut self, alloc: Global, place: usize) -> Result<Vec<Block>, AllocError> {
         let mut aside = Vec::new(alloc);
         for _ in place..self.blocks.len() {
-            if let Some(block) = self.blocks.pop() {
+            if let Some(block) = self.pop() {
                 aside.push(block)?;
             }
         }
         Ok(aside)
     }
 
+    // Drops the blocks from a place on.
+    fn drop_from(&mut self, place: usize) {
+        for _ in place..self.blocks.len() {
+            self.pop();
+        }
+    }
+
+    // Takes the last block out.
+    fn pop(&mut self) -> Option<Block> {
+        self.index.pop();
+        self.blocks.pop()
+    }
+
     // Puts blocks back that were taken out.
-    fn put_back(&mut self, mut aside: Vec<Block>) -> Result<(), AllocError> {
+    fn put_back(&mut self, alloc: Global, mut aside: Vec<Block>) -> Result<(), AllocError> {
         for _ in 0..aside.len() {
             if let Some(block) = aside.pop() {
-                self.blocks.push(block)?;
+                self.put(alloc, block)?;
             }
         }
         Ok(())
@@ -235,19 +286,47 @@ impl Blocks {
             return Ok(Some(only.leaf));
         }
         let block = self.blocks.len();
-        self.blocks.push(Block {
-            subject,
-            ranges,
-            rules: Vec::from_slice(alloc, rules)?,
-            other: *other,
-        })?;
+        let rules = Vec::from_slice(alloc, rules)?;
+        let other = *other;
+        self.put(
+            alloc,
+            Block {
+                subject,
+                ranges,
+                rules,
+                other,
+            },
+        )?;
         Ok(Some(Leaf::Block(block)))
+    }
+
+    // Adds a block.
+    fn put(&mut self, alloc: Global, block: Block) -> Result<(), AllocError> {
+        self.index.push(alloc, key_of(&block.rules, &block.other))?;
+        self.blocks.push(block)?;
+        Ok(())
+    }
+
+    // Whether the block stands for this.
+    fn stands_for(&self, block: usize, rules: &[Open], other: &Leaf) -> bool {
+        match self.blocks.get(block) {
+            Some(block) => block.other.is_like(other) && are_alike(&block.rules, rules),
+            None => false,
+        }
     }
 
     // The block that stands for this.
     fn find(&self, rules: &[Open], other: &Leaf) -> Option<usize> {
-        self.blocks.iter().position(|block| block.other.is_like(other)
-            && are_alike(&block.rules, rules))
+        let key = key_of(rules, other);
+        let mut place = self.index.last(key);
+        for _ in 0..self.blocks.len() {
+            let found = place?;
+            if self.index.has_key(found, key) && self.stands_for(found, rules, other) {
+                return Some(found);
+            }
+            place = self.index.before(found);
+        }
+        None
     }
 }
 

@@ -10,6 +10,8 @@ mod fault;
 mod filter;
 mod fronts;
 mod groups;
+mod index;
+mod known;
 mod label;
 mod open;
 mod outline;

@@ -1,5 +1,6 @@
 //! What is left to ask of rules.
 
+use crate::index::mixed;
 use crate::question::{Comparison, Question, Reply, Subject};
 use call_record::offset::ARGUMENTS;
 use call_record::{Word, halves};
@@ -39,6 +40,18 @@ impl Open {
         self.begins == other.begins
             && self.answer == other.answer
             && self.question == other.question
+    }
+
+    /// A key of what is asked, for which word. What is alike has one key.
+    pub(crate) fn key(&self) -> u32 {
+        let question = self.question;
+        let mut key = mixed(self.answer.0, question.number);
+        key = mixed(key, question.subject.mask);
+        key = mixed(key, question.subject.word);
+        key = mixed(key, question.low.unwrap_or(0));
+        let wanted = if question.wanted { 1 } else { 0 };
+        let begins = if self.begins { 2 } else { 0 };
+        mixed(key, wanted | begins)
     }
 }
 

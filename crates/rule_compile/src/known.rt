@@ -1,0 +1,52 @@
+//! Questions of which it is known what decides them.
+
+use crate::open::{Open, are_alike};
+use crate::outline::Part;
+use crate::ranges::Leaf;
+use std::alloc::{AllocError, Global};
+
+/// Questions that stand together and are asked at once.
+#[derive(Clone, Copy)]
+pub(crate) struct Span {
+    /// The place of the first one among all of its call.
+    pub(crate) start: usize,
+    pub(crate) count: usize,
+    /// What decides, from there on.
+    pub(crate) leaf: Leaf,
+}
+
+/// All questions of a call, and what decides them.
+#[derive(Drop)]
+pub(crate) struct Known {
+    pub(crate) key: u32,
+    pub(crate) open: Vec<Open>,
+    pub(crate) leaf: Leaf,
+    /// The parts in which they are asked, the last one first.
+    pub(crate) spans: Vec<Span>,
+}
+
+impl Known {
+    /// Whether these questions, which have this key, are the same, whoever asks them.
+    pub(crate) fn is_of(&self, key: u32, open: &[Open]) -> bool {
+        self.key == key && are_alike(&self.open, open)
+    }
+
+    /// The parts in which questions that are the same are asked.
+    pub(crate) fn parts_of(&self, alloc: Global, open: &[Open]) -> Result<Vec<Part>, AllocError> {
+        let mut parts = Vec::new(alloc);
+        for span in &self.spans {
+            parts.push(part_of(alloc, open, *span)?)?;
+        }
+        Ok(parts)
+    }
+}
+
+// The questions of a part.
+fn part_of(alloc: Global, open: &[Open], span: Span) -> Result<Part, AllocError> {
+    let mut rules = Vec::new(alloc);
+    for open in open.iter().skip(span.start).take(span.count) {
+        rules.push(*open)?;
+    }
+    let leaf = span.leaf;
+    Ok(Part { rules, leaf })
+}
