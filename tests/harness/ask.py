@@ -1,4 +1,9 @@
-"""Questions to the library: the program `ask` reads a question a line, and writes the answer's lines and then a line `.`."""
+"""Questions to the library: the program `ask` reads a question a line, and writes the answer's lines and then a line `.`.
+
+What asks is a generator: it gives the lines of questions, gets the answers, each as its own lines, and goes on, so that later
+questions can rest on earlier answers. All that ask side by side are asked in one call, again and again, until none is left. A
+later call knows nothing of those before it.
+"""
 import subprocess
 
 from harness.places import ASK
@@ -8,9 +13,9 @@ from harness.rows import Fault
 LIMIT = 600
 
 
-def answers(questions):
+def answers(lines):
     """The answers to these lines, each as its own lines."""
-    given = "".join(f"{question}\n" for question in questions)
+    given = "".join(f"{line}\n" for line in lines)
     ran = subprocess.run([ASK], input=given.encode(), capture_output=True, timeout=LIMIT, check=False)
     told, answer = [], []
     for line in ran.stdout.decode().split("\n")[:-1]:
@@ -19,25 +24,40 @@ def answers(questions):
             answer = []
         else:
             answer.append(line)
-    if ran.returncode != 0 or len(told) != len(questions):
+    if ran.returncode != 0 or len(told) != len(lines):
         said = ran.stderr.decode()[:400].rstrip()
-        raise Fault(f"ask: status {ran.returncode}, {len(told)} answers to {len(questions)} lines: {said}")
+        raise Fault(f"ask: status {ran.returncode}, {len(told)} answers to {len(lines)} lines: {said}")
     return told
 
 
-class Questions:
-    """Questions that are gathered and asked in one call, each with what takes its answer."""
+def ask_all(askers):
+    """Asks for all of them, until each has ended."""
+    whole = side_by_side(askers)
+    lines = next(whole, None)
+    while lines is not None:
+        try:
+            lines = whole.send(answers(lines))
+        except StopIteration:
+            return
 
-    def __init__(self):
-        self.lines, self.takers = [], []
 
-    def put(self, line, take):
-        """Adds a question. Its answer's lines will be given to `take`."""
-        self.lines.append(line)
-        self.takers.append(take)
+def side_by_side(askers):
+    """Asks as one what several ask, with an empty line between the questions of any two, and returns what each returns."""
+    ended, pending = {}, {}
+    for place, asker in enumerate(askers):
+        go_on(ended, pending, place, asker, None)
+    while pending:
+        told = iter((yield [line for _, lines in pending.values() for line in (*lines, "")][:-1]))
+        for place, (asker, lines) in [*pending.items()]:
+            go_on(ended, pending, place, asker, [next(told) for _ in lines])
+            next(told, None)
+    return [ended[place] for place in sorted(ended)]
 
-    def ask(self):
-        """Asks all of them."""
-        if self.lines:
-            for take, answer in zip(self.takers, answers(self.lines)):
-                take(answer)
+
+def go_on(ended, pending, place, asker, told):
+    """Lets one of several go on with its answers, and keeps what it asks next, or what it returns."""
+    pending.pop(place, None)
+    try:
+        pending[place] = asker, asker.send(told)
+    except StopIteration as end:
+        ended[place] = end.value

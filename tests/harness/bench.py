@@ -1,21 +1,19 @@
 """The questions of one file, and where their answers come from."""
 import subprocess
 
-from harness.ask import Questions
-from harness.blocks import put_blocks, whole_bundle
+from harness import library
+from harness.ask import ask_all
+from harness.blocks import ask_blocks, whole_bundle
 from harness.program import Program, is_input, words_of
 from harness.rows import Fault
 from harness.shelf import Shelf, assembled, split_in
 from harness.streams import Streams
-from harness.texts import bytes_of, grouped, is_digits, written_out
+from harness.texts import number, written_out
+from harness.trials import made_up, random_profiles
 
-# Questions whose words are files, but for the first where that is a machine.
-ON_FILES = ("nodes", "nodes-flipped", "written", "chained", "claimed")
-ON_A_MACHINE_AND_FILES = ("check-beginnings", "check-flipped-filter", "check-flipped-certificate")
 # Questions on bundles: a machine, the name of a frame, and what stands at the frame's place.
-ON_FRAMES = ("bundle", "compile", "conforms", "figures")
-# Questions whose answer begins with bytes.
-WITH_BYTES = ("assemble", "record")
+ON_FRAMES = {"compile": library.size, "conforms": library.conforms, "figures": library.figures_of}
+ON_SEEDS = {"random": random_profiles, "made-up": made_up}
 
 
 class Bench:
@@ -25,10 +23,12 @@ class Bench:
         self.shelf = Shelf(room, assembled(rows))
         self.program = Program(self.shelf, shim)
         self.streams = Streams(self.shelf, shim)
-        self.questions, self.frames = Questions(), {}
+        self.askers, self.frames = [], {}
+        # The lines that make the profile and the filter on which later rows are.
+        self.made = {"profile": None, "filter": None}
 
     def carry_out(self, row, inputs):
-        """Carries out a row with the rows of standard input under it."""
+        """Carries out a row with the rows of standard input under it. What it asks the library is asked later."""
         word, _, rest = row.text.partition(" ")
         if word == "file":
             self.shelf.put(rest)
@@ -46,25 +46,50 @@ class Bench:
         elif word in Streams.WORDS:
             row.tell(self.streams.answer(word, rest))
         elif word not in ("", "#"):
-            take = (lambda answer: tell_bytes(row, answer)) if word in WITH_BYTES else (lambda answer: row.tell(*answer))
-            self.questions.put(self.question(word, rest), take)
+            self.askers.append(told(row, self.question(word, rest)))
 
     def question(self, word, rest):
-        """The line that asks the library."""
-        if word in ON_FRAMES:
-            native, name, text = split_in(rest + " ", 3)
-            return f"{word} {native} {self.framed(name, text[:-1])}"
+        """What asks the library."""
+        if word == "bundle":
+            self.made["profile"] = f"profile bundle {self.bundle(rest)}"
+            return library.profile(self.made["profile"])
         if word == "profile":
             native, members = split_in(rest, 2)
-            return f"profile {native} {whole_bundle(written_out(members))}"
-        if word in ON_FILES:
-            return " ".join([word, *map(self.shelf.path_of, rest.split())])
-        if word in ON_A_MACHINE_AND_FILES:
-            native, *names = rest.split()
-            return " ".join([word, native, *map(self.shelf.path_of, names)])
-        if word == "disassemble":
-            return f"disassemble {bytes_of(rest).hex()}"
-        return f"{word} {written_out(rest)}" if rest else word
+            self.made["profile"] = f"profile bundle {native} {whole_bundle(written_out(members))}"
+            return library.taken(self.made["profile"])
+        if word in ON_FRAMES:
+            return ON_FRAMES[word](f"profile bundle {self.bundle(rest)}")
+        if word in ON_SEEDS:
+            return ON_SEEDS[word](*map(number, rest.split()))
+        if word.removeprefix("linux-") in library.ON_CALLS:
+            return library.on_calls(word, rest)
+        if word in library.ON_FILES:
+            return library.ON_FILES[word](*map(self.shelf.bytes_of, rest.split()))
+        if word in library.CHECKS:
+            native, bundle, *others = rest.split()
+            text = self.shelf.bytes_of(bundle).decode().replace("\n", " ")
+            return library.checks_of(word, f"profile bundle {native} {text}", *map(self.shelf.bytes_of, others))
+        if word in library.ON_TEXTS:
+            return library.ON_TEXTS[word](written_out(rest))
+        return self.question_on_made(word, written_out(rest))
+
+    def question_on_made(self, word, rest):
+        """The same, of questions on the profile or the filter of an earlier row."""
+        if word == "compiled":
+            return library.is_certified(self.made["profile"])
+        if word == "filter":
+            return library.is_filter(self.made["profile"], rest)
+        if word == "program":
+            self.made["filter"] = f"filter assemble {rest}"
+            return library.accepted(self.made["filter"])
+        if word in library.ON_MADE:
+            return library.on_made(self.made[library.ON_MADE[word]], word, rest)
+        raise Fault(f"no word of rows: {word}")
+
+    def bundle(self, rest):
+        """The machine and the text of a bundle that is told by its frame."""
+        native, name, text = split_in(rest + " ", 3)
+        return f"{native} {self.framed(name, text[:-1])}"
 
     def framed(self, name, text):
         """A text at the place of a frame."""
@@ -73,10 +98,13 @@ class Bench:
         return self.frames[name].replace("...", written_out(text), 1)
 
 
-def tell_bytes(row, answer):
-    """Tells an answer whose first line is bytes, or says why there are none."""
-    first, *others = answer
-    row.tell(grouped(bytes.fromhex(first)) if is_digits(first) else first, *others)
+def told(row, asker):
+    """Asks, and tells the answer under a row."""
+    try:
+        answer = yield from asker
+    except Fault as fault:
+        answer = [f"? {fault}"]
+    row.tell(*answer)
 
 
 def carry_out_rows(rows, room, shim):
@@ -94,11 +122,9 @@ def carry_out_rows(rows, room, shim):
             bench.carry_out(row, inputs)
         except (Fault, ValueError, subprocess.SubprocessError) as fault:
             row.tell(f"? {fault}")
-    bench.questions.ask()
+    ask_all(bench.askers)
 
 
 def carry_out_blocks(rows, room):
     """Carries out the blocks of a file."""
-    questions = Questions()
-    put_blocks(rows, questions, room)
-    questions.ask()
+    ask_all(ask_blocks(rows, room))

@@ -1,20 +1,25 @@
 """Files of blocks for the modelled kernel, alone and with the runtime over it.
 
 An empty line stands between any two blocks. The first line of a block says how it is carried out: `kernel`, `runtime` or
-`scripts`, and on which machine (tests/README.md). All blocks are questions to the library, and those of the runtime are
-scripts of `ccell run` besides.
+`scripts`, and on which machine (tests/README.md). All blocks are questions to the library, asked over both kernels, whose
+answers are compared; and those of the runtime are scripts of `ccell run` besides.
 """
 import json
 import subprocess
 
+from harness.ask import side_by_side
+from harness.library import names_of
 from harness.places import CCELL
 from harness.program import LIMIT
 from harness.rows import Fault
 from harness.texts import expanded
+from harness.trials import draw_scripts
 
 WAYS = ("kernel", "runtime", "scripts")
 # The lines of a block that are sent as they are, and told as they are answered.
 SINGLE = (*WAYS, "bundle", "id", "every-call")
+# The kernels: that whose tasks have lists of filters, and that whose filters stand in a tree.
+KERNELS = ("lists", "tree")
 
 
 def blocks_of(rows):
@@ -100,27 +105,69 @@ def replies_of_program(block, room):
     return [status_or_reply(reply) for reply in replies]
 
 
-def put_block(block, questions, room):
-    """Adds the lines of a block to the questions, with an empty line behind the block before it."""
-    if questions.lines:
-        questions.put("", lambda answer: None)
+def over_both(head, lines):
+    """The answers to the lines of a block, over the one kernel. Where those over the other are others, they are told beside them."""
+    way, _, native = head.partition(" ")
+    told = yield [line for kernel in KERNELS for line in (f"{way} {kernel} {native}", *lines, "")][:-1]
+    ones, others = told[1 : len(lines) + 1], told[len(lines) + 3 :]
+    return [one if one == other else [*one, *(f"over a tree: {line}" for line in other)] for one, other in zip(ones, others)]
+
+
+def ask_every_call(block):
+    """Tells what becomes of each call of the machine, without arguments, as the first of a container."""
+    head, *rows = block
+    names = [name for name in (yield from names_of(head.text.split(" ")[1])) if name != "-"]
+    bundles = [line for row in rows if row.text.startswith("bundle ") for line in lines_for(row.text)]
+    for row in rows:
+        if row.text.startswith("every-call "):
+            lines = [line for name in names for line in (f"admit c {row.text.split(' ')[1]}", f"call c 1 {name}")]
+            told = yield from over_both(head.text, [*bundles, *lines])
+            row.tell(*(f"{name}: {line}" for name, answer in zip(names, told[len(bundles) + 1 :: 2]) for line in answer))
+
+
+def ask_scripts(block):
+    """Tells that both kernels reply alike to so many random scripts of so many commands, from a seed, or where they do not."""
+    head, *rows = block
+    _, native, seed, count, commands = head.text.split(" ")
+    bundles = [line for row in rows if row.text.startswith("bundle ") for line in lines_for(row.text)]
+    scripts = draw_scripts(int(seed), int(count), int(commands))
+    told = yield from side_by_side([over_both(f"runtime {native}", [*bundles, *script]) for script in scripts])
+    unlike = [
+        f"script {place}: {line}: {', '.join(answer)}"
+        for place, (script, answers) in enumerate(zip(scripts, told))
+        for line, answer in zip(script, answers[len(bundles) :])
+        if len(answer) != 1
+    ]
+    rows[-1].tell(*(unlike or [f"{count} scripts of {commands} commands, alike over both kernels"]))
+
+
+def ask_block(block, room):
+    """Tells the answers to the lines of a block."""
     replies = replies_of_program(block, room)
-    for row in block:
-        lines = lines_for(row.text)
+    takers, lines = [], []
+    for row in block[1:]:
+        here = [] if row.text.startswith("every-call ") else lines_for(row.text)
+        lines += here
         if is_single(row.text):
-            questions.put(lines[0], lambda answer, row=row: row.tell(*answer))
+            takers += [lambda answer, row=row: row.tell(*answer)] * len(here)
             continue
-        repeats = Repeats(row, replies[: len(lines)])
-        replies = replies[len(lines) :]
-        for line in lines:
-            questions.put(line, repeats.take)
+        takers += [Repeats(row, replies[: len(here)]).take] * len(here)
+        replies = replies[len(here) :]
+    for take, answer in zip(takers, (yield from over_both(block[0].text, lines))):
+        take(answer)
 
 
-def put_blocks(rows, questions, room):
-    """Adds the blocks of a file to the questions."""
+def ask_blocks(rows, room):
+    """What asks for the answers to the blocks of a file."""
     for block in blocks_of(rows):
         if not block or block[0].text.startswith("#"):
             continue
-        if block[0].text.partition(" ")[0] not in WAYS:
+        way = block[0].text.partition(" ")[0]
+        if way not in WAYS:
             raise Fault(f"no way to carry out {block[0].text}")
-        put_block(block, questions, room)
+        if way == "scripts":
+            yield ask_scripts(block)
+            continue
+        yield ask_block(block, room)
+        if way == "kernel":
+            yield ask_every_call(block)

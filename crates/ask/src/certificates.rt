@@ -1,63 +1,47 @@
-//! Certificates: what their nodes say, read and written.
+//! Questions on certificates: `nodes DIGITS` tells how many nodes one has, or its fault; `written`, `chained` and `claimed DIGITS`
+//! the bytes of the same nodes, written as a list, or with a chain for each node's literals, or for all that it says.
 
-use crate::cases::{bits, flip};
-use crate::tally::Tally;
-use crate::words::{narrow, tell, words};
+use crate::words::{first, tell, tell_bytes, unknown};
 use anyhow::Result;
 use cert_form::{
     CertView, ChainNode, Claim, FormError, Kind, Node, NodeView, write, write_chained, write_claims,
 };
-use cert_state::{AVal, Lit, Regs, State};
+use cert_state::{Lit, Regs, State};
+use hex::decode;
 use std::alloc::{AllocError, Global};
-use std::fs;
 
-/// A node, with all that it says of a record.
+// A node, with all that it says of a record.
 #[derive(Drop)]
-pub struct Said {
-    pub kind: Kind,
-    pub pc: u16,
-    pub regs: Regs,
-    pub claims: Vec<Claim>,
+struct Said {
+    kind: Kind,
+    pc: u16,
+    regs: Regs,
+    claims: Vec<Claim>,
 }
 
-/// Adds the answer to a question on certificates, and says whether it is one.
-pub fn answer(rt: &HostRuntime, out: &mut String, word: &str, rest: &str) -> Result<bool> {
-    let alloc = rt.alloc();
+/// Adds the answer to a question on certificates.
+pub fn answer(out: &mut String, alloc: Global, line: &str) -> Result<()> {
+    let (word, rest) = first(line);
+    let bytes = decode(alloc, rest)?;
     match word {
-        "nodes" => tell_nodes(out, alloc, &fs::read(rt, rest)?)?,
-        "long-chain" => tell_long(out, alloc, narrow(rest)?)?,
-        "nodes-flipped" => tell_flipped(out, alloc, fs::read(rt, rest)?)?,
-        "written" | "chained" | "claimed" => {
-            let [name, other, ..] = words(rest);
-            let bytes = fs::read(rt, name)?;
-            tell_alike(out, &rewritten(alloc, word, &bytes)?, &fs::read(rt, other)?)?;
-        }
-        _ => return Ok(false),
+        "nodes" => tell_nodes(out, alloc, &bytes),
+        "written" | "chained" | "claimed" => tell_again(out, alloc, word, &bytes),
+        _ => unknown(out),
     }
-    Ok(true)
 }
 
-// A certificate whose nodes are written again.
-fn rewritten(alloc: Global, word: &str, bytes: &[u8]) -> Result<Vec<u8>, FormError> {
+// The bytes of the same nodes, written again.
+fn tell_again(out: &mut String, alloc: Global, word: &str, bytes: &[u8]) -> Result<()> {
     let nodes = said_in(alloc, bytes)?;
-    match word {
-        "written" => written(alloc, &nodes),
-        "chained" => chained(alloc, &nodes),
-        _ => claimed(alloc, &nodes),
-    }
+    tell_bytes(out, alloc, &rewritten(alloc, word, &nodes)?)
 }
 
-// Whether bytes are those of another file.
-fn tell_alike(out: &mut String, bytes: &[u8], others: &[u8]) -> Result<()> {
-    let is_same = bytes == others;
-    tell(
-        out,
-        if is_same {
-            "the same bytes"
-        } else {
-            "other bytes"
-        },
-    )
+fn rewritten(alloc: Global, word: &str, nodes: &[Said]) -> Result<Vec<u8>, FormError> {
+    match word {
+        "written" => written(alloc, nodes),
+        "chained" => chained(alloc, nodes),
+        _ => claimed(alloc, nodes),
+    }
 }
 
 // How many nodes a certificate has, or its fault.
@@ -68,42 +52,8 @@ fn tell_nodes(out: &mut String, alloc: Global, bytes: &[u8]) -> Result<()> {
     }
 }
 
-// Adds the answer to reading a certificate of one node with a chain of so many literals.
-fn tell_long(out: &mut String, alloc: Global, count: u32) -> Result<()> {
-    let mut entries = Vec::new(alloc);
-    for parent in 0..count {
-        entries.push((parent, Lit::In(0, 0, u32::MAX)))?;
-    }
-    let node = ChainNode {
-        kind: Kind::Return,
-        pc: 0,
-        regs: Regs {
-            a: AVal::Unknown,
-            x: AVal::Unknown,
-            scratch: [AVal::Unknown; 16],
-        },
-        chain: count,
-    };
-    tell_nodes(out, alloc, &write_chained(alloc, &entries, &[node])?)
-}
-
-// How often a certificate with one bit flipped is read, and which faults it has.
-fn tell_flipped(out: &mut String, alloc: Global, bytes: Vec<u8>) -> Result<()> {
-    let mut bytes = bytes;
-    let mut tally = Tally::new(alloc);
-    for bit in 0..bits(&bytes) {
-        flip(&mut bytes, bit);
-        match CertView::read(alloc, &bytes) {
-            Ok(_) => tally.count(alloc, "read")?,
-            Err(e) => tally.count(alloc, e)?,
-        }
-        flip(&mut bytes, bit);
-    }
-    tally.tell(out)
-}
-
-/// The nodes of a certificate.
-pub fn said_in(alloc: Global, bytes: &[u8]) -> Result<Vec<Said>, FormError> {
+// The nodes of a certificate.
+fn said_in(alloc: Global, bytes: &[u8]) -> Result<Vec<Said>, FormError> {
     let view = CertView::read(alloc, bytes)?;
     let mut all = Vec::new(alloc);
     for i in 0..view.len() {
@@ -148,8 +98,8 @@ fn claims_of(alloc: Global, node: &NodeView<'_>) -> Result<Vec<Claim>, AllocErro
     Ok(claims)
 }
 
-/// Nodes in form 1, with what they know of words alone.
-pub fn written(alloc: Global, all: &[Said]) -> Result<Vec<u8>, FormError> {
+// Nodes in form 1, with what they know of words alone.
+fn written(alloc: Global, all: &[Said]) -> Result<Vec<u8>, FormError> {
     let mut nodes = Vec::new(alloc);
     for said in all {
         let mut lits = Vec::new(alloc);
@@ -168,8 +118,8 @@ pub fn written(alloc: Global, all: &[Said]) -> Result<Vec<u8>, FormError> {
     write(alloc, &nodes)
 }
 
-/// Nodes in form 2 or 3, each with a chain of what it knows of words alone.
-pub fn chained(alloc: Global, all: &[Said]) -> Result<Vec<u8>, FormError> {
+// Nodes in form 2 or 3, each with a chain of what it knows of words alone.
+fn chained(alloc: Global, all: &[Said]) -> Result<Vec<u8>, FormError> {
     let mut entries: Vec<(u32, Lit)> = Vec::new(alloc);
     let mut nodes = Vec::new(alloc);
     for said in all {
@@ -185,8 +135,8 @@ pub fn chained(alloc: Global, all: &[Said]) -> Result<Vec<u8>, FormError> {
     write_chained(alloc, &entries, &nodes)
 }
 
-/// Nodes in form 4, each with a chain of all that it says.
-pub fn claimed(alloc: Global, all: &[Said]) -> Result<Vec<u8>, FormError> {
+// Nodes in form 4, each with a chain of all that it says.
+fn claimed(alloc: Global, all: &[Said]) -> Result<Vec<u8>, FormError> {
     let mut entries: Vec<(u32, Claim)> = Vec::new(alloc);
     let mut nodes = Vec::new(alloc);
     for said in all {

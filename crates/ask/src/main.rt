@@ -1,84 +1,64 @@
-//! Answers questions to the library, which tests/rows puts: a question a line on standard input.
+//! Answers questions to the library, which tests/rows puts: a question a line on standard input, and under it its answers, a
+//! line each, and then a line `.`. Drawing, counting and comparing are the script's.
 //!
-//! Under each line go its answers, a line each, and then a line `.`. An empty line, and one that begins with `#`, asks nothing.
-//! tests/README.md says what a line may ask, and these differ here: a bundle is told
-//! by its whole text, with no name of a frame; files are told by their paths; bytes are hexadecimal digits and no more; no
-//! text has a run, and in listings alone `\n` is a line feed and `\r` a carriage return.
+//! A question begins with what it is on (`profile`, `filter`, `cert`, `rule`, `word` or `calls`) and what is asked; the module of
+//! that name has the words. Bytes are hexadecimal digits, and in listings `\n` is a line feed and `\r` a carriage return. An
+//! empty line asks nothing.
 //!
-//! A line `kernel ..`, `runtime ..` or `scripts ..` behind an empty one begins a block, up to the next (src/blocks.rt).
+//! A line `kernel ..` or `runtime ..` behind an empty one begins a block, up to the next (src/blocks.rt).
 #![tactic(auto)]
 
 mod blocks;
 mod calls;
-mod cases;
 mod certificates;
-mod changed;
-mod dice;
-mod drawn;
-mod figures;
+mod desk;
 mod filters;
 mod grid;
-mod made_up;
 mod profiles;
-mod random;
 mod rules;
-mod tally;
 mod verdicts;
 mod words;
 
-use crate::filters::Filters;
-use crate::profiles::Profiles;
-use crate::words::{first, tell};
+use crate::desk::Desk;
+use crate::words::{first, tell, unknown};
 use anyhow::Result;
+use std::alloc::Global;
 use std::io;
 
-// What earlier lines made.
-#[derive(Drop)]
-struct Desk {
-    profiles: Profiles,
-    filters: Filters,
+// Adds the answers to a line.
+fn answer(desk: &mut Desk, out: &mut String, alloc: Global, line: &str) -> Result<()> {
+    let (subject, rest) = first(line);
+    match subject {
+        "" => Ok(()),
+        "profile" => profiles::answer(desk, out, alloc, rest),
+        "filter" => filters::answer(desk, out, alloc, rest),
+        "cert" => certificates::answer(out, alloc, rest),
+        "rule" => rules::answer(out, rest),
+        "word" => verdicts::answer(out, alloc, rest),
+        "calls" => calls::answer(out, rest),
+        _ => unknown(out),
+    }
 }
 
-impl Desk {
-    // Adds the answers to lines between two that are empty, each from the module whose question it is.
-    fn tell_lines(&mut self, rt: &HostRuntime, out: &mut String, block: &str) -> Result<()> {
-        let alloc = rt.alloc();
-        for line in block.lines() {
-            let (word, rest) = first(line);
-            let is_known = word == ""
-                || word == "#"
-                || self.profiles.answer(out, alloc, word, rest)?
-                || self.filters.answer(out, alloc, word, rest)?
-                || rules::answer(out, alloc, word, rest)?
-                || verdicts::answer(out, alloc, word, rest)?
-                || calls::answer(out, word, rest)?
-                || certificates::answer(rt, out, word, rest)?
-                || cases::answer(rt, out, word, rest)?
-                || random::answer(out, alloc, word, rest)?
-                || made_up::answer(out, alloc, word, rest)?;
-            out.push_str(if is_known {
-                ".\n"
-            } else {
-                "? no word of this program\n.\n"
-            })?;
-        }
-        Ok(())
+// Adds the answers to lines between two that are empty.
+fn tell_lines(desk: &mut Desk, out: &mut String, alloc: Global, lines: &str) -> Result<()> {
+    for line in lines.lines() {
+        answer(desk, out, alloc, line)?;
+        tell(out, ".")?;
     }
+    Ok(())
 }
 
 fn main(rt: HostRuntime) -> Result<()> {
     let text = io::read_to_string(rt.alloc(), rt.stdin())?;
     let mut out = String::new(rt.alloc());
-    let mut desk = Desk {
-        profiles: Profiles { last: None },
-        filters: Filters { program: None },
-    };
-    for (place, block) in text.split("\n\n").enumerate() {
+    let mut desk = Desk::new(rt.alloc());
+    for (place, part) in text.split("\n\n").enumerate() {
         if place > 0 {
             tell(&mut out, ".")?;
         }
-        if !blocks::tell_block(&mut out, rt.alloc(), block)? {
-            desk.tell_lines(&rt, &mut out, block)?;
+        if !blocks::tell_block(&mut out, rt.alloc(), part)? {
+            tell_lines(&mut desk, &mut out, rt.alloc(), part)?;
         }
     }
     rt.print(out)?;

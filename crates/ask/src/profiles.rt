@@ -1,138 +1,161 @@
-//! Bundles, what their profiles say of calls, and what is compiled of them.
+//! Questions on profiles: `bundle MACHINE TEXT` and `build NATIVE MACHINE,.. WORD; RULE; ..` make one and tell its parts, and
+//! `decide CALL` asks for its word. Of it and the filter, `compile` makes the filter, `certify` tells a certificate's bytes,
+//! `check CERTIFICATE` what the checker says, and `agrees` whether their words are alike on the records of the last `grid NUMBER .. /
+//! ARGUMENT ..; ARGUMENT ..; ..`.
 
-use crate::cases::{first_wrong, judge};
-use crate::figures::tell_figures;
-use crate::filters::assembled;
+use crate::desk::Desk;
 use crate::grid::Grid;
-use crate::rules::tell_profile;
-use crate::words::{call, first, machine, tell};
-use anyhow::{Context, Result};
+use crate::rules::{read_rule, tell_rule};
+use crate::words::{call, first, machine, tell, tell_bytes, unknown, verdict_word, words};
+use anyhow::Result;
 use bpf_insn::Program;
-use cert_form::CertView;
+use call_record::Record;
+use call_tables::Arch;
+use cert_check::{CheckError, check};
 use certify::certify;
-use profile::Profile;
-use profile_json::{Bundle, ProfileError, read_bundle};
+use hex::decode;
+use kernel_check::accept;
+use profile::{Profile, Rule};
+use profile_json::read_bundle;
 use rule_compile::compile;
 use std::alloc::Global;
+use std::fmt::Write;
 
-/// The profile that was read last.
-#[derive(Drop)]
-pub struct Profiles {
-    pub last: Option<Profile>,
-}
-
-// The bundle `MACHINE TEXT`, or why it is refused.
-fn bundle_of(alloc: Global, line: &str) -> Result<std::result::Result<Bundle, ProfileError>> {
-    let (native, text) = first(line);
-    Ok(read_bundle(alloc, text.as_bytes(), machine(native)?))
-}
-
-impl Profiles {
-    /// Adds the answer to a question on bundles, and says whether it is one.
-    pub fn answer(
-        &mut self,
-        out: &mut String,
-        alloc: Global,
-        word: &str,
-        rest: &str,
-    ) -> Result<bool> {
-        match word {
-            "bundle" => self.read(out, alloc, rest)?,
-            "profile" => self.keep(alloc, rest)?,
-            "decide" => tell(out, self.asked()?.decide(&call(rest)?))?,
-            "compile" | "figures" | "conforms" => tell_compiler(out, alloc, word, rest)?,
-            "compiled" => tell_compiled(out, alloc, self.asked()?)?,
-            "filter" => tell_filter(out, alloc, self.asked()?, rest)?,
-            _ => return Ok(false),
-        }
-        Ok(true)
-    }
-
-    fn asked(&self) -> Result<&Profile> {
-        self.last.as_ref().context("a profile")
-    }
-
-    // Reads a bundle that is not refused.
-    fn keep(&mut self, alloc: Global, line: &str) -> Result<()> {
-        self.last = Some(bundle_of(alloc, line)??.profile);
-        Ok(())
-    }
-
-    // Reads a bundle, and adds its profile or its refusal.
-    fn read(&mut self, out: &mut String, alloc: Global, line: &str) -> Result<()> {
-        self.last = None;
-        match bundle_of(alloc, line)? {
-            Ok(bundle) => {
-                tell_profile(out, &bundle.profile)?;
-                self.last = Some(bundle.profile);
-                Ok(())
-            }
-            Err(e) => tell(out, e),
-        }
-    }
-}
-
-// Adds the answer to a question on what is compiled of a bundle.
-fn tell_compiler(out: &mut String, alloc: Global, word: &str, line: &str) -> Result<()> {
-    let profile = bundle_of(alloc, line)??.profile;
+/// Adds the answer to a question on profiles.
+pub fn answer(desk: &mut Desk, out: &mut String, alloc: Global, line: &str) -> Result<()> {
+    let (word, rest) = first(line);
     match word {
-        "compile" => tell_size(out, alloc, &profile),
-        "figures" => tell_figures(out, alloc, &profile),
-        _ => tell_agreement(out, alloc, &profile),
+        "bundle" => read(desk, out, alloc, rest),
+        "build" => build(desk, out, alloc, rest),
+        "decide" => tell_word(desk, out, rest),
+        "compile" => tell_compiled(desk, out, alloc),
+        "certify" => tell_certificate(desk, out, alloc),
+        "check" => tell_check(desk, out, alloc, rest),
+        "grid" => draw(desk, alloc, rest),
+        "agrees" => tell_agreement(desk, out),
+        _ => unknown(out),
     }
 }
 
-/// How many nodes the certificate of a filter has, which the checker takes; or why there is none.
-pub fn certified(alloc: Global, profile: &Profile, filter: &[u8]) -> Result<usize> {
-    let cert = certify(alloc, profile, &Program::view(filter)?)?;
-    count_of_nodes(alloc, profile, filter, &cert)
-}
-
-// How many nodes a certificate has, which the checker takes.
-fn count_of_nodes(alloc: Global, profile: &Profile, filter: &[u8], cert: &[u8]) -> Result<usize> {
-    judge(alloc, profile, filter, cert)?;
-    Ok(CertView::read(alloc, cert)?.len())
-}
-
-// Adds whether the compiled filter of a profile is certified.
-fn tell_compiled(out: &mut String, alloc: Global, profile: &Profile) -> Result<()> {
-    let filter = compile(alloc, profile)?;
-    match certified(alloc, profile, &filter) {
-        Ok(_) => tell(out, "yes"),
+// Reads the bundle `MACHINE TEXT`.
+fn read(desk: &mut Desk, out: &mut String, alloc: Global, line: &str) -> Result<()> {
+    desk.profile = None;
+    let (native, text) = first(line);
+    match read_bundle(alloc, text.as_bytes(), machine(native)?) {
+        Ok(bundle) => keep(desk, out, bundle.profile),
         Err(e) => tell(out, e),
     }
 }
 
-// Adds whether the filter of a listing is certified, and by how many nodes.
-fn tell_filter(out: &mut String, alloc: Global, profile: &Profile, text: &str) -> Result<()> {
-    let filter = assembled(alloc, text)??;
-    match certified(alloc, profile, &filter) {
-        Ok(count) => tell(out, format_args!("yes, {count} nodes")),
+// Keeps a profile, and adds its parts: machines, default word and rules.
+fn keep(desk: &mut Desk, out: &mut String, profile: Profile) -> Result<()> {
+    write!(out, "native {}, machines", profile.native().word())?;
+    for arch in profile.machines() {
+        write!(out, " {}", arch.word())?;
+    }
+    tell(out, format_args!(", default {}", profile.default_word()))?;
+    for rule in profile.rules() {
+        tell_rule(out, rule)?;
+    }
+    desk.profile = Some(profile);
+    Ok(())
+}
+
+// Builds the profile of `NATIVE MACHINE,.. WORD; RULE; ..`.
+fn build(desk: &mut Desk, out: &mut String, alloc: Global, text: &str) -> Result<()> {
+    desk.profile = None;
+    let (head, parts) = text.split_once(';').unwrap_or((text, ""));
+    let [native, names, default, _] = words(head);
+    let archs = machines(alloc, names)?;
+    let rules = rules_of(alloc, parts)?;
+    match Profile::build(
+        alloc,
+        machine(native)?,
+        &archs,
+        verdict_word(default)?,
+        rules,
+    ) {
+        Ok(profile) => keep(desk, out, profile),
         Err(e) => tell(out, e),
     }
 }
 
-// Adds how many instructions the filter of the profile has, or why it has none.
-fn tell_size(out: &mut String, alloc: Global, profile: &Profile) -> Result<()> {
-    match compile(alloc, profile) {
+fn machines(alloc: Global, names: &str) -> Result<Vec<Arch>> {
+    let mut archs = Vec::new(alloc);
+    for name in names.split(',') {
+        archs.push(machine(name)?)?;
+    }
+    Ok(archs)
+}
+
+fn rules_of(alloc: Global, parts: &str) -> Result<Vec<Rule>> {
+    let mut rules = Vec::new(alloc);
+    for part in parts.split(';') {
+        if !part.is_empty() {
+            rules.push(read_rule(part.trim())?)?;
+        }
+    }
+    Ok(rules)
+}
+
+// The profile's word for a call.
+fn tell_word(desk: &Desk, out: &mut String, rest: &str) -> Result<()> {
+    let call = call(rest)?;
+    tell(out, desk.asked()?.decide(&call))
+}
+
+// Makes the filter of the profile, and adds its bytes, or why it has none.
+fn tell_compiled(desk: &mut Desk, out: &mut String, alloc: Global) -> Result<()> {
+    desk.filter.clear();
+    match compile(alloc, desk.asked()?) {
         Ok(filter) => {
-            let count = Program::view(&filter)?.len();
-            tell(out, format_args!("{count} instructions"))
+            desk.filter = filter;
+            tell_bytes(out, alloc, &desk.filter)
         }
         Err(e) => tell(out, e),
     }
 }
 
-// Adds whether the filter of the profile is accepted and answers on each record of a grid what the profile says, or why
-// there is none. Nothing is promised of what compiled filters answer, so it is tried on many records.
-fn tell_agreement(out: &mut String, alloc: Global, profile: &Profile) -> Result<()> {
-    let filter = match compile(alloc, profile) {
-        Ok(filter) => filter,
-        Err(e) => return tell(out, e),
-    };
-    let mut grid = Grid::near(alloc, profile)?;
-    grid.add_calls(profile)?;
-    match first_wrong(&grid, profile, &filter)? {
+// Adds the bytes of a certificate of the filter for the profile, or why there is none.
+fn tell_certificate(desk: &Desk, out: &mut String, alloc: Global) -> Result<()> {
+    let program = Program::view(&desk.filter)?;
+    match certify(alloc, desk.asked()?, &program) {
+        Ok(cert) => tell_bytes(out, alloc, &cert),
+        Err(e) => tell(out, e),
+    }
+}
+
+// Adds what the checker says.
+fn tell_check(desk: &Desk, out: &mut String, alloc: Global, digits: &str) -> Result<()> {
+    let cert = decode(alloc, digits)?;
+    match judge(alloc, desk.asked()?, &desk.filter, &cert) {
+        Ok(()) => tell(out, "yes"),
+        Err(e) => tell(out, format_args!("no {e}")),
+    }
+}
+
+fn judge(alloc: Global, profile: &Profile, filter: &[u8], cert: &[u8]) -> Result<(), CheckError> {
+    check(alloc, profile, filter, cert)?;
+    Ok(())
+}
+
+fn draw(desk: &mut Desk, alloc: Global, text: &str) -> Result<()> {
+    desk.grid = Grid::read(alloc, text)?;
+    Ok(())
+}
+
+// Adds whether the kernel accepts the filter and it answers on each record of the grid what the profile says.
+fn tell_agreement(desk: &Desk, out: &mut String) -> Result<()> {
+    let profile = desk.asked()?;
+    let program = Program::view(&desk.filter)?;
+    match accept(&program) {
+        Ok(accepted) => tell_difference(out, desk.grid.first_difference(&accepted, profile)),
+        Err(refused) => tell(out, refused),
+    }
+}
+
+fn tell_difference(out: &mut String, found: Option<Record>) -> Result<()> {
+    match found {
         None => tell(out, "agrees"),
         Some(call) => tell(out, format_args!("differs at {call:?}")),
     }

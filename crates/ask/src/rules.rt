@@ -1,26 +1,27 @@
-//! Rules of profiles.
+//! Questions on conditions and rules: `condition COND`, and `overlap CONDS / CONDS`, where CONDS are conditions `INDEX OP VALUE
+//! DATUM` with commas between.
 
-use crate::words::{machine, narrow, number, tell, verdict_word, words};
+use crate::words::{first, machine, narrow, number, tell, unknown, verdict_word, words};
 use anyhow::{Context, Result, bail};
 use arrayvec::ArrayVec;
 use call_record::Word;
 use call_tables::Arch;
-use profile::{Cond, Op, Profile, Rule, overlap};
-use std::alloc::Global;
+use profile::{Cond, Op, Rule, overlap};
 use std::fmt::Write;
 
-/// Adds the answer to a question on conditions and rules, and says whether it is one.
-pub fn answer(out: &mut String, alloc: Global, word: &str, rest: &str) -> Result<bool> {
+/// Adds the answer to a question on conditions and rules.
+pub fn answer(out: &mut String, line: &str) -> Result<()> {
+    let (word, rest) = first(line);
     match word {
-        "condition" => match condition(rest)? {
-            Some(_) => tell(out, "a condition")?,
-            None => tell(out, "none")?,
-        },
-        "overlap" => overlaps(out, rest)?,
-        "build" => build(out, alloc, rest)?,
-        _ => return Ok(false),
+        "condition" => tell_condition(out, rest),
+        "overlap" => tell_overlap(out, rest),
+        _ => unknown(out),
     }
-    Ok(true)
+}
+
+fn tell_condition(out: &mut String, text: &str) -> Result<()> {
+    let is_one = condition(text)?.is_some();
+    tell(out, if is_one { "a condition" } else { "none" })
 }
 
 const OPS: [(&str, Op); 7] = [
@@ -70,47 +71,16 @@ fn rule(arch: Arch, nr: u32, text: &str, word: Word) -> Result<Rule> {
     Rule::new(arch, nr, conds, word).context("a rule")
 }
 
-// Whether rules under these conditions overlap, asked both ways round.
-fn overlaps(out: &mut String, text: &str) -> Result<()> {
+// Whether rules under these conditions overlap.
+fn tell_overlap(out: &mut String, text: &str) -> Result<()> {
     let (one, other) = text.split_once('/').context("two lists of conditions")?;
     let one = rule(Arch::X86_64, 135, one, Word::ALLOW)?;
     let other = rule(Arch::X86_64, 135, other, Word::TRAP)?;
-    let answer = match (overlap(&one, &other), overlap(&other, &one)) {
-        (true, true) => "yes",
-        (false, false) => "no",
-        _ => "it depends on the order",
-    };
-    tell(out, answer)
+    tell(out, if overlap(&one, &other) { "yes" } else { "no" })
 }
 
-// The profile of `NATIVE MACHINE,.. WORD; RULE; ..`.
-fn build(out: &mut String, alloc: Global, text: &str) -> Result<()> {
-    let (head, parts) = text.split_once(';').unwrap_or((text, ""));
-    let [native, names, default, _] = words(head);
-    let mut archs = Vec::new(alloc);
-    for name in names.split(',') {
-        archs.push(machine(name)?)?;
-    }
-    let mut rules = Vec::new(alloc);
-    for part in parts.split(';') {
-        if !part.is_empty() {
-            rules.push(read_rule(part.trim())?)?;
-        }
-    }
-    match Profile::build(
-        alloc,
-        machine(native)?,
-        &archs,
-        verdict_word(default)?,
-        rules,
-    ) {
-        Ok(profile) => tell_profile(out, &profile),
-        Err(e) => tell(out, e),
-    }
-}
-
-// The rule `MACHINE NUMBER WORD CONDS`.
-fn read_rule(text: &str) -> Result<Rule> {
+/// The rule `MACHINE NUMBER WORD CONDS`.
+pub fn read_rule(text: &str) -> Result<Rule> {
     let mut parts = text.splitn(4, ' ');
     let arch = machine(parts.next().unwrap_or(""))?;
     let nr = narrow(parts.next().unwrap_or(""))?;
@@ -118,24 +88,8 @@ fn read_rule(text: &str) -> Result<Rule> {
     rule(arch, nr, parts.next().unwrap_or(""), word)
 }
 
-/// Adds the parts of a profile: machines, default word and rules, or just their number where they are many.
-pub fn tell_profile(out: &mut String, profile: &Profile) -> Result<()> {
-    write!(out, "native {}, machines", profile.native().word())?;
-    for arch in profile.machines() {
-        write!(out, " {}", arch.word())?;
-    }
-    tell(out, format_args!(", default {}", profile.default_word()))?;
-    let rules = profile.rules();
-    if rules.len() > 9 {
-        return tell(out, format_args!("{} rules", rules.len()));
-    }
-    for rule in rules {
-        tell_rule(out, rule)?;
-    }
-    Ok(())
-}
-
-fn tell_rule(out: &mut String, rule: &Rule) -> Result<()> {
+/// Adds the parts of a rule.
+pub fn tell_rule(out: &mut String, rule: &Rule) -> Result<()> {
     write!(out, "{} {} {}", rule.arch.word(), rule.nr, rule.word)?;
     for (i, cond) in rule.conds.iter().enumerate() {
         let comma = if i > 0 { "," } else { "" };

@@ -1,26 +1,26 @@
-//! Words of verdicts, and records of calls.
+//! Questions on words of verdicts and on records: `strictest WORD ..`, `effect WORD`, `record POINTER CALL` and `least BITS FROM
+//! MASK DATUM`.
 
-use crate::words::{call, first, narrow, number, tell, verdict_word, words};
+use crate::words::{call, first, narrow, number, tell, tell_bytes, unknown, verdict_word, words};
 use anyhow::{Result, ensure};
 use call_record::{Ends, Record, Word, least_below, lets_through, strictest};
-use hex::encode;
 use std::alloc::Global;
 use std::fmt::Write;
 
-/// Adds the answer to a question on words and records, and says whether it is one.
-pub fn answer(out: &mut String, alloc: Global, word: &str, rest: &str) -> Result<bool> {
+/// Adds the answer to a question on words and records.
+pub fn answer(out: &mut String, alloc: Global, line: &str) -> Result<()> {
+    let (word, rest) = first(line);
     match word {
-        "strictest" => strictest_of(out, alloc, rest)?,
-        "effect" => effect(out, verdict_word(rest)?)?,
-        "record" => tell_record(out, alloc, rest)?,
-        "least" => least(out, rest)?,
-        _ => return Ok(false),
+        "strictest" => tell_strictest(out, alloc, rest),
+        "effect" => tell_effect(out, verdict_word(rest)?),
+        "record" => tell_record(out, alloc, rest),
+        "least" => tell_least(out, rest),
+        _ => unknown(out),
     }
-    Ok(true)
 }
 
 // The strictest of words, the newest filter's first.
-fn strictest_of(out: &mut String, alloc: Global, text: &str) -> Result<()> {
+fn tell_strictest(out: &mut String, alloc: Global, text: &str) -> Result<()> {
     let mut newest_first = Vec::new(alloc);
     for word in text.split_whitespace() {
         newest_first.push(verdict_word(word)?)?;
@@ -29,7 +29,7 @@ fn strictest_of(out: &mut String, alloc: Global, text: &str) -> Result<()> {
 }
 
 // What becomes of a call with this word.
-fn effect(out: &mut String, word: Word) -> Result<()> {
+fn tell_effect(out: &mut String, word: Word) -> Result<()> {
     let ends = match word.ends() {
         Ends::Nothing => "",
         Ends::Task => ", the task ends",
@@ -48,7 +48,7 @@ fn tell_record(out: &mut String, alloc: Global, text: &str) -> Result<()> {
     let mut record = call(rest)?;
     record.ip = number(pointer)?;
     let bytes = record.to_bytes();
-    tell(out, encode(alloc, &bytes)?)?;
+    tell_bytes(out, alloc, &bytes)?;
     let record = Record::from_bytes(&bytes);
     out.push_str("words")?;
     for i in 0..16 {
@@ -58,7 +58,7 @@ fn tell_record(out: &mut String, alloc: Global, text: &str) -> Result<()> {
 }
 
 // The least number of so many bits, at least FROM, with these data under the mask.
-fn least(out: &mut String, text: &str) -> Result<()> {
+fn tell_least(out: &mut String, text: &str) -> Result<()> {
     let [bits, from, mask, datum] = words(text);
     let bits = narrow(bits)?;
     ensure!(bits <= 64, "numbers of {bits} bits");

@@ -3,6 +3,7 @@
 use anyhow::{Context, Result};
 use call_record::{Record, Word};
 use call_tables::Arch;
+use hex::encode;
 use std::alloc::Global;
 use std::fmt::{Display, Write};
 
@@ -10,6 +11,16 @@ use std::fmt::{Display, Write};
 pub fn tell(out: &mut String, answer: impl Display + Drop) -> Result<()> {
     writeln!(out, "{answer}")?;
     Ok(())
+}
+
+/// Adds a line of bytes.
+pub fn tell_bytes(out: &mut String, alloc: Global, bytes: &[u8]) -> Result<()> {
+    tell(out, encode(alloc, bytes)?)
+}
+
+/// Adds that a question is none of this program.
+pub fn unknown(out: &mut String) -> Result<()> {
+    tell(out, "? no word of this program")
 }
 
 /// The first word of a text, and what stands behind it.
@@ -60,17 +71,20 @@ fn token(word: &str) -> Result<u32> {
     }
 }
 
-/// The call `NUMBER MACHINE ARGUMENT ..`, with 0 for missing arguments and for the pointer.
-pub fn call(text: &str) -> Result<Record> {
-    let (nr, rest) = first(text);
-    let (arch, arguments) = first(rest);
-    let nr = narrow(nr)?;
-    let arch = token(arch)?;
+/// The arguments of a call, with 0 for those that are missing.
+pub fn arguments(text: &str) -> Result<[u64; 6]> {
     let mut args = [0; 6];
-    for (place, word) in args.iter_mut().zip(arguments.split_whitespace()) {
+    for (place, word) in args.iter_mut().zip(text.split_whitespace()) {
         *place = number(word)?;
     }
-    Ok(record(nr, arch, args))
+    Ok(args)
+}
+
+/// The call `NUMBER MACHINE ARGUMENT ..`, with 0 for the pointer.
+pub fn call(text: &str) -> Result<Record> {
+    let (nr, rest) = first(text);
+    let (arch, rest) = first(rest);
+    Ok(record(narrow(nr)?, token(arch)?, arguments(rest)?))
 }
 
 /// The record of these parts, with 0 for the pointer.

@@ -1,17 +1,14 @@
-//! Commands of a runtime, over both kernels.
-ghost use Rattle.std.specs.Prelude.{ℕ, ◌≡◌, List, None};
+//! Commands of a runtime.
 
-use crate::blocks::bundles::{Made, found};
+use crate::blocks::Block;
+use crate::blocks::bundles::found;
 use crate::blocks::orders::Order;
 use crate::blocks::replies::tell_reply;
 use crate::words::{first, number, tell};
-use anyhow::{Result, ensure};
-use call_tables::Arch;
+use anyhow::Result;
 use lifecycle::{Reply, Runtime};
-use processes::{Kernel, TaskTable};
+use processes::Kernel;
 use script::Request;
-use shared_table::SharedTable;
-use std::alloc::Global;
 
 // An id of a script, where two quotes are the empty one.
 fn id_of(field: &str) -> &str {
@@ -20,14 +17,14 @@ fn id_of(field: &str) -> &str {
 
 // The reply to an order.
 fn reply_to<'a, K: Kernel>(
-    alloc: Global,
     runtime: &mut Runtime<'a, K>,
-    bundles: &'a [Made<'_>],
+    block: Block<'a>,
     order: &Order<'_>,
 ) -> Result<Reply> {
     match order.request {
         Request::Create { id, bundle } => {
-            Ok(runtime.create(id_of(id), found(bundles, bundle)?.checked(alloc)?)?)
+            let checked = found(block.bundles, bundle)?.checked(block.alloc)?;
+            Ok(runtime.create(id_of(id), checked)?)
         }
         Request::Start { id } => Ok(runtime.start(id_of(id))?),
         Request::Kill { id, signal } => Ok(runtime.kill(id_of(id), signal)),
@@ -45,70 +42,41 @@ fn tell_id<K: Kernel>(out: &mut String, runtime: &Runtime<'_, K>, place: &str) -
     tell(out, runtime.id_at(place).unwrap_or("none"))
 }
 
-// The text of the reply to an order.
-fn reply_text<'a, K: Kernel>(
-    alloc: Global,
-    runtime: &mut Runtime<'a, K>,
-    bundles: &'a [Made<'_>],
-    order: &Order<'_>,
-) -> Result<String> {
-    let mut text = String::new(alloc);
-    tell_reply(&mut text, reply_to(alloc, runtime, bundles, order)?)?;
-    Ok(text)
-}
-
-// Adds the reply to the order of a line, of both kernels.
-fn tell_order<'a>(
+// Adds the reply to the order of a line.
+fn tell_order<'a, K: Kernel>(
     out: &mut String,
-    alloc: Global,
-    native: Arch,
-    bundles: &'a [Made<'_>],
-    lists: &mut Runtime<'a, TaskTable>,
-    tree: &mut Runtime<'a, SharedTable>,
+    runtime: &mut Runtime<'a, K>,
+    block: Block<'a>,
     line: &str,
 ) -> Result<()> {
-    let order = Order::read(alloc, native, line)?;
-    let reply = reply_text(alloc, lists, bundles, &order)?;
-    let other = reply_text(alloc, tree, bundles, &order)?;
-    ensure!(
-        reply.as_str() == other.as_str(),
-        "the kernels differ at {line}"
-    );
-    out.push_str(reply.as_str())?;
-    Ok(())
+    let order = Order::read(block.alloc, block.native, line)?;
+    tell_reply(out, reply_to(runtime, block, &order)?)
 }
 
 // Adds the answer to a line.
-fn tell_line<'a>(
+fn tell_line<'a, K: Kernel>(
     out: &mut String,
-    alloc: Global,
-    native: Arch,
-    bundles: &'a [Made<'_>],
-    lists: &mut Runtime<'a, TaskTable>,
-    tree: &mut Runtime<'a, SharedTable>,
+    runtime: &mut Runtime<'a, K>,
+    block: Block<'a>,
     line: &str,
 ) -> Result<()> {
     let (word, rest) = first(line);
     match word {
-        "#" | "runtime" | "scripts" | "bundle" => {}
-        "id" => tell_id(out, lists, rest)?,
-        _ => tell_order(out, alloc, native, bundles, lists, tree, line)?,
+        "runtime" | "bundle" => Ok(()),
+        "id" => tell_id(out, runtime, rest),
+        _ => tell_order(out, runtime, block, line),
     }
-    tell(out, ".")
 }
 
-/// Adds a block's answers, of both kernels. It fails where they differ.
-pub fn tell_runtime(
+/// Adds the answers of a runtime to a block's lines.
+pub fn tell_runtime<'a, K: Kernel + Drop>(
     out: &mut String,
-    alloc: Global,
-    native: Arch,
-    bundles: &[Made<'_>],
-    block: &str,
+    mut runtime: Runtime<'a, K>,
+    block: Block<'a>,
 ) -> Result<()> {
-    let mut lists = Runtime::new(alloc, TaskTable::new(alloc));
-    let mut tree = Runtime::new(alloc, SharedTable::new(alloc));
-    for line in block.lines() {
-        tell_line(out, alloc, native, bundles, &mut lists, &mut tree, line)?;
+    for line in block.text.lines() {
+        tell_line(out, &mut runtime, block, line)?;
+        tell(out, ".")?;
     }
     Ok(())
 }
