@@ -21,7 +21,7 @@ use Rattle.lifecycle.specs.declared.entry.Phase.TheVariants.{Made, Started, Ende
 use Rattle.lifecycle.specs.declared.fault.Refusal.TheVariants.{BadSignal, NotCreated}
 use Rattle.lifecycle.specs.Worlds.{Container, container_at, ids_of}
 use Rattle.lifecycle.specs.Steps.{first_call, kill, left_after, running, start, start_reply}
-use Rattle.lifecycle.specs.Entries.{Entries, container_by, container_of, is_started, started_at, started_in, world_from}
+use Rattle.lifecycle.specs.Entries.{Entries, FindsAt, container_by, container_of, is_started, started_at, started_in, world_from}
 use Rattle.lifecycle.proofs.Isolation.{same_is}
 use Rattle.lifecycle.proofs.Entries.{there}
 
@@ -95,10 +95,6 @@ set_own k id = λ q. by q (same_text id q) refl
     by : (q : List ℕ) (b : Bool) → same_text id q ≡ b → k q ≡ (if same_text id q then k id else k q)
     by q true t = rw t (ap k (sym (same_is id q t)))
     by q false t = rw t refl
-
--- the entries that are found are those from before, but for one id
-abbrev pub FindsAt : Entries → Entries → List ℕ → Option Entry → Type 0
-FindsAt old new id x = (q : List ℕ) → lookup (same_text q) new ≡ cond (same_text id q) x (lookup (same_text q) old)
 
 abbrev pub AllIds : Entries → Type 0
 AllIds es = (q : List ℕ) → is_some (lookup (same_text q) es) ≡ true → is_id q ≡ true

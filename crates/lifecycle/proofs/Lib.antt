@@ -1,6 +1,7 @@
 pub mod Isolation
 pub mod Headline
 pub mod Entries
+pub mod Places
 pub mod StartLemmas
 pub mod CommandLaws
 pub mod SoundLaws

@@ -1,5 +1,5 @@
 -- The containers, by what is kept of each and what the kernel has of it.
-use Rattle.std.specs.Prelude.{ℕ, Bool, true, false, List, Option, None, Some, if◌then◌else◌, map}
+use Rattle.std.specs.Prelude.{◌≡◌, ℕ, Bool, true, false, cond, List, Option, None, Some, if◌then◌else◌, map}
 use Rattle.std.specs.Map.{lookup}
 use Rattle.processes.specs.Tasks.{Processes, lives}
 use Rattle.processes.specs.First.{by_program}
@@ -15,6 +15,10 @@ use Rattle.lifecycle.specs.Worlds.{Container, World, unstarted}
 -- what is kept, by id, in order of creation
 abbrev pub Entries : Type 0
 Entries = List (List ℕ × Entry)
+
+-- the entries that are found are those from before, but for one id
+abbrev pub FindsAt : Entries → Entries → List ℕ → Option Entry → Type 0
+FindsAt old new id x = (q : List ℕ) → lookup (same_text q) new ≡ cond (same_text id q) x (lookup (same_text q) old)
 
 -- a container whose tasks the kernel does not have
 abbrev pub idle : Status → Entry → Container

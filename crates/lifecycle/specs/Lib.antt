@@ -6,6 +6,8 @@ pub mod Own
 pub mod Runs
 pub mod Promises
 pub mod Entries
+pub mod Places
+pub mod Listed
 pub mod Sound
 pub mod Views
 pub mod Growth

@@ -9,6 +9,7 @@ mod command;
 mod entry;
 mod fault;
 mod law;
+mod register;
 mod run;
 mod runtime;
 mod start;

@@ -4,26 +4,27 @@ ghost use Rattle.std.specs.Map.{lookup};
 ghost use Rattle.processes.specs.Ids.{is_id};
 ghost use Rattle.processes.specs.Views.{lives_in, same_text};
 ghost use Rattle.lifecycle.specs.Entries.{started_at};
+ghost use Rattle.lifecycle.specs.Listed.{listed};
 ghost use Rattle.lifecycle.specs.Sound.{SoundIn, SoundIn-prop};
 
 use crate::command::{Reply, Status};
-use crate::entry::{Entry, Phase, come_to, forget};
+use crate::entry::{Entry, Phase};
 use crate::fault::Refusal;
+use crate::register::Register;
 use crate::start::begin;
 use call_record::Record;
 use cert_check::Checked;
-use indexmap::IndexMap;
 use processes::{Id, Kernel, LAST_SIGNAL, Outcome, is_fatal};
 use std::alloc::{AllocError, Global};
 
 /// Containers over a kernel.
 #[derive(Drop)]
 pub struct Runtime<'a, K: Kernel> {
-    pub(crate) entries: IndexMap<Id, Entry<'a>>,
+    pub(crate) entries: Register<'a>,
     pub(crate) kernel: K,
     pub(crate) alloc: Global,
-    ghost ids: { (q : List ℕ) → is_some (lookup (same_text q) entries.entries) ≡ true → is_id q ≡ true },
-    ghost in_step: { (q : List ℕ) → is_some (K.processes kernel q) ≡ started_at entries.entries q },
+    ghost ids: { (q : List ℕ) → is_some (lookup (same_text q) (listed entries)) ≡ true → is_id q ≡ true },
+    ghost in_step: { (q : List ℕ) → is_some (K.processes kernel q) ≡ started_at (listed entries) q },
     ghost sound: { (q : List ℕ) → SoundIn (K.processes kernel q) } by { Prim.hlevel SoundIn-prop },
 }
 
@@ -61,7 +62,7 @@ impl<'a, K: Kernel> Runtime<'a, K> {
         ensures { world_of result ≡ [] }
     {
         Runtime {
-            entries: IndexMap::new(alloc),
+            entries: Register::new(alloc),
             kernel,
             alloc,
         }
@@ -76,7 +77,7 @@ impl<'a, K: Kernel> Runtime<'a, K> {
         let Some(name) = Id::read(id) else {
             return Ok(Reply::Refused(Refusal::BadId));
         };
-        if self.entries.contains_key(&name) {
+        if self.entries.contains(&name) {
             return Ok(Reply::Refused(Refusal::IdTaken));
         }
         let phase = Phase::Made;
@@ -96,7 +97,7 @@ impl<'a, K: Kernel> Runtime<'a, K> {
         match entry.phase {
             Phase::Made => {
                 let reply = begin(&mut self.kernel, &name, entry.checked)?;
-                come_to(&mut self.entries, &name, Phase::Started);
+                self.entries.come_to(&name, Phase::Started);
                 Ok(reply)
             }
             Phase::Started => Ok(Reply::Refused(Refusal::NotCreated)),
@@ -117,7 +118,7 @@ impl<'a, K: Kernel> Runtime<'a, K> {
                     return Reply::Refused(Refusal::BadSignal);
                 }
                 if is_fatal(sig) {
-                    come_to(&mut self.entries, &name, Phase::Ended);
+                    self.entries.come_to(&name, Phase::Ended);
                 }
                 Reply::Accepted
             }
@@ -144,7 +145,7 @@ impl<'a, K: Kernel> Runtime<'a, K> {
             Status::Running => Reply::Refused(Refusal::NotStopped),
             Status::Stopped => {
                 self.kernel.expel(&name);
-                forget(&mut self.entries, &name);
+                self.entries.remove(&name);
                 Reply::Accepted
             }
         }
@@ -192,26 +193,24 @@ impl<'a, K: Kernel> Runtime<'a, K> {
     pub fn id_at(&self, i: usize) -> Option<&str>
         ensures { option_copied result ≡ slice_get (ids_of (world_of self.now)) i }
     {
-        let (id, _) = self.entries.get_index(i)?;
-        Some(id.as_str())
+        let name = self.entries.name_at(i)?;
+        Some(name.as_str())
     }
 
     // What is kept of the container with this id.
     fn kept(&self, id: &str) -> Option<Kept<'a>>
-        ensures some { IfSome result (λ f. IsKept f id.now self.now.entries.entries) }
-        ensures none { IfNone result (lookup (same_text id.now) self.now.entries.entries ≡ None) }
+        ensures some { IfSome result (λ f. IsKept f id.now (listed self.now.entries)) }
+        ensures none { IfNone result (lookup (same_text id.now) (listed self.now.entries) ≡ None) }
     {
-        // `len` knows that no id stands twice, as the contract says.
-        let _ = self.entries.len();
         let name = Id::read(id)?;
-        let entry = *self.entries.get(&name)?;
+        let entry = self.entries.get(&name)?;
         Some(Kept { name, entry })
     }
 
     // The container with this id.
     fn find(&self, id: &str) -> Option<Found<'a>>
-        ensures some { IfSome result (λ f. IsFound f id.now self.now.entries.entries (K.processes self.now.kernel id.now)) }
-        ensures none { IfNone result (lookup (same_text id.now) self.now.entries.entries ≡ None) }
+        ensures some { IfSome result (λ f. IsFound f id.now (listed self.now.entries) (K.processes self.now.kernel id.now)) }
+        ensures none { IfNone result (lookup (same_text id.now) (listed self.now.entries) ≡ None) }
     {
         let Kept { name, entry } = self.kept(id)?;
         let status = match entry.phase {

@@ -9,6 +9,7 @@ use Rattle.lifecycle.specs.declared.command.Reply.TheVariants.{Presented, Refuse
 use Rattle.lifecycle.specs.declared.fault.Refusal.TheVariants.{NoContainer}
 use Rattle.lifecycle.specs.Orders.Order.{Call}
 use Rattle.lifecycle.specs.Steps.{call}
+use Rattle.lifecycle.specs.Listed.{listed}
 use Rattle.lifecycle.specs.Views.{world_of}
 use Rattle.lifecycle.specs.Entries.{container_of, world_from}
 use Rattle.lifecycle.proofs.CommandLaws.{on_err, status_ended, status_made}
@@ -21,7 +22,7 @@ unfolding world_of
 returns-in_default-clause-step g c =
     let k = g.K.Kernel.processes c.args.self.now.kernel in
     let id = c.args.id.now in
-    let es = c.args.self.now.entries.entries in
+    let es = listed c.args.self.now.entries in
     let given = attached_of (option_map (λ a. a.now) c.args.attached) in
     unchanged by_program (Call id c.args.task c.args.rec.now given) (world_from k es) None (Refused NoContainer) (not_there k id es c.in_default.ensures.none) refl
 
@@ -30,7 +31,7 @@ unfolding world_of
 returns-in-Made-clause-step g c =
     let k = g.K.Kernel.processes c.args.self.now.kernel in
     let id = c.args.id.now in
-    let es = c.args.self.now.entries.entries in
+    let es = listed c.args.self.now.entries in
     let given = attached_of (option_map (λ a. a.now) c.args.attached) in
     let e = c.in-Some.field-0.entry in
     let container = container_of e (k id) in
@@ -42,7 +43,7 @@ unfolding world_of
 returns-in-Ended-clause-step g c =
     let k = g.K.Kernel.processes c.args.self.now.kernel in
     let id = c.args.id.now in
-    let es = c.args.self.now.entries.entries in
+    let es = listed c.args.self.now.entries in
     let given = attached_of (option_map (λ a. a.now) c.args.attached) in
     let e = c.in-Some.field-0.entry in
     let container = container_of e (k id) in
@@ -63,7 +64,7 @@ unfolding world_of
 returns-in_ok-outcome-in-Started-clause-step g c =
     let k = g.K.Kernel.processes in
     let id = c.args.id.now in
-    let es = c.args.self.now.entries.entries in
+    let es = listed c.args.self.now.entries in
     let task = c.args.task in
     let r = c.args.rec.now in
     let given = attached_of (option_map (λ a. a.now) c.args.attached) in
@@ -86,14 +87,14 @@ pub returns-in_err-outcome-in-Started-clause-err : goal.returns-in_err-outcome-i
 unfolding world_of
 returns-in_err-outcome-in-Started-clause-err g c =
     let k = g.K.Kernel.processes in
-    on_err c.from_residual.result (same_world (k c.args.self.now.kernel) (k c.present.new.self) c.args.self.now.entries.entries c.in_err-outcome-in-Started.ensures.err)
+    on_err c.from_residual.result (same_world (k c.args.self.now.kernel) (k c.present.new.self) (listed c.args.self.now.entries) c.in_err-outcome-in-Started.ensures.err)
 
 pub returns-in_err-outcome-in-Started-clause-growth : goal.returns-in_err-outcome-in-Started-clause-growth
 unfolding world_of
 returns-in_err-outcome-in-Started-clause-growth g c =
     let k = g.K.Kernel.processes c.args.self.now.kernel in
     let id = c.args.id.now in
-    let es = c.args.self.now.entries.entries in
+    let es = listed c.args.self.now.entries in
     let task = c.args.task in
     let r = c.args.rec.now in
     let given = attached_of (option_map (λ a. a.now) c.args.attached) in

@@ -11,9 +11,10 @@ use Rattle.lifecycle.specs.declared.fault.Refusal.TheVariants.{NoContainer, NotA
 use Rattle.lifecycle.specs.Orders.Order.{Kill}
 use Rattle.lifecycle.specs.Steps.{kill, running}
 use Rattle.lifecycle.specs.Worlds.{Container, put}
+use Rattle.lifecycle.specs.Listed.{listed}
 use Rattle.lifecycle.specs.Views.{world_of}
-use Rattle.lifecycle.specs.Entries.{container_of, is_started, started_in, world_from}
-use Rattle.lifecycle.proofs.CommandLaws.{FindsAt, bad_created, bad_running, ended_as, ids_kept, is_known, killed_created}
+use Rattle.lifecycle.specs.Entries.{FindsAt, container_of, is_started, started_in, world_from}
+use Rattle.lifecycle.proofs.CommandLaws.{bad_created, bad_running, ended_as, ids_kept, is_known, killed_created}
 use Rattle.lifecycle.proofs.CommandLaws.{killed_running, made, runs_on, set_own, step_kept}
 use Rattle.lifecycle.proofs.Entries.{changed, not_there, there, told, unchanged, written}
 use Rattle.lifecycle.proofs.SoundLaws.{signal_sound_in, sound_set}
@@ -25,7 +26,7 @@ unfolding world_of
 returns-in_default g c =
     let k = g.K.Kernel.processes c.args.self.now.kernel in
     let id = c.args.id.now in
-    let es = c.args.self.now.entries.entries in
+    let es = listed c.args.self.now.entries in
     unchanged by_program (Kill id c.args.sig) (world_from k es) None (Refused NoContainer) (not_there k id es c.in_default.ensures.none) refl
 
 pub returns-then-sig-gt-LAST_SIGNAL : goal.returns-then-sig-gt-LAST_SIGNAL
@@ -33,7 +34,7 @@ unfolding world_of
 returns-then-sig-gt-LAST_SIGNAL g c =
     let k = g.K.Kernel.processes c.args.self.now.kernel in
     let id = c.args.id.now in
-    let es = c.args.self.now.entries.entries in
+    let es = listed c.args.self.now.entries in
     let found = c.in-Some.ensures.some in
     let container = container_of c.in-Some.field-0.entry (k id) in
     unchanged by_program (Kill id c.args.sig) (world_from k es) (Some container) (Refused BadSignal) (there k id es c.in-Some.field-0.entry found.kept)
@@ -43,17 +44,17 @@ pub invariant_of-self : goal.invariant_of-self
 invariant_of-self g c =
     let k = g.K.Kernel.processes c.args.self.now.kernel in
     let id = c.args.id.now in
-    let old = c.args.self.now.entries.entries in
+    let old = listed c.args.self.now.entries in
     let found = c.in-Some.ensures.some in
     let e = c.in-Some.field-0.entry in
     let named = c.in-Some.field-0.name in
     let ended = record e { phase = Ended } in
-    let finds : FindsAt old c.come_to.new.entries.entries named (Some ended) = (c.come_to.ensures.updates e (rw found.name found.kept)).0 in
+    let finds : FindsAt old (listed c.come_to.new.self) named (Some ended) = c.come_to.ensures.finds e (rw found.name found.kept) in
     let known = is_known old id e c.args.self.now.ids found.kept in
     let idle : is_started e.phase ≡ false = ap is_started (made e.phase e (k id) (sym found.status ∙ c.in-Created.is)) in
     let none = c.args.self.now.in_step id ∙ (ap started_in found.kept ∙ idle) in record {
-      ids = ids_kept old c.come_to.new.entries.entries named (Some ended) finds (rw found.name known) c.args.self.now.ids;
-      in_step = step_kept k k old c.come_to.new.entries.entries named (k named) (Some ended) (set_own k named) finds (ap (λ q. is_some (k q)) found.name ∙ none) c.args.self.now.in_step;
+      ids = ids_kept old (listed c.come_to.new.self) named (Some ended) finds (rw found.name known) c.args.self.now.ids;
+      in_step = step_kept k k old (listed c.come_to.new.self) named (k named) (Some ended) (set_own k named) finds (ap (λ q. is_some (k q)) found.name ∙ none) c.args.self.now.in_step;
       sound = c.args.self.now.sound;
     }
 
@@ -70,7 +71,7 @@ unfolding world_of
 returns-then-sig-gt-LAST_SIGNAL-2 g c =
     let k = g.K.Kernel.processes c.args.self.now.kernel in
     let id = c.args.id.now in
-    let es = c.args.self.now.entries.entries in
+    let es = listed c.args.self.now.entries in
     let found = c.in-Some.ensures.some in
     let container = container_of c.in-Some.field-0.entry (k id) in
     unchanged by_program (Kill id c.args.sig) (world_from k es) (Some container) (Refused BadSignal) (there k id es c.in-Some.field-0.entry found.kept)
@@ -81,7 +82,7 @@ unfolding world_of
 returns-after-is_fatal g c =
     let k = g.K.Kernel.processes c.args.self.now.kernel in
     let id = c.args.id.now in
-    let es = c.args.self.now.entries.entries in
+    let es = listed c.args.self.now.entries in
     let found = c.in-Some.ensures.some in
     let e = c.in-Some.field-0.entry in
     let container = container_of e (k id) in
@@ -90,11 +91,11 @@ returns-after-is_fatal g c =
     let ended = record e { phase = Ended } in
     elim c.if-is_fatal.branch [
       | then-is_fatal w ↦
-          let entries : w.come_to.new.entries.entries ≡ set_value (same_text id) es ended =
+          let entries : (listed w.come_to.new.self) ≡ set_value (same_text id) es ended =
           w.come_to.ensures.entries e (rw found.name found.kept) ∙ ap (λ q. set_value (same_text q) es ended) found.name in
           let stops = ended_as e.phase e (k id) (made e.phase e (k id) created) in
           ap (λ r. (Accepted, world_of r)) w.self-is
-          ∙ changed by_program (Kill id c.args.sig) (world_from k es) (world_from k w.come_to.new.entries.entries) (Some container) (Some (record container { status = Stopped })) Accepted
+          ∙ changed by_program (Kill id c.args.sig) (world_from k es) (world_from k (listed w.come_to.new.self)) (Some container) (Some (record container { status = Stopped })) Accepted
           (there k id es e found.kept)
           (killed_created c.args.sig container true (sym c.is_fatal.ensures ∙ w.if-is_fatal.true) created low)
           (ap (world_from k) entries ∙ (written k k id (k id) ended e es (set_own k id) found.distinct found.kept
@@ -110,7 +111,7 @@ unfolding world_of
 returns-else-sig-gt-LAST_SIGNAL-2 g c =
     let k = g.K.Kernel.processes in
     let id = c.args.id.now in
-    let es = c.args.self.now.entries.entries in
+    let es = listed c.args.self.now.entries in
     let found = c.in-Some.ensures.some in
     let e = c.in-Some.field-0.entry in
     let old = k c.args.self.now.kernel in
@@ -130,7 +131,7 @@ unfolding world_of
 returns-in-Stopped g c =
     let k = g.K.Kernel.processes c.args.self.now.kernel in
     let id = c.args.id.now in
-    let es = c.args.self.now.entries.entries in
+    let es = listed c.args.self.now.entries in
     let found = c.in-Some.ensures.some in
     let container = container_of c.in-Some.field-0.entry (k id) in
     unchanged by_program (Kill id c.args.sig) (world_from k es) (Some container) (Refused NotAlive) (there k id es c.in-Some.field-0.entry found.kept)
