@@ -71,7 +71,10 @@ impl<'a> Maker<'a> {
             .after(self.alloc, asked.list, asked.subject, number)?;
         match next {
             Some(pending) => Ok(pending),
-            None => self.part(asked.call, self.part_after(asked.list)),
+            None => {
+                let part = self.part_after(asked.list);
+                self.part(asked.call, part)
+            }
         }
     }
 

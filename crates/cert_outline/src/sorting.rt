@@ -172,8 +172,9 @@ impl<'a> Halves<'a> {
     }
 
     fn look_at_all(&mut self) -> Result<(), AllocError> {
-        self.left.push((0, self.rules.len()))?;
-        for next in 0..self.rules.len().saturating_mul(2) {
+        let count = self.rules.len();
+        self.left.push((0, count))?;
+        for next in 0..count.saturating_mul(2) {
             let Some((from, to)) = self.left.get(next).copied() else {
                 break;
             };
