@@ -7,23 +7,15 @@
 use crate::exit::Exit;
 use crate::facts::{ANY, Facts};
 use crate::fault::OutlineError;
-use crate::learned::NOTHING;
 use crate::maker::Maker;
 use crate::numbers::Numbered;
-use crate::spot::{Calls, Several, Spot, Stage};
-use crate::spots::Spots;
-use cert_form::{MAX_LITERALS, MAX_NODES};
+use crate::sizes::{Door, size_of_runs};
+use crate::spot::{Calls, Stage};
 use rule_compile::Open;
-use std::alloc::AllocError;
+use std::alloc::{AllocError, Global};
 
 // So many numbers between those of a list are excluded one by one at most.
 const MOST_BETWEEN: usize = 400;
-
-// A node counts as much as so many entries of chains, with the one that it adds.
-const NODE: usize = 5;
-
-// No certificate is larger.
-const LARGEST: usize = NODE * MAX_NODES;
 
 /// A decision that was made: of these numbers of a machine, which lead to an exit.
 #[derive(Clone, Copy)]
@@ -32,14 +24,6 @@ pub(crate) struct Decided {
     numbers: usize,
     exit: Exit,
     calls: Option<Calls>,
-}
-
-// Where calls that are asked alike are come to: a position of the code, the exit whose code it is, and one of the calls.
-#[derive(Clone, Copy)]
-struct Door {
-    pc: usize,
-    exit: Exit,
-    call: usize,
 }
 
 // Whether both ask the same, of conditions at the same places among those of their rules.
@@ -73,30 +57,15 @@ fn are_alike(one: &Numbered<'_>, other: &Numbered<'_>) -> bool {
     true
 }
 
-// How many claims a node of a call may state: on each of its conditions, and on its rules.
-fn claims_of(call: &Numbered<'_>) -> usize {
-    let mut count = 0usize;
-    for part in 0..call.parts() {
-        count = count.saturating_add(call.questions(part).len());
-    }
-    count
-}
-
-// How large it is if nodes are made for each run of neighbouring numbers, by the size of some numbers of one run. Each number
-// has a return and a split.
-fn size_of_runs(numbers: &[u32], own: usize, size: usize) -> usize {
-    let returns = 2 * NODE;
-    let base = size.saturating_sub(returns.saturating_mul(own));
-    let mut runs = 0usize;
-    let mut before = None;
-    for number in numbers {
-        if before.is_none() || before != number.checked_sub(1) {
-            runs = runs.saturating_add(1);
+// The numbers from one on and below another that a list has not.
+fn not_listed(alloc: Global, numbers: &[u32], from: u32, end: u32) -> Result<Vec<u32>, AllocError> {
+    let mut others = Vec::new(alloc);
+    for number in from..end {
+        if !numbers.contains(&number) {
+            others.push(number)?;
         }
-        before = Some(*number);
     }
-    let all = returns.saturating_mul(numbers.len());
-    base.saturating_mul(runs).saturating_add(all)
+    Ok(others)
 }
 
 impl<'a> Maker<'a> {
@@ -160,126 +129,12 @@ impl<'a> Maker<'a> {
         if between.saturating_sub(numbers.len()) >= MOST_BETWEEN {
             return Ok(None);
         }
-        let mut facts = Facts::any(self.alloc);
-        facts.low = first;
-        facts.high = last;
-        for number in first..last {
-            if !numbers.contains(&number) {
-                facts.excluded.push(number)?;
-            }
-        }
+        let facts = Facts {
+            low: first,
+            high: last,
+            excluded: not_listed(self.alloc, numbers, first, last)?,
+        };
         Ok(Some(self.facts.place(facts)?))
-    }
-
-    // How large the certificate is from some calls on, if it is smaller than so much: that of a node, with the entry that it
-    // adds to the chains, and that of each number that is excluded.
-    fn size_from(
-        &mut self,
-        door: Door,
-        calls: Calls,
-        most: usize,
-    ) -> Result<Option<usize>, OutlineError> {
-        let spots = Spots::new(self.alloc)?;
-        let spots = self.exchange(spots);
-        let size = self.explored(door, calls, most);
-        self.exchange(spots);
-        size
-    }
-
-    // How many numbers a spot is the first to exclude.
-    fn newly_excluded(&self, spot: &Spot, seen: &mut Vec<usize>) -> Result<usize, AllocError> {
-        let Stage::Call(calls, _, _) = spot.stage else {
-            return Ok(0);
-        };
-        let Some(several) = calls.several else {
-            return Ok(0);
-        };
-        if seen.contains(&several.numbers) {
-            return Ok(0);
-        }
-        seen.push(several.numbers)?;
-        match self.facts.get(several.numbers) {
-            Some(facts) => Ok(facts.excluded.len()),
-            None => Ok(0),
-        }
-    }
-
-    // Goes all ways on from some calls.
-    fn explored(
-        &mut self,
-        door: Door,
-        calls: Calls,
-        most: usize,
-    ) -> Result<Option<usize>, OutlineError> {
-        let pending = self.beginning(calls.call)?;
-        let stage = self.arrive(door.pc, calls, pending, ANY, door.exit)?;
-        self.spot(door.pc, None, stage)?;
-        let mut seen = Vec::new(self.alloc);
-        self.size_of_all(&mut seen, most)
-    }
-
-    fn size_of_all(
-        &mut self,
-        seen: &mut Vec<usize>,
-        most: usize,
-    ) -> Result<Option<usize>, OutlineError> {
-        let mut size = 0usize;
-        for place in 0..MAX_NODES {
-            let Some(spot) = self.get(place) else {
-                return Ok(Some(size));
-            };
-            let excluded = self.newly_excluded(&spot, seen)?;
-            size = size.saturating_add(NODE).saturating_add(excluded);
-            if size >= most {
-                return Ok(None);
-            }
-            match self.ways_of_call(&spot) {
-                Ok(_) => {}
-                Err(OutlineError::TooLarge) => return Ok(None),
-                Err(error) => return Err(error),
-            }
-        }
-        Ok(None)
-    }
-
-    // Calls of some numbers for which nodes are made at once, and how large it is then, where that is smaller than so much.
-    fn if_smaller(
-        &mut self,
-        door: Door,
-        numbers: usize,
-        most: usize,
-    ) -> Result<Option<(Calls, usize)>, OutlineError> {
-        let calls = Calls {
-            call: door.call,
-            several: Some(Several {
-                numbers,
-                learned: NOTHING,
-            }),
-        };
-        match self.size_from(door, calls, most)? {
-            Some(size) => Ok(Some((calls, size))),
-            None => Ok(None),
-        }
-    }
-
-    // How large it is if nodes are made for a call by itself. Each has a split besides, which leads there.
-    fn size_by_itself(&mut self, door: Door) -> Result<usize, OutlineError> {
-        let calls = Calls {
-            call: door.call,
-            several: None,
-        };
-        match self.size_from(door, calls, LARGEST)? {
-            Some(size) if !self.is_wide(door.call) => Ok(size.saturating_add(NODE)),
-            _ => Ok(LARGEST),
-        }
-    }
-
-    // Whether nodes of a call by itself may state too much.
-    fn is_wide(&self, call: usize) -> bool {
-        match self.call(call) {
-            Some(call) => claims_of(&call) > MAX_LITERALS,
-            None => true,
-        }
     }
 
     // The calls for which nodes are made at once: all that are asked alike, or those of which it is come from here, where
@@ -324,6 +179,33 @@ impl<'a> Maker<'a> {
         Ok(these.map(|(calls, _)| calls))
     }
 
+    // The decision that was made for some numbers, if it was.
+    fn decision(&self, machine: usize, numbers: usize, exit: Exit) -> Option<Decided> {
+        for decided in &self.decisions {
+            if decided.machine == machine && decided.numbers == numbers && decided.exit == exit {
+                return Some(*decided);
+            }
+        }
+        None
+    }
+
+    // The same, of calls for some of which it may be decided already.
+    fn decided_of(
+        &mut self,
+        pc: usize,
+        own: &[usize],
+        numbers: usize,
+        exit: Exit,
+    ) -> Result<Option<Calls>, OutlineError> {
+        if !self.all_alike(own) {
+            return Ok(None);
+        }
+        match self.decided_for(own) {
+            Some(calls) => Ok(Some(calls)),
+            None => self.decide(pc, own, numbers, exit),
+        }
+    }
+
     // The same, once for all places from which it is come to them.
     fn decided(
         &mut self,
@@ -332,19 +214,11 @@ impl<'a> Maker<'a> {
         numbers: usize,
         exit: Exit,
     ) -> Result<Option<Calls>, OutlineError> {
-        for decided in &self.decisions {
-            if decided.machine == machine && decided.numbers == numbers && decided.exit == exit {
-                return Ok(decided.calls);
-            }
+        if let Some(decided) = self.decision(machine, numbers, exit) {
+            return Ok(decided.calls);
         }
         let own = self.calls_within(machine, numbers)?;
-        let calls = if !self.all_alike(&own) {
-            None
-        } else if let Some(calls) = self.decided_for(&own) {
-            Some(calls)
-        } else {
-            self.decide(pc, &own, numbers, exit)?
-        };
+        let calls = self.decided_of(pc, &own, numbers, exit)?;
         self.decisions.push(Decided {
             machine,
             numbers,
@@ -354,17 +228,25 @@ impl<'a> Maker<'a> {
         Ok(calls)
     }
 
+    // Whether nodes that are made for several calls at once are for this one too.
+    fn includes(&self, calls: Calls, call: &Numbered<'_>) -> bool {
+        let (Some(several), Some(other)) = (calls.several, self.call(calls.call)) else {
+            return false;
+        };
+        let Some(facts) = self.facts.get(several.numbers) else {
+            return false;
+        };
+        other.token == call.token
+            && are_alike(call, &other)
+            && facts.within(call.number, call.number).is_some()
+    }
+
     // All calls that are asked like these, where it was decided before to make nodes for them at once.
     fn decided_for(&self, own: &[usize]) -> Option<Calls> {
         let call = self.call(*own.first()?)?;
         for decided in &self.decisions {
             if let Some(calls) = decided.calls
-                && let Some(several) = calls.several
-                && let Some(other) = self.call(calls.call)
-                && other.token == call.token
-                && are_alike(&call, &other)
-                && let Some(facts) = self.facts.get(several.numbers)
-                && facts.within(call.number, call.number).is_some()
+                && self.includes(calls, &call)
             {
                 return Some(calls);
             }

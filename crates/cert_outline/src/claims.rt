@@ -4,7 +4,7 @@ use crate::facts::word_of;
 use crate::maker::Maker;
 use crate::numbers::Numbered;
 use crate::sorting::Stated;
-use crate::spot::{At, Calls, Pending, Spot, Stage};
+use crate::spot::{At, Calls, Pending, Several, Spot, Stage};
 use cert_form::Claim;
 use cert_state::Lit;
 use rule_compile::{Open, Subject};
@@ -244,6 +244,37 @@ impl<'a> Maker<'a> {
         Ok(())
     }
 
+    // What a node states of several calls.
+    fn several_claims(&self, several: Several, stated: &mut Stated) -> Result<(), AllocError> {
+        self.tell_facts(NUMBER, several.numbers, &mut stated.call)?;
+        self.learned_claims(several.learned, stated)
+    }
+
+    // What a node states of one call.
+    fn single_claims(
+        &self,
+        call: &Numbered<'_>,
+        pending: Pending,
+        stated: &mut Stated,
+    ) -> Result<(), AllocError> {
+        let number = Lit::Bits(word_of(NUMBER), u32::MAX, call.number);
+        stated.call.push(Claim::Knows(number))?;
+        self.rule_claims(call, pending, stated)
+    }
+
+    // What is known of the bits that are asked for first of what is left.
+    fn asked_claims(
+        &self,
+        list: usize,
+        facts: usize,
+        stated: &mut Stated,
+    ) -> Result<(), AllocError> {
+        match self.subject(list) {
+            Some(subject) => self.tell_facts(subject, facts, &mut stated.others),
+            None => Ok(()),
+        }
+    }
+
     // What a node states of calls.
     fn call_claims(
         &self,
@@ -257,23 +288,15 @@ impl<'a> Maker<'a> {
         };
         stated.call.push(Claim::Knows(is_of_token(call.token)))?;
         match calls.several {
-            Some(several) => {
-                self.tell_facts(NUMBER, several.numbers, &mut stated.call)?;
-                self.learned_claims(several.learned, stated)?;
-            }
-            None => {
-                let number = Lit::Bits(word_of(NUMBER), u32::MAX, call.number);
-                stated.call.push(Claim::Knows(number))?;
-                self.rule_claims(&call, pending, stated)?;
-            }
+            Some(several) => self.several_claims(several, stated)?,
+            None => self.single_claims(&call, pending, stated)?,
         }
-        if let At::Block(_, facts) | At::Exit(_, facts) = at
-            && let Pending::Left(list) = pending
-            && let Some(subject) = self.subject(list)
-        {
-            self.tell_facts(subject, facts, &mut stated.others)?;
+        match (at, pending) {
+            (At::Block(_, facts) | At::Exit(_, facts), Pending::Left(list)) => {
+                self.asked_claims(list, facts, stated)
+            }
+            _ => Ok(()),
         }
-        Ok(())
     }
 
     // What is known where no record comes.

@@ -71,7 +71,10 @@ impl<'a> Maker<'a> {
             .after(self.alloc, asked.list, asked.subject, number)?;
         match next {
             Some(pending) => Ok(pending),
-            None => self.part(asked.call, self.part_after(asked.list)),
+            None => {
+                let part = self.part_after(asked.list);
+                self.part(asked.call, part)
+            }
         }
     }
 
@@ -105,6 +108,19 @@ impl<'a> Maker<'a> {
         self.facts.get(facts)?.only()
     }
 
+    // Adds the group of the numbers from one on, of which this is one.
+    fn add_group(
+        &mut self,
+        asked: Asked,
+        start: u32,
+        number: u32,
+        groups: &mut Vec<Group>,
+    ) -> Result<(), OutlineError> {
+        let pending = self.after(asked, number)?;
+        add_unlike(groups, start, pending)?;
+        Ok(())
+    }
+
     // The groups by the numbers of a whole word.
     fn groups_of_word(
         &mut self,
@@ -119,8 +135,7 @@ impl<'a> Maker<'a> {
                 break;
             }
             if let Some(first) = self.first_within(facts, *start, end_of(&starts, place)) {
-                let pending = self.after(asked, first)?;
-                add_unlike(&mut groups, *start, pending)?;
+                self.add_group(asked, *start, first, &mut groups)?;
             }
         }
         Ok(groups)
@@ -139,17 +154,28 @@ impl<'a> Maker<'a> {
         let numbers = self.numbers(asked)?;
         for number in &numbers {
             if !self.excludes(facts, *number) {
-                let pending = self.after(asked, *number)?;
-                if pending != rest {
-                    let first = *number;
-                    groups.push(Group { first, pending })?;
-                }
+                self.add_unless(asked, *number, rest, groups)?;
             }
         }
         groups.push(Group {
             first: other,
             pending: rest,
         })?;
+        Ok(())
+    }
+
+    // Adds the group of a number, unless this is pending.
+    fn add_unless(
+        &mut self,
+        asked: Asked,
+        first: u32,
+        rest: Pending,
+        groups: &mut Vec<Group>,
+    ) -> Result<(), OutlineError> {
+        let pending = self.after(asked, first)?;
+        if pending != rest {
+            groups.push(Group { first, pending })?;
+        }
         Ok(())
     }
 

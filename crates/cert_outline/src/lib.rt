@@ -25,6 +25,7 @@ mod maker;
 mod numbers;
 mod order;
 mod remaining;
+mod sizes;
 mod sorting;
 mod spot;
 mod spots;

@@ -179,9 +179,10 @@ impl Numbers {
 
     // Adds all numbers: those of calls, those between them, and those that are not the machine's own.
     fn add_all(&mut self, calls: &[Numbered<'_>], default: Exit) -> Result<(), AllocError> {
+        let last = self.last;
         let next = self.add_calls(calls, default)?;
-        self.add(next, u64::from(self.last) + 1, default)?;
-        match self.last.checked_add(1) {
+        self.add(next, u64::from(last) + 1, default)?;
+        match last.checked_add(1) {
             Some(first) => self.push(first, u32::MAX, Exit::Word(Word::KILL_THREAD.0)),
             None => Ok(()),
         }

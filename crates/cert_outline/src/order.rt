@@ -84,24 +84,49 @@ fn make_ready(
     Ok(())
 }
 
-// The places of the spots in an order in which each stands before those to which it leads.
-fn sorted(alloc: Global, ways: &[Ways]) -> Result<Vec<u32>, AllocError> {
-    let mut counts = ways_to(alloc, ways)?;
-    let mut order = Vec::new(alloc);
-    let mut ready = Vec::new(alloc);
-    ready.push(0u32)?;
-    for _ in 0..ways.len() {
-        let Some(place) = ready.pop() else {
-            break;
-        };
-        order.push(place)?;
+// The places of spots that are sorted: each stands before those to which it leads.
+#[derive(Drop)]
+struct Sorting {
+    // How many ways lead to each spot from those that are not sorted.
+    counts: Vec<u32>,
+    // Those to which none leads any more.
+    ready: Vec<u32>,
+    sorted: Vec<u32>,
+}
+
+impl Sorting {
+    // Sorts a spot that is ready.
+    fn sort(&mut self, ways: &[Ways], place: u32) -> Result<(), AllocError> {
+        self.sorted.push(place)?;
         if let Some(from) = ways.get(place as usize) {
             let (first, second) = from.next();
-            make_ready(&mut ready, &mut counts, second)?;
-            make_ready(&mut ready, &mut counts, first)?;
+            make_ready(&mut self.ready, &mut self.counts, second)?;
+            make_ready(&mut self.ready, &mut self.counts, first)?;
         }
+        Ok(())
     }
-    Ok(order)
+
+    fn sort_all(&mut self, ways: &[Ways]) -> Result<(), AllocError> {
+        self.ready.push(0)?;
+        for _ in 0..ways.len() {
+            let Some(place) = self.ready.pop() else {
+                break;
+            };
+            self.sort(ways, place)?;
+        }
+        Ok(())
+    }
+}
+
+// The places of the spots in an order in which each stands before those to which it leads.
+fn sorted(alloc: Global, ways: &[Ways]) -> Result<Vec<u32>, AllocError> {
+    let mut sorting = Sorting {
+        counts: ways_to(alloc, ways)?,
+        ready: Vec::new(alloc),
+        sorted: Vec::new(alloc),
+    };
+    sorting.sort_all(ways)?;
+    Ok(sorting.sorted)
 }
 
 // For each spot the number of its node.

@@ -100,18 +100,24 @@ fn has(marks: &[bool], rule: u32) -> bool {
     }
 }
 
-// In the order of a node before, and then those that are new.
-fn as_before(alloc: Global, outs: &[u32], before: &[u32]) -> Result<Vec<u32>, AllocError> {
-    let mut sorted = Vec::new(alloc);
-    let own = marks_of(alloc, outs)?;
+// Those that a node before says too, in its order.
+fn said_before(alloc: Global, outs: &[u32], before: &[u32]) -> Result<Vec<u32>, AllocError> {
+    let marks = marks_of(alloc, outs)?;
+    let mut said = Vec::new(alloc);
     for rule in before.iter().rev() {
-        if has(&own, *rule) {
-            sorted.push(*rule)?;
+        if has(&marks, *rule) {
+            said.push(*rule)?;
         }
     }
-    let others = marks_of(alloc, before)?;
+    Ok(said)
+}
+
+// In the order of a node before, and then those that are new.
+fn as_before(alloc: Global, outs: &[u32], before: &[u32]) -> Result<Vec<u32>, AllocError> {
+    let marks = marks_of(alloc, before)?;
+    let mut sorted = said_before(alloc, outs, before)?;
     for rule in outs {
-        if !has(&others, *rule) {
+        if !has(&marks, *rule) {
             sorted.push(*rule)?;
         }
     }
@@ -172,8 +178,9 @@ impl<'a> Halves<'a> {
     }
 
     fn look_at_all(&mut self) -> Result<(), AllocError> {
-        self.left.push((0, self.rules.len()))?;
-        for next in 0..self.rules.len().saturating_mul(2) {
+        let count = self.rules.len();
+        self.left.push((0, count))?;
+        for next in 0..count.saturating_mul(2) {
             let Some((from, to)) = self.left.get(next).copied() else {
                 break;
             };
