@@ -180,11 +180,9 @@ impl Numbers {
                 next = u64::from(number) + 1;
             }
         }
-        let behind = u64::from(numbers.last) + 1;
-        if next < behind {
-            numbers.push(next as u32, numbers.last, default)?;
-        }
-        if let Some(first) = numbers.last.checked_add(1) {
+        let last = numbers.last;
+        numbers.add_up_to(next, last, default)?;
+        if let Some(first) = last.checked_add(1) {
             numbers.push(first, u32::MAX, Exit::Word(Word::KILL_THREAD.0))?;
         }
         Ok(numbers)
@@ -194,6 +192,14 @@ impl Numbers {
     fn add(&mut self, from: u64, end: u32, exit: Exit) -> Result<(), AllocError> {
         if from < u64::from(end) {
             self.push(from as u32, end - 1, exit)?;
+        }
+        Ok(())
+    }
+
+    // Adds the numbers from one on up to another.
+    fn add_up_to(&mut self, from: u64, last: u32, exit: Exit) -> Result<(), AllocError> {
+        if from <= u64::from(last) {
+            self.push(from as u32, last, exit)?;
         }
         Ok(())
     }
