@@ -291,12 +291,12 @@ impl<'a> Maker<'a> {
             Some(several) => self.several_claims(several, stated)?,
             None => self.single_claims(&call, pending, stated)?,
         }
-        match (at, pending) {
-            (At::Block(_, facts) | At::Exit(_, facts), Pending::Left(list)) => {
-                self.asked_claims(list, facts, stated)
-            }
-            _ => Ok(()),
+        if let At::Block(_, facts) | At::Exit(_, facts) = at
+            && let Pending::Left(list) = pending
+        {
+            return self.asked_claims(list, facts, stated);
         }
+        Ok(())
     }
 
     // What is known where no record comes.
