@@ -68,7 +68,7 @@ impl<S: Store> Kernel for Table<S> {
     }
 
     fn expel(&mut self, id: &Id) {
-        let _ = self.containers.shift_remove(id);
+        let _ = self.containers.swap_remove(id);
     }
 
     fn task(&self, id: &Id, task: u64) -> Option<TaskView> {
