@@ -1,9 +1,12 @@
 -- The headline, of what the layers below promise.
-use Rattle.std.proofs.Common.{◌≡◌, ℕ, zero, suc, ◌+◌, Bool, true, false, List, [], ◌∷◌, refl, ap, sym, subst, map, slice_get}
-use Rattle.std.specs.Prelude.{Option, Some, None, if◌then◌else◌}
-use Rattle.std.specs.Option.{option_map}
-use Rattle.std.proofs.lemmas.Option.{none-some, same_Some}
+use Rattle.std.proofs.Common.{◌≡◌, ◌≢◌, ℕ, zero, suc, ◌+◌, ◌<◌, Bool, true, false, List, [], ◌∷◌, ◌++◌, length, arith, refl, ap, sym, subst}
+use Rattle.std.proofs.Common.{◌∙◌, append-nil, map, slice_get}
+use Rattle.std.specs.Prelude.{Decides, Option, Some, None, if◌then◌else◌}
+use Rattle.std.specs.Io.KnownBytes.{Consumes, IsAtEnd}
+use Rattle.std.proofs.lemmas.Bool.Decides.{Decides-eqb}
+use Rattle.std.proofs.lemmas.Slice.Eq.{slice_eq-Decides}
 use Rattle.bpf_insn.specs.declared.instruction.Insn.{Insn}
+use Rattle.bpf_insn.specs.Bytes.{insns_of}
 use Rattle.call_tables.specs.declared.arch.Arch.{Arch}
 use Rattle.kernel_check.specs.Accepted.{IsAccepted}
 use Rattle.profile.specs.Policy.{Policy}
@@ -12,22 +15,24 @@ use Rattle.profile.proofs.SaidLaws.{each_record_is_said_one_word}
 use Rattle.cert_check.specs.declared.checked.Checked.{Checked}
 use Rattle.cert_check.specs.Checked.{profile_of, program_of}
 use Rattle.cert_check.specs.Right.{IsRight}
-use Rattle.processes.specs.Attached.{attached_of}
+use Rattle.processes.specs.First.{by_profile}
 use Rattle.processes.specs.Views.{same_text}
 use Rattle.lifecycle.specs.Orders.{Order}
-use Rattle.lifecycle.specs.Orders as command
 use Rattle.lifecycle.specs.Worlds.{First}
+use Rattle.lifecycle.specs.Runs.{IsRun}
 use Rattle.lifecycle.proofs.FilterLaws.{refused_is_not_carried_out}
 use Rattle.lifecycle.proofs.Headline.{same_first}
-use Rattle.script.specs.Orders as script
 use Rattle.session.specs.declared.bundles.Bundle.{Bundle}
 use Rattle.session.specs.declared.bundles.Bundles.{Bundles}
-use Rattle.session.specs.Answer.{answer_of, commands_of}
-use Rattle.session.specs.Commands.{CommandIs, CommandsAre, OrderedIs, first_called, named}
+use Rattle.session.specs.Answer.{answer_of}
+use Rattle.session.specs.Commands.{first_called}
+use Rattle.session.specs.Laws.{IsScript}
+use Rattle.session.specs.Scripts.{HasReadAll}
+use Rattle.script.specs.Lines.{Parts}
 use Rattle.pipeline.specs.Exported.{IsCheckedOf}
 use Rattle.pipeline.specs.Finding.{IsBundle}
-use Rattle.cli.specs.Headline.{Headline, IsRightFor}
-use Rattle.cli.specs.Running.{InTurn, IsBundleOf}
+use Rattle.cli.specs.Headline.{Headline, IsRightFor, NameGives}
+use Rattle.cli.specs.Running.{InTurn, IsBundleOf, name_of}
 
 -- ---- a right filter
 
@@ -40,92 +45,104 @@ right_for native bundle policy p means accepted right = record {
   verdict = λ r is. (right r is (said policy r)).1 ((each_record_is_said_one_word policy r (said policy r) means.2.calls.clear is).1 refl);
 }
 
--- ---- the bundle of a name
+-- ---- the filter of a name
 
-record FromText (native : Arch) (texts : List (List ℕ)) (given : Checked) : Type 0 where
-  pub k : ℕ
-  pub text : List ℕ
-  pub at : slice_get texts k ≡ Some text
-  pub is : IsCheckedOf native text given
+of_checked : (native : Arch) (text : List ℕ) (given : Checked) → IsCheckedOf native text given
+    → IsRightFor native text (profile_of given) (program_of given)
+of_checked native text given is = right_for native text (profile_of given) (program_of given) is.means is.accepted is.right
+
+same_name : (a b : List ℕ) → Decides (same_text a b) (a ≡ b)
+same_name a b = slice_eq-Decides Decides-eqb a b (same_text a b) refl
 
 abbrev seen : Bundle → List ℕ × Checked
 seen b = (b.name.now, b.checked)
 
-from_list : (native : Arch) (i : ℕ) (texts : List (List ℕ)) (bs : List Bundle) (name : List ℕ) (given : Checked)
-    → InTurn (IsBundleOf native) i texts bs
-    → first_called name (map seen bs) ≡ Some given → FromText native texts given
-from_list native i [] [] name given h e = absurd (none-some given e)
-from_list native i [] (b ∷ bs) name given h e = absurd h
-from_list native i (t ∷ ts) [] name given h e = absurd h
-from_list native i (t ∷ ts) (b ∷ bs) name given h e = by (same_text name b.name.now) (from_list native (i + 1) ts bs name given h.1) e where
-  by : (same : Bool) → (first_called name (map seen bs) ≡ Some given → FromText native ts given)
-      → (if same then Some b.checked else first_called name (map seen bs)) ≡ Some given → FromText native (t ∷ ts) given
-  by true rest e =
-      let is : b.checked ≡ given = same_Some b.checked given e in
-      record { k = 0; text = t; at = refl; is = subst (λ (c : Checked). IsCheckedOf native t c) is h.0.1 }
-  by false rest e =
-      let later = rest e in
-      record { k = suc later.k; text = later.text; at = later.at; is = later.is }
+-- the same as `IsFilterOf` and `NameGives`, where the texts are numbered from i on
+record Found (native : Arch) (i : ℕ) (texts : List (List ℕ)) (name : List ℕ) (given : Checked) : Type 0 where
+  pub k : ℕ
+  pub text : List ℕ
+  pub name_is : name ≡ name_of (k + i)
+  pub at : slice_get texts k ≡ Some text
+  pub right : IsRightFor native text (profile_of given) (program_of given)
 
--- ---- the line of a command
+abbrev Gives : Arch → ℕ → List (List ℕ) → List ℕ → Option Checked → Type 0
+Gives native i texts name (Some given) = Found native i texts name given
+Gives native i texts name None = (k : ℕ) → k < length texts → name ≢ name_of (k + i)
 
-record FromLine (bundles : Bundles) (o : Order) : Type 0 where
-  pub line : List ℕ
-  pub is : CommandIs bundles line (Some o)
+-- the first of the texts has another name
+later : (native : Arch) (i : ℕ) (t : List ℕ) (ts : List (List ℕ)) (name : List ℕ) (o : Option Checked) → name ≢ name_of i
+    → Gives native (i + 1) ts name o → Gives native i (t ∷ ts) name o
+later native i t ts name (Some given) other g = record {
+  k = suc g.k;
+  text = g.text;
+  name_is = g.name_is ∙ ap name_of (let same : g.k + (i + 1) ≡ suc g.k + i = omega arith in same);
+  at = g.at;
+  right = g.right;
+}
+later native i t ts name None other g = none where
+  none : (k : ℕ) → k < length (t ∷ ts) → name ≢ name_of (k + i)
+  none zero lt e = other (e ∙ ap name_of (let same : zero + i ≡ i = omega arith in same))
+  none (suc k) lt e = g k (omega arith) (e ∙ ap name_of (let same : suc k + i ≡ k + (i + 1) = omega arith in same))
 
-from_lines : (bundles : Bundles) (lines : List (List ℕ)) (cs : List (Option Order)) (i : ℕ) (o : Order) → CommandsAre bundles lines cs
-    → slice_get (commands_of cs) i ≡ Some o → FromLine bundles o
-from_lines bundles [] [] i o h e = absurd (none-some o e)
-from_lines bundles [] (c ∷ cs) i o h e = absurd h
-from_lines bundles (l ∷ lines) [] i o h e = absurd h
-from_lines bundles (l ∷ lines) (None ∷ cs) i o h e = from_lines bundles lines cs i o h.1 e
-from_lines bundles (l ∷ lines) (Some c ∷ cs) zero o h e =
-    let same : c ≡ o = same_Some c o e in record { line = l; is = subst (λ (x : Order). CommandIs bundles l (Some x)) same h.0 }
-from_lines bundles (l ∷ lines) (Some c ∷ cs) (suc i) o h e = from_lines bundles lines cs i o h.1 e
+gives : (native : Arch) (i : ℕ) (texts : List (List ℕ)) (bs : List Bundle) (name : List ℕ) → InTurn (IsBundleOf native) i texts bs
+    → Gives native i texts name (first_called name (map seen bs))
+gives native i [] [] name h = λ k lt. absurd (omega arith)
+gives native i [] (b ∷ bs) name h = absurd h
+gives native i (t ∷ ts) [] name h = absurd h
+gives native i (t ∷ ts) (b ∷ bs) name h =
+    by (same_text name b.name.now) refl (gives native (i + 1) ts bs name h.1) where
+      by : (same : Bool) → same_text name b.name.now ≡ same → Gives native (i + 1) ts name (first_called name (map seen bs))
+          → Gives native i (t ∷ ts) name (if same then Some b.checked else first_called name (map seen bs))
+      by true e rest = record {
+        k = 0;
+        text = t;
+        name_is = (same_name name b.name.now).0 e ∙ (h.0.0 ∙ ap name_of (let same : i ≡ 0 + i = omega arith in same));
+        at = refl;
+        right = of_checked native t b.checked h.0.1;
+      }
+      by false e rest =
+          let other : name ≢ name_of i = λ is.
+          let bad : false ≡ true = sym e ∙ (same_name name b.name.now).1 (is ∙ sym h.0.0) in absurd (cc) in
+          later native i t ts name (first_called name (map seen bs)) other rest
 
--- the order of a line that makes a container names a bundle
-given_by : (bundles : Bundles) (id : List ℕ) (given : Checked) (order : Option script.Order)
-    → OrderedIs bundles order (Some (command.Create id given))
-    → (name : List ℕ) × (first_called name (named bundles) ≡ Some given)
-given_by bundles id given None h = absurd (none-some (command.Create id given) (sym h))
-given_by bundles id given (Some (script.Create id' name)) h = (name, called (first_called name (named bundles)) h) where
-  called : (o : Option Checked) → Some (command.Create id given) ≡ option_map (command.Create id') o → o ≡ Some given
-  called None e = absurd (none-some (command.Create id given) (sym e))
-  called (Some other) e =
-      let same : command.Create id given ≡ command.Create id' other = same_Some _ _ e in
-      let is : given ≡ other = cc in
-      ap Some (sym is)
-given_by bundles id given (Some (script.Start id')) h =
-    let no_way : command.Create id given ≡ command.Start id' = same_Some _ _ h in absurd (cc)
-given_by bundles id given (Some (script.Delete id')) h =
-    let no_way : command.Create id given ≡ command.Delete id' = same_Some _ _ h in absurd (cc)
-given_by bundles id given (Some (script.State id')) h =
-    let no_way : command.Create id given ≡ command.State id' = same_Some _ _ h in absurd (cc)
-given_by bundles id given (Some (script.Kill id' signal)) h =
-    let no_way : command.Create id given ≡ command.Kill id' signal = same_Some _ _ h in absurd (cc)
-given_by bundles id given (Some (script.Call id' task arch nr args program)) h =
-    let no_way : command.Create id given ≡ command.Call id' task h.0 (attached_of program) = same_Some _ _ h.2 in absurd (cc)
+from_one : (native : Arch) (texts : List (List ℕ)) (name : List ℕ) (o : Option Checked) → Gives native 1 texts name o
+    → NameGives native texts name o
+from_one native texts name (Some given) g = record { k = g.k; text = g.text; name_is = g.name_is; at = g.at; right = g.right }
+from_one native texts name None g = g
+
+-- ---- what was read of a script, and written
+
+whole : (script text : List ℕ) (left : Option (List ℕ)) → Consumes (Some script) left text → IsAtEnd left → text ≡ script
+whole script text None taken end = absurd taken
+whole script text (Some rest) taken end = sym (taken ∙ (ap (λ (l : List ℕ). text ++ l) end ∙ append-nil text))
+
+script_read : (bundles : Bundles) (script : List ℕ) (left : Option (List ℕ)) (commands : List (Option Order))
+    → HasReadAll bundles (Some script) left commands → IsScript bundles script commands
+script_read bundles script left commands h = record {
+  first = h.lines.first;
+  more = h.lines.more;
+  parts = subst (λ (t : List ℕ). Parts t h.lines.first h.lines.more) (whole script h.lines.text left h.lines.taken h.end) h.lines.parts;
+  each = h.lines.each;
+}
 
 -- ---- the headline
 
 pub headline : Headline
 headline = record {
-  yes = right_for;
-  run = λ native texts bundles text commands are is. record {
-    machine = ap (λ (F : First). answer_of F commands) same_first;
-    created = λ i id given at.
-        let line = from_lines bundles _ commands i (command.Create id given) is.each at in
-        let name = given_by bundles id given line.is.order line.is.commanded in
-        let from = from_list native 1 texts bundles.list.now name.0 given are.each name.1 in
-        record {
-          k = from.k;
-          text = from.text;
-          at = from.at;
-          right = right_for native from.text (profile_of given) (program_of given) from.is.means from.is.accepted from.is.right;
-        };
-    refused = λ i id given task r a at made refusal. refused_is_not_carried_out.call (commands_of commands) i id given task r a at made
-        refusal;
-    denied = λ i id given c at made there created refusal. refused_is_not_carried_out.start (commands_of commands) i id given c at made
-        there created refusal;
-  };
+  yes = λ native bundle filter cert found.
+      (found.0, right_for native bundle found.0 (insns_of filter) found.1 found.2.accepted found.2.right);
+  machine = λ orders old new replies is. subst (λ (F : First). IsRun F orders old replies new) same_first is;
+  refused = refused_is_not_carried_out;
+  run = λ native texts script before after left h. (
+    answer_of by_profile h.answered.0,
+    h.answered.2,
+    record {
+      bundles = h.bundles;
+      native_is = h.are.native_is;
+      names = λ name. from_one native texts name _ (gives native 1 texts h.bundles.list.now name h.are.each);
+      commands = h.answered.0;
+      lines = script_read h.bundles script left h.answered.0 h.answered.1;
+      replies = refl;
+    },
+  );
 }

@@ -1,5 +1,5 @@
 -- What a run of bundles reads and writes, by what its parts do.
-use Rattle.std.proofs.Common.{◌≡◌, ℕ, ◌⊎◌, inl, inr, Bool, List, ◌∷◌, ◌++◌, refl, ap, subst, ◌∙◌}
+use Rattle.std.proofs.Common.{◌≡◌, ℕ, ◌⊎◌, inl, inr, Bool, true, false, List, ◌∷◌, ◌++◌, refl, ap, subst, sym, ◌∙◌}
 use Rattle.std.specs.Prelude.{Option, Result, Ok, Err, IfOk, ◌≢◌}
 use Rattle.std.specs.List.{All, Contains}
 use Rattle.std.proofs.lemmas.List.Elements.{All-contains, Contains-append_right}
@@ -16,7 +16,7 @@ use Rattle.cli.specs.declared.stops.Stop.{Stop}
 use Rattle.pipeline.proofs.PlainLaws.{not_refused}
 use Rattle.pipeline.specs.Exported.{Refuses}
 use Rattle.pipeline.specs.Plain.{IsPlainBundle}
-use Rattle.cli.specs.Running.{AnswersScript, AreBundlesOf, FirstUnready, Runs, RunsBundles, RunsScript, told_line, told_script}
+use Rattle.cli.specs.Running.{AnswersScript, AreBundlesOf, FirstUnready, HasAnswered, Runs, RunsBundles, RunsScript, told_line, told_script}
 
 module _ {I O : Type 0} (left : I → Option (List ℕ)) (given : I → ℕ) (held : O → Option (List ℕ)) (taken : O → ℕ)
     (source source' : I) (sink sink' : O) (native : Arch) (texts : List (List ℕ)) where
@@ -70,6 +70,30 @@ module _ {I O : Type 0} (left : I → Option (List ℕ)) (given : I → ℕ) (he
   }))
   refused_script u r result why (inr h) told =
       inr (inr (record { unread = refl; unwritten = h.1; told = told ∙ ap told_line h.0 }))
+
+-- ---- an answer of true
+
+module _ {I O : Type 0} (left : I → Option (List ℕ)) (given : I → ℕ) (held : O → Option (List ℕ)) (taken : O → ℕ)
+    (source source' : I) (sink sink' : O) (native : Arch) (texts : List (List ℕ)) where
+  all_answered : (bundles : Bundles) (r : Result (Unit {0}) ScriptFault) → Runs left held source source' sink sink' bundles r
+      → told_script r ≡ Ok true → IsAnswered bundles (left source) (left source') (held sink) (held sink')
+  all_answered bundles (Ok x) runs e = runs
+  all_answered bundles (Err fault) runs e = absurd (cc)
+
+  none_refused : (r : Result Bool ExportFault) → IfOk r (λ done. done ≡ false) → told_line r ≡ Ok true → ⊥
+  none_refused (Ok done) answer e = let same : done ≡ true = cc in let bad : true ≡ false = sym same ∙ answer in absurd (cc)
+  none_refused (Err fault) answer e = absurd (cc)
+
+  none_lacking : (result : Result Bool Stop) (stop : Stop) → result ≡ Err stop → result ≡ Ok true → ⊥
+  none_lacking result stop told e = let bad : Err stop ≡ Ok true = sym told ∙ e in absurd (cc)
+
+  pub script_is_answered : (result : Result Bool Stop)
+      → RunsBundles left given held taken source source' sink sink' native texts result → result ≡ Ok true
+      → HasAnswered native texts (left source) (left source') (held sink) (held sink')
+  script_is_answered result (inl h) e =
+      record { bundles = h.bundles; are = h.are; answered = all_answered h.bundles h.outcome h.runs (sym h.told ∙ e) }
+  script_is_answered result (inr (inl h)) e = absurd (none_refused h.outcome h.answer (sym h.told ∙ e))
+  script_is_answered result (inr (inr h)) e = absurd (none_lacking result _ h.told e)
 
 -- ---- bundles without conditions
 

@@ -91,6 +91,13 @@ pub record RefusesScript {I O : Type 0} (held : O → Option (List ℕ)) (taken 
   pub answer : IfOk outcome (λ done. done ≡ false)
   pub told : result ≡ told_line outcome
 
+-- The script was read to its end and answered, with the bundles of these texts. Of the source and of the sink stand the bytes
+-- before and after, where they are known.
+pub record HasAnswered (native : Arch) (texts : List (List ℕ)) (left left' held held' : Option (List ℕ)) : Type 0 where
+  pub bundles : Bundles
+  pub are : AreBundlesOf native texts bundles
+  pub answered : IsAnswered bundles left left' held held'
+
 -- memory was refused, and nothing was read or written
 pub record BeginsNoScript {I O : Type 0} (source source' : I) (sink sink' : O) (result : Result Bool Stop) : Type 0 where
   pub unread : source' ≡ source

@@ -1,7 +1,7 @@
 //! From bundles to their checked filters, with which a script is run: what `ccell run` does.
-ghost use Rattle.std.specs.Prelude.{ℕ, List, All, map};
+ghost use Rattle.std.specs.Prelude.{◌≡◌, ℕ, List, All, Ok, map, true};
 ghost use Rattle.pipeline.specs.Plain.{IsPlainBundle};
-ghost use Rattle.cli.specs.Running.{AnswersScript, InTurn, IsBundleOf, RunsBundles, RunsScript};
+ghost use Rattle.cli.specs.Running.{AnswersScript, HasAnswered, InTurn, IsBundleOf, RunsBundles, RunsScript};
 
 use crate::stops::Stop;
 use call_tables::Arch;
@@ -104,6 +104,9 @@ pub fn run_bundles<'a, I: Source, O: Sink>(
 ) -> Result<bool, Stop<'a>>
     ensures runs { RunsBundles I.left I.failures O.held O.failures input.old input.new out.old out.new
         native (map (λ t. t.items) texts.now) result }
+    // An answer of true says that the script was read to its end and answered.
+    ensures done { result ≡ Ok true → HasAnswered native (map (λ t. t.items) texts.now)
+        (I.left input.old) (I.left input.new) (O.held out.old) (O.held out.new) }
     // Of bundles that mean profiles without conditions none is refused: the script is run, unless memory is refused
     // first.
     ensures own { All (IsPlainBundle native) (map (λ t. t.items) texts.now)
