@@ -169,5 +169,5 @@ def ask_blocks(rows, room):
             yield ask_scripts(block)
             continue
         yield ask_block(block, room)
-        if way == "kernel":
+        if any(row.text.startswith("every-call ") for row in block):
             yield ask_every_call(block)
