@@ -1,0 +1,258 @@
+"""Tables of the pages, held against the definitions, the files and the program that they tell of.
+
+Each function takes the text of one page and gives what is wrong with its tables. A page is worth what it says: the numbers and
+names of faults are those of `specs/Fault` of the crates, codes are what the program makes of the page's own lines, and calls,
+sizes and names are asked of the program and the files.
+"""
+import glob
+import os
+import re
+import struct
+import subprocess
+import tempfile
+
+from harness.places import CCELL, TOP
+
+# The kinds of refusals on the program's lines, and the crate of each.
+KINDS = {
+    "refused view": "bpf_insn",
+    "refused kernel": "kernel_check",
+    "refused profile": "profile_json",
+    "refused compile": "rule_compile",
+    "refused certify": "cert_walk",
+    "refused listing": "bpf_asm",
+    "no": "cert_check",
+}
+
+# The tables of faults on each page, in order, by the crates that they are of.
+FAULTS = {
+    "FILTERS.md": ["kernel_check"],
+    "LISTING.md": ["bpf_asm"],
+    "PROFILES.md": ["profile", "profile_json"],
+    "COMPILER.md": ["rule_compile"],
+    "CERTIFICATES.md": ["cert_walk", "cert_form"],
+}
+
+
+def read(path):
+    """The text of a file of the repository."""
+    with open(f"{TOP}/{path}", encoding="utf-8") as file:
+        return file.read()
+
+
+def told(*words, **files):
+    """What the program writes on these words, with these files."""
+    with tempfile.TemporaryDirectory() as room:
+        for name, data in files.items():
+            with open(f"{room}/{name}", "wb") as file:
+                file.write(data)
+        return subprocess.run([CCELL, *words], cwd=room, capture_output=True, timeout=120, check=False).stdout
+
+
+def tables(text):
+    """The tables of a page, each as its rows of cells. The first row is its head."""
+    table = []
+    for line in [*text.splitlines(), ""]:
+        if line.startswith("|"):
+            table.append([cell.strip() for cell in line.strip("|").split("|")])
+        elif table:
+            yield [table[0], *table[2:]]
+            table = []
+
+
+def labels(crate):
+    """The numbers and names of a crate's faults, as its definition has them."""
+    return re.findall(r'^label_of .* = \((\d+), codes "(\w+)"\)', read(f"crates/{crate}/specs/Fault.antt"), re.M)
+
+
+def faults_of_labels(page, text):
+    """The tables of faults, and each fault that stands behind its kind."""
+    faults = []
+    shown = [
+        [tuple(" ".join(row[:2]).split()[:2]) for row in rows]
+        for head, *rows in tables(text)
+        if head[:2] == ["Number", "Name"] or head[:1] == ["Cause"]
+    ]
+    names = [[(number, re.match(r"\w+", name)[0]) for number, name in rows] for rows in shown]
+    wanted = [labels(crate) for crate in FAULTS.get(os.path.basename(page), [])]
+    if names != wanted:
+        faults.append(f"its tables of faults are {names}, and the definitions are {wanted}")
+    told = re.findall(rf"`({'|'.join(KINDS)}) (\d+) (\w+)", text)
+    for head, *rows in tables(text):
+        for row in rows:
+            kind = re.match(rf"`({'|'.join(KINDS)}) \d", row[0])
+            told += [(kind[1], *label) for label in re.findall(r"\b(\d+) ([A-Z]\w+)", " ".join(row[1:])) if kind]
+            crate = row[1].strip("`") if head[:2] == ["Fault", "Crate"] else ""
+            if re.fullmatch(r"\w+", crate) and re.match(r"(\d+) (\w+)", spelled(row[2:3])[0]).groups() not in labels(crate):
+                faults.append(f"{row[2]} is no fault of {crate}")
+    faults += [f"there is no {kind} {number} {name}" for kind, number, name in told if (number, name) not in labels(KINDS[kind])]
+    return faults
+
+
+def program_of(listing):
+    """The bytes of a listing, or the line that refuses it."""
+    return told("assemble", "listing", listing=listing.encode())
+
+
+def spelled(cells):
+    """The texts between backticks of some cells, in order."""
+    return [text for cell in cells for text in re.findall(r"`([^`]+)`", cell)]
+
+
+def forms_of(lines, before):
+    """The lines that a cell names. `so` is said of those of the cell before, under another name."""
+    if not lines[-1].endswith(" so"):
+        return spelled([", ".join(lines)])
+    name = spelled(lines)[0]
+    return [re.sub(r"^\w+", name, form) for form in before]
+
+
+def faults_of_codes(page, text):
+    """The table of codes and lines: a line is assembled, and begins with its code."""
+    faults, before = [], []
+    for head, *rows in tables(text):
+        if head[:2] != ["Code", "Line"]:
+            continue
+        for row in rows:
+            for codes, lines in zip(row[::2], row[1::2]):
+                before = forms_of([lines], before)
+                for code, form in zip(spelled([codes]), before, strict=True):
+                    line = form.replace("#H", "#0x4").replace("N", "4").replace(",T,F", ",1,0") + "\n"
+                    if program_of(line)[:2] != bytes([int(code, 16), 0]):
+                        faults.append(f"{line.rstrip()} has not the code {code}")
+    return faults
+
+
+def codes_in(text, head):
+    """The codes of the tables with this head."""
+    return {code for first, *rows in tables(text) if first[:2] == head for row in rows for code in re.findall(r"`(0x..)`", " ".join(row))}
+
+
+def faults_of_operations(page, text):
+    """The table of operations: its codes are those of the lines of listings."""
+    shown = codes_in(text, ["Operation", "Code"])
+    unlike = shown ^ codes_in(read("docs/LISTING.md"), ["Code", "Line"]) if shown else set()
+    return [f"codes in one of two tables alone: {sorted(unlike)}"] if unlike else []
+
+
+def faults_of_answers(page, text):
+    """The tables of texts with what the assembler answers, and of filters with what `verdict` answers."""
+    faults = []
+    for head, *rows in tables(text):
+        for texts, answer, *_ in rows:
+            if re.sub(r"`[^`]+`|, then |, ", "", texts) or len(head) != 2 or not spelled([answer]):
+                continue
+            wanted = spelled([answer])[0]
+            if head[1] == "What the assembler answers":
+                came = program_of("".join(f"{line}\n" for line in spelled([texts])))
+                if came.decode(errors="replace") != f"refused listing {wanted}\n" and came.hex(" ") != wanted:
+                    faults.append(f"{texts}: {came}")
+            if head[1] == "`ccell verdict` on any record":
+                listing = "".join(f"{line}\n" for line in spelled([texts]))
+                came = told("verdict", "filter", "rec", filter=program_of(listing), rec=bytes(64)).decode().strip()
+                if came != wanted:
+                    faults.append(f"{texts}: {came}")
+    return faults
+
+
+def faults_of_actions(page, text):
+    """The table of actions and words, and that of a bundle's actions."""
+    faults = []
+    for head, *rows in tables(text):
+        if head[:2] == ["Action", "Word"]:
+            for action, word, *_ in rows:
+                if re.fullmatch(r"[A-Z_]+", action) and word.startswith("`0x"):
+                    listing = told("annotate", "x86-64", "filter", filter=struct.pack("<HBBI", 6, 0, 0, int(word.strip("`"), 16)))
+                    if not listing.decode().rstrip().endswith(f" {action}"):
+                        faults.append(f"{word} is not {action}: {listing}")
+                if action.startswith("`SCMP"):
+                    bundle = f'{{"ociVersion":"1.1.0","linux":{{"seccomp":{{"defaultAction":"{action.strip("`")}"}}}}}}'
+                    said = told("explain", "x86-64", "bundle", "read", bundle=bundle.encode()).decode()
+                    if f" {word.split(',')[0]}" not in re.findall("^verdict 0x[0-9a-f]+( [A-Z_]+)", said, re.M):
+                        faults.append(f"{action} is not {word}: {said}")
+    return faults
+
+
+def number_of(machine, name):
+    """The number of a call on a machine, or `-`."""
+    record = told("record", machine, name)
+    return str(struct.unpack("<I", record[:4])[0]) if len(record) == 64 else "-"
+
+
+def faults_of_calls(page, text):
+    """The lists of calls, and how many there are."""
+    faults = []
+    for name, first, second in re.findall(r"\b([a-z][a-z0-9_]*) (\d+)/(\d+|-)", text):
+        if (number_of("x86-64", name), number_of("aarch64", name)) != (first, second):
+            faults.append(f"{name} is not {first}/{second}")
+    chosen = re.findall(r"\b[a-z][a-z0-9_]* \d+/(\d+|-)", text)
+    counts = re.search(r"chosen lists: (\d+) and (\d+) calls", text)
+    if counts and counts.groups() != (str(len(chosen)), str(len(chosen) - chosen.count("-"))):
+        faults.append(f"its chosen lists have {len(chosen)} calls")
+    whole = [line.split() for line in read("docs/linux-6.1-calls.txt").splitlines() if not line.startswith("#")]
+    both = [numbers.split("/") for _, numbers in whole]
+    counts = re.search(r"(\d+) on x86-64 and (\d+) on AArch64", text)
+    if counts and counts.groups() != tuple(str(sum(it[place] != "-" for it in both)) for place in (0, 1)):
+        faults.append("the whole tables have other numbers of calls")
+    for (name, _), numbers in zip(whole, both) if counts else []:
+        if [number_of("linux-x86-64", name), number_of("linux-aarch64", name)] != numbers:
+            faults.append(f"{name} is not {'/'.join(numbers)}")
+    return faults
+
+
+def faults_of_files(page, text):
+    """The tables of files with their sizes, and of bundles with the length of their filters."""
+    faults, folder = [], os.path.dirname(f"{TOP}/{page}")
+    for head, *rows in tables(text):
+        for row in rows:
+            name = row[0].strip("`")
+            if head[:2] == ["File", "Bytes"] and row[1] and os.path.getsize(f"{folder}/{name}") != int(row[1]):
+                faults.append(f"{name} has not {row[1]} bytes")
+            if head[:3] == ["Bundle", "MACHINE", "Here"] and name.startswith("examples/"):
+                size = len(told("export", row[1].strip("`"), f"{TOP}/{name.split('`')[0]}", "raw")) // 8
+                if str(size) != row[2].split("/")[0]:
+                    faults.append(f"the filter of {name} on {row[1]} has {size} instructions")
+    return faults
+
+
+def faults_of_figures(page, text):
+    """A table of figures whose last row is `all`: the sums of its columns. Its rows are the crates'."""
+    faults = []
+    crates = re.findall(r"^(\w+):", read("crates.txt"), re.M)
+    for head, *rows in tables(text):
+        if head[0] == "Crate" and sorted(re.sub("`", "", row[0]) for row in rows if row[0] != "all") != sorted(crates):
+            faults.append("a table of crates has not those of crates.txt")
+        if rows[-1][0] == "all":
+            for place in range(1, len(head)):
+                if sum(int(row[place] or 0) for row in rows[:-1]) != int(rows[-1][place] or 0):
+                    faults.append(f"the column {head[place]} has another sum")
+    return faults
+
+
+def faults_of_commands(page, text):
+    """The table of commands of the first page: those of the program's own list."""
+    listed = [line.split()[0] for line in told("manual").decode().splitlines()]
+    for head, *rows in tables(text):
+        if head == ["Command", "What it answers"]:
+            shown = [form.split()[0] for row in rows for form in spelled(row[:1])]
+            if sorted(shown) != sorted(listed):
+                return [f"its commands are {shown}, and the program's are {listed}"]
+    return []
+
+
+CHECKS = (
+    faults_of_labels,
+    faults_of_codes,
+    faults_of_operations,
+    faults_of_answers,
+    faults_of_actions,
+    faults_of_calls,
+    faults_of_files,
+    faults_of_figures,
+    faults_of_commands,
+)
+
+
+def faults_of_tables(page, text):
+    """What is wrong with the tables of a page, by its path in the repository."""
+    return [fault for check in CHECKS for fault in check(page, text)]
