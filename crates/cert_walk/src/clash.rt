@@ -1,60 +1,14 @@
-//! Literals of one word that can not all be true.
+//! Few literals that can not all be true.
 
-use crate::known::none_between;
+use crate::known::Known;
+use crate::word_facts::WordFacts;
 use cert_state::Lit;
 use std::alloc::{AllocError, Global};
 
-// Whether a literal is true of no number.
-fn is_false(literal: Lit) -> bool {
-    match literal {
-        Lit::In(_, low, high) => low > high,
-        Lit::Bits(_, _, _) => false,
-        Lit::NotBits(_, mask, _) => mask == 0,
-    }
-}
-
-// Whether a literal says that the word has other bits than these.
-fn denies(literal: Lit, mask: u32, datum: u32) -> bool {
-    match literal {
-        Lit::In(_, low, high) => none_between(low, high, mask, datum),
-        Lit::Bits(_, m, d) => m & mask & (d ^ datum) != 0,
-        Lit::NotBits(_, m, d) => m & mask == m && datum & m == d,
-    }
-}
-
-// Whether a literal says that the word does not lie from one number to another.
-fn leaves_out(literal: Lit, least: u32, greatest: u32) -> bool {
-    match literal {
-        Lit::In(_, low, high) => high < least || greatest < low,
-        Lit::Bits(_, mask, datum) => none_between(least, greatest, mask, datum),
-        Lit::NotBits(_, mask, datum) => { mask == u32::MAX && least == greatest && least == datum }
-    }
-}
-
 // Whether two literals of a word can not both be true.
 fn clash(one: Lit, other: Lit) -> bool {
-    match one {
-        Lit::In(_, low, high) => leaves_out(other, low, high),
-        Lit::Bits(_, mask, datum) => denies(other, mask, datum),
-        Lit::NotBits(_, mask, datum) => match other {
-            Lit::In(_, low, high) => leaves_out(one, low, high),
-            Lit::Bits(_, m, d) => denies(Lit::NotBits(0, mask, datum), m, d),
-            Lit::NotBits(_, _, _) => false,
-        },
-    }
-}
-
-// One of these literals with another that can not be true beside it, or it alone.
-fn clash_with(alloc: Global, own: &[Lit], last: Lit) -> Result<Option<Vec<Lit>>, AllocError> {
-    if is_false(last) {
-        return Ok(Some(Vec::from_slice(alloc, &[last])?));
-    }
-    for literal in own {
-        if clash(*literal, last) {
-            return Ok(Some(Vec::from_slice(alloc, &[*literal, last])?));
-        }
-    }
-    Ok(None)
+    let facts = WordFacts::NONE.with(one, 0).with(other, 0);
+    facts.is_empty() || facts.denies(one) || facts.denies(other)
 }
 
 /// Few of these literals of one word that can not all be true: the fact that came last or what followed from it, alone or
@@ -63,14 +17,37 @@ fn clash_with(alloc: Global, own: &[Lit], last: Lit) -> Result<Option<Vec<Lit>>,
 pub(crate) fn contradiction(
     alloc: Global,
     own: Vec<Lit>,
-    fact: Option<Lit>,
+    fact: Lit,
 ) -> Result<Vec<Lit>, AllocError> {
-    for last in [fact, own.last().copied()] {
-        if let Some(last) = last {
-            if let Some(few) = clash_with(alloc, &own, last)? {
-                return Ok(few);
+    if clash(fact, fact) {
+        return Vec::from_slice(alloc, &[fact]);
+    }
+    for last in [fact, own.last().copied().unwrap_or(fact)] {
+        for literal in &own {
+            if clash(*literal, last) {
+                return Vec::from_slice(alloc, &[*literal, last]);
             }
         }
     }
     Ok(own)
+}
+
+/// Those of these literals that are of the word of a fact, with it, if they can not all be true.
+pub(crate) fn clash_after(
+    alloc: Global,
+    literals: &[Lit],
+    fact: Lit,
+) -> Result<Option<Vec<Lit>>, AllocError> {
+    let mut known = Known::new(alloc)?;
+    for literal in literals {
+        if literal.word() == fact.word() {
+            known.push(*literal)?;
+        }
+    }
+    known.learn(fact)?;
+    if known.is_dead(fact.word()) {
+        Ok(Some(known.of_word(alloc, fact.word())?))
+    } else {
+        Ok(None)
+    }
 }

@@ -1,34 +1,28 @@
 //! Makes a certificate that a filter is right by walking through it, with all that is known on the way.
 //!
 //! It takes any profile and any filter that the kernel accepts. It is not trusted, and promises nothing of what it writes:
-//! whoever relies on a certificate has it checked. What it owes is that the checker accepts its work, and that it is
-//! small.
+//! whoever relies on a certificate has it checked.
 #![tactic(auto)]
 
 mod chains;
 mod clash;
 mod conditions;
-mod emptied;
-mod essence;
 mod fault;
-mod gates;
-mod grounds;
+mod index;
 mod known;
-mod manners;
-mod meetings;
-mod needs;
+mod literals;
 mod nodes;
-mod path;
-mod points;
+mod numbers;
+mod place;
+mod registers;
 mod rules;
+mod search;
 mod settle;
-mod sharing;
 mod split;
-mod standing;
-mod suffix;
-mod uses;
+mod summary;
 mod walk;
+mod word_facts;
 mod words;
 
 pub use fault::CertifyError;
-pub use manners::{hunt, walk_through};
+pub use walk::{hunt, walk_through};

@@ -1,10 +1,11 @@
 //! Records of which all is true that is known at a return, tried for unlike words.
 
 use crate::known::Known;
+use crate::numbers::least_number;
 use crate::rules::Rules;
-use crate::words::{NUMBER, TOKEN};
+use crate::words::{ARGUMENTS, NUMBER, TOKEN};
 use bpf_interp::verdict;
-use call_record::Record;
+use call_record::{Record, halves};
 use call_tables::Arch;
 use kernel_check::Accepted;
 use profile::{Cond, Op, Rule};
@@ -19,7 +20,7 @@ pub(crate) struct Search<'a> {
     pub(crate) program: &'a Accepted<'a>,
     pub(crate) known: &'a Known,
     /// Whether only calls of the tables of the profile's machines are tried.
-    pub(crate) listed: bool,
+    pub(crate) is_listed: bool,
 }
 
 // The record of these words.
@@ -40,7 +41,7 @@ fn with(words: &[u32; 16], word: u8, number: u32) -> [u32; 16] {
 
 // The argument of these words.
 fn argument_of(words: &[u32; 16], index: u8) -> u64 {
-    let word = 4 + 2 * (index % 6) as usize;
+    let word = (ARGUMENTS + 2 * (index % 6)) as usize;
     u64::from(words[word + 1]) << 32 | u64::from(words[word])
 }
 
@@ -71,7 +72,7 @@ impl Search<'_> {
     fn tried(&self, words: &[u32; 16]) -> Option<Record> {
         let call = record_of(words);
         let given = verdict(self.program, &call);
-        let said = self.rules.profile().decide(&call);
+        let said = self.rules.profile.decide(&call);
         if given.0 == said.0 { None } else { Some(call) }
     }
 
@@ -79,7 +80,7 @@ impl Search<'_> {
     fn least_words(&self) -> Option<[u32; 16]> {
         let mut words = [0; 16];
         for word in 0..16u8 {
-            words[word as usize] = self.known.first_number(word)?;
+            words[word as usize] = least_number(self.known, word)?;
         }
         Some(words)
     }
@@ -87,7 +88,7 @@ impl Search<'_> {
     /// The first record that is found to get unlike words.
     pub(crate) fn first(&self) -> Option<Record> {
         let words = self.least_words()?;
-        for arch in self.rules.profile().machines() {
+        for arch in self.rules.profile.machines() {
             if self.known.admits(TOKEN, arch.token()) {
                 let found = self.of_machine(&with(&words, TOKEN, arch.token()), *arch);
                 if found.is_some() {
@@ -95,7 +96,7 @@ impl Search<'_> {
                 }
             }
         }
-        if self.listed {
+        if self.is_listed {
             None
         } else {
             self.around(&words)
@@ -104,13 +105,13 @@ impl Search<'_> {
 
     // The first one of a machine.
     fn of_machine(&self, words: &[u32; 16], arch: Arch) -> Option<Record> {
-        if !self.listed {
+        if !self.is_listed {
             return self.around(words);
         }
         let (least, greatest) = self.known.range(NUMBER)?;
         if least == greatest {
             arch.name(least)?;
-            return self.around(&with(words, NUMBER, least));
+            return self.around(words);
         }
         for number in least..NUMBERS.min(greatest.saturating_add(1)) {
             if self.known.admits(NUMBER, number) && arch.name(number).is_some() {
@@ -131,10 +132,11 @@ impl Search<'_> {
             return found;
         }
         for word in 0..16u8 {
-            if word == TOKEN || self.listed && word == NUMBER {
+            if word == TOKEN || self.is_listed && word == NUMBER {
                 continue;
             }
-            if let Some(number) = self.known.last_number(word) {
+            let (_, number) = self.known.range(word)?;
+            if self.known.admits(word, number) {
                 let found = self.tried(&with(words, word, number));
                 if found.is_some() {
                     return found;
@@ -148,8 +150,8 @@ impl Search<'_> {
     fn by_rules(&self, words: &[u32; 16]) -> Option<Record> {
         let token = words[TOKEN as usize];
         let number = words[NUMBER as usize];
-        for at in self.rules.first(token, number)..self.rules.len() {
-            let rule = self.rules.at(at, token, number)?;
+        for turn in self.rules.from(token, number) {
+            let rule = self.rules.at(turn, token, number)?;
             let found = self.by_rule(words, rule);
             if found.is_some() {
                 return found;
@@ -177,9 +179,8 @@ impl Search<'_> {
     // Words with an argument's value, as far as its halves may have it.
     fn with_argument(&self, words: &[u32; 16], index: u8, value: u64) -> [u32; 16] {
         let mut other = *words;
-        let word = 4 + 2 * (index % 6);
-        let low = (value % (1 << 32)) as u32;
-        let high = (value >> 32) as u32;
+        let word = ARGUMENTS + 2 * (index % 6);
+        let (low, high) = halves(value);
         if self.known.admits(word, low) {
             other[word as usize] = low;
         }

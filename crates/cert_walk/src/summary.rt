@@ -1,7 +1,7 @@
 //! What is known of a word, in few literals.
 
 use crate::known::Known;
-use crate::needs::Needs;
+use crate::literals::Literals;
 use crate::words::Words;
 use cert_state::Lit;
 use std::alloc::{AllocError, Global};
@@ -13,14 +13,14 @@ fn says_more(known: &Known, literal: Lit, least: u32, greatest: u32) -> bool {
         Lit::In(_, _, _) => false,
         Lit::Bits(_, mask, _) => mask != u32::MAX,
         Lit::NotBits(_, u32::MAX, number) => least < number && number < greatest,
-        Lit::NotBits(word, mask, datum) => !known.has_other_bits(word, mask, datum),
+        Lit::NotBits(word, mask, datum) => !known.word(word).has_other_bits(mask, datum),
     }
 }
 
-/// Adds what is known of a word: its range, or its one number, and the literals that say more.
-pub(crate) fn add_essence(
+/// Adds to what is needed what is known of a word: its range, or its one number, and the literals that say more.
+pub(crate) fn add_word(
     alloc: Global,
-    needs: &mut Needs,
+    needs: &mut Literals,
     known: &Known,
     word: u8,
 ) -> Result<(), AllocError> {
@@ -45,40 +45,15 @@ pub(crate) fn add_essence(
 /// Adds what is known of some words.
 pub(crate) fn add_words(
     alloc: Global,
-    needs: &mut Needs,
+    needs: &mut Literals,
     known: &Known,
     words: Words,
 ) -> Result<(), AllocError> {
     // Tokens first, so that chains share their beginnings.
     for word in [1, 0, 2, 3, 4, 5, 6, 7, 8, 9, 10, 11, 12, 13, 14, 15] {
         if words.has(word) {
-            add_essence(alloc, needs, known, word)?;
+            add_word(alloc, needs, known, word)?;
         }
     }
     Ok(())
-}
-
-/// That a word is one number, where that follows and is not stated.
-pub(crate) fn only_number(known: &Known, word: u8) -> Option<Lit> {
-    let (least, greatest) = known.range(word)?;
-    let literal = Lit::Bits(word, u32::MAX, least);
-    if least == greatest && !known.states(literal) {
-        Some(literal)
-    } else {
-        None
-    }
-}
-
-/// The numbers within the range of a word that are excluded one by one.
-pub(crate) fn excluded(alloc: Global, known: &Known, word: u8) -> Result<Vec<u32>, AllocError> {
-    let mut numbers = Vec::new(alloc);
-    let (least, greatest) = known.range(word).unwrap_or((0, u32::MAX));
-    for literal in &known.of_word(alloc, word)? {
-        if let Lit::NotBits(_, u32::MAX, number) = *literal {
-            if least < number && number < greatest {
-                numbers.push(number)?;
-            }
-        }
-    }
-    Ok(numbers)
 }
