@@ -219,7 +219,10 @@ impl<'a> Maker<'a> {
         }
         let low = facts.low;
         let all = self.numbers_within(call.token, numbers)?;
-        Ok(all.get(all.len() / 2).map(|number| (*number).max(low.saturating_add(1))))
+        Ok(
+            all.get(all.len() / 2)
+                .map(|number| (*number).max(low.saturating_add(1))),
+        )
     }
 }
 

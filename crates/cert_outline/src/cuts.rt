@@ -48,7 +48,12 @@ impl<'a> Maker<'a> {
     }
 
     // They are another number.
-    fn facts_without(&mut self, mask: u32, facts: usize, number: u32) -> Result<usize, OutlineError> {
+    fn facts_without(
+        &mut self,
+        mask: u32,
+        facts: usize,
+        number: u32,
+    ) -> Result<usize, OutlineError> {
         let Some(known) = self.facts.get(facts) else {
             return Err(OutlineError::Unlike);
         };

@@ -149,7 +149,8 @@ impl<'a> Maker<'a> {
         facts: usize,
         exit: Exit,
     ) -> Result<Option<u32>, AllocError> {
-        let (Some(numbers), Some(known)) = (self.machines.get(machine), self.facts.get(facts)) else {
+        let (Some(numbers), Some(known)) = (self.machines.get(machine), self.facts.get(facts))
+        else {
             return Ok(None);
         };
         if known.low > numbers.last || exit == self.default {
@@ -162,7 +163,10 @@ impl<'a> Maker<'a> {
         let Some(call) = self.call_to_split_at(machine, facts)? else {
             return Ok(None);
         };
-        Ok(self.call(call).map(|call| call.number.max(low.saturating_add(1))))
+        Ok(
+            self.call(call)
+                .map(|call| call.number.max(low.saturating_add(1))),
+        )
     }
 
     // The first call that is asked unlike the one before it, or else that in the middle.
