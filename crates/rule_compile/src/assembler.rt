@@ -168,6 +168,19 @@ impl Assembler {
         }
     }
 
+    /// Has the code begin at the place: by a jump to it, where something else stands in front of it.
+    pub(crate) fn begin_at(&mut self, to: Label) -> Result<(), CompileError>
+        requires { IsIn self.old to }
+        ensures { OnOk result (Grows self.old self.new) }
+    {
+        let skipped = self.distance(to);
+        if skipped == 0 {
+            return Ok(());
+        }
+        self.write(insn(Operation::Jump, skipped as u32))?;
+        Ok(())
+    }
+
     // Where to go on at the target, as `near`.
     fn near_target(&mut self, to: Target) -> Result<Label, CompileError>
         requires { IsTarget self.old to }
