@@ -1,0 +1,3 @@
+mod SameLaws
+mod ToldLaws
+mod LineLaws

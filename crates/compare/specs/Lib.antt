@@ -1,0 +1,4 @@
+pub mod Difference
+pub mod Outcome
+pub mod Told
+pub mod Conviction

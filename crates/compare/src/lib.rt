@@ -1,0 +1,17 @@
+//! Two bundles compared: that they say the same of every call record, or calls of which they do not. And the call record
+//! that convicts a filter, in words.
+#![tactic(auto)]
+
+mod calls;
+mod convicting;
+mod difference;
+mod outcome;
+mod records;
+mod same;
+mod search;
+mod told;
+
+pub use convicting::explain_conviction;
+pub use difference::Difference;
+pub use outcome::Comparison;
+pub use told::compare;

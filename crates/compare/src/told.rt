@@ -1,0 +1,80 @@
+//! What `ccell compare` tells.
+ghost use Rattle.std.specs.Prelude.{◌≡◌, ℕ, List, IfOk, string_bytes};
+ghost use Rattle.compare.specs.Told as spec;
+
+use crate::outcome::{Comparison, compared, text_of};
+use call_tables::Arch;
+use explain::Told;
+use profile::Profile;
+use profile_json::{ProfileError, read_bundle};
+use std::alloc::{AllocError, Global};
+
+// The line that tells why the bundle at a place is refused.
+fn refusal_line(alloc: Global, error: ProfileError, place: u32) -> Result<String, AllocError>
+    ensures { IfOk result (λ line. string_bytes line ≡ spec.refusal_line place error) }
+{
+    format!(in alloc; "refused profile {error}, bundle {place}\n")
+}
+
+// What is told of the first or the second bundle, where it is refused.
+fn refused(alloc: Global, error: ProfileError, place: u32) -> Result<Told, AllocError>
+    ensures { IfOk result (spec.TellsRefusal place error) }
+{
+    if let ProfileError::OutOfMemory = error {
+        return Err(AllocError);
+    }
+    let line = refusal_line(alloc, error, place)?;
+    Ok(Told {
+        bytes: line.into_bytes(),
+        done: false,
+    })
+}
+
+// The text of a comparison. It was done where the profiles are the same.
+fn told(alloc: Global, comparison: &Comparison) -> Result<Told, AllocError>
+    ensures { IfOk result (λ told. spec.TellsComparison comparison.now told) }
+{
+    let text = text_of(alloc, comparison)?;
+    Ok(Told {
+        bytes: text.into_bytes(),
+        done: matches!(comparison, Comparison::Same),
+    })
+}
+
+// Compares what two profiles say.
+fn compare_profiles(
+    alloc: Global,
+    native: Arch,
+    one: &Profile,
+    other: &Profile,
+) -> Result<Told, AllocError>
+    ensures { IfOk result (spec.AreTold one.now other.now) }
+{
+    let comparison = compared(alloc, native.family(), one, other)?;
+    told(alloc, &comparison)
+}
+
+// Compares what a profile and a bundle say, of which the profile is the first bundle's.
+fn compare_with(
+    alloc: Global,
+    native: Arch,
+    one: &Profile,
+    second: &[u8],
+) -> Result<Told, AllocError>
+    ensures { (first : List ℕ) → spec.IsBundle native first one.now → IfOk result (spec.IsCompared native first second.now) }
+{
+    match read_bundle(alloc, second, native) {
+        Ok(other) => compare_profiles(alloc, native, one, &other.profile),
+        Err(error) => refused(alloc, error, 2),
+    }
+}
+
+/// Compares what two bundles, which are read for a native machine, say of call records.
+pub fn compare(alloc: Global, native: Arch, first: &[u8], second: &[u8]) -> Result<Told, AllocError>
+    ensures { IfOk result (spec.IsCompared native first.now second.now) }
+{
+    match read_bundle(alloc, first, native) {
+        Ok(one) => compare_with(alloc, native, &one.profile, second),
+        Err(error) => refused(alloc, error, 1),
+    }
+}
