@@ -67,10 +67,11 @@ class Program:
         self.session(row, ["check", native, bundle, "raw", "cert"], [])
 
     def certify(self, row, line):
-        """Asks for the evidence on `MACHINE BUNDLE FILTER`, and tells of a certificate what the check says of it."""
+        """Asks for the evidence on `MACHINE BUNDLE FILTER`, and tells of a certificate what the check says of it. Of a record
+        alone something has to stand on standard error."""
         ran = self.run(["certify", *line.split()])
-        if ran.stderr:
-            raise Fault(ran.stderr.decode().rstrip("\n"))
+        if bool(ran.stderr) != ran.stdout.startswith(b"no record"):
+            raise Fault(f"on standard error: {ran.stderr.decode()!r}")
         if not ran.stdout.startswith(b"CCRT"):
             row.tell(*lines_of(ran.stdout.decode()))
             return

@@ -2,6 +2,7 @@
 //! and makes is `pipeline`'s, whose public names are found here too.
 #![tactic(auto)]
 
+mod comparing;
 mod fault;
 mod files;
 mod law;

@@ -1,6 +1,7 @@
 //! The whole program, from the words after its name to its exit status.
 ghost use Rattle.std.specs.Prelude.{◌≤◌};
 
+use crate::comparing::{compare, tell_conviction};
 use crate::files::{Files, read, read_certificate, read_each, read_filter, read_record};
 use crate::run::run_bundles;
 use crate::stops::{Stop, report};
@@ -38,17 +39,23 @@ fn check<'a>(
     Ok(check_line(alloc, native, &bundle, &filter, &certificate, out)?)
 }
 
-// Writes a certificate that a filter answers what a bundle says, or what tells that it has none.
+// Writes a certificate that a filter answers what a bundle says, or what tells that it has none. A record that convicts the
+// filter is told in words too.
 fn certify<'a>(
     alloc: Global,
     native: Arch,
     [bundle, filter]: [&'a str; 2],
     files: &mut impl Files,
     out: &mut impl Sink,
+    err: &mut impl Sink,
 ) -> Result<bool, Stop<'a>> {
     let bundle = read(alloc, files, bundle)?;
     let filter = read_filter(alloc, files, filter)?;
-    Ok(certify_bundle(alloc, native, &bundle, &filter, out)?)
+    let done = certify_bundle(alloc, native, &bundle, &filter, out)?;
+    if !done {
+        tell_conviction(alloc, native, &bundle, &filter, err);
+    }
+    Ok(done)
 }
 
 // Writes the filter of a bundle in a form, once it is checked, or why it has none.
@@ -131,6 +138,18 @@ fn annotate<'a>(
     tell(&describe::annotated(alloc, native, &filter)?, out)
 }
 
+// Tells a filter as a graph.
+fn draw<'a>(
+    alloc: Global,
+    native: Arch,
+    filter: &'a str,
+    files: &mut impl Files,
+    out: &mut impl Sink,
+) -> Result<bool, Stop<'a>> {
+    let filter = read_filter(alloc, files, filter)?;
+    tell(&describe::drawn(alloc, native, &filter)?, out)
+}
+
 // Tells how a command is used, or which there are.
 fn manual<'a>(
     alloc: Global,
@@ -151,6 +170,7 @@ fn carry_out<'a>(
     files: &mut impl Files,
     input: &mut impl Source,
     out: &mut impl Sink,
+    err: &mut impl Sink,
 ) -> Result<bool, Stop<'a>> {
     match read_words(alloc, words)? {
         Order::Verdict { filter, record } => verdict(alloc, filter, record, files, out),
@@ -164,7 +184,7 @@ fn carry_out<'a>(
             native,
             bundle,
             filter,
-        } => certify(alloc, native, [bundle, filter], files, out),
+        } => certify(alloc, native, [bundle, filter], files, out, err),
         Order::Export {
             native,
             bundle,
@@ -180,6 +200,12 @@ fn carry_out<'a>(
         Order::Record { native, call } => tell(&explain::record(alloc, native, call)?, out),
         Order::Assemble { listing } => assemble(alloc, listing, files, out),
         Order::Annotate { native, filter } => annotate(alloc, native, filter, files, out),
+        Order::Draw { native, filter } => draw(alloc, native, filter, files, out),
+        Order::Compare {
+            native,
+            first,
+            second,
+        } => tell(&compare(alloc, native, [first, second], files)?, out),
         Order::Manual { command } => manual(alloc, command, out),
         Order::Version => tell(&explain::version(alloc)?, out),
     }
@@ -197,7 +223,7 @@ pub fn dispatch(
 ) -> u8
     ensures { result ≤ 3 }
 {
-    match carry_out(alloc, words, files, input, out) {
+    match carry_out(alloc, words, files, input, out, err) {
         Ok(true) => 0,
         Ok(false) => 1,
         Err(stop) => report(&stop, err),

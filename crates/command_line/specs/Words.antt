@@ -6,7 +6,7 @@ use Rattle.call_tables.specs.Arch.{machine_called}
 use denote.Ref.{Bor}
 use Rattle.command_line.specs.declared.Order.{Order}
 use Rattle.command_line.specs.declared.Order.TheVariants.{Verdict, Check, Certify, Export, Run}
-use Rattle.command_line.specs.declared.Order.TheVariants.{Explain, Read, Record, Assemble, Annotate, Manual, Version}
+use Rattle.command_line.specs.declared.Order.TheVariants.{Explain, Read, Record, Assemble, Annotate, Draw, Compare, Manual, Version}
 use Rattle.export.specs.declared.form.Form.{Form}
 use Rattle.export.specs.declared.form.Form.TheVariants.{Raw, Listing, Certificate}
 
@@ -57,6 +57,11 @@ IsOrderOf words (Record native call) =
 IsOrderOf words (Assemble listing) = AreWords words (codes "assemble") (listing ∷ [])
 IsOrderOf words (Annotate native filter) =
     (machine : Bor (List ℕ)) × AreWords words (codes "annotate") (machine ∷ filter ∷ []) × (machine_called machine.now ≡ Some native)
+IsOrderOf words (Draw native filter) =
+    (machine : Bor (List ℕ)) × AreWords words (codes "draw") (machine ∷ filter ∷ []) × (machine_called machine.now ≡ Some native)
+IsOrderOf words (Compare native first second) =
+    (machine : Bor (List ℕ)) × AreWords words (codes "compare") (machine ∷ first ∷ second ∷ [])
+    × (machine_called machine.now ≡ Some native)
 IsOrderOf words (Manual (Some command)) = AreWords words (codes "manual") (command ∷ [])
 IsOrderOf words (Manual None) = AreWords words (codes "manual") []
 IsOrderOf words Version = AreWords words (codes "version") []

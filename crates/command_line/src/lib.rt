@@ -4,6 +4,11 @@
 ghost use Rattle.std.specs.Prelude.{◌≡◌, ◌↔◌, IsTrue, Any, IfOk, IsErrOf};
 ghost use Rattle.command_line.specs.Words.{IsDashed, IsOrderOf, form_called};
 
+mod compare;
+mod draw;
+
+use crate::compare::compare_order;
+use crate::draw::draw_order;
 use call_tables::Arch;
 use clap::error::ErrorKind;
 use clap::{Arg, ArgMatches, Command, Error};
@@ -11,7 +16,7 @@ pub use export::Form;
 use std::alloc::{AllocError, Global};
 
 /// What the words after the program's name ask for.
-#[derive(Clone, Copy, Debug, PartialEq, Eq)]
+#[derive(Clone, Copy)]
 pub enum Order<'a> {
     /// The word that a filter answers to a record, both given as names of files.
     Verdict {
@@ -65,6 +70,17 @@ pub enum Order<'a> {
     Annotate {
         native: Arch,
         filter: &'a str,
+    },
+    /// The graph of a filter, with the names that a native machine has. It is given as the name of a file.
+    Draw {
+        native: Arch,
+        filter: &'a str,
+    },
+    /// How two bundles, read for a native machine, compare. They are given as names of files.
+    Compare {
+        native: Arch,
+        first: &'a str,
+        second: &'a str,
     },
     /// The page of a command by its name, or the list of them.
     Manual {
@@ -131,6 +147,8 @@ const ORDERS: &[(&str, &[&str])] = &[
     ("record", &["machine", "call"]),
     ("assemble", &["listing"]),
     ("annotate", &["machine", "filter"]),
+    ("draw", &["machine", "filter"]),
+    ("compare", &["machine", "first", "second"]),
     ("manual", &["command"]),
     ("version", &[]),
 ];
@@ -392,24 +410,62 @@ fn version_order<'a>(words: &'a [&'a str]) -> Result<Order<'a>, Misuse>
     Ok(Order::Version)
 }
 
+// The order of that name.
+fn named_order<'a>(name: &str, words: &'a [&'a str]) -> Result<Order<'a>, Misuse>
+    ensures { IfOk result (IsOrderOf words.entry.now) }
+{
+    if name == "verdict" {
+        return verdict_order(words);
+    }
+    if name == "check" {
+        return check_order(words);
+    }
+    if name == "certify" {
+        return certify_order(words);
+    }
+    if name == "export" {
+        return export_order(words);
+    }
+    if name == "run" {
+        return run_order(words);
+    }
+    if name == "explain" {
+        return explain_order(words);
+    }
+    if name == "read" {
+        return read_order(words);
+    }
+    if name == "record" {
+        return record_order(words);
+    }
+    if name == "assemble" {
+        return assemble_order(words);
+    }
+    if name == "annotate" {
+        return annotate_order(words);
+    }
+    if name == "draw" {
+        return draw_order(words);
+    }
+    if name == "compare" {
+        return compare_order(words);
+    }
+    if name == "manual" {
+        return manual_order(words);
+    }
+    if name == "version" {
+        return version_order(words);
+    }
+    Err(Misuse::Usage)
+}
+
 // The order of words that the command takes.
 fn order_of<'a>(matches: &ArgMatches<'a>, words: &'a [&'a str]) -> Result<Order<'a>, Misuse>
     ensures { IfOk result (IsOrderOf words.entry.now) }
 {
     match matches.subcommand() {
-        Some(("verdict", _)) => verdict_order(words),
-        Some(("check", _)) => check_order(words),
-        Some(("certify", _)) => certify_order(words),
-        Some(("export", _)) => export_order(words),
-        Some(("run", _)) => run_order(words),
-        Some(("explain", _)) => explain_order(words),
-        Some(("read", _)) => read_order(words),
-        Some(("record", _)) => record_order(words),
-        Some(("assemble", _)) => assemble_order(words),
-        Some(("annotate", _)) => annotate_order(words),
-        Some(("manual", _)) => manual_order(words),
-        Some(("version", _)) => version_order(words),
-        _ => Err(Misuse::Usage),
+        Some((name, _)) => named_order(name, words),
+        None => Err(Misuse::Usage),
     }
 }
 

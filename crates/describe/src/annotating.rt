@@ -1,11 +1,12 @@
 //! The listing of a filter, with what its lines mean.
-use crate::flow::{Known, flow, labels, targets};
-use bpf_asm::disassemble;
-use bpf_insn::{Insn, Operation, Program};
+use crate::flow::{Known, is_jump, targets};
+use crate::lines::Lines;
+use bpf_insn::{Insn, Operation, Program, ViewError};
 use call_record::Word;
 use call_tables::Arch;
 use explain::{ActionText, Told, machine_of};
 use kernel_check::accept;
+use profile::LEAST_X32_NUMBER;
 use std::alloc::{AllocError, Global};
 use std::fmt::Write;
 
@@ -28,34 +29,29 @@ fn put_word_name(text: &mut String, offset: u32) -> Result<(), AllocError> {
     }
 }
 
-// Adds what a number that is compared stands for, by the word of the record that A holds.
+// What a number stands for that is compared with the number of a call, on a machine.
+fn call_name(machine: Arch, number: u32) -> &'static str {
+    if number == LEAST_X32_NUMBER {
+        return "x32 calls";
+    }
+    machine.name(number).unwrap_or("no call")
+}
+
+// Adds what a number that is compared stands for, by the offset of the record's word that A holds.
 fn put_compared(
     text: &mut String,
     native: Arch,
-    known: Known,
+    machine: Option<Arch>,
+    offset: u32,
     number: u32,
 ) -> Result<(), AllocError> {
-    match known.word {
-        Some(4) => {
+    match offset {
+        0 => text.push_str(call_name(machine.unwrap_or(native), number)),
+        4 => {
             let machine = machine_of(native.family(), number).map_or("another machine", Arch::word);
-            write!(text, "{machine}, ")
+            text.push_str(machine)
         }
-        Some(0) => {
-            if number == 0x4000_0000 {
-                return text.push_str("x32 calls, ");
-            }
-            let name = known
-                .machine
-                .unwrap_or(native)
-                .name(number)
-                .unwrap_or("no call");
-            write!(text, "{name}, ")
-        }
-        Some(offset) => {
-            put_word_name(text, offset)?;
-            text.push_str(", ")
-        }
-        None => Ok(()),
+        _ => put_word_name(text, offset),
     }
 }
 
@@ -67,11 +63,10 @@ fn put_targets(text: &mut String, (then, other): (usize, usize)) -> Result<(), A
     write!(text, "to {then}, else {other}")
 }
 
-// Adds what an instruction means.
-fn put_meaning(
+/// Adds what an instruction means: the word that is loaded, what is compared, or the action that is given.
+pub(crate) fn put_meaning(
     text: &mut String,
     native: Arch,
-    pc: usize,
     insn: Insn,
     known: Known,
 ) -> Result<(), AllocError> {
@@ -81,13 +76,23 @@ fn put_meaning(
             let action = ActionText(Word(insn.k));
             write!(text, "{action}")
         }
-        Some(Operation::Branch(_, _)) => {
-            put_compared(text, native, known, insn.k)?;
-            put_targets(text, targets(pc, insn).unwrap_or((pc, pc)))
-        }
-        Some(Operation::Jump) => put_targets(text, targets(pc, insn).unwrap_or((pc, pc))),
+        Some(Operation::Branch(_, _)) => match known.word {
+            Some(offset) => put_compared(text, native, known.machine, offset, insn.k),
+            None => Ok(()),
+        },
         _ => Ok(()),
     }
+}
+
+// Adds where an instruction leads, if it is a jump.
+fn put_jump(text: &mut String, pc: usize, insn: Insn, known: Known) -> Result<(), AllocError> {
+    if !is_jump(insn) {
+        return Ok(());
+    }
+    if known.word.is_some() && insn.operation() != Some(Operation::Jump) {
+        text.push_str(", ")?;
+    }
+    put_targets(text, targets(pc, insn).unwrap_or((pc, pc)))
 }
 
 // Adds the line of an instruction: its position, with an L before it where a jump leads there, its text and its meaning.
@@ -101,7 +106,10 @@ fn put_line(
     let mark = if is_label { "L" } else { " " };
     write!(text, "{mark}{pc:<5}{line:<24} ")?;
     match state {
-        Some(known) => put_meaning(text, native, pc, insn, known)?,
+        Some(known) => {
+            put_meaning(text, native, insn, known)?;
+            put_jump(text, pc, insn, known)?;
+        }
         None => text.push_str("no way leads here")?,
     }
     text.push_str("\n")
@@ -110,21 +118,42 @@ fn put_line(
 // Adds the lines of a program.
 fn put_lines(
     text: &mut String,
-    alloc: Global,
     native: Arch,
     program: &Program<'_>,
+    lines: &Lines,
 ) -> Result<(), AllocError> {
-    let listing = disassemble(alloc, program)?;
-    let states = flow(alloc, native.family(), program)?;
-    let labels = labels(alloc, program)?;
-    let mut lines = listing.lines();
+    let mut listing = lines.listing.lines();
     for pc in 0..program.len() {
-        let line = lines.next().unwrap_or("");
-        let is_label = labels.get(pc).copied().unwrap_or(false);
-        let state = states.get(pc).copied().unwrap_or(None);
-        put_line(text, native, (pc, line, is_label), program.get(pc), state)?;
+        let line = listing.next().unwrap_or("");
+        let place = (pc, line, lines.is_label(pc));
+        put_line(text, native, place, program.get(pc), lines.state(pc))?;
     }
     Ok(())
+}
+
+/// The line that tells why bytes are no program.
+pub(crate) fn no_program(alloc: Global, fault: ViewError) -> Result<Told, AllocError> {
+    let line = format!(in alloc; "refused view {fault}\n")?;
+    Ok(Told {
+        bytes: line.into_bytes(),
+        done: false,
+    })
+}
+
+/// A text about a program. Where the kernel refuses the program, the cause is its last line, behind a mark.
+pub(crate) fn with_cause(
+    mut text: String,
+    program: &Program<'_>,
+    mark: &str,
+) -> Result<Told, AllocError> {
+    let refused = accept(program).err();
+    if let Some(refused) = refused {
+        writeln!(text, "{mark}refused kernel {refused}")?;
+    }
+    Ok(Told {
+        bytes: text.into_bytes(),
+        done: refused.is_none(),
+    })
 }
 
 /// Tells a filter's listing, with what its lines mean on a native machine: names of calls, arguments and actions, and where
@@ -132,22 +161,10 @@ fn put_lines(
 pub fn annotated(alloc: Global, native: Arch, filter: &[u8]) -> Result<Told, AllocError> {
     let program = match Program::view(filter) {
         Ok(program) => program,
-        Err(fault) => {
-            let line = format!(in alloc; "refused view {fault}\n")?;
-            return Ok(Told {
-                bytes: line.into_bytes(),
-                done: false,
-            });
-        }
+        Err(fault) => return no_program(alloc, fault),
     };
     let mut text = String::new(alloc);
-    put_lines(&mut text, alloc, native, &program)?;
-    let refused = accept(&program).err();
-    if let Some(refused) = refused {
-        writeln!(text, "refused kernel {refused}")?;
-    }
-    Ok(Told {
-        bytes: text.into_bytes(),
-        done: refused.is_none(),
-    })
+    let lines = Lines::of(alloc, native, &program)?;
+    put_lines(&mut text, native, &program, &lines)?;
+    with_cause(text, &program, "")
 }

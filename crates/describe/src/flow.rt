@@ -142,7 +142,8 @@ fn mark(labels: &mut [bool], target: usize) {
     }
 }
 
-fn is_jump(insn: Insn) -> bool {
+/// Whether an instruction is a jump.
+pub(crate) fn is_jump(insn: Insn) -> bool {
     match insn.operation() {
         Some(Operation::Branch(_, _)) => true,
         Some(Operation::Jump) => true,

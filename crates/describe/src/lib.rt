@@ -3,8 +3,10 @@
 #![tactic(auto)]
 
 mod annotating;
+mod drawing;
 mod entries;
 mod flow;
+mod lines;
 mod near;
 mod pages;
 mod place;
@@ -12,5 +14,6 @@ mod reading;
 mod search;
 
 pub use annotating::annotated;
+pub use drawing::drawn;
 pub use pages::manual;
 pub use reading::read_out;

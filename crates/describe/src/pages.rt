@@ -24,7 +24,7 @@ const PAGES: &[Page] = &[
     Page {
         name: "certify",
         purpose: "a certificate for any filter, or a call that convicts it",
-        text: "ccell certify MACHINE BUNDLE FILTER\n\nWrites a certificate that the filter answers what the bundle says, or tells a call record of which it does not.\nStatus 0, or 1 and a line that begins with 'no' or 'refused'.\n\nExample: ccell certify linux-x86-64 web.json web.bpf > web.cert\n",
+        text: "ccell certify MACHINE BUNDLE FILTER\n\nWrites a certificate that the filter answers what the bundle says, or tells a call record of which it does not, and\nexplains it on standard error.\nStatus 0, or 1 and a line that begins with 'no' or 'refused'.\n\nExample: ccell certify linux-x86-64 web.json web.bpf > web.cert\n",
     },
     Page {
         name: "export",
@@ -47,6 +47,11 @@ const PAGES: &[Page] = &[
         text: "ccell read MACHINE BUNDLE\n\nTells a bundle's machines, what is said of calls that no entry matches, and each entry in a line. Of a bundle that is\nrefused it tells why and, in a second line, the place.\nStatus 0, or 1 and a line that begins with 'refused'.\n\nExample: ccell read linux-x86-64 web.json\n",
     },
     Page {
+        name: "compare",
+        purpose: "whether two bundles say the same, or the calls of which not",
+        text: "ccell compare MACHINE BUNDLE BUNDLE\n\nTells same where both bundles say the same of every call record, or a line for each call of which they do not: the call,\nwhat the first and what the second says, and a record as explain takes it. The last line is stricter or looser where the\nsecond bundle is that in each line, and undecided is told where neither could be shown.\nStatus 0 for same, or 1.\n\nExample: ccell compare linux-x86-64 old.json new.json\n",
+    },
+    Page {
         name: "record",
         purpose: "the call record of a call",
         text: "ccell record MACHINE WHAT [ARGUMENT..]\n\nWrites the 64 bytes of a call record, as verdict takes it. WHAT and the arguments are those of a script.\nStatus 0, or 1 and the line 'refused call'.\n\nExample: ccell record x86-64 write 1 0 4097 > write.rec\n",
@@ -60,6 +65,11 @@ const PAGES: &[Page] = &[
         name: "annotate",
         purpose: "the listing of any filter, with what its lines mean",
         text: "ccell annotate MACHINE FILTER\n\nTells each instruction with its position, where jumps lead, and the names of calls, arguments and actions. An L stands\nbefore a position that jumps lead to.\nStatus 0, or 1 where the kernel refuses the filter, and the cause in the last line.\n\nExample: ccell annotate linux-x86-64 web.bpf\n",
+    },
+    Page {
+        name: "draw",
+        purpose: "the graph of any filter, in the language of Graphviz",
+        text: "ccell draw MACHINE FILTER\n\nTells a filter as a graph in the language of Graphviz: a node is a block of instructions, with the names that annotate\ntells, and coloured by its action; an edge leads to the next block, by the outcome of the test.\nStatus 0, or 1 where the kernel refuses the filter, and the cause in the last line.\n\nExample: ccell draw linux-x86-64 web.bpf | dot -Tsvg > web.svg\n",
     },
     Page {
         name: "manual",
