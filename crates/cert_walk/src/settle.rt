@@ -59,6 +59,9 @@ pub(crate) struct Question<'a> {
 impl Question<'_> {
     /// The answer.
     pub(crate) fn settle(&self) -> Outcome {
+        if self.is_said_of_all() {
+            return Outcome::Settled(Words::NONE);
+        }
         for arch in self.rules.profile.machines() {
             let token = arch.token();
             if self.known.entails(Lit::Bits(TOKEN, u32::MAX, token)) {
@@ -69,6 +72,16 @@ impl Question<'_> {
             }
         }
         self.settle_foreign(TOKEN)
+    }
+
+    // Whether the word is that of each record, a foreign one too.
+    fn is_said_of_all(&self) -> bool {
+        self.word == Word::KILL_THREAD && self.is_default() && self.is_said_by_all()
+    }
+
+    fn is_said_by_all(&self) -> bool {
+        let rules = self.rules.profile.rules();
+        rules.iter().all(|rule| rule.word == self.word)
     }
 
     // Foreign records, which this word tells, get one word.
