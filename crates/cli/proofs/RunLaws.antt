@@ -4,6 +4,7 @@ use Rattle.std.specs.Prelude.{Option, Result, Ok, Err, IfOk, ◌≢◌}
 use Rattle.std.specs.List.{All, Contains}
 use Rattle.std.proofs.lemmas.List.Elements.{All-contains, Contains-append_right}
 use Rattle.call_tables.specs.declared.arch.Arch.{Arch}
+use Rattle.export.specs.Failures.{Failures}
 use Rattle.export.specs.declared.fault.ExportFault.{ExportFault}
 use Rattle.profile_json.proofs.Lists.{contains_head}
 use Rattle.session.specs.declared.bundles.Bundles.{Bundles}
@@ -18,7 +19,7 @@ use Rattle.pipeline.specs.Exported.{Refuses}
 use Rattle.pipeline.specs.Plain.{IsPlainBundle}
 use Rattle.cli.specs.Running.{AnswersScript, AreBundlesOf, FirstUnready, HasAnswered, Runs, RunsBundles, RunsScript, told_line, told_script}
 
-module _ {I O : Type 0} (left : I → Option (List ℕ)) (given : I → ℕ) (held : O → Option (List ℕ)) (taken : O → ℕ)
+module _ {I O : Type 0} (left : I → Option (List ℕ)) (given : I → Failures) (held : O → Option (List ℕ)) (taken : O → Failures)
     (source source' : I) (sink sink' : O) (native : Arch) (texts : List (List ℕ)) where
   by_result : {T : Type 0} (bundles : Bundles) (r : Result T ScriptFault)
       → IfOk r (λ _. IsAnswered bundles (left source) (left source') (held sink) (held sink'))
@@ -52,7 +53,7 @@ module _ {I O : Type 0} (left : I → Option (List ℕ)) (given : I → ℕ) (he
     told = told;
   }
 
-module _ {I O : Type 0} (left : I → Option (List ℕ)) (given : I → ℕ) (held : O → Option (List ℕ)) (taken : O → ℕ)
+module _ {I O : Type 0} (left : I → Option (List ℕ)) (given : I → Failures) (held : O → Option (List ℕ)) (taken : O → Failures)
     (source : I) (sink sink' : O) (native : Arch) (texts : List (List ℕ)) where
   -- a text is refused
   pub refused_script : (u : Unready) (r : Result Bool ExportFault) (result : Result Bool Stop)
@@ -73,7 +74,7 @@ module _ {I O : Type 0} (left : I → Option (List ℕ)) (given : I → ℕ) (he
 
 -- ---- an answer of true
 
-module _ {I O : Type 0} (left : I → Option (List ℕ)) (given : I → ℕ) (held : O → Option (List ℕ)) (taken : O → ℕ)
+module _ {I O : Type 0} (left : I → Option (List ℕ)) (given : I → Failures) (held : O → Option (List ℕ)) (taken : O → Failures)
     (source source' : I) (sink sink' : O) (native : Arch) (texts : List (List ℕ)) where
   all_answered : (bundles : Bundles) (r : Result (Unit {0}) ScriptFault) → Runs left held source source' sink sink' bundles r
       → told_script r ≡ Ok true → IsAnswered bundles (left source) (left source') (held sink) (held sink')
@@ -108,7 +109,7 @@ none_is_refused native texts u all first =
     not_refused native first.text u (All-contains (IsPlainBundle native) (first.before ++ first.text ∷ first.after) first.text parts there)
     first.is
 
-pub script_is_run : {I O : Type 0} (left : I → Option (List ℕ)) (given : I → ℕ) (held : O → Option (List ℕ)) (taken : O → ℕ)
+pub script_is_run : {I O : Type 0} (left : I → Option (List ℕ)) (given : I → Failures) (held : O → Option (List ℕ)) (taken : O → Failures)
     (source source' : I) (sink sink' : O) (native : Arch) (texts : List (List ℕ)) (result : Result Bool Stop)
     → RunsBundles left given held taken source source' sink sink' native texts result → All (IsPlainBundle native) texts
     → RunsScript left given held taken source source' sink sink' native texts result

@@ -4,6 +4,7 @@ use Rattle.std.specs.Fmt.{decimal}
 use Rattle.std.specs.List.{All}
 use Rattle.call_tables.specs.declared.arch.Arch.{Arch}
 use Rattle.cert_check.specs.declared.checked.Checked.{Checked}
+use Rattle.export.specs.Failures.{Failures}
 use Rattle.export.specs.Sink.{WritesMade}
 use Rattle.export.specs.declared.fault.ExportFault.{ExportFault}
 use Rattle.session.specs.declared.bundles.Bundle.{Bundle}
@@ -70,7 +71,8 @@ told_line (Ok done) = Ok done
 told_line (Err fault) = Err (stop_at_fault fault)
 
 -- The script was run with the bundles of these texts. A call that failed is told, and no other failed.
-pub record AnswersScript {I O : Type 0} (left : I → Option (List ℕ)) (given : I → ℕ) (held : O → Option (List ℕ)) (taken : O → ℕ)
+pub record AnswersScript {I O : Type 0} (left : I → Option (List ℕ)) (given : I → Failures) (held : O → Option (List ℕ))
+    (taken : O → Failures)
     (source source' : I) (sink sink' : O) (native : Arch) (texts : List (List ℕ)) (result : Result Bool Stop) : Type 0 where
   pub bundles : Bundles
   pub are : AreBundlesOf native texts bundles
@@ -81,7 +83,7 @@ pub record AnswersScript {I O : Type 0} (left : I → Option (List ℕ)) (given 
   pub told : result ≡ told_script outcome
 
 -- nothing was read, and what was written is the line of the first text that has no checked filter
-pub record RefusesScript {I O : Type 0} (held : O → Option (List ℕ)) (taken : O → ℕ)
+pub record RefusesScript {I O : Type 0} (held : O → Option (List ℕ)) (taken : O → Failures)
     (source source' : I) (sink sink' : O) (native : Arch) (texts : List (List ℕ)) (result : Result Bool Stop) : Type 0 where
   pub unready : Unready
   pub is : FirstUnready native texts unready
@@ -105,14 +107,14 @@ pub record BeginsNoScript {I O : Type 0} (source source' : I) (sink sink' : O) (
   pub told : result ≡ Err stop.OutOfMemory
 
 -- what `ccell run` does with the texts of bundles
-abbrev pub RunsBundles : {I O : Type 0} → (I → Option (List ℕ)) → (I → ℕ) → (O → Option (List ℕ)) → (O → ℕ) → I → I → O → O
-    → Arch → List (List ℕ) → Result Bool Stop → Type 0
+abbrev pub RunsBundles : {I O : Type 0} → (I → Option (List ℕ)) → (I → Failures) → (O → Option (List ℕ)) → (O → Failures)
+    → I → I → O → O → Arch → List (List ℕ) → Result Bool Stop → Type 0
 RunsBundles left given held taken source source' sink sink' native texts result =
     AnswersScript left given held taken source source' sink sink' native texts result
     ⊎ (RefusesScript held taken source source' sink sink' native texts result ⊎ BeginsNoScript source source' sink sink' result)
 
 -- the script was run with the bundles of the texts, or memory was refused first
-abbrev pub RunsScript : {I O : Type 0} → (I → Option (List ℕ)) → (I → ℕ) → (O → Option (List ℕ)) → (O → ℕ) → I → I → O → O
-    → Arch → List (List ℕ) → Result Bool Stop → Type 0
+abbrev pub RunsScript : {I O : Type 0} → (I → Option (List ℕ)) → (I → Failures) → (O → Option (List ℕ)) → (O → Failures)
+    → I → I → O → O → Arch → List (List ℕ) → Result Bool Stop → Type 0
 RunsScript left given held taken source source' sink sink' native texts result =
     AnswersScript left given held taken source source' sink sink' native texts result ⊎ BeginsNoScript source source' sink sink' result

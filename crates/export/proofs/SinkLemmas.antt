@@ -1,11 +1,10 @@
 -- Writes in turn.
-use Rattle.std.proofs.Common.{◌≡◌, ℕ, zero, suc, ◌-◌, ◌^◌, inl, inr, List, [], ◌++◌, refl, ap, sym, ◌∙◌, arith, append_assoc}
+use Rattle.std.proofs.Common.{◌≡◌, ℕ, zero, suc, List, [], ◌++◌, refl, ap, sym, ◌∙◌, arith, append_assoc}
 use Rattle.std.proofs.lemmas.List.{append-nil}
 use Rattle.std.specs.Prelude.{Option, Some, None, ◌==◌, if◌then◌else◌}
 use Rattle.std.specs.Io.KnownBytes.{Appends, Keeps}
-use Rattle.std.proofs.lemmas.Bool.{cases_lt}
 use Rattle.std.proofs.lemmas.Bool.Decides.{nat_tests}
-use Rattle.export.specs.Failures.{one_more, HasFailed}
+use Rattle.export.specs.Failures.{Failures, HasFailed, NoneFailed, one_more}
 
 pub Appends-then : (a b c : Option (List ℕ)) (xs ys zs : List ℕ) → zs ≡ xs ++ ys → Appends a b xs → Appends b c ys → Appends a c zs
 Appends-then None b c xs ys zs e h g = tt
@@ -23,8 +22,9 @@ pub Appends-none : (a : Option (List ℕ)) → Appends a a []
 Appends-none None = tt
 Appends-none (Some ps) = sym (append-nil ps)
 
-pub has_failed : (old mid new : ℕ) → mid ≡ old → new ≡ one_more mid → HasFailed old new
-has_failed old mid new e h = elim (cases_lt old (2 ^ 64 - 1)) [ inl lt ↦ inl (omega arith) | inr le ↦ inr (omega arith) ]
+-- the first failure
+pub has_failed : (old mid new : Failures) → NoneFailed old mid → HasFailed mid new → HasFailed old new
+has_failed old mid new e h = (h.0 ∙ ap one_more e, h.1)
 
 pub no_failure : (n x y : ℕ) → (n ≡ 0 → ⊥) → (if n == 0 then x else y) ≡ y
 no_failure zero x y h = absurd (h refl)

@@ -1,7 +1,7 @@
 -- What a call that writes leaves.
 use Rattle.std.specs.Prelude.{ℕ, ◌≡◌, ◌<◌, Bool, true, ◌==◌, List, length, take, Option, Result, Ok, Err}
 use Rattle.std.specs.Io.KnownBytes.{Appends}
-use Rattle.export.specs.Failures.{HasFailed}
+use Rattle.export.specs.Failures.{Failures, HasFailed, NoneFailed}
 use Rattle.export.specs.declared.fault.ExportFault.{ExportFault}
 use Rattle.export.specs.declared.fault.ExportFault.TheVariants.{Write, OutOfMemory}
 
@@ -10,23 +10,23 @@ abbrev pub is_failure : {E : Type 0} → Result ℕ E → Bool
 is_failure (Ok n) = n == 0
 is_failure (Err e) = true
 
--- the sink failed in this call, and took the first `out` of the bytes, which are not all of them
-abbrev pub StopsAt : {S : Type 0} → (S → Option (List ℕ)) → (S → ℕ) → S → S → List ℕ → ℕ → Type 0
+-- the sink took the first `out` of the bytes, which are not all of them, and failed: once, and was not asked again
+abbrev pub StopsAt : {S : Type 0} → (S → Option (List ℕ)) → (S → Failures) → S → S → List ℕ → ℕ → Type 0
 StopsAt held failures old new bytes out =
     Appends (held old) (held new) (take out bytes) × (out < length bytes) × HasFailed (failures old) (failures new)
 
 -- these bytes were written, and no call failed
-abbrev pub Wrote : {S : Type 0} → (S → Option (List ℕ)) → (S → ℕ) → S → S → List ℕ → Type 0
-Wrote held failures old new bytes = Appends (held old) (held new) bytes × (failures new ≡ failures old)
+abbrev pub Wrote : {S : Type 0} → (S → Option (List ℕ)) → (S → Failures) → S → S → List ℕ → Type 0
+Wrote held failures old new bytes = Appends (held old) (held new) bytes × NoneFailed (failures old) (failures new)
 
 -- Ok: these bytes were written, and no call failed. A fault of writing tells where the sink stopped.
-abbrev pub Writes : {S T : Type 0} → (S → Option (List ℕ)) → (S → ℕ) → S → S → List ℕ → Result T ExportFault → Type 0
+abbrev pub Writes : {S T : Type 0} → (S → Option (List ℕ)) → (S → Failures) → S → S → List ℕ → Result T ExportFault → Type 0
 Writes held failures old new bytes (Ok x) = Wrote held failures old new bytes
 Writes held failures old new bytes (Err (Write out)) = StopsAt held failures old new bytes out
 Writes held failures old new bytes (Err OutOfMemory) = ⊥
 
 -- The same of bytes that have to be made first: without memory for them the sink was not asked.
-abbrev pub WritesMade : {S T : Type 0} → (S → Option (List ℕ)) → (S → ℕ) → S → S → List ℕ → Result T ExportFault → Type 0
+abbrev pub WritesMade : {S T : Type 0} → (S → Option (List ℕ)) → (S → Failures) → S → S → List ℕ → Result T ExportFault → Type 0
 WritesMade held failures old new bytes (Ok x) = Wrote held failures old new bytes
 WritesMade held failures old new bytes (Err (Write out)) = StopsAt held failures old new bytes out
 WritesMade held failures old new bytes (Err OutOfMemory) = new ≡ old

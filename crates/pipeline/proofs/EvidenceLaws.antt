@@ -15,6 +15,7 @@ use Rattle.cert_check.specs.Right.{IsRight}
 use Rattle.cert_walk.specs.declared.fault.CertifyError.{CertifyError}
 use Rattle.cert_walk.specs.declared.fault.CertifyError.TheVariants as maker
 use Rattle.certify.specs.Conviction.{Convicts}
+use Rattle.export.specs.Failures.{Failures}
 use Rattle.export.specs.Sink.{StopsAt, Writes, WritesMade}
 use Rattle.export.specs.declared.fault.ExportFault.{ExportFault}
 use Rattle.export.specs.declared.fault.ExportFault.TheVariants as fault
@@ -48,14 +49,14 @@ line_told rec words given said (Ok line) size bytes same h =
 line_told rec words given said (Err e) size bytes same h = h
 
 -- a fault of writing bytes that were made first
-pub made_first : {S : Type 0} (T : Type 0) (held : S → Option (List ℕ)) (failures : S → ℕ) (old new : S) (bytes line : List ℕ) (fault : ExportFault)
+pub made_first : {S : Type 0} (T : Type 0) (held : S → Option (List ℕ)) (failures : S → Failures) (old new : S) (bytes line : List ℕ) (fault : ExportFault)
     → bytes ≡ line → Writes {S = S} {T = T} held failures old new bytes (Err fault)
     → WritesMade {S = S} {T = T} held failures old new line (Err fault)
 made_first T held failures old new bytes line (fault.Write out) same h =
     subst (λ (b : List ℕ). StopsAt held failures old new b out) same h
 made_first T held failures old new bytes line fault.OutOfMemory same h = absurd h
 
-module _ {S : Type 0} (held : S → Option (List ℕ)) (failures : S → ℕ) (old new : S) (words : List ℕ) (given said : ℕ) where
+module _ {S : Type 0} (held : S → Option (List ℕ)) (failures : S → Failures) (old new : S) (words : List ℕ) (given said : ℕ) where
   pub line_failed : (T : Type 0) (line : List ℕ) (fault : ExportFault) (result : Result Bool ExportFault) → IsLine words given said line
       → WritesMade {S = S} {T = T} held failures old new line (Err fault) → result ≡ Err fault
       → Tells held failures old new words given said result
@@ -88,7 +89,7 @@ module _ (native : Arch) (bundle filter : List ℕ) where
       → IsRefusal (insns_of filter) e → IsOpen native bundle filter (unready.Check (error.Kernel e))
   kernel_open policy e means program refused = (λ same. cc, (policy, [], means, first_kernel policy filter [] program e refused))
 
-module _ {S : Type 0} (held : S → Option (List ℕ)) (failures : S → ℕ) (old new : S) (native : Arch) (bundle filter : List ℕ) where
+module _ {S : Type 0} (held : S → Option (List ℕ)) (failures : S → Failures) (old new : S) (native : Arch) (bundle filter : List ℕ) where
   pub certificate_written : (policy : Policy) (cert : List ℕ) → IsBundle native bundle policy → IsYes policy filter cert
       → WritesMade {S = S} {T = Bool} held failures old new cert (Ok true) → Certifies held failures old new native bundle filter (Ok true)
   certificate_written policy cert means kept written =

@@ -3,6 +3,7 @@ use Rattle.std.proofs.Common.{◌≡◌, ℕ, inl, inr, Bool, true, List, refl, 
 use Rattle.std.specs.Prelude.{Option, Result, Ok, Err, ◌≢◌}
 use Rattle.call_tables.specs.declared.arch.Arch.{Arch}
 use Rattle.cert_check.specs.declared.checked.Checked.{Checked}
+use Rattle.export.specs.Failures.{Failures}
 use Rattle.export.specs.declared.form.Form.{Form}
 use Rattle.export.specs.Forms.{bytes_in}
 use Rattle.export.specs.Sink.{WritesMade}
@@ -12,7 +13,7 @@ use Rattle.pipeline.specs.declared.unready.Unready.{Unready}
 use Rattle.pipeline.specs.declared.unready.Unready.TheVariants as unready
 use Rattle.pipeline.specs.Exported.{Exports, IsCheckedOf, IsUnready, Refuses, WritesFilter}
 
-module _ {S : Type 0} (held : S → Option (List ℕ)) (failures : S → ℕ) (old new : S) where
+module _ {S : Type 0} (held : S → Option (List ℕ)) (failures : S → Failures) (old new : S) where
   -- a fault of writing, whatever was to be told
   pub as_failed : (T : Type 0) (bytes : List ℕ) (fault : ExportFault) → WritesMade {S = S} {T = T} held failures old new bytes (Err fault)
       → WritesMade {S = S} {T = Bool} held failures old new bytes (Err fault)

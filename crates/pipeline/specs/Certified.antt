@@ -13,6 +13,7 @@ use Rattle.certify.specs.Conviction.{Convicts}
 use Rattle.cert_walk.specs.declared.fault.CertifyError.TheVariants as maker
 use Rattle.cert_check.specs.Certified.{IsFirst}
 use Rattle.cert_check.specs.declared.fault.CheckError.TheVariants as error
+use Rattle.export.specs.Failures.{Failures}
 use Rattle.export.specs.Sink.{WritesMade}
 use Rattle.export.specs.declared.fault.ExportFault.{ExportFault}
 use Rattle.texts.specs.Lines.{line_feed}
@@ -60,7 +61,7 @@ IsOpen native bundle filter (Check e) =
 IsOpen native bundle filter OutOfMemory = ⊥
 
 -- what was written is a certificate with which the checker says yes, and the answer is true
-pub record WritesCertificate {S : Type 0} (held : S → Option (List ℕ)) (failures : S → ℕ) (old new : S) (native : Arch)
+pub record WritesCertificate {S : Type 0} (held : S → Option (List ℕ)) (failures : S → Failures) (old new : S) (native : Arch)
     (bundle filter : List ℕ) (result : Result Bool ExportFault) : Type 0 where
   pub cert : List ℕ
   pub is : IsFinding native bundle filter cert Yes
@@ -68,7 +69,7 @@ pub record WritesCertificate {S : Type 0} (held : S → Option (List ℕ)) (fail
   pub told : IfOk result (λ done. done ≡ true)
 
 -- what was written is the line of a record that convicts the filter, and the answer is false
-pub record WritesConviction {S : Type 0} (held : S → Option (List ℕ)) (failures : S → ℕ) (old new : S) (native : Arch)
+pub record WritesConviction {S : Type 0} (held : S → Option (List ℕ)) (failures : S → Failures) (old new : S) (native : Arch)
     (bundle filter : List ℕ) (result : Result Bool ExportFault) : Type 0 where
   pub rec : List ℕ
   pub given : ℕ
@@ -78,7 +79,7 @@ pub record WritesConviction {S : Type 0} (held : S → Option (List ℕ)) (failu
   pub told : IfOk result (λ done. done ≡ false)
 
 -- what was written is the line that says why there is neither, and the answer is false
-pub record WritesOpen {S : Type 0} (held : S → Option (List ℕ)) (failures : S → ℕ) (old new : S) (native : Arch)
+pub record WritesOpen {S : Type 0} (held : S → Option (List ℕ)) (failures : S → Failures) (old new : S) (native : Arch)
     (bundle filter : List ℕ) (result : Result Bool ExportFault) : Type 0 where
   pub unready : Unready
   pub is : IsOpen native bundle filter unready
@@ -86,7 +87,8 @@ pub record WritesOpen {S : Type 0} (held : S → Option (List ℕ)) (failures : 
   pub told : IfOk result (λ done. done ≡ false)
 
 -- what `ccell certify` writes for a bundle and a filter
-abbrev pub Certifies : {S : Type 0} → (S → Option (List ℕ)) → (S → ℕ) → S → S → Arch → List ℕ → List ℕ → Result Bool ExportFault → Type 0
+abbrev pub Certifies : {S : Type 0} → (S → Option (List ℕ)) → (S → Failures) → S → S → Arch → List ℕ → List ℕ
+    → Result Bool ExportFault → Type 0
 Certifies held failures old new native bundle filter result =
     WritesCertificate held failures old new native bundle filter result
     ⊎ (WritesConviction held failures old new native bundle filter result

@@ -17,6 +17,7 @@ use Rattle.cert_check.specs.Certified.{IsFirst}
 use Rattle.cert_check.specs.Checked.{profile_of, program_of}
 use Rattle.cert_check.specs.Fault.{text_of as error_text}
 use Rattle.cert_check.specs.Right.{IsRight}
+use Rattle.export.specs.Failures.{Failures}
 use Rattle.export.specs.Forms.{bytes_in}
 use Rattle.export.specs.Sink.{WritesMade}
 use Rattle.export.specs.declared.fault.ExportFault.{ExportFault}
@@ -68,7 +69,7 @@ abbrev pub IsToldAs : {E : Type 0} → (E → Unready) → E → E → Unready �
 IsToldAs step memory e unready = ((e ≡ memory) × (unready ≡ OutOfMemory)) ⊎ ((e ≢ memory) × (unready ≡ step e))
 
 -- what was written is a checked filter of the bundle in the form, and the answer is true
-pub record WritesFilter {S : Type 0} (held : S → Option (List ℕ)) (failures : S → ℕ) (old new : S) (native : Arch) (bundle : List ℕ)
+pub record WritesFilter {S : Type 0} (held : S → Option (List ℕ)) (failures : S → Failures) (old new : S) (native : Arch) (bundle : List ℕ)
     (form : Form) (result : Result Bool ExportFault) : Type 0 where
   pub checked : Checked
   pub is : IsCheckedOf native bundle checked
@@ -76,7 +77,7 @@ pub record WritesFilter {S : Type 0} (held : S → Option (List ℕ)) (failures 
   pub told : IfOk result (λ done. done ≡ true)
 
 -- what was written is the line that says why there is none, and the answer is false
-pub record WritesUnready {S : Type 0} (held : S → Option (List ℕ)) (failures : S → ℕ) (old new : S) (native : Arch) (bundle : List ℕ)
+pub record WritesUnready {S : Type 0} (held : S → Option (List ℕ)) (failures : S → Failures) (old new : S) (native : Arch) (bundle : List ℕ)
     (result : Result Bool ExportFault) : Type 0 where
   pub unready : Unready
   pub is : IsUnready native bundle unready
@@ -88,18 +89,20 @@ abbrev pub LacksMemory : {S : Type 0} → S → S → Result Bool ExportFault �
 LacksMemory old new result = (result ≡ Err fault.OutOfMemory) × (new ≡ old)
 
 -- what `ccell export` writes for a bundle
-abbrev pub Exports : {S : Type 0} → (S → Option (List ℕ)) → (S → ℕ) → S → S → Arch → List ℕ → Form → Result Bool ExportFault → Type 0
+abbrev pub Exports : {S : Type 0} → (S → Option (List ℕ)) → (S → Failures) → S → S → Arch → List ℕ → Form
+    → Result Bool ExportFault → Type 0
 Exports held failures old new native bundle form result =
     WritesFilter held failures old new native bundle form result
     ⊎ (WritesUnready held failures old new native bundle result ⊎ LacksMemory old new result)
 
 -- a checked filter of the bundle was written, or memory was refused
-abbrev pub ExportsFilter : {S : Type 0} → (S → Option (List ℕ)) → (S → ℕ) → S → S → Arch → List ℕ → Form → Result Bool ExportFault → Type 0
+abbrev pub ExportsFilter : {S : Type 0} → (S → Option (List ℕ)) → (S → Failures) → S → S → Arch → List ℕ → Form
+    → Result Bool ExportFault → Type 0
 ExportsFilter held failures old new native bundle form result =
     WritesFilter held failures old new native bundle form result ⊎ LacksMemory old new result
 
 -- what is written of a refusal, if it is one
-abbrev pub Refuses : {S : Type 0} → (S → Option (List ℕ)) → (S → ℕ) → S → S → Unready → Result Bool ExportFault → Type 0
+abbrev pub Refuses : {S : Type 0} → (S → Option (List ℕ)) → (S → Failures) → S → S → Unready → Result Bool ExportFault → Type 0
 Refuses held failures old new unready result =
     ((unready ≢ OutOfMemory) × WritesMade held failures old new (line_of unready) result × IfOk result (λ done. done ≡ false))
     ⊎ LacksMemory old new result

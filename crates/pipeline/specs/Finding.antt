@@ -15,6 +15,7 @@ use Rattle.cert_check.specs.declared.fault.CheckError.TheVariants as error
 use Rattle.cert_check.specs.Certified.{IsFirst, Kept}
 use Rattle.cert_check.specs.Fault.{text_of as error_text}
 use Rattle.cert_check.specs.Right.{IsRight}
+use Rattle.export.specs.Failures.{Failures}
 use Rattle.export.specs.Sink.{Writes}
 use Rattle.export.specs.declared.fault.ExportFault.{ExportFault}
 use Rattle.export.specs.declared.fault.ExportFault.TheVariants.{Write, OutOfMemory}
@@ -59,7 +60,7 @@ abbrev pub line_of : Finding → List ℕ
 line_of finding = text_of finding ++ line_feed ∷ []
 
 -- what was written is the line of what is found, and the call tells whether that is a yes
-pub record TellsFinding {S : Type 0} (held : S → Option (List ℕ)) (failures : S → ℕ) (old new : S) (native : Arch)
+pub record TellsFinding {S : Type 0} (held : S → Option (List ℕ)) (failures : S → Failures) (old new : S) (native : Arch)
     (bundle filter cert : List ℕ) (result : Result Bool ExportFault) : Type 0 where
   pub finding : Finding
   pub stands : IsFinding native bundle filter cert finding
@@ -67,7 +68,7 @@ pub record TellsFinding {S : Type 0} (held : S → Option (List ℕ)) (failures 
   pub told : IfOk result (λ yes. yes ≡ is_yes finding)
 
 -- the line was written, or a beginning of it; or memory was refused, and nothing was written
-abbrev pub WritesFinding : {S : Type 0} → (S → Option (List ℕ)) → (S → ℕ) → S → S → Arch → List ℕ → List ℕ → List ℕ
+abbrev pub WritesFinding : {S : Type 0} → (S → Option (List ℕ)) → (S → Failures) → S → S → Arch → List ℕ → List ℕ → List ℕ
     → Result Bool ExportFault → Type 0
 WritesFinding held failures old new native bundle filter cert (Ok told) =
     TellsFinding held failures old new native bundle filter cert (Ok told)

@@ -4,7 +4,7 @@ use Rattle.std.specs.Prelude.{Option, Some, None, Result, Ok, Err, IfOk}
 use Rattle.std.specs.Io.KnownBytes.{Appends}
 use Rattle.export.specs.declared.fault.ExportFault.{ExportFault}
 use Rattle.export.specs.declared.fault.ExportFault.TheVariants.{Write, OutOfMemory}
-use Rattle.export.specs.Failures.{HasFailed}
+use Rattle.export.specs.Failures.{Failures, HasFailed, NoneFailed}
 use Rattle.export.specs.Sink.{WritesMade}
 use Rattle.processes.specs.First.{by_program}
 use Rattle.lifecycle.specs.declared.command.Reply.{Reply}
@@ -22,7 +22,7 @@ use Rattle.session.specs.inner.Lines.{BreaksOff, GoesOn, RunsOut, Standing, Stan
 use Rattle.session.proofs.CarryLaws.{names}
 use Rattle.session.proofs.StandLaws.{broke_off, ran_out, went_on}
 
-module _ {S : Type 0} (sheld : S → Option (List ℕ)) (failures : S → ℕ) (bundles : Bundles) where
+module _ {S : Type 0} (sheld : S → Option (List ℕ)) (failures : S → Failures) (bundles : Bundles) where
   -- a reply was written
   pub answered : (line : List ℕ) (number : ℕ) (order : script.Order) (w w' : World) (old new : S) (result : Result ℕ ExportFault) (reply : Reply) (id : List ℕ)
       → LineIs bundles.native line (Some order) → CarriesOut bundles order w w' (Ok (Some reply)) → id ≡ id_in order
@@ -83,7 +83,7 @@ module _ {S : Type 0} (sheld : S → Option (List ℕ)) (failures : S → ℕ) (
 
 -- a fault of writing, and want of memory
 
-module _ {S : Type 0} (held : S → Option (List ℕ)) (failures : S → ℕ) (old new : S) (bytes : List ℕ) (fault : ExportFault)
+module _ {S : Type 0} (held : S → Option (List ℕ)) (failures : S → Failures) (old new : S) (bytes : List ℕ) (fault : ExportFault)
     (written : WritesMade {S = S} {T = ℕ} held failures old new bytes (Err fault)) where
   by_fault : (f : ExportFault) → fault ≡ f → WritesMade {S = S} {T = ℕ} held failures old new bytes (Err f)
   by_fault f e = subst (λ (f : ExportFault). WritesMade {S = S} {T = ℕ} held failures old new bytes (Err f)) e written
@@ -91,5 +91,5 @@ module _ {S : Type 0} (held : S → Option (List ℕ)) (failures : S → ℕ) (o
   pub failed_write : (m : ℕ) → fault ≡ Write m → HasFailed (failures old) (failures new)
   failed_write m e = (by_fault (Write m) e).2
 
-  pub not_asked : fault ≡ OutOfMemory → failures new ≡ failures old
-  not_asked e = ap failures (by_fault OutOfMemory e)
+  pub not_asked : fault ≡ OutOfMemory → NoneFailed (failures old) (failures new)
+  not_asked e = ap (λ s. (failures s).count) (by_fault OutOfMemory e)

@@ -1,7 +1,7 @@
 -- What a run of a script has read and written.
 use Rattle.std.specs.Prelude.{ℕ, ◌≡◌, ◌+◌, ◌<◌, ◌≤◌, ◌⊎◌, List, [], ◌∷◌, ◌++◌, length, take, Option, Result, Err}
 use Rattle.std.specs.Io.KnownBytes.{Appends, Consumes, IsAtEnd}
-use Rattle.export.specs.Failures.{HasFailed}
+use Rattle.export.specs.Failures.{Failures, HasFailed, NoneFailed}
 use Rattle.processes.specs.First.{by_profile}
 use Rattle.lifecycle.specs.Orders.{Order}
 use Rattle.script.specs.Lines.{Parts, lines_of}
@@ -71,12 +71,12 @@ pub record StopsForMemory (bundles : Bundles) (left left' held held' : Option (L
   pub written : Appends held held' (answer_of by_profile commands)
   pub told : line ≡ counted (length commands + 1)
 
--- By how many calls of the source failed before and after: one failed where a failed read is told, and else none.
-abbrev pub TellsFailedRead : {T : Type 0} → ℕ → ℕ → Result T ScriptFault → Type 0
+-- By which calls of the source failed before and after: where a failed read is told just one did, the last; and else none.
+abbrev pub TellsFailedRead : {T : Type 0} → Failures → Failures → Result T ScriptFault → Type 0
 TellsFailedRead old new (Err (Read line)) = HasFailed old new
-TellsFailedRead old new other = new ≡ old
+TellsFailedRead old new other = NoneFailed old new
 
 -- The same of the sink, and of a failed write.
-abbrev pub TellsFailedWrite : {T : Type 0} → ℕ → ℕ → Result T ScriptFault → Type 0
+abbrev pub TellsFailedWrite : {T : Type 0} → Failures → Failures → Result T ScriptFault → Type 0
 TellsFailedWrite old new (Err (Write out)) = HasFailed old new
-TellsFailedWrite old new other = new ≡ old
+TellsFailedWrite old new other = NoneFailed old new

@@ -2,7 +2,7 @@
 ghost use Rattle.std.specs.Prelude.{◌≡◌, ◌<◌, ◌⊎◌, ℕ, Err, IfOk, OnOk, OnErr, None};
 ghost use Rattle.std.specs.Option.{option_to_list};
 ghost use Rattle.std.specs.Io.KnownBytes.{Consumes, IsAtEnd, Keeps};
-ghost use Rattle.export.specs.Failures.{one_more};
+ghost use Rattle.export.specs.Failures.{HasFailed, NoneFailed};
 ghost use Rattle.session.specs.Scripts.{IsAnswered, StopsForMemory, StopsReading, StopsWriting, TellsFailedRead, TellsFailedWrite};
 ghost use Rattle.session.specs.declared.fault.ScriptFault.TheVariants as fault;
 ghost use Rattle.session.specs.inner.Lines.{HasCome};
@@ -19,8 +19,8 @@ fn next_byte<I: Source>(source: &mut I) -> Result<Option<u8>, Failed>
     ensures byte { IfOk result (λ b. Consumes (I.left source.old) (I.left source.new) (option_to_list b)) }
     ensures end { IfOk result (λ b. b ≡ None → IsAtEnd (I.left source.new)) }
     ensures err { OnErr result (Keeps (I.left source.old) (I.left source.new)) }
-    ensures failed { OnErr result (I.failures source.new ≡ one_more (I.failures source.old)) }
-    ensures none_failed { OnOk result (I.failures source.new ≡ I.failures source.old) }
+    ensures failed { OnErr result (HasFailed (I.failures source.old) (I.failures source.new)) }
+    ensures none_failed { OnOk result (NoneFailed (I.failures source.old) (I.failures source.new)) }
     ensures calls { OnOk result (I.calls source.new < I.calls source.old) }
 {
     let mut bytes = [0];
@@ -85,7 +85,7 @@ pub fn run_script<I: Source, O: Sink>(
     ensures memory { (line : ℕ) → result ≡ Err (fault.Memory line)
         → StopsForMemory bundles.now (I.left source.old) (I.left source.new) (O.held sink.old) (O.held sink.new) line
         ⊎ ((line ≡ 0) × (source.new ≡ source.old) × (sink.new ≡ sink.old)) }
-    // No call fails but the one that is told.
+    // No call fails but the one that is told, and that is the last.
     ensures failed_read { TellsFailedRead (I.failures source.old) (I.failures source.new) result }
     ensures failed_write { TellsFailedWrite (O.failures sink.old) (O.failures sink.new) result }
 {
