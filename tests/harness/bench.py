@@ -4,6 +4,7 @@ import subprocess
 from harness import library
 from harness.ask import ask_all
 from harness.blocks import ask_blocks, whole_bundle
+from harness.pace import pace
 from harness.program import Program, is_input, words_of
 from harness.rows import Fault
 from harness.shelf import Shelf, assembled, split_in
@@ -43,6 +44,8 @@ class Bench:
             self.program.own(row, rest)
         elif word == "certify":
             self.program.certify(row, rest)
+        elif word == "pace":
+            row.tell(pace(self.shelf, rest))
         elif word in Streams.WORDS:
             row.tell(self.streams.answer(word, rest))
         elif word not in ("", "#"):

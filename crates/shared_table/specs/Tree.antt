@@ -1,10 +1,11 @@
 -- A tree of filters. Each names the one below it, which stands before it, and its place is its load number; the list of a
 -- task is the way down from the place that the task holds.
-use Rattle.std.specs.Prelude.{ℕ, ◌≡◌, ◌<◌, ◌≤◌, ◌^◌, Bool, List, [], ◌∷◌, ◌++◌, Option, Some, None, get_or, length, map, slice_get}
+use Rattle.std.specs.Prelude.{ℕ, ◌≡◌, ◌<◌, ◌≤◌, ◌^◌, Bool, true, List, [], ◌∷◌, ◌++◌, Option, Some, None, get_or, length, map, slice_get}
 use Rattle.std.specs.List.{list_all}
 use Rattle.bpf_insn.specs.declared.instruction.Insn.{Insn}
 use Rattle.bpf_interp.specs.Fixed.{is_fixed_allow}
-use Rattle.processes.specs.Stores.{program_filter, size_beside}
+use Rattle.processes.specs.Kernel.{is_oldest_part}
+use Rattle.processes.specs.Stores.{loads_in, program_filter, size_beside}
 use Rattle.processes.specs.Tasks.{Filter}
 use Rattle.shared_table.specs.declared.node.Node.{Node}
 use Rattle.shared_table.specs.Numbers.{is_in}
@@ -49,9 +50,20 @@ pub record IsKept (arch : ℕ) (way : Way) (n : Node) : Type 0 where
   pub small : n.size ≤ 32772
   pub allowed : (nr : ℕ) → nr < 512 → is_in n.allowed.words nr ≡ all_allow arch way nr
 
--- a tree: there is a first filter, each filter's parent stands before it, and each keeps what its way has
+-- a way is what is left of another further down, by their load numbers
+abbrev pub IsLeft : Way → Way → Type 0
+IsLeft low way = is_oldest_part (loads_in (filters_on low)) (loads_in (filters_on way)) ≡ true
+
+-- a place is further down than another: it stands before it, and its way is what is left of the other's
+pub record IsFurther (nodes : List Node) (place low : ℕ) : Type 0 where
+  pub before : low < place
+  pub left : IsLeft (way_from nodes low) (way_from nodes place)
+
+-- a tree: there is a first filter, each filter's parent stands before it, it jumps further down, and it keeps what its way
+-- has
 pub record IsTree (arch : ℕ) (nodes : List Node) : Type 0 where
   pub some : 1 ≤ length nodes
   pub few : length nodes ≤ 2 ^ 32
   pub before : (i p : ℕ) (n : Node) → slice_get nodes i ≡ Some n → n.below ≡ Some p → p < i
+  pub jumps : (i p : ℕ) (n : Node) → slice_get nodes i ≡ Some n → n.jump ≡ Some p → IsFurther nodes i p
   pub kept : (i : ℕ) (n : Node) → slice_get nodes i ≡ Some n → IsKept arch (way_from nodes i) n

@@ -14,6 +14,8 @@ pub(crate) struct Node {
     pub(crate) program: AcceptedBuf,
     /// The place of the filter below it.
     pub(crate) below: Option<u32>,
+    /// The place of a filter further down, to which a walk to a deep one jumps.
+    pub(crate) jump: Option<u32>,
     /// How many filters are on the way down from it.
     pub(crate) depth: u32,
     /// For how many instructions these count beside a further one.

@@ -26,14 +26,14 @@ pub struct Place {
 }
 
 impl Tree {
-    ghost use Rattle.std.specs.Prelude.{◌+◌, ◌≤◌, ◌&&◌, MatchOption, Some, length, map, nat_lt, slice_get};
+    ghost use Rattle.std.specs.Prelude.{ℕ, ◌+◌, ◌<◌, ◌≤◌, ◌&&◌, IfSome, MatchOption, Some, length, map, nat_lt, slice_get};
     ghost use Rattle.call_record.specs.Verdict.{strictest_of};
     ghost use Rattle.call_tables.specs.Arch.{token_of};
     ghost use Rattle.kernel_check.specs.Lent.{accepted_insns};
     ghost use Rattle.processes.specs.Stores.{size_beside};
     ghost use Rattle.shared_table.specs.Store.{filters_of, way_of};
-    ghost use Rattle.shared_table.specs.Tree.{all_allow, filters_on, way_from};
-    ghost use Rattle.shared_table.specs.inner.On.{IsOn};
+    ghost use Rattle.shared_table.specs.Tree.{IsFurther, IsLeft, all_allow, filters_on, way_from};
+    ghost use Rattle.shared_table.specs.inner.On.{GoesOn, IsOn};
 
     /// Whether each filter on the way down from a place allows the calls of this number on the
     /// container's machine, whatever else the record holds. It is known of numbers below 512.
@@ -55,6 +55,57 @@ impl Tree {
             (λ node. slice_get self.now.nodes.items place ≡ Some node.now) }
     {
         self.nodes.get(place as usize)
+    }
+
+    // How many filters are on the way down from a place.
+    fn depth_at(&self, place: u32) -> u32
+        ensures { result ≡ length (way_from self.now.nodes.items place) }
+    {
+        match self.node_at(place) {
+            None => 0,
+            Some(node) => node.depth,
+        }
+    }
+
+    // How far the filter at a place jumps, and where to.
+    fn jump_at(&self, place: u32) -> Option<(u32, u32)>
+        ensures { IfSome result (λ jump. IsFurther self.now.nodes.items place jump.1) }
+    {
+        let node = self.node_at(place)?;
+        let to = node.jump?;
+        Some((node.depth - self.depth_at(to), to))
+    }
+
+    // Where a filter in front of a place jumps to: as far as the next two jumps together, where they are of one length,
+    // and else to the place. So a filter on the way down is come to in some logarithm of its depth of steps.
+    fn jump_from(&self, place: u32) -> u32
+        requires { place < length self.now.nodes.items }
+        ensures within { result < length self.now.nodes.items }
+        ensures left { IsLeft (way_from self.now.nodes.items result) (way_from self.now.nodes.items place) }
+    {
+        let Some((length, to)) = self.jump_at(place) else {
+            return place;
+        };
+        let Some((next, far)) = self.jump_at(to) else {
+            return place;
+        };
+        if length == next {
+            return far;
+        }
+        place
+    }
+
+    // Where a walk goes on from a filter to those of a depth: it jumps, unless that leads too deep.
+    fn down_to(&self, node: &Node, depth: u32) -> Option<u32>
+        requires { depth < node.now.depth }
+        ensures { (i : ℕ) → slice_get self.now.nodes.items i ≡ Some node.now → GoesOn self.now.nodes.items i depth result }
+    {
+        if let Some(to) = node.jump {
+            if self.depth_at(to) >= depth {
+                return Some(to);
+            }
+        }
+        node.below
     }
 
     // The strictest word of the filters on the way down from a place.
@@ -94,6 +145,7 @@ impl Tree {
             None => Ok(Node {
                 program: copy,
                 below: None,
+                jump: None,
                 depth: 1,
                 size: own,
                 allowed: Numbers::allowed(program, self.arch, None),
@@ -101,6 +153,7 @@ impl Tree {
             Some(node) => Ok(Node {
                 program: copy,
                 below: Some(place.at),
+                jump: Some(self.jump_from(place.at)),
                 depth: node.depth + 1,
                 size: node.size + own,
                 allowed: Numbers::allowed(program, self.arch, Some(node.allowed)),
@@ -129,6 +182,7 @@ impl Store for Tree {
         nodes.push(Node {
             program: AcceptedBuf::copy_of(alloc, program)?,
             below: None,
+            jump: None,
             depth: 1,
             size: own,
             allowed: Numbers::allowed(program, arch, None),
@@ -159,10 +213,7 @@ impl Store for Tree {
     }
 
     fn len(&self, handle: &Place) -> u32 {
-        match self.node_at(handle.at) {
-            None => 0,
-            Some(node) => node.depth,
-        }
+        self.depth_at(handle.at)
     }
 
     fn size(&self, handle: &Place) -> u32 {
@@ -189,7 +240,7 @@ impl Store for Tree {
             if node.depth <= depth {
                 return at == older.at;
             }
-            next = node.below;
+            next = self.down_to(node, depth);
         }
         depth == 0
     }

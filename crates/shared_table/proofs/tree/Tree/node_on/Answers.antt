@@ -1,9 +1,9 @@
-use Rattle.std.proofs.Common.{◌≡◌, ◌+◌, ◌∷◌, [], ◌<◌, ◌≤◌, ◌&&◌, length, refl, ap, sym, ◌∙◌, arith}
+use Rattle.std.proofs.Common.{◌≡◌, ◌+◌, ◌∷◌, [], ◌<◌, ◌≤◌, ◌&&◌, length, refl, ap, sym, subst, ◌∙◌, arith}
 use Rattle.std.proofs.lemmas.Option.{slice_get_within}
 use Rattle.bpf_interp.specs.Fixed.{is_fixed_allow}
 use Rattle.kernel_check.specs.Lent.{accepted_insns}
 use Rattle.processes.specs.Stores.{size_beside}
-use Rattle.shared_table.specs.Tree.{IsKept, Way, filters_on, way_from}
+use Rattle.shared_table.specs.Tree.{IsKept, IsLeft, Way, filters_on, way_from}
 use Rattle.shared_table.proofs.Ways.{few_on, size_cons, way_past}
 use Rattle.shared_table.proofs.tree.Tree.node_on.Goals as goal
 
@@ -29,6 +29,7 @@ returns-in-None c =
       program_is = c.in_ok-copy.ensures;
       before = λ p e. absurd (cc);
       way = sym none;
+      jumps = λ p e. absurd (cc);
       kept = rw none (record {
         depth = refl;
         size = omega arith;
@@ -56,6 +57,9 @@ returns-in-Some c =
       program_is = c.in_ok-copy.ensures;
       before = λ p e. let same : at ≡ p = cc in omega arith;
       way = refl;
+      jumps = λ p e.
+          let same : c.jump_from.result ≡ p = cc in
+          subst (λ k. (k < length nodes) × IsLeft (way_from nodes k) (way_from nodes at)) same (c.jump_from.ensures.within, c.jump_from.ensures.left);
       kept = record {
         depth = omega arith;
         size = omega arith;

@@ -2,7 +2,8 @@ use Rattle.std.proofs.Common.{◌≡◌, ℕ, ◌+◌, ◌∷◌, [], ◌≤◌,
 use Rattle.processes.specs.Kernel.{is_oldest_part}
 use Rattle.processes.specs.Stores.{loads_in}
 use Rattle.shared_table.specs.Tree.{Way, filters_on, way_below, way_from, ways_from}
-use Rattle.shared_table.proofs.Ways.{long_loads, long_on, one_less, part_here, part_of_none, way_is, way_past}
+use Rattle.shared_table.specs.inner.On.{GoesOn}
+use Rattle.shared_table.proofs.Ways.{front_less, long_loads, long_on, part_here, part_of_none, way_past}
 use Rattle.shared_table.proofs.tree.TreeStore.is_oldest_part.Goals as goal
 
 pub returns-in_default-node_at : goal.returns-in_default-node_at
@@ -38,15 +39,10 @@ down-preserved c =
     let nodes = tree.nodes.items in
     let older : Way = way_from nodes c.args.older.now.at in
     let old : List ℕ = loads_in (filters_on older) in
-    let m = c.in-Some-node_at.node.now in
-    let rest : Way = way_below (ways_from [] nodes) m.below in
-    let here : way_from nodes c.in-Some.at ≡ (c.in-Some.at, m.program) ∷ rest =
-    way_is tree.arch nodes c.in-Some.at m tree.tree c.in-Some-node_at.ensures in
-    let depth : m.depth ≡ length (way_from nodes c.in-Some.at) = (tree.tree.kept c.in-Some.at m c.in-Some-node_at.ensures).depth in
-    let more : length (way_from nodes c.in-Some.at) ≡ length rest + 1 = ap length here ∙ omega arith in
+    let on : GoesOn nodes c.in-Some.at c.len-depth.result c.down_to-next.result = c.down_to-next.ensures c.in-Some.at c.in-Some-node_at.ensures in
+    let rest : Way = way_below (ways_from [] nodes) c.down_to-next.result in
+    let deep : c.len-depth.result ≤ length rest = on.deep in
     let many : c.len-depth.result ≡ length older = c.len-depth.ensures ∙ long_on older in
-    let shorter : length old ≤ length (loads_in (filters_on rest)) = omega (arith, long_loads older, long_loads rest) in
-    sym (one_less old (loads_in (filters_on rest)) c.in-Some.at shorter)
-    ∙ ap (λ (w : Way). is_oldest_part old (loads_in (filters_on w))) (sym here)
+    sym (front_less old rest (way_from nodes c.in-Some.at) on.left (omega (arith, long_loads older)))
     ∙ ap (λ o. is_oldest_part old (loads_in (filters_on (way_below (ways_from [] nodes) o)))) (sym c.in-Some.is)
     ∙ c.down.invariant
