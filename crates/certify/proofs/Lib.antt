@@ -15,3 +15,4 @@ pub mod WholeLaws
 pub mod OwnLaws
 pub mod TableLaws
 pub mod UnlikeLaws
+pub mod ShapeLaws

@@ -2,3 +2,4 @@ pub mod Own
 pub mod Tables
 pub mod inner
 pub mod Conviction
+pub mod Right

@@ -1,5 +1,6 @@
 //! What own work comes to, as laws of the definitions.
 ghost use Rattle.certify.specs.Own.{OwnWorkIsKept};
+ghost use Rattle.certify.specs.Right.{ShapeIsRight};
 ghost use Rattle.certify.specs.Tables.{TableProfilesArePlain};
 
 /// A certificate that `certify` promises for a profile without conditions breaks no rule that the checker looks for.
@@ -11,4 +12,10 @@ pub fn own_work_is_kept()
 /// for.
 pub fn table_profiles_are_plain()
     ensures { TableProfilesArePlain }
+{}
+
+/// A filter that has the shape of the filters of a profile without conditions is right: the kernel's machine gives each
+/// call record the word that the profile says.
+pub fn shape_is_right()
+    ensures { ShapeIsRight }
 {}
