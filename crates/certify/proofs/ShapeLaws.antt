@@ -1,15 +1,15 @@
 -- The machine answers a record as a filter of calls answers the call of its token and its number.
-use Rattle.std.proofs.Common.{◌≡◌, ℕ, zero, suc, ◌+◌, ◌<◌, ◌^◌, Bool, true, false, cond, eqb, List, [], ◌∷◌, length, refl, ap}
+use Rattle.std.proofs.Common.{◌≡◌, ℕ, zero, suc, ◌<◌, Bool, true, false, cond, eqb, List, [], ◌∷◌, length, refl, ap}
 use Rattle.std.proofs.Common.{sym, ◌∙◌, subst, arith}
 use Rattle.std.specs.Prelude.{Option, Some, None, slice_get, slice_index}
 use Rattle.std.specs.Option.{option_map}
-use Rattle.std.specs.List.{All, Any, Contains}
+use Rattle.std.specs.List.{All, Any}
 use Rattle.std.proofs.lemmas.Bool.{eqb-true}
-use Rattle.std.proofs.lemmas.List.Elements.{All-contains, All-nil, All-weaker}
+use Rattle.std.proofs.lemmas.List.Elements.{All-contains, All-nil}
 use Rattle.std.proofs.lemmas.Option.{none-some, same_Some, slice_get-get_or}
-use Rattle.bpf_insn.specs.declared.code.Operand.TheVariants.{K, X}
+use Rattle.bpf_insn.specs.declared.code.Operand.TheVariants.{K}
 use Rattle.bpf_insn.specs.declared.code.Test.{Test}
-use Rattle.bpf_insn.specs.declared.code.Test.TheVariants.{Equal, Greater, AtLeast, AnyBit}
+use Rattle.bpf_insn.specs.declared.code.Test.TheVariants.{Equal, AtLeast}
 use Rattle.bpf_insn.specs.declared.code.Operation.{Operation}
 use Rattle.bpf_insn.specs.declared.code.Operation.TheVariants.{LoadWord, ReturnK, Jump, Branch}
 use Rattle.bpf_insn.specs.declared.instruction.Insn.{Insn}
@@ -25,8 +25,8 @@ use Rattle.profile.specs.Rule.{Matches}
 use Rattle.profile.specs.Policy.{IsNative, Policy, Says, least_x32_number}
 use Rattle.profile.specs.Said.{said}
 use Rattle.profile.proofs.SaidLaws.{each_record_is_said_one_word}
-use Rattle.rule_compile.specs.Moves.{Goes, Move, move_at}
-use Rattle.rule_compile.specs.Shape.{IsCallFilter, IsPlain, IsPlainRule, answer, answer_by, call}
+use Rattle.rule_compile.specs.Moves.{Goes, move_at}
+use Rattle.rule_compile.specs.Shape.{IsPlain, IsPlainRule, answer, answer_by, call}
 use Rattle.certify.specs.Right.{ShapeIsRight}
 use Rattle.rule_compile.proofs.RangeLaws.{call_is_record}
 
