@@ -49,7 +49,9 @@ right_for native bundle policy p means accepted right = record {
 
 of_checked : (native : Arch) (text : List ℕ) (given : Checked) → IsCheckedOf native text given
     → IsRightFor native text (profile_of given) (program_of given)
-of_checked native text given is = right_for native text (profile_of given) (program_of given) is.means is.accepted is.right
+of_checked native text given is =
+    right_for native text (profile_of given) (program_of given) is.means (subst IsAccepted is.read is.yes.accepted)
+    (subst (IsRight (profile_of given)) is.read is.yes.right)
 
 same_name : (a b : List ℕ) → Decides (same_text a b) (a ≡ b)
 same_name a b = slice_eq-Decides Decides-eqb a b (same_text a b) refl

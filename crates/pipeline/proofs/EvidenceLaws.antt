@@ -1,6 +1,6 @@
 -- What certify writes, by what its parts do; and a certificate and a record that convicts exclude one another.
 use Rattle.std.proofs.Common.{◌≡◌, ◌<◌, ◌++◌, append_assoc, ℕ, length, String, Global, inl, inr, Bool, true, List, refl, sym, subst, ◌∙◌}
-use Rattle.std.specs.Prelude.{[], IfOk, slice_index, string_bytes, Option, Some, None, Result, Ok, Err, ◌≢◌}
+use Rattle.std.specs.Prelude.{[], IfOk, IfSome, slice_index, string_bytes, Option, Some, None, Result, Ok, Err, ◌≢◌}
 use Rattle.std.proofs.lemmas.Option.{same_Some}
 use Rattle.call_tables.specs.declared.arch.Arch.{Arch}
 use Rattle.call_record.specs.Words.{IsRecord, words_of}
@@ -11,19 +11,31 @@ use Rattle.kernel_check.specs.Accepted.{IsRefusal}
 use Rattle.kernel_check.specs.declared.fault.Refused.{Refused}
 use Rattle.cert_check.proofs.FirstLaws.{first_kernel, first_view}
 use Rattle.cert_check.specs.declared.fault.CheckError.TheVariants as error
+use Rattle.cert_check.specs.Certified.{IsFirst}
+use Rattle.cert_check.specs.declared.fault.CheckError.{CheckError}
 use Rattle.cert_check.specs.Right.{IsRight}
 use Rattle.cert_walk.specs.declared.fault.CertifyError.{CertifyError}
 use Rattle.cert_walk.specs.declared.fault.CertifyError.TheVariants as maker
 use Rattle.certify.specs.Conviction.{Convicts}
 use Rattle.export.specs.Failures.{Failures}
+use Rattle.certify.specs.Own.{IsOwnWork}
+use Rattle.certify.proofs.OwnLaws.{accepted}
 use Rattle.export.specs.Sink.{StopsAt, Writes, WritesMade}
 use Rattle.export.specs.declared.fault.ExportFault.{ExportFault}
 use Rattle.export.specs.declared.fault.ExportFault.TheVariants as fault
 use Rattle.profile.specs.Policy.{Policy}
+use Rattle.profile_json.specs.declared.fault.ProfileError.{ProfileError}
+use Rattle.profile_json.specs.declared.fault.ProfileError.TheVariants as refusal
+use Rattle.profile_json.specs.Breaks.{Breaks}
+use Rattle.profile_json.specs.Fault.{fault_of}
 use Rattle.profile_json.specs.Laws.{MeaningIsOne}
+use Rattle.profile_json.proofs.unbroken.Unbroken.{meaning_is_one, meaning_is_unbroken}
+use Rattle.rule_compile.specs.Shape.{IsCallFilter, IsPlain}
 use Rattle.pipeline.proofs.ExportLaws.{as_failed}
-use Rattle.pipeline.proofs.FindingLaws.{one_policy}
-use Rattle.pipeline.specs.Certified.{AreJudged, Certifies, EvidenceExcludes, IsOpen, WritesCertificate, conviction_line}
+use Rattle.pipeline.proofs.FindingLaws.{no_fault, one_policy}
+use Rattle.pipeline.proofs.PlainLaws.{plain}
+use Rattle.pipeline.specs.Certified.{AreJudged, Certifies, CertifiesOwn, EvidenceExcludes, IsOpen, IsOwnFilter, WritesCertificate}
+use Rattle.pipeline.specs.Certified.{conviction_line}
 use Rattle.pipeline.specs.Exported.{IsToldAs, Refuses}
 use Rattle.pipeline.specs.Finding.{IsBundle, IsYes}
 use Rattle.pipeline.specs.declared.unready.Unready.{Unready}
@@ -139,3 +151,51 @@ evidence_excludes one native bundle filter cert rec given said found convicted =
     let same : found.0 ≡ convicted.policy = one_policy one native bundle found.0 convicted.policy found.1 convicted.judged.means in
     right_is_not_convicted convicted.policy (insns_of filter) (words_of rec) given said
     (subst (λ (q : Policy). IsRight q (insns_of filter)) same found.2.right) convicted.call.words convicted.convicts
+
+-- ---- a filter of this project's own
+
+module _ (native : Arch) (bundle filter : List ℕ) (policy : Policy) (own : IsOwnFilter native bundle filter policy) where
+  own_plain : IsPlain policy
+  own_plain = plain native bundle policy own.means own.plain
+
+  -- the maker gives nothing for want of memory alone
+  pub own_certify : (p : List Insn) → p ≡ insns_of filter → (e : CertifyError) (u : Unready)
+      → IsToldAs unready.Certify maker.OutOfMemory e u
+      → (IsPlain policy → IsCallFilter policy p → e ≡ maker.OutOfMemory) → u ≡ unready.OutOfMemory
+  own_certify p same e u (inl h) never = h.1
+  own_certify p same e u (inr h) never = absurd (h.0 (never own_plain (subst (IsCallFilter policy) (sym same) own.shape)))
+
+  -- and so does the checker
+  pub own_check : (p : List Insn) → p ≡ insns_of filter → (cert : List ℕ) (e : CheckError) (u : Unready)
+      → IsToldAs unready.Check error.OutOfMemory e u
+      → (IsPlain policy → IsCallFilter policy p → IsOwnWork policy p cert) → (e ≢ error.OutOfMemory → IsFirst policy filter cert e)
+      → u ≡ unready.OutOfMemory
+  own_check p same cert e u (inl h) work first = h.1
+  own_check p same cert e u (inr h) work first =
+      let made = work own_plain (subst (IsCallFilter policy) (sym same) own.shape) in
+      let kept = accepted policy filter cert own.program own.shape (subst (λ (q : List Insn). IsOwnWork policy q cert) same made) in
+      absurd ((first h.0).broken (kept e))
+
+  module _ {S : Type 0} (held : S → Option (List ℕ)) (failures : S → Failures) (old new : S) where
+    -- a bundle that means a profile is refused for want of memory alone
+    pub own_refused : (e : ProfileError) (u : Unready) (result : Result Bool ExportFault)
+        → IfSome (fault_of e) (Breaks bundle native) → IsToldAs unready.Profile refusal.OutOfMemory e u
+        → Refuses held failures old new u result → CertifiesOwn held failures old new native bundle filter result
+    own_refused e u result stands told (inr h) = inr h
+    own_refused e u result stands (inl memory) (inl h) = absurd (h.0 memory.1)
+    own_refused e u result stands (inr step) (inl h) =
+        absurd (no_fault meaning_is_unbroken meaning_is_one native bundle policy e own.means step.0 stands)
+
+    -- what is written of a certificate
+    pub own_written : (cert : List ℕ) → IsYes policy filter cert → WritesMade {S = S} {T = Bool} held failures old new cert (Ok true)
+        → CertifiesOwn held failures old new native bundle filter (Ok true)
+    own_written cert kept written =
+        inl (record { cert = cert; is = (policy, own.means, kept); written = written; told = refl })
+
+    pub own_failed : (T : Type 0) (cert : List ℕ) (fault : ExportFault) (result : Result Bool ExportFault) → IsYes policy filter cert
+        → WritesMade {S = S} {T = T} held failures old new cert (Err fault) → result ≡ Err fault
+        → CertifiesOwn held failures old new native bundle filter result
+    own_failed T cert fault result kept written e =
+        let here : WritesCertificate held failures old new native bundle filter (Err fault) =
+        record { cert = cert; is = (policy, own.means, kept); written = as_failed held failures old new T cert fault written; told = tt } in
+        inl (subst (λ (r : Result Bool ExportFault). WritesCertificate held failures old new native bundle filter r) (sym e) here)

@@ -1,17 +1,41 @@
 -- What export writes, by what its parts do.
-use Rattle.std.proofs.Common.{◌≡◌, ℕ, inl, inr, Bool, true, List, refl, sym, subst}
-use Rattle.std.specs.Prelude.{Option, Result, Ok, Err, ◌≢◌}
+use Rattle.std.proofs.Common.{◌≡◌, ◌%◌, ℕ, inl, inr, arith, Bool, true, List, length, refl, ap, sym, subst, ◌∙◌}
+use Rattle.std.proofs.lemmas.Bool.Decides.{nat_tests}
+use Rattle.std.specs.Prelude.{Option, None, Result, Ok, Err, ◌≢◌}
+use Rattle.bpf_insn.specs.Bytes.{insns_of, spelling, view_fault}
+use Rattle.bpf_insn.specs.declared.fault.ViewError.TheVariants.{NotMultipleOf8}
 use Rattle.call_tables.specs.declared.arch.Arch.{Arch}
 use Rattle.cert_check.specs.declared.checked.Checked.{Checked}
+use Rattle.cert_check.specs.declared.fault.CheckError.TheVariants.{View}
+use Rattle.cert_check.specs.Checked.{cert_of, profile_of, program_of}
 use Rattle.export.specs.Failures.{Failures}
 use Rattle.export.specs.declared.form.Form.{Form}
+use Rattle.export.specs.declared.form.Form.TheVariants.{Raw}
 use Rattle.export.specs.Forms.{bytes_in}
 use Rattle.export.specs.Sink.{WritesMade}
 use Rattle.export.specs.declared.fault.ExportFault.{ExportFault}
 use Rattle.export.specs.declared.fault.ExportFault.TheVariants.{Write, OutOfMemory}
 use Rattle.pipeline.specs.declared.unready.Unready.{Unready}
 use Rattle.pipeline.specs.declared.unready.Unready.TheVariants as unready
+use Rattle.profile.specs.Policy.{Policy}
+use Rattle.pipeline.specs.Finding.{IsBundle, IsYes}
 use Rattle.pipeline.specs.Exported.{Exports, IsCheckedOf, IsUnready, Refuses, WritesFilter}
+
+-- the bytes of a program are eight for each instruction
+pub in_eights : (bytes : List ℕ) → view_fault bytes ≡ None → length bytes % 8 ≡ 0
+in_eights bytes h = grind (arith, nat_tests)
+
+-- what the checker said yes to goes out in its forms
+pub is_checked : (native : Arch) (bundle : List ℕ) (policy : Policy) (filter cert : List ℕ) (c : Checked) → IsBundle native bundle policy
+    → profile_of c ≡ policy → program_of c ≡ insns_of filter → cert_of c ≡ cert
+    → (view_fault filter ≡ None → spelling (insns_of filter) ≡ filter) → IsYes policy filter cert → IsCheckedOf native bundle c
+is_checked native bundle policy filter cert c means profile program certificate spelled kept =
+    let bytes : bytes_in Raw c ≡ filter = ap spelling program ∙ spelled (kept.kept (View NotMultipleOf8)) in record {
+      means = subst (IsBundle native bundle) (sym profile) means;
+      read = ap insns_of bytes ∙ sym program;
+      yes = subst (λ (p : Policy). IsYes p (bytes_in Raw c) (cert_of c)) (sym profile)
+          (subst (λ (f : List ℕ). IsYes policy f (cert_of c)) (sym bytes) (subst (IsYes policy filter) (sym certificate) kept));
+    }
 
 module _ {S : Type 0} (held : S → Option (List ℕ)) (failures : S → Failures) (old new : S) where
   -- a fault of writing, whatever was to be told

@@ -2,7 +2,7 @@
 use Rattle.std.proofs.Common.{◌≡◌, ℕ, inl, inr, Bool, List, [], sym, ap, subst, ◌∙◌}
 use Rattle.std.specs.Prelude.{◌≢◌, Option, Some, None, Result, Ok, Err, IfErr, IfOk}
 use Rattle.std.specs.Result.{IsErrAnd}
-use Rattle.std.specs.List.{All, Contains}
+use Rattle.std.specs.List.{Contains}
 use Rattle.std.proofs.lemmas.List.Elements.{All-contains, All-contains_itself, All-weaker}
 use Rattle.bpf_insn.specs.declared.instruction.Insn.{Insn}
 use Rattle.bpf_insn.specs.Bytes.{insns_of, view_fault}
@@ -38,7 +38,7 @@ use Rattle.pipeline.specs.declared.unready.Unready.TheVariants.{Profile, Compile
 use Rattle.pipeline.specs.Exported.{Exports, ExportsFilter, IsToldAs, IsUnready}
 use Rattle.pipeline.specs.Finding.{IsBundle}
 use Rattle.pipeline.specs.Plain.{HasConditions, HasNoConditions, IsPlainBundle}
-use Rattle.pipeline.specs.Prepared.{IsPrepared, IsUnbroken}
+use Rattle.pipeline.specs.Prepared.{IsPrepared, IsTaken, IsUnbroken}
 use Rattle.pipeline.proofs.FindingLaws.{no_fault, one_policy}
 
 -- ---- the calls of a bundle's profile
@@ -107,8 +107,20 @@ not_checked : (policy : Policy) (filter cert : List ℕ) (e : CheckError) (u : U
     → u ≢ OutOfMemory → IsUnready native bundle u
 not_checked policy filter cert e u first (inl h) native bundle is other = absurd (other h.1)
 not_checked policy filter cert e u first (inr h) native bundle is other =
-    subst (IsUnready native bundle) (sym h.1)
-    (h.0, (policy, is.means, λ none. (first h.0).broken (is.own none e), record { filter = filter; cert = cert; first = first h.0 }))
+    subst (IsUnready native bundle) (sym h.1) (
+      h.0,
+      (
+        policy,
+        is.means,
+        λ none. (first h.0).broken (is.own none e),
+        record {
+          filter = filter;
+          cert = cert;
+          taken = is.taken;
+          first = first h.0;
+        },
+      ),
+    )
 
 -- what is told of a step that stops
 module _ {T : Type 0} (policy : Policy) (r : Result T Unready) where
@@ -166,19 +178,20 @@ module _ (policy : Policy) (p : List Insn) (filter : List ℕ) (same : p ≡ ins
 
 -- what is made of the profile that a bundle means
 pub prepared : (native : Arch) (bundle : List ℕ) (policy : Policy) (r : Result Prepared Unready) → IsBundle native bundle policy
-    → IfOk r (λ made. made.profile ≡ policy)
+    → IfOk r (λ made. made.profile ≡ policy) → IfOk r (λ made. IsTaken made.filter.items)
     → (IsPlain policy → IfOk r (λ made. IsUnbroken policy made.filter.items made.certificate.items))
     → IfOk r (λ made. IsPrepared native bundle made.profile made.filter.items made.certificate.items)
-prepared native bundle policy (Ok made) is same own = record {
+prepared native bundle policy (Ok made) is same taken own = record {
   means = subst (IsBundle native bundle) (sym same) is;
+  taken = taken;
   own = λ none. subst (λ (p : Policy). IsUnbroken p made.filter.items made.certificate.items) (sym same)
       (own (plain native bundle policy is (subst HasNoConditions same none)));
 }
-prepared native bundle policy (Err u) is same own = tt
+prepared native bundle policy (Err u) is same taken own = tt
 
 -- ---- bundles without conditions
 
-same_policy : (native : Arch) (bundle : List ℕ) (p q : Policy) → IsBundle native bundle p → IsBundle native bundle q → p ≡ q
+pub same_policy : (native : Arch) (bundle : List ℕ) (p q : Policy) → IsBundle native bundle p → IsBundle native bundle q → p ≡ q
 same_policy = one_policy meaning_is_one
 
 -- is not one of a profile with conditions

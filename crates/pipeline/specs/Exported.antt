@@ -1,7 +1,7 @@
 -- What is exported of a bundle.
 use Rattle.std.specs.Prelude.{ℕ, ◌≡◌, ◌≢◌, ◌⊎◌, Bool, true, false, List, [], ◌∷◌, ◌++◌, Option, Result, Err, IfOk, IfSome, codes}
 use Rattle.call_tables.specs.declared.arch.Arch.{Arch}
-use Rattle.kernel_check.specs.Accepted.{IsAccepted}
+use Rattle.bpf_insn.specs.Bytes.{insns_of}
 use Rattle.profile.specs.Policy.{Policy}
 use Rattle.profile_json.specs.declared.fault.ProfileError.TheVariants as refusal
 use Rattle.profile_json.specs.Breaks.{Breaks}
@@ -16,29 +16,33 @@ use Rattle.cert_check.specs.declared.fault.CheckError.TheVariants as error
 use Rattle.cert_check.specs.Certified.{IsFirst}
 use Rattle.cert_check.specs.Checked.{profile_of, program_of}
 use Rattle.cert_check.specs.Fault.{text_of as error_text}
-use Rattle.cert_check.specs.Right.{IsRight}
 use Rattle.export.specs.Failures.{Failures}
 use Rattle.export.specs.Forms.{bytes_in}
 use Rattle.export.specs.Sink.{WritesMade}
 use Rattle.export.specs.declared.fault.ExportFault.{ExportFault}
 use Rattle.export.specs.declared.fault.ExportFault.TheVariants as fault
 use Rattle.export.specs.declared.form.Form.{Form}
+use Rattle.export.specs.declared.form.Form.TheVariants.{Raw, Certificate}
 use Rattle.texts.specs.Lines.{line_feed}
-use Rattle.pipeline.specs.Finding.{IsBundle}
+use Rattle.pipeline.specs.Finding.{IsBundle, IsYes}
 use Rattle.pipeline.specs.Plain.{HasConditions, HasNoConditions}
+use Rattle.pipeline.specs.Prepared.{IsTaken}
 use Rattle.pipeline.specs.declared.unready.Unready.{Unready}
 use Rattle.pipeline.specs.declared.unready.Unready.TheVariants.{Profile, Compile, Certify, Check, OutOfMemory}
 
--- the bundle means its profile, the kernel accepts its filter, and this gives each record the profile's word and no other
+-- The bundle means its profile, and the checker says yes to the bytes of its filter with those of its certificate, in the
+-- forms in which they are exported.
 pub record IsCheckedOf (native : Arch) (bundle : List ℕ) (c : Checked) : Type 0 where
   pub means : IsBundle native bundle (profile_of c)
-  pub accepted : IsAccepted (program_of c)
-  pub right : IsRight (profile_of c) (program_of c)
+  pub read : insns_of (bytes_in Raw c) ≡ program_of c
+  pub yes : IsYes (profile_of c) (bytes_in Raw c) (bytes_in Certificate c)
 
--- the checker names a rule that a filter and a certificate break first, beside a profile
+-- The checker names a rule that a filter and a certificate break first, beside a profile. The kernel accepts the filter, so
+-- the rule is one of certificates.
 pub record IsNo (policy : Policy) (e : CheckError) : Type 0 where
   pub filter : List ℕ
   pub cert : List ℕ
+  pub taken : IsTaken filter
   pub first : IsFirst policy filter cert e
 
 -- Why a bundle has no checked filter. It breaks a rule of bundles; or it means a profile of which some rule has a condition,

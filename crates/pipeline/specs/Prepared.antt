@@ -1,6 +1,8 @@
 -- What is made of a bundle before it is checked.
-use Rattle.std.specs.Prelude.{ℕ, List}
+use Rattle.std.specs.Prelude.{ℕ, ◌≡◌, List, None}
+use Rattle.bpf_insn.specs.Bytes.{insns_of, view_fault}
 use Rattle.call_tables.specs.declared.arch.Arch.{Arch}
+use Rattle.kernel_check.specs.Accepted.{IsAccepted}
 use Rattle.profile.specs.Policy.{Policy}
 use Rattle.cert_check.specs.declared.fault.CheckError.{CheckError}
 use Rattle.cert_check.specs.Certified.{Kept}
@@ -11,7 +13,14 @@ use Rattle.pipeline.specs.Plain.{HasNoConditions}
 abbrev pub IsUnbroken : Policy → List ℕ → List ℕ → Type 0
 IsUnbroken policy filter cert = (e : CheckError) → Kept policy filter cert e
 
--- the bundle means the profile, and where this has no conditions, the filter and the certificate break no rule
+-- the bytes are a program that the kernel accepts
+pub record IsTaken (filter : List ℕ) : Type 0 where
+  pub program : view_fault filter ≡ None
+  pub accepted : IsAccepted (insns_of filter)
+
+-- The bundle means the profile, and the kernel accepts the filter; where the profile has no conditions, the filter and the
+-- certificate break no rule.
 pub record IsPrepared (native : Arch) (bundle : List ℕ) (policy : Policy) (filter cert : List ℕ) : Type 0 where
   pub means : IsBundle native bundle policy
+  pub taken : IsTaken filter
   pub own : HasNoConditions policy → IsUnbroken policy filter cert

@@ -6,7 +6,9 @@ ghost use Rattle.bpf_insn.specs.Program.{insns};
 ghost use Rattle.kernel_check.specs.Lent.{accepted_insns};
 ghost use Rattle.call_tables.specs.declared.arch.Arch.{Arch as TheArch};
 ghost use Rattle.pipeline.specs.declared.unready.Unready.TheVariants.{OutOfMemory};
-ghost use Rattle.pipeline.specs.Certified.{AreJudged, Certifies, IsOpen, conviction_line, digits_line};
+ghost use Rattle.pipeline.specs.Certified.{AreJudged, Certifies, CertifiesOwn, IsOpen, IsOwnFilter, conviction_line, digits_line};
+ghost use Rattle.profile.specs.Policy.{Policy};
+ghost use Rattle.pipeline.specs.Exported.{LacksMemory};
 ghost use Rattle.pipeline.specs.Finding.{IsBundle, IsYes};
 ghost use Rattle.pipeline.specs.inner.Told.{IsLine, Tells};
 
@@ -32,6 +34,9 @@ fn certified(
     ensures ok { IfOk result (λ cert. IsYes profile.now filter.now cert.items) }
     ensures err { (native : TheArch) (bundle : List ℕ) → AreJudged native bundle filter.now profile.now
         → IfErr result (λ unready. unready ≢ OutOfMemory → IsOpen native bundle filter.now unready) }
+    // Of a filter of this project's own only memory is refused.
+    ensures own { (native : TheArch) (bundle : List ℕ) → IsOwnFilter native bundle filter.now profile.now
+        → insns program.now ≡ insns_of filter.now → IfErr result (λ unready. unready ≡ OutOfMemory) }
 {
     let certificate = match certify(alloc, profile, program) {
         Ok(certificate) => certificate,
@@ -93,10 +98,11 @@ fn convict_or_refuse<S: Sink>(
     unready: &Unready,
     sink: &mut S,
 ) -> Result<bool, ExportFault>
-    ensures { (native : TheArch) (bundle filter : List ℕ) → AreJudged native bundle filter profile.now
+    ensures found { (native : TheArch) (bundle filter : List ℕ) → AreJudged native bundle filter profile.now
         → accepted_insns program.now ≡ insns_of filter
         → (unready.now ≢ OutOfMemory → IsOpen native bundle filter unready.now)
         → Certifies S.held S.failures sink.old sink.new native bundle filter result }
+    ensures memory { unready.now ≡ OutOfMemory → LacksMemory sink.old sink.new result }
 {
     if let Unready::OutOfMemory = unready {
         return Err(ExportFault::OutOfMemory);
@@ -119,9 +125,12 @@ fn certify_accepted<S: Sink>(
     program: &Accepted<'_>,
     sink: &mut S,
 ) -> Result<bool, ExportFault>
-    ensures { (native : TheArch) (bundle : List ℕ) → AreJudged native bundle filter.now profile.now
+    ensures found { (native : TheArch) (bundle : List ℕ) → AreJudged native bundle filter.now profile.now
         → accepted_insns program.now ≡ insns_of filter.now
         → Certifies S.held S.failures sink.old sink.new native bundle filter.now result }
+    ensures own { (native : TheArch) (bundle : List ℕ) → IsOwnFilter native bundle filter.now profile.now
+        → accepted_insns program.now ≡ insns_of filter.now
+        → CertifiesOwn S.held S.failures sink.old sink.new native bundle filter.now result }
 {
     match certified(alloc, profile, filter, &program.program()) {
         Ok(certificate) => {
@@ -139,8 +148,10 @@ fn certify_filter<S: Sink>(
     filter: &[u8],
     sink: &mut S,
 ) -> Result<bool, ExportFault>
-    ensures { (native : TheArch) (bundle : List ℕ) → IsBundle native bundle profile.now
+    ensures found { (native : TheArch) (bundle : List ℕ) → IsBundle native bundle profile.now
         → Certifies S.held S.failures sink.old sink.new native bundle filter.now result }
+    ensures own { (native : TheArch) (bundle : List ℕ) → IsOwnFilter native bundle filter.now profile.now
+        → CertifiesOwn S.held S.failures sink.old sink.new native bundle filter.now result }
 {
     let program = match Program::view(filter) {
         Ok(program) => program,
@@ -162,7 +173,11 @@ pub fn certify_bundle<S: Sink>(
     filter: &[u8],
     sink: &mut S,
 ) -> Result<bool, ExportFault>
-    ensures { Certifies S.held S.failures sink.old sink.new native bundle.now filter.now result }
+    ensures found { Certifies S.held S.failures sink.old sink.new native bundle.now filter.now result }
+    // Of a bundle that means a profile without conditions, and a filter as the compiler makes it of such, a certificate is
+    // written, unless memory is refused or the sink fails.
+    ensures own { (policy : Policy) → IsOwnFilter native bundle.now filter.now policy
+        → CertifiesOwn S.held S.failures sink.old sink.new native bundle.now filter.now result }
 {
     match read_bundle(alloc, bundle, native) {
         Ok(bundle) => certify_filter(alloc, &bundle.profile, filter, sink),

@@ -1,5 +1,6 @@
 //! From a bundle to its checked filter: read, compile, certify, check.
-ghost use Rattle.std.specs.Prelude.{◌≡◌};
+ghost use Rattle.std.specs.Prelude.{◌≡◌, None};
+ghost use Rattle.bpf_insn.specs.Bytes.{insns_of, spelling, view_fault};
 
 use crate::unready::Unready;
 use bpf_insn::Program;
@@ -22,6 +23,11 @@ pub struct Prepared {
     pub certificate: Vec<u8>,
 }
 
+// The bytes of a program are those that its instructions spell.
+fn are_spelled(filter: &[u8])
+    ensures { view_fault filter.now ≡ None → spelling (insns_of filter.now) ≡ filter.now }
+{}
+
 impl Prepared {
     ghost use Rattle.std.specs.Prelude.{◌≡◌, ◌≢◌, ℕ, List, IfOk, IfErr};
     ghost use Rattle.call_tables.specs.declared.arch.Arch.{Arch as TheArch};
@@ -32,7 +38,7 @@ impl Prepared {
     ghost use Rattle.pipeline.specs.declared.unready.Unready.TheVariants.{OutOfMemory};
     ghost use Rattle.pipeline.specs.Exported.{IsCheckedOf, IsUnready};
     ghost use Rattle.pipeline.specs.Finding.{IsBundle, IsYes};
-    ghost use Rattle.pipeline.specs.Prepared.{IsPrepared, IsUnbroken};
+    ghost use Rattle.pipeline.specs.Prepared.{IsPrepared, IsTaken, IsUnbroken};
 
     /// What is made of the text of a bundle, which is read for a native machine.
     pub fn of(alloc: Global, native: Arch, bundle: &[u8]) -> Result<Prepared, Unready>
@@ -46,6 +52,7 @@ impl Prepared {
     /// Compiles a profile, and has the filter certified.
     pub fn of_profile(alloc: Global, profile: Profile) -> Result<Prepared, Unready>
         ensures profile { IfOk result (λ made. made.profile ≡ profile) }
+        ensures taken { IfOk result (λ made. IsTaken made.filter.items) }
         // Of a profile without conditions only memory is ever refused, and what is made breaks no rule of the checker.
         ensures own { IsPlain profile
             → IfOk result (λ made. IsUnbroken profile made.filter.items made.certificate.items) }
@@ -79,6 +86,7 @@ impl Prepared {
             → IsPrepared native bundle self.now.profile self.now.filter.items self.now.certificate.items
             → IfErr result (λ unready. unready ≢ OutOfMemory → IsUnready native bundle unready) }
     {
+        are_spelled(&self.filter);
         Ok(check(alloc, &self.profile, &self.filter, &self.certificate)?)
     }
 }

@@ -1,19 +1,43 @@
-use Rattle.std.proofs.Common.{subst}
-use Rattle.kernel_check.specs.Accepted.{IsRefusal}
+use Rattle.std.proofs.Common.{◌∙◌, subst, sym}
+use Rattle.std.proofs.lemmas.Option.{none-some}
+use Rattle.bpf_insn.specs.Bytes.{insns_of}
+use Rattle.kernel_check.specs.Accepted.{IsAccepted, IsRefusal}
+use Rattle.kernel_check.proofs.RefusalLaws.{one}
 use Rattle.cert_check.specs.declared.fault.CheckError.TheVariants.{Kernel, View}
+use Rattle.pipeline.specs.Certified.{AreJudged}
 use Rattle.pipeline.specs.declared.unready.Unready.TheVariants.{Check}
 use Rattle.pipeline.proofs.EvidenceLaws.{kernel_open, open_told, view_open}
 use Rattle.pipeline.proofs.certifying.certify_filter.Goals as goal
 
-pub returns-in-Err : goal.returns-in-Err
-returns-in-Err g c = λ native bundle means.
+pub returns-in-Err-clause-found : goal.returns-in-Err-clause-found
+returns-in-Err-clause-found g c = λ native bundle means.
     open_told g.S.Sink.held g.S.Sink.failures c.args.sink.now c.refuse.new.sink native bundle c.args.filter.now
     (Check (View c.in-Err.fault)) c.refuse.result
     (λ other. view_open native bundle c.args.filter.now c.args.profile.now c.in-Err.fault means c.in-Err.ensures.fault) c.refuse.ensures
 
-pub returns-in-Err-accept : goal.returns-in-Err-accept
-returns-in-Err-accept g c = λ native bundle means.
+pub returns-in-Err-accept-clause-found : goal.returns-in-Err-accept-clause-found
+returns-in-Err-accept-clause-found g c = λ native bundle means.
     open_told g.S.Sink.held g.S.Sink.failures c.args.sink.now c.refuse-in-Err-accept.new.sink native bundle c.args.filter.now
     (Check (Kernel c.in-Err-accept.refused)) c.refuse-in-Err-accept.result
     (λ other. kernel_open native bundle c.args.filter.now c.args.profile.now c.in-Err-accept.refused means c.in-Ok.ensures.fault
     (subst (λ p. IsRefusal p c.in-Err-accept.refused) c.in-Ok.ensures.read c.in-Err-accept.ensures.refused)) c.refuse-in-Err-accept.ensures
+
+pub returns-in-Err-clause-own : goal.returns-in-Err-clause-own
+returns-in-Err-clause-own g c = λ native bundle own. absurd (none-some c.in-Err.fault (sym own.program ∙ c.in-Err.ensures.fault))
+
+pub returns-in-Err-accept-clause-own : goal.returns-in-Err-accept-clause-own
+returns-in-Err-accept-clause-own g c = λ native bundle own.
+    let refused = subst (λ p. IsRefusal p c.in-Err-accept.refused) c.in-Ok.ensures.read c.in-Err-accept.ensures.refused in
+    absurd (one.none (insns_of c.args.filter.now) c.in-Err-accept.refused own.shape.accepted refused)
+
+pub returns-in-Ok-accept-clause-found : goal.returns-in-Ok-accept-clause-found
+returns-in-Ok-accept-clause-found g c = λ native bundle means.
+    let judged : AreJudged native bundle c.args.filter.now c.args.profile.now = record {
+      means = means;
+      program = c.in-Ok.ensures.fault;
+      accepted = subst IsAccepted c.in-Ok.ensures.read c.in-Ok-accept.ensures.accepted;
+    } in c.certify_accepted.ensures.found native bundle judged (c.in-Ok-accept.ensures.same ∙ c.in-Ok.ensures.read)
+
+pub returns-in-Ok-accept-clause-own : goal.returns-in-Ok-accept-clause-own
+returns-in-Ok-accept-clause-own g c = λ native bundle own.
+    c.certify_accepted.ensures.own native bundle own (c.in-Ok-accept.ensures.same ∙ c.in-Ok.ensures.read)

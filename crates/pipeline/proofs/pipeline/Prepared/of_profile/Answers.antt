@@ -1,5 +1,6 @@
-use Rattle.std.proofs.Common.{ap, ◌∙◌}
+use Rattle.std.proofs.Common.{ap, subst, ◌∙◌}
 use Rattle.bpf_insn.specs.Bytes.{insns_of}
+use Rattle.kernel_check.specs.Accepted.{IsAccepted}
 use Rattle.rule_compile.specs.declared.fault.CompileError.TheVariants as compiler
 use Rattle.cert_walk.specs.declared.fault.CertifyError.TheVariants as maker
 use Rattle.pipeline.specs.declared.unready.Unready.TheVariants.{Compile, Certify}
@@ -30,6 +31,12 @@ returns-in_err-certificate-clause-err c =
     c.from_residual-in_err-certificate.ensures.1
     (certifies c.args.profile _ c.in_ok-made.made.bytes.items same c.in_ok-made.ensures.shape c.in_err-certificate.field-0.0
     c.in_err-certificate.ensures.never)
+
+pub returns-clause-taken : goal.returns-clause-taken
+returns-clause-taken c = record {
+  program = c.in_ok-made.ensures.program;
+  accepted = subst IsAccepted (c.in-Ok.ensures.read ∙ ap insns_of c.deref.ensures.value) c.in_ok-certificate.ensures.accepted;
+}
 
 pub returns-clause-own : goal.returns-clause-own
 returns-clause-own c =
