@@ -2,3 +2,4 @@ pub mod TableLaws
 pub mod ArchLaws
 pub mod PlaceLaws
 pub mod HalvingLaws
+pub mod NumberLaws

@@ -1,4 +1,5 @@
 pub mod Table
 pub mod Machines
 pub mod Arch
+pub mod Numbers
 pub mod inner

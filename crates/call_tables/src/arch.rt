@@ -4,6 +4,7 @@ ghost use Rattle.call_tables.specs.Table.{number_in, name_in, IsInverse};
 ghost use Rattle.call_tables.specs.Arch.{table_of};
 
 use crate::machines::{Aarch64, LinuxAarch64, LinuxX86_64, Machine, X86_64};
+use crate::numbers::{ALL, BELOW_X32, FROM_X32, LINUX_X32, LINUX_X86_64, Numbers};
 
 /// A machine as a value.
 #[derive(Clone, Copy, Debug, PartialEq, Eq)]
@@ -58,7 +59,9 @@ impl Family {
 }
 
 impl Arch {
+    ghost use Rattle.std.specs.Prelude.{◌↔◌, IsTrue};
     ghost use Rattle.call_tables.specs.Arch.{table_of, token_of, scmp_of, word_of, machine_called, family_of};
+    ghost use Rattle.call_tables.specs.Numbers.{own_numbers, other_numbers, IsOwn};
 
     /// All machines, family by family, in the order in which lists of machines name them.
     pub const ALL: [Arch; 4] = [
@@ -88,6 +91,37 @@ impl Arch {
             Arch::LinuxX86_64 => LinuxX86_64::TOKEN,
             Arch::LinuxAarch64 => LinuxAarch64::TOKEN,
         }
+    }
+
+    /// The numbers of calls that are the machine's own, in order.
+    pub fn own_numbers(self) -> &'static [Numbers]
+        ensures { result.now ≡ own_numbers self }
+    {
+        match self {
+            Arch::X86_64 => BELOW_X32,
+            Arch::LinuxX86_64 => LINUX_X86_64,
+            Arch::Aarch64 | Arch::LinuxAarch64 => ALL,
+        }
+    }
+
+    /// The numbers of calls that are not, in order.
+    pub fn other_numbers(self) -> &'static [Numbers]
+        ensures { result.now ≡ other_numbers self }
+    {
+        match self {
+            Arch::X86_64 => FROM_X32,
+            Arch::LinuxX86_64 => LINUX_X32,
+            Arch::Aarch64 | Arch::LinuxAarch64 => &[],
+        }
+    }
+
+    /// Whether a number is the machine's own.
+    pub fn has_number(self, number: u32) -> bool
+        ensures { IsTrue result ↔ IsOwn self number }
+    {
+        self.own_numbers()
+            .iter()
+            .any(|numbers| numbers.contain(number))
     }
 
     /// The machine's name in the list `architectures` of a bundle.

@@ -13,6 +13,8 @@ mod calls;
 mod linux_aarch64;
 mod linux_x86_64;
 mod machines;
+mod numbers;
+mod places;
 mod table;
 mod whole;
 
@@ -20,3 +22,4 @@ pub use arch::{Arch, Family, look_ups_are_inverse};
 pub use machines::{
     Aarch64, LinuxAarch64, LinuxX86_64, Machine, X86_64, machine_look_ups_are_inverse,
 };
+pub use numbers::{LEAST_X32_NUMBER, Numbers};

@@ -5,8 +5,9 @@ ghost use Rattle.call_tables.specs.Machines as spec;
 ghost use Rattle.call_tables.specs.inner.WholeTables.{linux_x86_64-one_to_one, linux_aarch64-one_to_one};
 
 use crate::calls::{AARCH64_CALLS, X86_64_CALLS};
-use crate::linux_aarch64::{LINUX_AARCH64_CALLS, LINUX_AARCH64_PLACES};
-use crate::linux_x86_64::{LINUX_X86_64_CALLS, LINUX_X86_64_PLACES};
+use crate::linux_aarch64::LINUX_AARCH64_CALLS;
+use crate::linux_x86_64::LINUX_X86_64_CALLS;
+use crate::places::{LINUX_AARCH64_PLACES, LINUX_X86_64_PLACES};
 use crate::table::{find_name, find_number};
 use crate::whole::{name_of, number_of};
 
@@ -56,11 +57,11 @@ pub struct X86_64;
 #[derive(Clone, Copy, Debug)]
 pub struct Aarch64;
 
-/// x86-64, with all calls of its 64-bit interface on Linux 6.1.
+/// x86-64, with all calls of its 64-bit interface on Linux 6.18.
 #[derive(Clone, Copy, Debug)]
 pub struct LinuxX86_64;
 
-/// AArch64, with all its calls on Linux 6.1.
+/// AArch64, with all its calls on Linux 6.18.
 #[derive(Clone, Copy, Debug)]
 pub struct LinuxAarch64;
 

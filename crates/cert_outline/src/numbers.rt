@@ -2,10 +2,13 @@
 
 use crate::exit::{Exit, Span};
 use call_record::Word;
-use call_tables::Arch;
-use profile::{LEAST_X32_NUMBER, Profile, Rule, has_x32_calls};
+use call_tables::{Arch, Numbers as Stretch};
+use profile::{Profile, Rule};
 use rule_compile::{Asked, Call, Open, Outline, Part};
 use std::alloc::{AllocError, Global};
+
+// How many numbers of calls there are.
+const NUMBERS: u64 = 1 << 32;
 
 /// A call of a machine, of which the profile has rules.
 #[derive(Clone, Copy)]
@@ -60,8 +63,8 @@ impl<'a> Numbered<'a> {
 pub(crate) struct Numbers {
     pub(crate) token: u32,
     pub(crate) spans: Vec<Span>,
-    /// The last number that is the machine's own.
-    pub(crate) last: u32,
+    /// The numbers that are foreign, in order.
+    pub(crate) foreign: &'static [Stretch],
 }
 
 // The numbers of a machine of which there are rules, in order.
@@ -137,10 +140,9 @@ fn add_calls<'a>(
     calls: &mut Vec<Numbered<'a>>,
 ) -> Result<(), AllocError> {
     let token = machine.token();
-    let last = last_of(machine);
     let numbers = numbers_of(alloc, profile.rules(), token)?;
     for number in &numbers {
-        if *number <= last {
+        if machine.has_number(*number) {
             calls.push(number_with(profile, outline, token, *number))?;
         }
     }
@@ -171,7 +173,7 @@ impl Numbers {
         let mut numbers = Numbers {
             token: machine.token(),
             spans: Vec::new(alloc),
-            last: last_of(machine),
+            foreign: machine.other_numbers(),
         };
         numbers.add_all(calls, Exit::Word(profile.default_word().0))?;
         Ok(numbers)
@@ -179,32 +181,38 @@ impl Numbers {
 
     // Adds all numbers: those of calls, those between them, and those that are not the machine's own.
     fn add_all(&mut self, calls: &[Numbered<'_>], default: Exit) -> Result<(), AllocError> {
-        let last = self.last;
-        let next = self.add_calls(calls, default)?;
-        self.add(next, u64::from(last) + 1, default)?;
-        match last.checked_add(1) {
-            Some(first) => self.push(first, u32::MAX, Exit::Word(Word::KILL_THREAD.0)),
-            None => Ok(()),
+        let mut next = 0;
+        for foreign in self.foreign {
+            self.add_calls(calls, next, u64::from(foreign.first), default)?;
+            self.push(foreign.first, foreign.last, Exit::Word(Word::KILL_THREAD.0))?;
+            next = u64::from(foreign.last) + 1;
         }
+        self.add_calls(calls, next, NUMBERS, default)
     }
 
-    // Adds the numbers of calls and those before and between them, and answers the first one behind.
-    fn add_calls(&mut self, calls: &[Numbered<'_>], default: Exit) -> Result<u64, AllocError> {
-        let mut next = 0;
+    // Adds the numbers from one to an end: those of calls and those before, between and behind them.
+    fn add_calls(
+        &mut self,
+        calls: &[Numbered<'_>],
+        from: u64,
+        end: u64,
+        default: Exit,
+    ) -> Result<(), AllocError> {
+        let mut next = from;
         for call in calls {
-            let number = call.number;
-            if call.token == self.token {
-                self.add(next, u64::from(number), default)?;
-                self.push(number, number, call.exit)?;
-                next = u64::from(number) + 1;
+            let number = u64::from(call.number);
+            if call.token == self.token && next <= number && number < end {
+                self.add(next, number, default)?;
+                self.push(call.number, call.number, call.exit)?;
+                next = number + 1;
             }
         }
-        Ok(next)
+        self.add(next, end, default)
     }
 
     // Adds the numbers from one on that are below another.
     fn add(&mut self, from: u64, end: u64, exit: Exit) -> Result<(), AllocError> {
-        if from < end && end <= 1 << 32 {
+        if from < end && end <= NUMBERS {
             return self.push(from as u32, (end - 1) as u32, exit);
         }
         Ok(())
@@ -214,12 +222,4 @@ impl Numbers {
         self.spans.push(Span { first, last, exit })?;
         Ok(())
     }
-}
-
-// The last number that is a machine's own.
-fn last_of(machine: Arch) -> u32 {
-    if has_x32_calls(machine) {
-        return LEAST_X32_NUMBER - 1;
-    }
-    u32::MAX
 }

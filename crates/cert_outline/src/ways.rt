@@ -8,6 +8,7 @@ use crate::maker::{Maker, after};
 use crate::order::Ways;
 use crate::spot::{Spot, Stage};
 use bpf_insn::{Insn, Operand, Operation, Test};
+use call_tables::Numbers;
 use rule_compile::Subject;
 use std::alloc::AllocError;
 
@@ -153,11 +154,13 @@ impl<'a> Maker<'a> {
         else {
             return Ok(None);
         };
-        if known.low > numbers.last || exit == self.default {
+        if exit == self.default {
             return Ok(None);
         }
-        if known.high > numbers.last {
-            return Ok(numbers.last.checked_add(1));
+        for foreign in numbers.foreign {
+            if foreign.first <= known.high && known.low <= foreign.last {
+                return Ok(foreign_split(*foreign, known.low, known.high));
+            }
         }
         let low = known.low;
         let Some(call) = self.call_to_split_at(machine, facts)? else {
@@ -178,6 +181,17 @@ impl<'a> Maker<'a> {
         };
         Ok(calls.get(place).copied())
     }
+}
+
+// Where numbers from one to another are cut of which some are foreign, if not all are.
+fn foreign_split(foreign: Numbers, low: u32, high: u32) -> Option<u32> {
+    if low < foreign.first {
+        return Some(foreign.first);
+    }
+    if foreign.last < high {
+        return foreign.last.checked_add(1);
+    }
+    None
 }
 
 // The bit of a machine at a place.

@@ -1,5 +1,5 @@
 -- Nodes that are made keep the rules as more are made.
-use Rattle.std.proofs.Common.{◌≡◌, ℕ, zero, suc, ◌+◌, ◌-◌, ◌^◌, ◌<◌, ◌≤◌, List, [], ◌∷◌, ◌++◌, length, refl, ap, sym, ◌∙◌}
+use Rattle.std.proofs.Common.{◌≡◌, ℕ, false, zero, suc, ◌+◌, ◌-◌, ◌^◌, ◌<◌, ◌≤◌, List, [], ◌∷◌, ◌++◌, length, refl, ap, sym, ◌∙◌}
 use Rattle.std.proofs.Common.{subst, arith, inl, inr, ◌⊎◌, ⊎_elim, get_or, set}
 use Rattle.std.specs.Prelude.{Option, Some, None, slice_get, All, map, Result, Ok, Err, IfOk, OnOk}
 use Rattle.std.specs.Option.{option_map}
@@ -61,7 +61,7 @@ known_more es fs n (m, e) h = ap (λ (xs : List (ℕ × Lit)). literals xs n) e 
 
 said_more : (es fs : List (ℕ × Lit)) (n : ChainNode) → IsLonger es fs → n.chain ≤ length es → said_plainly fs n ≡ said_plainly es n
 said_more es fs n longer h =
-    ap (λ ls. record { kind = n.kind; pc = n.pc; regs = n.regs; known = ls; out = []; met = [] }) (known_more es fs n.chain longer h)
+    ap (λ ls. record { kind = n.kind; pc = n.pc; regs = n.regs; known = ls; out = []; met = []; sharp = false }) (known_more es fs n.chain longer h)
 
 pub plain_at : (es : List (ℕ × Lit)) (ns : List ChainNode) (k : ℕ) (n : ChainNode) → slice_get ns k ≡ Some n
     → slice_get (plain es ns) k ≡ Some (said_plainly es n)

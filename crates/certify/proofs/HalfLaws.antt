@@ -6,8 +6,9 @@ use Rattle.std.proofs.lemmas.List.Elements.{All-cons, All-head, All-tail}
 use Rattle.std.proofs.lemmas.Bool.{cases_eq, cases_lt, eq-eqb, eqb-true, ne_eqb, le-leb, leb-true}
 use Rattle.std.proofs.Math.Nat.{pow-suc}
 use Rattle.call_tables.specs.declared.arch.Arch.{Arch}
-use Rattle.call_tables.specs.declared.arch.Arch.TheVariants.{X86_64}
 use Rattle.call_tables.specs.Arch.{token_of}
+use Rattle.call_tables.specs.Numbers.{IsOther, IsOwn, other_numbers}
+use Rattle.call_tables.proofs.NumberLaws.{in_one, low_is_own, other_is_high, own_not_other, own_or_other, up_to_other}
 use Rattle.bpf_insn.specs.declared.instruction.Insn.{Insn}
 use Rattle.profile.specs.Policy.{Policy}
 use Rattle.cert_state.specs.declared.literal.Lit.{Lit}
@@ -15,12 +16,12 @@ use Rattle.cert_state.specs.declared.literal.Lit.TheVariants.{In, Bits, NotBits}
 use Rattle.cert_state.specs.Literals.{all_bits, index_of, Meets}
 use Rattle.cert_state.specs.Points.{IsWhole, IsPoint, IsRange}
 use Rattle.certify.specs.inner.Counts.{Exclude, allows, halves_cost, inside, meets, permits}
-use Rattle.certify.specs.inner.Leaf.{IsOfCalls}
+use Rattle.certify.specs.inner.Leaf.{IsOfCalls, LieIn}
 use Rattle.certify.specs.declared.plain.place.Place.{Place}
 use Rattle.certify.specs.declared.plain.store.Store.{Store}
 use Rattle.certify.specs.inner.Meant.{IsMeant}
 use Rattle.certify.specs.inner.Store.{known_at}
-use Rattle.certify.specs.inner.Ways.{AreNear, AreX32, IsAtReturn, IsEnough, IsOfMachine}
+use Rattle.certify.specs.inner.Ways.{AreForeign, AreNear, IsAtReturn, IsEnough, IsOfMachine}
 use Rattle.certify.proofs.CountLaws.{both_first, both_second, inside_parts, inside_some}
 use Rattle.certify.proofs.PathLaws.{first_asks, rest_point}
 use Rattle.certify.proofs.PointFacts.{Asks}
@@ -63,12 +64,12 @@ tokens_exclude t token nr own other = apart (eqb (bit_and token all_bits) t) own
 
 -- ---- halves
 
--- x32 calls come apart first, and then each half of numbers is in the middle
+-- foreign numbers come apart first, and then each half of numbers is in the middle
 pub record IsCut (arch : Arch) (lo hi cut : ℕ) : Type 0 where
   pub from : lo ≤ cut
   pub upto : cut < hi
-  pub native : token_of arch ≡ token_of X86_64 → 0x40000000 ≤ hi → cut + 1 ≡ 0x40000000
-  pub half : (token_of arch ≡ token_of X86_64 → hi < 0x40000000) → cut ≡ lo + (hi - lo) / 2
+  pub foreign : (IsOwn arch hi → ⊥) → lo < 0x40000000 → cut + 1 ≡ 0x40000000
+  pub half : IsOwn arch hi → cut ≡ lo + (hi - lo) / 2
 
 -- a point of a half is one of the whole
 low_point : (known : List Lit) (cut u : ℕ) → IsPoint (In 0 0 cut ∷ known) 0 u → u ≤ cut
@@ -79,11 +80,11 @@ high_point known cut u at = (first_asks (In 0 (cut + 1) all_bits) known 0 u at r
 
 -- some halvings are left
 pub some_left : (known : List Lit) (arch : Arch) (lo hi halvings : ℕ) → IsRange known 0 lo hi → (lo ≡ hi → ⊥) → IsEnough known arch halvings
-    → ((token_of arch ≡ token_of X86_64) × (0x40000000 ≤ lo) → ⊥) → halvings ≡ 0 → ⊥
-some_left known arch lo hi halvings range differ enough native none = ⊎_elim
+    → (LieIn lo hi (other_numbers arch) → ⊥) → halvings ≡ 0 → ⊥
+some_left known arch lo hi halvings range differ enough some_own none = ⊎_elim
     (λ (ten : halvings ≡ 10). omega (arith, ten, none))
-    (λ (more : AreX32 known arch ⊎ ((halvings < 10) × AreNear known (2 ^ halvings))). ⊎_elim
-    (λ (x32 : AreX32 known arch). native (x32.0, x32.1 lo range.least))
+    (λ (more : AreForeign known arch ⊎ ((halvings < 10) × AreNear known (2 ^ halvings))). ⊎_elim
+    (λ (all : AreForeign known arch). some_own (in_one arch lo hi (all lo range.least) (all hi range.greatest)))
     (λ (near : (halvings < 10) × AreNear known (2 ^ halvings)).
     let at_once : AreNear known (2 ^ 0) = subst (λ h. AreNear known (2 ^ h)) none near.1 in
     let e = (at_once lo hi range.least range.greatest).0 in
@@ -93,23 +94,27 @@ some_left known arch lo hi halvings range differ enough native none = ⊎_elim
     enough
 
 module _ (known : List Lit) (arch : Arch) (lo hi cut halvings : ℕ) (range : IsRange known 0 lo hi) (cuts : IsCut arch lo hi cut)
-    (enough : IsEnough known arch halvings) (native : (token_of arch ≡ token_of X86_64) × (0x40000000 ≤ lo) → ⊥)
-    (small : (u : ℕ) → IsPoint known 0 u → (token_of arch ≡ token_of X86_64 → u < 0x40000000) → u < 512) where
+    (enough : IsEnough known arch halvings) (some_own : LieIn lo hi (other_numbers arch) → ⊥)
+    (small : (u : ℕ) → IsPoint known 0 u → IsOwn arch u → u < 512) where
   -- both halves are not empty
   order : lo < hi
   order = let a = cuts.from in let b = cuts.upto in omega (arith, a, b)
 
-  not_x32 : AreX32 known arch → ⊥
-  not_x32 x32 = native (x32.0, x32.1 lo range.least)
+  not_foreign : AreForeign known arch → ⊥
+  not_foreign all = some_own (in_one arch lo hi (all lo range.least) (all hi range.greatest))
 
-  least_native : token_of arch ≡ token_of X86_64 → lo < 0x40000000
-  least_native is = ⊎_elim (λ (l : lo < 0x40000000). l) (λ (g : 0x40000000 ≤ lo). absurd (native (is, g))) (cases_lt lo 0x40000000)
+  -- where the greatest is foreign the least is not
+  least_low : IsOther arch hi → lo < 0x40000000
+  least_low is = ⊎_elim
+      (λ (l : lo < 0x40000000). l)
+      (λ (g : 0x40000000 ≤ lo). absurd (some_own (in_one arch lo hi (up_to_other arch lo hi is g (omega (arith, order))) is)))
+      (cases_lt lo 0x40000000)
 
   pub ten_at_most : halvings ≤ 10
   ten_at_most = ⊎_elim
       (λ (ten : halvings ≡ 10). omega (arith, ten))
-      (λ (more : AreX32 known arch ⊎ ((halvings < 10) × AreNear known (2 ^ halvings))). ⊎_elim
-      (λ (x : AreX32 known arch). absurd (not_x32 x))
+      (λ (more : AreForeign known arch ⊎ ((halvings < 10) × AreNear known (2 ^ halvings))). ⊎_elim
+      (λ (x : AreForeign known arch). absurd (not_foreign x))
       (λ (near : (halvings < 10) × AreNear known (2 ^ halvings)). omega (arith, near.0)) more)
       enough
 
@@ -117,9 +122,9 @@ module _ (known : List Lit) (arch : Arch) (lo hi cut halvings : ℕ) (range : Is
   double h e = ap (λ k. 2 ^ k) e ∙ pow-suc 2 h
 
   -- numbers of which the greatest is one of the machine's own
-  module _ (all_native : token_of arch ≡ token_of X86_64 → hi < 0x40000000) where
+  module _ (own_hi : IsOwn arch hi) where
     small_all : (u : ℕ) → IsPoint known 0 u → u < 512
-    small_all u at = small u at (λ is. let h = all_native is in let b = (range.between u at).1 in omega (arith, h, b))
+    small_all u at = let h = small hi range.greatest own_hi in let b = (range.between u at).1 in omega (arith, h, b)
 
     spread : (h : ℕ) → halvings ≡ suc h → hi < lo + 2 ^ h * 2
     spread h e = ⊎_elim
@@ -128,8 +133,8 @@ module _ (known : List Lit) (arch : Arch) (lo hi cut halvings : ℕ) (range : Is
         let top = small_all hi range.greatest in
         let p : 2 ^ h ≡ 512 = ap (λ k. 2 ^ k) nine in
         omega (arith, p, top))
-        (λ (more : AreX32 known arch ⊎ ((halvings < 10) × AreNear known (2 ^ halvings))). ⊎_elim
-        (λ (x : AreX32 known arch). absurd (not_x32 x))
+        (λ (more : AreForeign known arch ⊎ ((halvings < 10) × AreNear known (2 ^ halvings))). ⊎_elim
+        (λ (x : AreForeign known arch). absurd (not_foreign x))
         (λ (near : (halvings < 10) × AreNear known (2 ^ halvings)).
         let apart = (near.1 lo hi range.least range.greatest).0 in
         let d = double h e in
@@ -143,7 +148,7 @@ module _ (known : List Lit) (arch : Arch) (lo hi cut halvings : ℕ) (range : Is
         let rest_w = rest_point (In 0 0 cut) known 0 w at_w in
         let low = (range.between u rest_u).0 in
         let high = low_point known cut w at_w in
-        let middle = cuts.half all_native in
+        let middle = cuts.half own_hi in
         let far = spread h e in
         (omega (arith, low, high, middle, far), small_all w rest_w)
 
@@ -153,17 +158,23 @@ module _ (known : List Lit) (arch : Arch) (lo hi cut halvings : ℕ) (range : Is
         let rest_w = rest_point (In 0 (cut + 1) all_bits) known 0 w at_w in
         let low = high_point known cut u at_u in
         let high = (range.between w rest_w).1 in
-        let middle = cuts.half all_native in
+        let middle = cuts.half own_hi in
         let far = spread h e in
         (omega (arith, low, high, middle, far), small_all w rest_w)
 
-  -- x32 calls are in the greater half
-  module _ (is : token_of arch ≡ token_of X86_64) (far : 0x40000000 ≤ hi) where
+  -- foreign numbers are in the greater half
+  module _ (is : IsOther arch hi) where
+    far : 0x40000000 ≤ hi
+    far = other_is_high arch hi is
+
+    at_cut : cut + 1 ≡ 0x40000000
+    at_cut = cuts.foreign (λ own. own_not_other arch hi own is) (least_low is)
+
     first_time : halvings ≡ 10
     first_time = ⊎_elim
         (λ (ten : halvings ≡ 10). ten)
-        (λ (more : AreX32 known arch ⊎ ((halvings < 10) × AreNear known (2 ^ halvings))). ⊎_elim
-        (λ (x : AreX32 known arch). absurd (not_x32 x))
+        (λ (more : AreForeign known arch ⊎ ((halvings < 10) × AreNear known (2 ^ halvings))). ⊎_elim
+        (λ (x : AreForeign known arch). absurd (not_foreign x))
         (λ (near : (halvings < 10) × AreNear known (2 ^ halvings)).
         let b = (near.1 lo hi range.least range.greatest).1 in
         absurd (omega (arith, b, far))) more)
@@ -171,34 +182,31 @@ module _ (known : List Lit) (arch : Arch) (lo hi cut halvings : ℕ) (range : Is
 
     small_low : (u : ℕ) → IsPoint (In 0 0 cut ∷ known) 0 u → u < 512
     small_low u at =
-        let at_cut = cuts.native is far in
         let b = low_point known cut u at in
-        small u (rest_point (In 0 0 cut) known 0 u at) (λ _. omega (arith, b, at_cut))
+        small u (rest_point (In 0 0 cut) known 0 u at) (low_is_own arch u (omega (arith, b, at_cut)))
 
-    x32_low : (h : ℕ) → halvings ≡ suc h → AreNear (In 0 0 cut ∷ known) (2 ^ h)
-    x32_low h e = λ u w at_u at_w.
+    near_below : (h : ℕ) → halvings ≡ suc h → AreNear (In 0 0 cut ∷ known) (2 ^ h)
+    near_below h e = λ u w at_u at_w.
         let nine : h ≡ 9 = omega (arith, e, first_time) in
         let p : 2 ^ h ≡ 512 = ap (λ k. 2 ^ k) nine in
         let b = small_low w at_w in
         (omega (arith, p, b), b)
 
-    x32_high : AreX32 (In 0 (cut + 1) all_bits ∷ known) arch
-    x32_high = (is, λ u at. let at_cut = cuts.native is far in let b = high_point known cut u at in omega (arith, at_cut, b))
+    foreign_high : AreForeign (In 0 (cut + 1) all_bits ∷ known) arch
+    foreign_high u at =
+        let b = high_point known cut u at in
+        let c = (range.between u (rest_point (In 0 (cut + 1) all_bits) known 0 u at)).1 in
+        up_to_other arch u hi is (omega (arith, at_cut, b)) c
 
-  by_kind : (P : Type 0) → ((token_of arch ≡ token_of X86_64 → hi < 0x40000000) → P)
-      → (token_of arch ≡ token_of X86_64 → 0x40000000 ≤ hi → P) → P
-  by_kind P own x32 = ⊎_elim
-      (λ (is : token_of arch ≡ token_of X86_64). ⊎_elim (λ (l : hi < 0x40000000). own (λ _. l))
-      (λ (g : 0x40000000 ≤ hi). x32 is g) (cases_lt hi 0x40000000))
-      (λ (other : token_of arch ≡ token_of X86_64 → ⊥). own (λ is. absurd (other is)))
-      (cases_eq (token_of arch) (token_of X86_64))
+  by_kind : (P : Type 0) → (IsOwn arch hi → P) → (IsOther arch hi → P) → P
+  by_kind P own other = ⊎_elim own other (own_or_other arch hi range.greatest.0)
 
   pub enough_low : (h : ℕ) → halvings ≡ suc h → IsEnough (In 0 0 cut ∷ known) arch h
   enough_low h e =
       let most = ten_at_most in
       inr (inr (
         omega (arith, e, most),
-        by_kind (AreNear (In 0 0 cut ∷ known) (2 ^ h)) (λ own. near_low own h e) (λ is far. x32_low is far h e),
+        by_kind (AreNear (In 0 0 cut ∷ known) (2 ^ h)) (λ own. near_low own h e) (λ is. near_below is h e),
       ))
 
   pub enough_high : (h : ℕ) → halvings ≡ suc h → IsEnough (In 0 (cut + 1) all_bits ∷ known) arch h
@@ -206,7 +214,7 @@ module _ (known : List Lit) (arch : Arch) (lo hi cut halvings : ℕ) (range : Is
       let most = ten_at_most in
       by_kind (IsEnough (In 0 (cut + 1) all_bits ∷ known) arch h)
       (λ own. inr (inr (omega (arith, e, most), near_high own h e)))
-      (λ is far. inr (inl (x32_high is far)))
+      (λ is. inr (inl (foreign_high is)))
 
   -- ---- what they cost
 
@@ -220,8 +228,13 @@ module _ (known : List Lit) (arch : Arch) (lo hi cut halvings : ℕ) (range : Is
     of_calls : (a b : ℕ) → All IsOfCalls (In 0 a b ∷ known)
     of_calls a b = All-cons IsOfCalls (In 0 a b) known (tt, omega arith) of
 
+    own_low : IsOwn arch lo
+    own_low = by_kind (IsOwn arch lo)
+        (λ own. let b = small hi range.greatest own in low_is_own arch lo (omega (arith, b, order)))
+        (λ is. low_is_own arch lo (least_low is))
+
     some_low : 1 ≤ inside 512 archs (In 0 0 cut ∷ known)
-    some_low = inside_some 512 archs (In 0 0 cut ∷ known) arch lo listed (small lo range.least least_native)
+    some_low = inside_some 512 archs (In 0 0 cut ∷ known) arch lo listed (small lo range.least own_low)
         (allowed (In 0 0 cut ∷ known) (token_of arch) lo (of_calls 0 cut) (token_at (In 0 0 cut) (λ e. omega (arith, e))) low_at)
 
     high_at : IsPoint (In 0 (cut + 1) all_bits ∷ known) 0 hi
@@ -231,14 +244,14 @@ module _ (known : List Lit) (arch : Arch) (lo hi cut halvings : ℕ) (range : Is
           (λ i w. let b = cuts.upto in let top = range.greatest.0 in (omega (arith, b), omega (arith, top))) range.greatest.1,
     )
 
-    some_high : (token_of arch ≡ token_of X86_64 → hi < 0x40000000) → 1 ≤ inside 512 archs (In 0 (cut + 1) all_bits ∷ known)
+    some_high : IsOwn arch hi → 1 ≤ inside 512 archs (In 0 (cut + 1) all_bits ∷ known)
     some_high own = inside_some 512 archs (In 0 (cut + 1) all_bits ∷ known) arch hi listed (small hi range.greatest own)
         (allowed (In 0 (cut + 1) all_bits ∷ known) (token_of arch) hi (of_calls (cut + 1) all_bits)
         (token_at (In 0 (cut + 1) all_bits) (λ e. omega (arith, e))) high_at)
 
     pub ten_or_high : (halvings ≡ 10) ⊎ (1 ≤ inside 512 archs (In 0 (cut + 1) all_bits ∷ known))
     ten_or_high = by_kind ((halvings ≡ 10) ⊎ (1 ≤ inside 512 archs (In 0 (cut + 1) all_bits ∷ known)))
-        (λ own. inr (some_high own)) (λ is far. inl (first_time is far))
+        (λ own. inr (some_high own)) (λ is. inl (first_time is))
 
     pub low_is_some : 1 ≤ inside 512 archs (In 0 0 cut ∷ known)
     low_is_some = some_low
@@ -259,24 +272,24 @@ pub record IsHalved (policy : Policy) (p : List Insn) (s : Store) (place : Place
   pub enough : IsEnough (known_at s place) arch halvings
   pub some : halvings ≡ 0 → ⊥
   pub cuts : IsCut arch lo hi cut
-  pub native : (token_of arch ≡ token_of X86_64) × (0x40000000 ≤ lo) → ⊥
+  pub some_own : LieIn lo hi (other_numbers arch) → ⊥
   pub differ : policy.default_word ≡ v → ⊥
 
 module _ (policy : Policy) (p : List Insn) (s : Store) (place : Place) (v lo hi : ℕ) (arch : Arch) (cut halvings : ℕ)
     (meant : IsMeant policy p)
     (halved : IsHalved policy p s place v lo hi arch cut halvings) where
-  small : (u : ℕ) → IsPoint (known_at s place) 0 u → (token_of arch ≡ token_of X86_64 → u < 0x40000000) → u < 512
+  small : (u : ℕ) → IsPoint (known_at s place) 0 u → IsOwn arch u → u < 512
   small = small_number policy p s place v lo hi arch meant halved.at halved.of halved.range halved.differ
 
   left : halvings ≡ suc (halvings - 1)
   left = omega (arith, halved.some)
 
   pub low_enough : IsEnough (In 0 0 cut ∷ known_at s place) arch (halvings - 1)
-  low_enough = enough_low (known_at s place) arch lo hi cut halvings halved.range halved.cuts halved.enough halved.native small
+  low_enough = enough_low (known_at s place) arch lo hi cut halvings halved.range halved.cuts halved.enough halved.some_own small
       (halvings - 1) left
 
   pub high_enough : IsEnough (In 0 (cut + 1) all_bits ∷ known_at s place) arch (halvings - 1)
-  high_enough = enough_high (known_at s place) arch lo hi cut halvings halved.range halved.cuts halved.enough halved.native
+  high_enough = enough_high (known_at s place) arch lo hi cut halvings halved.range halved.cuts halved.enough halved.some_own
       small (halvings - 1) left
 
   pub halves_total : halves_cost (halvings - 1) (inside 512 policy.machines (In 0 0 cut ∷ known_at s place))
@@ -288,9 +301,9 @@ module _ (policy : Policy) (p : List Insn) (s : Store) (place : Place) (v lo hi 
       halves_split halvings (inside 512 policy.machines (In 0 0 cut ∷ known_at s place))
       (inside 512 policy.machines (In 0 (cut + 1) all_bits ∷ known_at s place))
       (inside 512 policy.machines (known_at s place)) halved.some
-      (ten_at_most (known_at s place) arch lo hi cut halvings halved.range halved.cuts halved.enough halved.native small)
+      (ten_at_most (known_at s place) arch lo hi cut halvings halved.range halved.cuts halved.enough halved.some_own small)
       (inside_parts 512 policy.machines (known_at s place) (In 0 0 cut) (In 0 (cut + 1) all_bits) (halves_exclude cut))
-      (low_is_some (known_at s place) arch lo hi cut halvings halved.range halved.cuts halved.enough halved.native small
+      (low_is_some (known_at s place) arch lo hi cut halvings halved.range halved.cuts halved.enough halved.some_own small
       policy.machines halved.of.listed of_calls token)
-      (ten_or_high (known_at s place) arch lo hi cut halvings halved.range halved.cuts halved.enough halved.native small
+      (ten_or_high (known_at s place) arch lo hi cut halvings halved.range halved.cuts halved.enough halved.some_own small
       policy.machines halved.of.listed of_calls token)

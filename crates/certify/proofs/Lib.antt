@@ -1,6 +1,7 @@
 pub mod CountLaws
 pub mod MoveLaws
 pub mod PointFacts
+pub mod FreeLaws
 pub mod LeafLaws
 pub mod PathLaws
 pub mod NodeLaws

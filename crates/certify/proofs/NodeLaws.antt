@@ -189,7 +189,7 @@ module _ (policy : Policy) (p : List Insn) (ns : List PlainNode) (i : ℕ) (insn
   -- a node whose edges arrive
   kept : (kind : Kind) (out : List Edge) → edges (node_of held pc known kind) insn ≡ Some out
       → All (Arrives policy ns i (node_of held pc known kind)) out
-      → SplitRule kind → (kind ≡ Dead → IsDead known) → (kind ≡ Return → ReturnRule policy p (node_of held pc known kind))
+      → SplitRule false kind → (kind ≡ Dead → IsDead known) → (kind ≡ Return → ReturnRule policy p (node_of held pc known kind))
       → Keeps policy p ns i (node_of held pc known kind)
   kept kind out leave arrive split dead return = record {
     edge = edge_kept policy p ns i (node_of held pc known kind) insn out inside leave arrive;
@@ -270,7 +270,7 @@ module _ (policy : Policy) (p : List Insn) (ns : List PlainNode) (i : ℕ) (insn
       kept (Split l m first second)
       (record { to = first; pc = pc; fact = Some l; regs = regs_of held }
       ∷ record { to = second; pc = pc; fact = Some m; regs = regs_of held } ∷ [])
-      refl (two (Split l m first second) first second pc pc l m later also a b) (inl covers) (λ no_dead. cc) (λ no_return. cc)
+      refl (two (Split l m first second) first second pc pc l m later also a b) (inl (inl covers)) (λ no_dead. cc) (λ no_return. cc)
 
   return_kept : (v : ℕ) → move_at (operation_of insn.code) insn.k held ≡ Some (Ends v) → Agrees policy [] [] known v
       → Keeps policy p ns i (node_of held pc known Return)

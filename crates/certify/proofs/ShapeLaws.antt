@@ -18,11 +18,12 @@ use Rattle.bpf_insn.specs.Machine.{Registers, Ending, after_one, ending, follow,
 use Rattle.call_record.specs.Words.{IsRecord, argument, word}
 use Rattle.call_tables.specs.declared.arch.Arch.{Arch}
 use Rattle.call_tables.specs.Arch.{token_of}
+use Rattle.call_tables.specs.Numbers.{HasCall}
 use Rattle.profile.specs.declared.conditions.Cond.{Cond}
 use Rattle.profile.specs.declared.rules.Rule.{Rule}
 use Rattle.profile.specs.Condition.{Meets}
 use Rattle.profile.specs.Rule.{Matches}
-use Rattle.profile.specs.Policy.{IsNative, Policy, Says, least_x32_number}
+use Rattle.profile.specs.Policy.{IsNative, Policy, Says}
 use Rattle.profile.specs.Said.{said}
 use Rattle.profile.proofs.SaidLaws.{each_record_is_said_one_word}
 use Rattle.rule_compile.specs.Moves.{Goes, move_at}
@@ -107,10 +108,9 @@ gives (i ∷ p) zero held r q s v like holding e =
 
 module _ (policy : Policy) (r q : List ℕ) (number : slice_index r 0 ≡ slice_index q 0) (machine : slice_index r 1 ≡ slice_index q 1) where
   native_like : IsNative policy r → IsNative policy q
-  native_like n = record {
-    listed = subst (λ t. Any (λ (a : Arch). t ≡ token_of a) policy.machines) machine n.listed;
-    no_x32 = λ is. subst (λ u. u < least_x32_number) number (n.no_x32 (machine ∙ is));
-  }
+  native_like n =
+      subst (λ u. Any (HasCall (word q 1) u) policy.machines) number
+      (subst (λ t. Any (HasCall t (word r 0)) policy.machines) machine n)
 
   matches_like : (rule : Rule) → rule.conds.items ≡ [] → Matches rule r → Matches rule q
   matches_like rule none m = record {

@@ -6,8 +6,8 @@ use Rattle.std.proofs.lemmas.List.Elements.{All-cons, All-tail}
 use Rattle.std.proofs.lemmas.Option.{same_Some, none-some, slice_get-get_or, slice_get_within, get_or_from_slice_get}
 use Rattle.std.proofs.lemmas.Bool.{cases_lt}
 use Rattle.call_tables.specs.declared.arch.Arch.{Arch}
-use Rattle.call_tables.specs.declared.arch.Arch.TheVariants.{X86_64}
 use Rattle.call_tables.specs.Arch.{token_of}
+use Rattle.call_tables.specs.Numbers.{IsOwn, other_numbers}
 use Rattle.bpf_insn.specs.declared.instruction.Insn.{Insn}
 use Rattle.profile.specs.Policy.{Policy}
 use Rattle.cert_state.specs.declared.literal.Lit.{Lit}
@@ -17,7 +17,7 @@ use Rattle.cert_check.specs.Agree.{Agrees}
 use Rattle.certify.specs.declared.plain.place.Place.{Place}
 use Rattle.certify.specs.declared.plain.place.Fork.{Fork}
 use Rattle.certify.specs.declared.plain.store.Store.{Store}
-use Rattle.certify.specs.inner.Leaf.{IsForeign, SaysThere}
+use Rattle.certify.specs.inner.Leaf.{IsForeign, LieIn, SaysThere}
 use Rattle.certify.specs.inner.Meant.{IsMeant}
 use Rattle.certify.specs.inner.Store.{IsForked, IsMadeAt, IsPlace, IsStore, known_at}
 use Rattle.certify.specs.inner.Ways.{IsAtReturn, IsOfMachine, IsOnWay, IsReturnOf, AreOutBefore}
@@ -103,14 +103,17 @@ pub yes_child : (s t : Store) (place : Place) (l m : Lit) (fork : Fork) → IsFo
 yes_child s t place l m fork f =
     record { store = f.store; chain = f.yes_chain; known = f.yes_known; held = f.yes_held; depth = f.yes_depth; room = f.room }
 
+pub few_known : (s : Store) (p : List Insn) (place : Place) → IsPlace s p place → length (known_at s place) ≤ 512
+few_known s p place fits = omega (arith, fits.short, fits.few)
+
 -- what one machine's return needs
 pub machine_agrees_there : (policy : Policy) (p : List Insn) (s : Store) (place : Place) (v lo hi : ℕ) (arch : Arch)
     → IsMeant policy p → IsAtReturn policy p s place v → IsOfMachine policy s place arch
     → IsRange (known_at s place) 0 lo hi → (lo ≡ hi)
-    ⊎ ((policy.default_word ≡ v) ⊎ ((token_of arch ≡ token_of X86_64) × (0x40000000 ≤ lo))) → Agrees policy [] [] (known_at s place) v
+    ⊎ ((policy.default_word ≡ v) ⊎ LieIn lo hi (other_numbers arch)) → Agrees policy [] [] (known_at s place) v
 machine_agrees_there policy p s place v lo hi arch meant at of range h =
-    leaf_agrees policy (known_at s place) v lo hi (token_of arch) (token_of arch) meant.plain.rules (at.store.calls place.chain)
-    (at.says meant) range of.token
+    leaf_agrees policy (known_at s place) v lo hi (token_of arch) (token_of arch) meant.profile.machines_in_order
+    (few_known s p place at.fits) meant.plain.rules (at.store.calls place.chain) (at.says meant) range of.token
     (inr (record { arch = arch; listed = of.listed; token = of.token; numbers = h }))
 
 pub foreign_agrees_there : (policy : Policy) (p : List Insn) (s : Store) (place : Place) (v lo hi from to : ℕ)
@@ -118,16 +121,16 @@ pub foreign_agrees_there : (policy : Policy) (p : List Insn) (s : Store) (place 
     → IsRange (known_at s place) 0 lo hi → IsRange (known_at s place) 1 from to → IsForeign policy (known_at s place)
     → Agrees policy [] [] (known_at s place) v
 foreign_agrees_there policy p s place v lo hi from to meant at range tokens none =
-    leaf_agrees policy (known_at s place) v lo hi from to meant.plain.rules (at.store.calls place.chain) (at.says meant) range
-    tokens (inl none)
+    leaf_agrees policy (known_at s place) v lo hi from to meant.profile.machines_in_order (few_known s p place at.fits)
+    meant.plain.rules (at.store.calls place.chain) (at.says meant) range tokens (inl none)
 
 -- where the word is not the default one, each number of the machine's own is small
 pub small_number : (policy : Policy) (p : List Insn) (s : Store) (place : Place) (v lo hi : ℕ) (arch : Arch) → IsMeant policy p
     → IsAtReturn policy p s place v → IsOfMachine policy s place arch → IsRange (known_at s place) 0 lo hi → (policy.default_word ≡ v → ⊥)
-    → (u : ℕ) → IsPoint (known_at s place) 0 u → (token_of arch ≡ token_of X86_64 → u < 0x40000000) → u < 512
+    → (u : ℕ) → IsPoint (known_at s place) 0 u → IsOwn arch u → u < 512
 small_number policy p s place v lo hi arch meant at of range differ u point own =
-    own_is_small policy (known_at s place) v lo hi (token_of arch) (token_of arch) meant.plain.rules
-    (at.store.calls place.chain) (at.says meant) range of.token
+    own_is_small policy (known_at s place) v lo hi (token_of arch) (token_of arch) meant.profile.machines_in_order
+    (few_known s p place at.fits) meant.plain.rules (at.store.calls place.chain) (at.says meant) range of.token
     arch of.listed of.token differ u point own
 
 -- the second way, once the first is gone

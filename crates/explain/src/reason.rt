@@ -1,16 +1,11 @@
 //! Why a profile says its word.
-ghost use Rattle.std.specs.Prelude.{◌≡◌, ◌==◌, ◌||◌, not, nat_lt, position};
-ghost use Rattle.std.specs.List.{list_any};
+ghost use Rattle.std.specs.Prelude.{◌≡◌, position};
 ghost use Rattle.call_record.specs.Record.{words};
-ghost use Rattle.call_tables.specs.Arch.{token_of};
-ghost use Rattle.call_tables.specs.declared.arch.Arch.TheVariants.{X86_64};
-ghost use Rattle.profile.specs.Policy.{least_x32_number};
 ghost use Rattle.profile.specs.Said as said;
 ghost use Rattle.explain.specs.Reason.{entry_at, reason_of};
 
 use call_record::Record;
-use call_tables::Arch;
-use profile::{LEAST_X32_NUMBER, Profile, Rule};
+use profile::{Profile, Rule, are_for};
 use profile_json::EntryRules;
 
 /// Why a profile says its word of a record.
@@ -24,28 +19,11 @@ pub enum Reason {
     Default,
 }
 
-// Whether a record is no x32 call, by its machine's token and its number.
-fn is_no_x32(token: u32, nr: u32) -> bool
-    ensures { result ≡ (not (token == token_of X86_64) || nat_lt nr least_x32_number) }
-{
-    token != Arch::X86_64.token() || nr < LEAST_X32_NUMBER
-}
-
-// Whether one of the machines has the token.
-fn is_listed(machines: &[Arch], token: u32) -> bool
-    ensures { result ≡ list_any (λ a. token == token_of a) machines.now }
-{
-    machines.iter().any(|arch| token == arch.token())
-}
-
 // Whether a record is a call of the profile's machines.
 fn is_native(profile: &Profile, call: &Record) -> bool
     ensures { result ≡ said.is_native profile.now (words call.now) }
 {
-    if !is_listed(profile.machines(), call.arch) {
-        return false;
-    }
-    is_no_x32(call.arch, call.nr)
+    are_for(profile.machines(), call.arch, call.nr)
 }
 
 /// Whether a record matches a rule.

@@ -1,6 +1,6 @@
 -- Two rules can match one record where each argument has a number for the conditions on it.
 use Rattle.std.proofs.Common.{◌≡◌, ◌≢◌, ℕ, zero, suc, ◌+◌, ◌*◌, ◌^◌, ◌<◌, ◌==◌, ◌||◌, ◌⊎◌, inl, inr, Bool, true}
-use Rattle.std.proofs.Common.{false, not, List, [], ◌∷◌, map, get_or, refl, sym, ◌∙◌, ap, subst, arith}
+use Rattle.std.proofs.Common.{false, not, List, [], ◌∷◌, map, get_or, refl, sym, ◌∙◌, subst, arith}
 use Rattle.std.specs.List.{All, Contains, list_any}
 use Rattle.std.proofs.lemmas.Bool.{cases_Bool, and_parts}
 use Rattle.std.proofs.lemmas.Bool.Decides.{Decides-eqb}

@@ -4,14 +4,14 @@ use Rattle.std.proofs.Common.{Some, None, length, bit_and, refl, sym, ◌∙◌,
 use Rattle.std.specs.Bool.{Decides}
 use Rattle.std.specs.List.{All, Any, Contains, HoldsAt, find, list_all, list_any}
 use Rattle.std.specs.Prelude.{nat_le}
-use Rattle.std.proofs.lemmas.Bool.Decides.{Decides-eqb, Decides-ltb, Decides-not, Decides-and, Decides-or}
+use Rattle.std.proofs.lemmas.Bool.Decides.{Decides-eqb, Decides-ltb, Decides-not, Decides-and}
 use Rattle.std.proofs.lemmas.Bool.Decides.{Decides-by_and, Decides-by_or, Decides-like, not_from_Decides, nat_tests}
 use Rattle.std.proofs.lemmas.List.Elements.{All-nil, All-cons, All-contains, All-weaker, at_read}
-use Rattle.std.proofs.lemmas.Bool.{cases_Bool, cases_eq}
+use Rattle.std.proofs.lemmas.Bool.{cases_Bool}
 use Rattle.call_record.specs.Words.{IsRecord, word, argument}
 use Rattle.call_tables.specs.declared.arch.Arch.{Arch}
-use Rattle.call_tables.specs.declared.arch.Arch.TheVariants.{X86_64}
 use Rattle.call_tables.specs.Arch.{token_of}
+use Rattle.call_tables.specs.Numbers.{HasCall, IsWithin, has_call, is_within, own_numbers}
 use Rattle.profile.specs.declared.conditions.Cond.{Cond}
 use Rattle.profile.specs.declared.conditions.Op.{Op}
 use Rattle.profile.specs.declared.conditions.Op.TheVariants.{Ne, Lt, Le, Eq, Ge, Gt, MaskedEq}
@@ -19,7 +19,7 @@ use Rattle.profile.specs.declared.rules.Rule.{Rule}
 use Rattle.profile.specs.Operator.{Compares}
 use Rattle.profile.specs.Condition.{Meets}
 use Rattle.profile.specs.Rule.{Matches}
-use Rattle.profile.specs.Policy.{Policy, IsNative, IsClear, Says, least_x32_number}
+use Rattle.profile.specs.Policy.{Policy, IsNative, IsClear, Says}
 use Rattle.profile.specs.Said as spec
 
 Decides-leb : (a b : ℕ) → Decides (nat_le a b) (a ≤ b)
@@ -57,21 +57,21 @@ any_at P (x ∷ xs) (suc k) lt h =
 at_any : {X : Type 0} (P : X → Type 0) (xs : List X) → Any P xs → (k : ℕ) × (k < length xs) × HoldsAt P xs k
 at_any P xs (k, x, lt, at, h) = (k, lt, at_read xs P k x lt (sym at) h)
 
+Decides-any : {X : Type 0} (t : X → Bool) (T : X → Type 0) → ((x : X) → Decides (t x) (T x)) → (xs : List X)
+    → Decides (list_any t xs) (Any T xs)
+Decides-any t T each xs =
+    Decides-like (list_any t xs) (λ (k, lt, h). any_at T xs k lt h) (at_any T xs)
+    (Decides-by_or t T (list_any t) each refl (λ _ _. refl) xs)
+
+Decides-has_call : (token nr : ℕ) (arch : Arch) → Decides (has_call token nr arch) (HasCall token nr arch)
+Decides-has_call token nr arch =
+    Decides-and _ _ (Decides-eqb (token_of arch) token)
+    (Decides-any (is_within nr) (IsWithin nr)
+    (λ numbers. Decides-and _ _ (Decides-leb numbers.first nr) (Decides-leb nr numbers.last)) (own_numbers arch))
+
 pub Decides-is_native : (p : Policy) (r : List ℕ) → Decides (spec.is_native p r) (IsNative p r)
 Decides-is_native p r =
-    let t : Arch → Bool = λ a. word r 1 == token_of a in
-    let T : Arch → Type 0 = λ a. word r 1 ≡ token_of a in
-    let at : Decides (list_any t p.machines) ((k : ℕ) × (k < length p.machines) × HoldsAt T p.machines k) =
-    Decides-by_or t T (list_any t) (λ a. Decides-eqb (word r 1) (token_of a)) refl (λ _ _. refl) p.machines in
-    let listed : Decides (list_any t p.machines) (Any T p.machines) =
-    Decides-like (list_any t p.machines) (λ (k, lt, h). any_at T p.machines k lt h) (at_any T p.machines) at in
-    let x32 = Decides-or _ _ (Decides-not (word r 1 == token_of X86_64) (Decides-eqb (word r 1) (token_of X86_64)))
-    (Decides-ltb (word r 0) least_x32_number) in
-    let both = Decides-and _ _ listed x32 in
-    Decides-like _
-    (λ (some, or). record { listed = some; no_x32 = λ e. elim or [ inl ne ↦ absurd (ne e) | inr lt ↦ lt ] })
-    (λ n. (n.listed, elim (cases_eq (word r 1) (token_of X86_64)) [ inl e ↦ inr (n.no_x32 e) | inr ne ↦ inl ne ]))
-    both
+    Decides-any (has_call (word r 1) (word r 0)) (HasCall (word r 1) (word r 0)) (Decides-has_call (word r 1) (word r 0)) p.machines
 
 -- ---- the first rule that matches
 

@@ -1,12 +1,12 @@
 -- A profile as contracts see it, what each one is, and the word that it says of a record (OCI Runtime
 -- Specification, config-linux, Seccomp; seccomp(2)).
-use Rattle.std.specs.Prelude.{◌≡◌, ◌<◌, ◌≤◌, ◌⊎◌, ℕ, List, [], ◌∷◌, length, Some, slice_get}
+use Rattle.std.specs.Prelude.{◌≡◌, ◌≤◌, ◌⊎◌, ℕ, List, [], ◌∷◌, length, Some, slice_get}
 use Rattle.std.specs.List.{All, Any, Contains}
 use Rattle.call_record.specs.Words.{IsRecord, word}
 use Rattle.call_tables.specs.declared.arch.Arch.{Arch}
-use Rattle.call_tables.specs.declared.arch.Arch.TheVariants.{X86_64}
 use Rattle.call_tables.specs.declared.arch.Family.{Family}
-use Rattle.call_tables.specs.Arch.{token_of, x86_64_of, aarch64_of}
+use Rattle.call_tables.specs.Arch.{x86_64_of, aarch64_of}
+use Rattle.call_tables.specs.Numbers.{HasCall}
 use Rattle.profile.specs.declared.rules.Rule.{Rule}
 use Rattle.profile.specs.Rule.{Matches}
 
@@ -18,14 +18,9 @@ pub record Policy : Type 0 where
 
 -- ---- what is said of a record
 
--- the least number of an x32 call: these carry the token of x86-64 and this bit in their number
-abbrev pub least_x32_number : ℕ
-least_x32_number = 0x40000000
-
--- the record is of a listed machine, and is no x32 call
-pub record IsNative (p : Policy) (r : List ℕ) : Type 0 where
-  pub listed : Any (λ a. word r 1 ≡ token_of a) p.machines
-  pub no_x32 : word r 1 ≡ token_of X86_64 → word r 0 < least_x32_number
+-- the record is a call of a listed machine: it has the machine's token, and its number is one of the machine's own
+abbrev pub IsNative : Policy → List ℕ → Type 0
+IsNative p r = Any (HasCall (word r 1) (word r 0)) p.machines
 
 -- The word that the profile says of a record. No order of the rules is known here.
 pub record Says (p : Policy) (r : List ℕ) (v : ℕ) : Type 0 where

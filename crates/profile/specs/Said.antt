@@ -1,15 +1,15 @@
 -- The word that a profile says, as a function: that of the first rule that matches.
-use Rattle.std.specs.Prelude.{◌≡◌, ◌↔◌, ℕ, ◌==◌, ◌&&◌, ◌||◌, Bool, not, List, find, bit_and, nat_lt, nat_le, unwrap_or, if◌then◌else◌}
+use Rattle.std.specs.Prelude.{◌≡◌, ◌↔◌, ℕ, ◌==◌, ◌&&◌, Bool, not, List, find, bit_and, nat_lt, nat_le, unwrap_or, if◌then◌else◌}
 use Rattle.std.specs.List.{list_all, list_any}
 use Rattle.std.specs.Option.{option_map}
 use Rattle.call_record.specs.Words.{IsRecord, word, argument}
-use Rattle.call_tables.specs.declared.arch.Arch.TheVariants.{X86_64}
 use Rattle.call_tables.specs.Arch.{token_of}
+use Rattle.call_tables.specs.Numbers.{has_call}
 use Rattle.profile.specs.declared.conditions.Cond.{Cond}
 use Rattle.profile.specs.declared.conditions.Op.{Op}
 use Rattle.profile.specs.declared.conditions.Op.TheVariants.{Ne, Lt, Le, Eq, Ge, Gt, MaskedEq}
 use Rattle.profile.specs.declared.rules.Rule.{Rule}
-use Rattle.profile.specs.Policy.{Policy, IsClear, Says, least_x32_number}
+use Rattle.profile.specs.Policy.{Policy, IsClear, Says}
 
 abbrev pub compares : Op → ℕ → ℕ → ℕ → Bool
 compares Ne value datum u = not (u == value)
@@ -27,8 +27,7 @@ abbrev pub matches : Rule → List ℕ → Bool
 matches rule r = word r 1 == token_of rule.arch && word r 0 == rule.nr && list_all (λ c. meets c (argument r c.index)) rule.conds.items
 
 abbrev pub is_native : Policy → List ℕ → Bool
-is_native p r = list_any (λ a. word r 1 == token_of a) p.machines &&
-    (not (word r 1 == token_of X86_64) || nat_lt (word r 0) least_x32_number)
+is_native p r = list_any (has_call (word r 1) (word r 0)) p.machines
 
 -- the word of the first rule that matches, the default where none does, and 0 where the record is not native
 abbrev pub said : Policy → List ℕ → ℕ

@@ -1,8 +1,9 @@
 //! Which machines are listed.
-ghost use Rattle.std.specs.Prelude.{◌↔◌, IsTrue, IfSome, IfNone, All, Contains};
+ghost use Rattle.std.specs.Prelude.{◌↔◌, IsTrue, IfSome, IfNone, All, Any, Contains};
 ghost use Rattle.std.specs.Prelude.{◌≡◌};
 ghost use Rattle.call_tables.specs.declared.arch.Arch.{Arch};
 ghost use Rattle.call_tables.specs.Arch.{family_of, AreOfFamily};
+ghost use Rattle.call_tables.specs.Numbers.{HasCall};
 ghost use Rattle.profile.specs.Policy.{InOrder};
 ghost use Rattle.profile.specs.Build.{AreListed, IsFirstForeign};
 
@@ -25,6 +26,23 @@ pub fn in_order(family: Family, archs: &[Arch]) -> &'static [Arch]
         return &both[..1];
     }
     both
+}
+
+/// Whether a call with this token and this number is one of these machines': the token is a machine's, and the number
+/// its own.
+pub fn are_for(machines: &[Arch], token: u32, number: u32) -> bool
+    ensures { IsTrue result ↔ Any (HasCall token number) machines.now }
+{
+    machines.iter().any(|arch| has_call(*arch, token, number))
+}
+
+fn has_call(arch: Arch, token: u32, number: u32) -> bool
+    ensures { IsTrue result ↔ HasCall token number arch }
+{
+    if arch.token() != token {
+        return false;
+    }
+    arch.has_number(number)
 }
 
 /// Whether all machines are of the family.

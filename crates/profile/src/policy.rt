@@ -1,8 +1,5 @@
 //! Profiles, and what they say of a record.
-ghost use Rattle.std.specs.Prelude.{◌≡◌, ◌≤◌, ◌↔◌, IsTrue, Any};
-ghost use Rattle.call_tables.specs.declared.arch.Arch.TheVariants.{X86_64};
-ghost use Rattle.call_tables.specs.Arch.{token_of};
-ghost use Rattle.profile.specs.Policy.{least_x32_number};
+ghost use Rattle.std.specs.Prelude.{◌≡◌, ◌↔◌, IsTrue};
 ghost use Rattle.profile.specs.Said.{EachRecordIsSaidOneWord};
 ghost use Rattle.profile.specs.Build.{BuildingIsOne};
 
@@ -10,7 +7,7 @@ use crate::clashes::first_clash;
 use crate::distinct::{Kept, keep_once};
 use crate::fault::BuildError;
 use crate::index::Index;
-use crate::machines::{are_of_family, first_foreign, in_order, lists};
+use crate::machines::{are_for, are_of_family, first_foreign, in_order, lists};
 use crate::rules::Rule;
 use call_record::{Record, Word};
 use call_tables::Arch;
@@ -127,7 +124,7 @@ impl Profile {
     }
 
     /// The word of a record. It is [`Word::KILL_THREAD`] where the record is no call of a listed
-    /// machine, or is an x32 call.
+    /// machine.
     pub fn decide(&self, call: &Record) -> Word
         ensures { Says self.now (words call.now) result }
     {
@@ -148,35 +145,8 @@ impl Profile {
     fn is_native(&self, call: &Record) -> bool
         ensures { IsTrue result ↔ IsNative self.now (words call.now) }
     {
-        if is_x32_call(call.arch, call.nr) {
-            return false;
-        }
-        is_listed(call.arch, self.machines)
+        are_for(self.machines, call.arch, call.nr)
     }
-}
-
-// Whether this is the token of one of the machines.
-fn is_listed(token: u32, machines: &[Arch]) -> bool
-    ensures { IsTrue result ↔ Any (λ arch. token ≡ token_of arch) machines.now }
-{
-    machines.iter().any(|arch| token == arch.token())
-}
-
-/// The least number of an x32 call. These calls carry the token of x86-64, and are foreign to every
-/// profile.
-pub const LEAST_X32_NUMBER: u32 = 0x4000_0000;
-
-/// Whether x32 calls carry the token of this machine.
-pub fn has_x32_calls(arch: Arch) -> bool
-    ensures { IsTrue result ↔ (token_of arch ≡ token_of X86_64) }
-{
-    arch.token() == Arch::X86_64.token()
-}
-
-fn is_x32_call(token: u32, number: u32) -> bool
-    ensures { IsTrue result ↔ (token ≡ token_of X86_64) × (least_x32_number ≤ number) }
-{
-    token == Arch::X86_64.token() && number >= LEAST_X32_NUMBER
 }
 
 /// A clear profile says exactly one word of each record: that of the first rule that matches.

@@ -20,7 +20,7 @@ use Rattle.profile_json.specs.Fault.{native_missing, unknown_call, empty_names, 
 use Rattle.profile_json.specs.Fault.{repeated_index, stray_datum, overlap, unsupported_key, too_many}
 use Rattle.profile_json.specs.Parts.{EntryParts, rule_parts}
 use Rattle.profile_json.specs.Lookup.{Member, missing, other_type, holds, member, or_default, object, text, whole, list}
-use Rattle.profile_json.specs.Names.{editions, action_named, takes_data, op_named, arch_named, is_known, most_names}
+use Rattle.profile_json.specs.Names.{editions, action_named, takes_data, op_named, arch_named, is_known, most_entries, most_names}
 use Rattle.profile_json.specs.Rules.{in_order, rules_under, rules_of}
 use Rattle.profile_json.specs.CallName.{short_name}
 use Rattle.profile_json.specs.Meaning.{IsText, IsSeccomp, NamesAction, ListsArchs, EntryMeans, EntriesMean}
@@ -118,7 +118,8 @@ pub record ClashUnder (machines : List Arch) (x y : EntryParts) (name : List ℕ
 
 pub data EntriesBreak (s : Data) (native : Arch) : Fault → Type 0 where
   no_list : or_default [] (member list key.syscalls s) ≡ None → EntriesBreak s native wrong_type
-  many : (ds : List Data) → or_default [] (member list key.syscalls s) ≡ Some ds → 256 < length ds → EntriesBreak s native too_many
+  many : (ds : List Data) → or_default [] (member list key.syscalls s) ≡ Some ds → most_entries (family_of native) < length ds
+      → EntriesBreak s native too_many
   in_entry : (ds : List Data) (d : Data) (f : Fault) → or_default [] (member list key.syscalls s) ≡ Some ds → Contains ds d
       → EntryBreaks (family_of native) d f → EntriesBreak s native f
   many_rules : (archs : List Arch) (entries : List EntryParts) (said kept : List Rule) → ListsArchs s native archs

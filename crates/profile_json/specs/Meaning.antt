@@ -15,7 +15,7 @@ use Rattle.profile_json.specs.declared.action.Action.{Action}
 use Rattle.profile_json.specs.Keys as key
 use Rattle.profile_json.specs.Parts.{CondParts, EntryParts, rule_parts}
 use Rattle.profile_json.specs.Lookup.{missing, holds, member, or_default, object, text, whole, list}
-use Rattle.profile_json.specs.Names.{editions, action_named, takes_data, word_of, op_named, arch_named, is_known, most_names}
+use Rattle.profile_json.specs.Names.{editions, action_named, takes_data, word_of, op_named, arch_named, is_known, most_entries, most_names}
 use Rattle.profile_json.specs.Rules.{or_native, in_order, rules_of}
 
 -- the text of these bytes is the value t
@@ -104,11 +104,11 @@ pub record EntryMeans (family : Family) (d : Data) (e : EntryParts) : Type 0 whe
   pub word_is : WordMeans key.action key.errno_ret d e.word
   pub args : ArgsMean d e.conds
 
--- the entries, at most 256
+-- the entries, at most 256, in whole tables 1,024
 pub record EntriesMean (family : Family) (s : Data) (entries : List EntryParts) : Type 0 where
   pub values : List Data
   pub values_are : or_default [] (member list key.syscalls s) ≡ Some values
-  pub few : length values ≤ 256
+  pub few : length values ≤ most_entries family
   pub each : AllZip (EntryMeans family) values entries
 
 -- what the object under linux.seccomp says of machines and calls

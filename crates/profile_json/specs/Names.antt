@@ -75,6 +75,11 @@ abbrev pub is_known : Family → List ℕ → Bool
 is_known family name =
     is_some (number_in (table_of (x86_64_of family)) name) || is_some (number_in (table_of (aarch64_of family)) name)
 
+-- how many entries a bundle may have
+abbrev pub most_entries : Family → ℕ
+most_entries Chosen = 256
+most_entries Whole = 1024
+
 -- how many names an entry may have
 abbrev pub most_names : Family → ℕ
 most_names Chosen = 128

@@ -53,7 +53,7 @@ pub enum ProfileError {
     },
     /// A key is used that is not supported.
     UnsupportedKey,
-    /// More than 256 entries, 128 names in an entry (512 in whole tables), or 8,192 different rules.
+    /// More than 256 entries (1,024 in whole tables), 128 names in an entry (512 in whole tables), or 8,192 different rules.
     TooMany,
     OutOfMemory,
 }

@@ -17,7 +17,15 @@ use call_tables::Family;
 use serde_json::Value;
 use std::alloc::Global;
 
-const MAX_ENTRIES: usize = 256;
+// How many entries there may be: older engines write an entry for each call.
+fn most_entries(family: Family) -> usize
+    ensures { result ≡ names.most_entries family }
+{
+    match family {
+        Family::Chosen => 256,
+        Family::Whole => 1024,
+    }
+}
 
 // How many names an entry may have: an engine's longest entries have more than 300.
 fn most_names(family: Family) -> usize
@@ -111,7 +119,7 @@ pub(crate) fn entries_of<'a>(
     ensures { GivesWithMemory (λ v. map entry_parts v.items) result (spec.entries_of family (view seccomp.now)) }
 {
     let values = list_or_empty(seccomp, SYSCALLS)?;
-    if values.len() > MAX_ENTRIES {
+    if values.len() > most_entries(family) {
         return Err(ProfileError::TooMany);
     }
     entries_in(alloc, values, family)

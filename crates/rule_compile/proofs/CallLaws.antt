@@ -4,7 +4,7 @@ use Rattle.std.proofs.Common.{sym, ◌∙◌, subst, arith, inl, inr}
 use Rattle.std.specs.Prelude.{Option, Some, None, slice_index_or, Result, Ok, Err, IfOk, OnOk}
 use Rattle.std.specs.List.{All, Contains}
 use Rattle.std.proofs.lemmas.Option.{same_Some}
-use Rattle.std.proofs.lemmas.List.Elements.{All-contains_itself, All-tail}
+use Rattle.std.proofs.lemmas.List.Elements.{All-contains_itself, All-tail, All-weaker}
 use Rattle.std.proofs.lemmas.Bool.{cases_eq, eq-eqb, ne_eqb}
 use Rattle.bpf_insn.specs.declared.code.Test.TheVariants.{Equal}
 use Rattle.bpf_insn.specs.declared.code.Operation.TheVariants.{LoadWord}
@@ -64,7 +64,7 @@ start_first code place start = omega (arith, start.1)
 
 module _ (p : Policy) (t : ℕ) (old mid : List Insn) (ranges : List Range) (to : Target) (found : Found old mid ranges 32 to)
     (tiles : Tiles 0 ranges (2 ^ 32))
-    (few : length ranges ≤ 514) (worded : All (IsWorded (said_of p t)) ranges) where
+    (few : length ranges ≤ 515) (worded : All (IsWorded (said_of p t)) ranges) where
   of_words : AreOfWords ranges
   of_words k d within = let own = worded k d within in (own.0, own.1)
 
@@ -117,7 +117,7 @@ module _ (p : Policy) (t : ℕ) (old mid : List Insn) (ranges : List Range) (to 
 
 pub calls_searched : (p : Policy) (t : ℕ) (old mid new : List Insn) (ranges : List Range) (target : Target)
     → Searched mid new ranges 0 target → mid ≡ old
-    → Tiles 0 ranges (2 ^ 32) → length ranges ≤ 514 → All (IsWorded (said_of p t)) ranges → AnswersMachine p t old new target
+    → Tiles 0 ranges (2 ^ 32) → length ranges ≤ 515 → All (IsWorded (said_of p t)) ranges → AnswersMachine p t old new target
 calls_searched p t old mid new ranges target (returns word found is) same tiles few worded =
     subst (λ code. AnswersMachine p t code new target) same
     (subst (AnswersMachine p t mid new) (sym is) (calls_return p t mid new ranges (Return word) found tiles few worded word refl))
@@ -137,10 +137,10 @@ pub on_searched : (r : Result Written CompileError) (old new : List Insn) (range
 on_searched (Ok found) old new ranges word is = searched_grows old new ranges word found.target is
 on_searched (Err e) old new ranges word is = tt
 
-pub calls_count : (p : Policy) (t before after : ℕ) (old new : List Insn) (to : Target) → CallsOf p t after old new to → (IsPlain p
+pub calls_count : (p : Policy) (m : Arch) (before after : ℕ) (old new : List Insn) (to : Target) → CallsOf p m after old new to → (IsPlain p
     → after ≡ before)
-    → CallsOf p t before old new to
-calls_count p t before after old new to calls same = record {
+    → CallsOf p m before old new to
+calls_count p m before after old new to calls same = record {
   grows = calls.grows;
   placed = calls.placed;
   told = λ plain none listed. calls.told plain (same plain ∙ none) listed;
@@ -180,15 +180,15 @@ apart_none p count code same = record {
 }
 
 module _ (p : Policy) (a : Arch) (archs : List Arch) (count : ℕ) (old mid top : List Insn) (listed : (archs : List Arch)
-    → All (Contains p.machines) (a ∷ archs) → IsListed p (token_of a)) where
-  pub apart_skip : (below own_to : Target) → Apart p archs count old mid below → CallsOf p (token_of a) count mid top own_to
+    → All (IsListed p) (a ∷ archs) → IsListed p a) where
+  pub apart_skip : (below own_to : Target) → Apart p archs count old mid below → CallsOf p a count mid top own_to
       → own_to ≡ Return 0 → Apart p (a ∷ archs) count old top below
   apart_skip below own_to rest calls is = record {
     grows = grows_on rest.grows calls.grows;
     placed = target_kept mid top calls.grows below rest.placed;
     told = λ plain none_yet all.
         let own = calls.told plain none_yet (listed archs all) in
-        let others = rest.told plain none_yet (All-tail (Contains p.machines) a archs all) in
+        let others = rest.told plain none_yet (All-tail (IsListed p) a archs all) in
         let same : top ≡ mid = subst (IsAtFront mid top) is own.front in
         let still : (t u : ℕ) → goes top below (Some 1) (call t u) ≡ goes mid below (Some 1) (call t u) = λ t u. ap
         (λ code. goes code below (Some 1) (call t u)) same in
@@ -211,8 +211,7 @@ module _ (p : Policy) (a : Arch) (archs : List Arch) (count : ℕ) (old mid top 
         };
   }
 
-  module _ (new : List Insn) (exits : Exits) (place : Label) (rest : Apart p archs count old mid exits.no) (calls : CallsOf p
-      (token_of a) count mid top exits.yes)
+  module _ (new : List Insn) (exits : Exits) (place : Label) (rest : Apart p archs count old mid exits.no) (calls : CallsOf p a count mid top exits.yes)
       (b : Branches top new Equal (token_of a) exits) (start : IsStart new place) where
     own_goes : (t u : ℕ) → token_of a ≡ t → goes new (Place place) (Some 1) (call t u) ≡ goes top exits.yes (Some 1) (call t u)
     own_goes t u e = branch_goes top new Equal (token_of a) exits place b start (inl refl) true 1 (call t u) (eq-eqb t (token_of a) (sym e))
@@ -229,7 +228,7 @@ module _ (p : Policy) (a : Arch) (archs : List Arch) (count : ℕ) (old mid top 
       placed = (start.0, omega (arith, start.1));
       told = λ plain none_yet all.
           let own = calls.told plain none_yet (listed archs all) in
-          let others = rest.told plain none_yet (All-tail (Contains p.machines) a archs all) in
+          let others = rest.told plain none_yet (All-tail (IsListed p) a archs all) in
           let light = branch_cost top new Equal (token_of a) exits place b start in
           let shallow = branch_deep top new Equal (token_of a) exits place b start in
           let same_cost = cost_kept mid top calls.grows exits.no rest.placed in
@@ -267,10 +266,18 @@ few_machines machines order = elim order.1 [
   | inr more ↦ elim more [ inl one ↦ omega (arith, ap length one) | inr two ↦ omega (arith, ap length two) ]
 ]
 
+-- each machine of a profile is listed
+pub each_listed : (p : Policy) → InOrder p.machines → All (IsListed p) p.machines
+each_listed p order =
+    All-weaker (Contains p.machines) (IsListed p) (λ a has. (order, has)) p.machines (All-contains_itself p.machines)
+
 module _ (p : Policy) (plain : IsPlain p) (mid : List Insn) (to : Target) (apart : Apart p p.machines 0 [] mid to)
-    (few : length p.machines ≤ 2) where
+    (order : InOrder p.machines) where
+  few : length p.machines ≤ 2
+  few = few_machines p.machines order
+
   these : AnswersThese p p.machines [] mid to
-  these = apart.told plain refl (All-contains_itself p.machines)
+  these = apart.told plain refl (each_listed p order)
 
   said_everywhere : (t u : ℕ) → t < 2 ^ 32 → u < 2 ^ 32 → goes mid to (Some 1) (call t u) ≡ Some (said p (call t u))
   said_everywhere t u small_t small_u = elim (one_of_or_not p.machines t) [
@@ -278,7 +285,7 @@ module _ (p : Policy) (plain : IsPlain p) (mid : List Insn) (to : Target) (apart
     | inr none ↦
         these.foreign t u none
         ∙ ap Some (sym (said_foreign p plain t u small_t small_u
-        (λ native. let l = native.listed in none (any_one_of p.machines t l.0 l.1 l.2 l.3 l.4))))
+        (λ native. none (any_one_of p.machines t native.0 native.1 native.2 native.3 (sym native.4.0)))))
   ]
 
   pub whole_return : (word : ℕ) (place : Label) (new : List Insn) → to ≡ Return word → Reaches mid new (Return word) place
@@ -299,8 +306,8 @@ module _ (p : Policy) (plain : IsPlain p) (mid : List Insn) (to : Target) (apart
   pub whole_load : (first : Label) (new : List Insn) → to ≡ Place first → new ≡ insn_of LoadWord 4 ∷ mid → IsCallFilter p new
   whole_load first new is written =
       let front : IsStart mid first = subst (IsAtFront [] mid) is these.front in
-      let light : cost mid (Place first) ≤ 4113 * length p.machines + 6 = subst
-      (λ q. cost mid q ≤ 4113 * length p.machines + 6) is these.light in
+      let light : cost mid (Place first) ≤ 4121 * length p.machines + 6 = subst
+      (λ q. cost mid q ≤ 4121 * length p.machines + 6) is these.light in
       let shallow : deep mid (Place first) ≤ 306 + length p.machines = subst (λ q. deep mid q ≤ 306 + length p.machines) is these.shallow in
       let one : position mid first ≡ 0 = start_first mid first front in
       let weighs : weight new 0 ≡ 1 + weight mid 0 = ap (λ code. weight code 0) written ∙ load_weighs mid 4 in

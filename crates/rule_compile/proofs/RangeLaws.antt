@@ -1,5 +1,5 @@
 -- The ranges of a machine's numbers, as they are added.
-use Rattle.std.proofs.Common.{◌≡◌, ℕ, zero, suc, ◌+◌, ◌-◌, ◌<◌, ◌≤◌, ◌^◌, List, [], ◌∷◌, ◌++◌, length, refl, ap, sym, ◌∙◌, subst}
+use Rattle.std.proofs.Common.{◌≡◌, ℕ, zero, suc, ◌+◌, ◌-◌, ◌⊎◌, ◌<◌, ◌≤◌, ◌^◌, List, [], ◌∷◌, ◌++◌, length, refl, ap, sym, ◌∙◌, subst}
 use Rattle.std.proofs.Common.{arith, max, inl, inr, length-append, take}
 use Rattle.std.proofs.Math.Seq.{take-append_seam}
 use Rattle.std.specs.Prelude.{replicate, slice_index, slice_index_or}
@@ -8,17 +8,24 @@ use Rattle.std.specs.List.{All, Contains}
 use Rattle.std.proofs.lemmas.List.Elements.{All-append, All-cons, All-contains, All-head, All-nil}
 use Rattle.std.proofs.lemmas.Bool.{cases_lt}
 use Rattle.call_record.specs.Words.{IsRecord, argument}
+use Rattle.call_tables.specs.declared.arch.Arch.{Arch}
+use Rattle.call_tables.specs.declared.numbers.Numbers.{Numbers}
+use Rattle.call_tables.specs.Arch.{token_of}
+use Rattle.call_tables.specs.Numbers.{IsOther, IsOwn, from_to, other_numbers}
+use Rattle.call_tables.proofs.ArchLaws.{token_of-fits}
+use Rattle.call_tables.proofs.NumberLaws.{all_own, low_is_own, other_in_stretch, own_not_other, own_or_other, stretch, within_stretch}
 use Rattle.profile.specs.declared.rules.Rule.{Rule}
 use Rattle.profile.specs.declared.conditions.Cond.{Cond}
 use Rattle.profile.specs.Condition.{Meets}
 use Rattle.profile.specs.Rule.{Matches}
 use Rattle.profile.specs.Policy.{IsNative, Policy, Says}
+use Rattle.profile.proofs.MachineLaws.{token_of-one}
 use Rattle.profile.proofs.SaidLaws.{each_record_is_said_one_word}
 use Rattle.rule_compile.specs.declared.ranges.Leaf.{Leaf}
 use Rattle.rule_compile.specs.declared.ranges.Leaf.TheVariants.{Word}
 use Rattle.rule_compile.specs.declared.ranges.Range.{Range}
 use Rattle.rule_compile.specs.Shape.{IsPlain, IsPlainRule, call}
-use Rattle.rule_compile.specs.inner.Numbers.{AreFew, AreUnconditional, IsExtended, IsFor, IsListed, IsNativeEnd, IsNext, IsWorded}
+use Rattle.rule_compile.specs.inner.Numbers.{AreFew, AreOwn, AreUnconditional, Between, IsExtended, IsFor, IsListed, IsNext, IsWorded, behind}
 use Rattle.rule_compile.specs.inner.Numbers.{LeafFor, NoneFor, Reached, Tiles, more, nothing, ruled, said_of, unruled, wider}
 use Rattle.rule_compile.specs.inner.Ranges.{AreInOrder, IsWithin}
 use Rattle.rule_compile.proofs.FindLaws.{all_left, all_right}
@@ -179,71 +186,72 @@ module _ (p : Policy) (plain : IsPlain p) (t u : ℕ) (small_t : t < 2 ^ 32) (sm
     unmatched = λ native. absurd (not native);
   })
 
-native_below : (p : Policy) (t u end : ℕ) → IsListed p t → IsNativeEnd t end → u < end → IsNative p (call t u)
-native_below p t u end listed ends below = record {
-  listed = (listed.1.0, listed.0, listed.1.1, listed.1.2, sym listed.2);
-  no_x32 = λ is. elim ends [ inl x ↦ omega (arith, below, x.1) | inr other ↦ absurd (other.0 is) ];
-}
+-- a call of a listed machine is native where its number is one of the machine's own, and else foreign
+native_own : (p : Policy) (m : Arch) (u : ℕ) → IsListed p m → IsOwn m u → IsNative p (call (token_of m) u)
+native_own p m u listed own = (listed.1.0, m, listed.1.1, listed.1.2, (refl, own))
 
-foreign_from : (p : Policy) (t u end : ℕ) → IsNativeEnd t end → end ≤ u → u < 2 ^ 32 → IsNative p (call t u) → ⊥
-foreign_from p t u end ends above small native = elim ends [
-  | inl x ↦ let low = native.no_x32 x.0 in omega (arith, low, above, x.1)
-  | inr other ↦ omega (arith, above, small, other.1)
-]
+foreign_other : (p : Policy) (m : Arch) (u : ℕ) → IsListed p m → IsOther m u → IsNative p (call (token_of m) u) → ⊥
+foreign_other p m u listed other (k, a, inside, at, has) =
+    let same : a ≡ m = token_of-one p.machines listed.0 a m (k, inside, at) listed.1 has.0 in
+    own_not_other m u (subst (λ x. IsOwn x u) same has.1) other
 
 -- ---- the next number, and all after the last
 
-pub reached_none : (p : Policy) (t end : ℕ) → Reached p t end 0 []
-reached_none p t end = record {
-  tiles = refl;
-  worded = λ plain listed. All-nil (IsWorded (said_of p t));
-  few = λ plain. inl (omega arith, omega arith);
-}
-
-native_small : (t end : ℕ) → IsNativeEnd t end → end ≤ 2 ^ 32
-native_small t end ends = elim ends [ inl x ↦ omega (arith, x.1) | inr other ↦ omega (arith, other.1) ]
-
-module _ (p : Policy) (t from end next : ℕ) (old mid : List Range) (small_t : t < 2 ^ 32) (before : from < end) (ends : IsNativeEnd t end)
-    (reached : Reached p t end from old) (is_next : IsNext p.rules t from end next) (first : IsExtended old from next
-    (Word p.default_word) mid) where
+module _ (p : Policy) (m : Arch) (most from end next : ℕ) (old mid : List Range) (before : from < end) (small_end : end ≤ 2 ^ 32)
+    (own : AreOwn m from end) (many : 513 ≤ most) (reached : Reached p m most end from old)
+    (is_next : IsNext p.rules (token_of m) from end next) (first : IsExtended old from next (Word p.default_word) mid) where
   mid_tiles : Tiles 0 mid (max from next)
   mid_tiles = tiles_extended old mid from next (Word p.default_word) reached.tiles first
 
-  mid_worded : IsPlain p → IsListed p t → All (IsWorded (said_of p t)) mid
+  mid_worded : IsPlain p → IsListed p m → All (IsWorded (said_of p (token_of m))) mid
   mid_worded plain listed =
-      worded_extended old mid from next (Word p.default_word) (said_of p t) p.default_word reached.tiles
+      worded_extended old mid from next (Word p.default_word) (said_of p (token_of m)) p.default_word reached.tiles
       (reached.worded plain listed) first refl
       (λ u low high.
       let within : u < end = omega (arith, high, is_next.most) in
-      said_default p plain t u small_t (omega (arith, within, native_small t end ends)) (native_below p t u end listed ends within)
-      (is_next.none u low high))
+      said_default p plain (token_of m) u (token_of-fits m) (omega (arith, within, small_end))
+      (native_own p m u listed (own u low within)) (is_next.none u low high))
 
-  pub reached_end : next ≡ end → Reached p t end (max from next) mid
-  reached_end last = record {
-    tiles = mid_tiles;
-    worded = mid_worded;
-    few = λ plain. elim (reached.few plain) [
-      | inl few ↦ inr (omega (arith, last, before), omega (arith, few.0, few.1, count_extended old mid from next (Word p.default_word) first))
-      | inr all ↦ absurd (omega (arith, all.0, before))
-    ];
-  }
+  pub reached_end : next ≡ end → Reached p m most end (max from next) mid
+  reached_end last =
+      let at : max from next ≡ end = omega (arith, last, before) in
+      let more = count_extended old mid from next (Word p.default_word) first in
+      record {
+        tiles = mid_tiles;
+        worded = mid_worded;
+        few = λ plain. elim (reached.few plain) [
+          | inl few ↦ inr (inr (at, omega (arith, few.0, few.1, more, many)))
+          | inr behind ↦ elim behind [
+            | inl few ↦ inr (inr (at, omega (arith, few.2, more)))
+            | inr all ↦ absurd (omega (arith, all.0, before))
+          ]
+        ];
+      }
 
   module _ (new : List Range) (leaf : Leaf) (inside : next < end) (decided : AreUnconditional p.rules
-      → LeafFor p.rules t next p.default_word leaf)
+      → LeafFor p.rules (token_of m) next p.default_word leaf)
       (one : IsExtended mid (max from next) (next + 1) leaf new) where
     unconditional : IsPlain p → AreUnconditional p.rules
     unconditional plain k d within = (plain.rules k d within).0
 
-    leaf_word : IsPlain p → IsListed p t → (w : ℕ) × (leaf ≡ Word w) × (said_of p t next ≡ w)
+    leaf_word : IsPlain p → IsListed p m → (w : ℕ) × (leaf ≡ Word w) × (said_of p (token_of m) next ≡ w)
     leaf_word plain listed =
-        let small : next < 2 ^ 32 = omega (arith, inside, native_small t end ends) in
-        let native = native_below p t next end listed ends inside in
+        let small : next < 2 ^ 32 = omega (arith, inside, small_end) in
+        let native = native_own p m next listed (own next is_next.least inside) in
         elim (decided (unconditional plain)) [
-          | ruled rule has is leaf_is ↦ (rule.word, leaf_is, said_rule p plain t next small_t small native rule has is)
-          | unruled none leaf_is ↦ (p.default_word, leaf_is, said_default p plain t next small_t small native none)
+          | ruled rule has is leaf_is ↦ (
+            rule.word,
+            leaf_is,
+            said_rule p plain (token_of m) next (token_of-fits m) small native rule has is,
+          )
+          | unruled none leaf_is ↦ (
+            p.default_word,
+            leaf_is,
+            said_default p plain (token_of m) next (token_of-fits m) small native none,
+          )
         ]
 
-    few_next : IsPlain p → AreFew end (max (max from next) (next + 1)) (length new)
+    few_next : IsPlain p → AreFew most end (max (max from next) (next + 1)) (length new)
     few_next plain =
         let small : next < 512 = elim (is_next.small 512 (λ k d within.
         (plain.rules k d within).1)) [ inl less ↦ less | inr last ↦ absurd (omega (arith, last, inside)) ] in
@@ -256,33 +264,156 @@ module _ (p : Policy) (t from end next : ℕ) (old mid : List Range) (small_t : 
                 let c = count_same old mid from next (Word p.default_word) same first in
                 inl (omega (arith, small, same, is_next.least), omega (arith, few.1, same, is_next.least, b, c))
           ]
-          | inr all ↦ absurd (omega (arith, all.0, before))
+          | inr behind ↦ elim behind [
+            | inl few ↦ absurd (omega (arith, few.0, small, is_next.least))
+            | inr all ↦ absurd (omega (arith, all.0, before))
+          ]
         ]
 
-    pub reached_next : Reached p t end (max (max from next) (next + 1)) new
+    pub reached_next : Reached p m most end (max (max from next) (next + 1)) new
     reached_next = record {
       tiles = tiles_extended mid new (max from next) (next + 1) leaf mid_tiles one;
       worded = λ plain listed.
-          let own = leaf_word plain listed in
-          worded_extended mid new (max from next) (next + 1) leaf (said_of p t) own.0 mid_tiles (mid_worded plain listed) one own.1
-          (λ u low high. let e : u ≡ next = omega (arith, low, high, is_next.least) in ap (said_of p t) e ∙ own.2);
+          let word = leaf_word plain listed in
+          worded_extended mid new (max from next) (next + 1) leaf (said_of p (token_of m)) word.0 mid_tiles
+          (mid_worded plain listed) one word.1
+          (λ u low high. let e : u ≡ next = omega (arith, low, high, is_next.least) in ap (said_of p (token_of m)) e ∙ word.2);
       few = few_next;
     }
 
-module _ (p : Policy) (t end : ℕ) (old new : List Range) (small_t : t < 2 ^ 32) (ends : IsNativeEnd t end)
-    (reached : Reached p t end end old)
-    (last : IsExtended old end (2 ^ 32) (Word 0) new) where
-  pub whole_tiles : Tiles 0 new (2 ^ 32)
-  whole_tiles =
-      let n : max end (2 ^ 32) ≡ 2 ^ 32 = omega (arith, native_small t end ends) in
-      subst (Tiles 0 new) n (tiles_extended old new end (2 ^ 32) (Word 0) reached.tiles last)
+-- ---- from one stretch of foreign numbers to the next
 
-  pub whole_worded : IsPlain p → IsListed p t → All (IsWorded (said_of p t)) new
-  whole_worded plain listed =
-      worded_extended old new end (2 ^ 32) (Word 0) (said_of p t) 0 reached.tiles (reached.worded plain listed) last refl
-      (λ u low high. said_foreign p plain t u small_t high (foreign_from p t u end ends low high))
+pub between_none : (p : Policy) (m : Arch) → Between p m 0 0 []
+between_none p m = record {
+  tiles = refl;
+  worded = λ plain listed. All-nil (IsWorded (said_of p (token_of m)));
+  few = λ plain. omega arith;
+  place = refl;
+}
 
-  pub whole_few : IsPlain p → length new ≤ 514
-  whole_few plain =
-      let a = count_extended old new end (2 ^ 32) (Word 0) last in
-      elim (reached.few plain) [ inl few ↦ omega (arith, few.0, few.1, a) | inr all ↦ omega (arith, all.1, a) ]
+-- the one stretch that there may be
+record IsOne (m : Arch) (k : ℕ) (foreign : Numbers) : Type 0 where
+  first_place : k ≡ 0
+  begins : foreign.first ≡ 0x40000000
+  ends : (0xfffffffe ≤ foreign.last) × (foreign.last ≤ 0xffffffff)
+  others : (u : ℕ) → foreign.first ≤ u → u ≤ foreign.last → IsOther m u
+  behind_is : behind (other_numbers m) 1 ≡ foreign.last + 1
+
+is_one : (m : Arch) (k : ℕ) (foreign d : Numbers) → k < length (other_numbers m) → foreign ≡ slice_index_or (other_numbers m) k d
+    → IsOne m k foreign
+is_one m k foreign d inside at = elim (stretch m) [
+  | inl none ↦ absurd (omega (arith, inside, ap length none))
+  | inr (last, s) ↦
+      let zeroth : k ≡ 0 = omega (arith, inside, ap length s.is) in
+      let is : foreign ≡ from_to 0x40000000 last =
+      at ∙ ap (λ n. slice_index_or (other_numbers m) n d) zeroth ∙ ap (λ all. slice_index_or all 0 d) s.is in
+      let first : foreign.first ≡ 0x40000000 = ap (λ (n : Numbers). n.first) is in
+      let final : foreign.last ≡ last = ap (λ (n : Numbers). n.last) is in
+      record {
+        first_place = zeroth;
+        begins = first;
+        ends = (omega (arith, final, s.least), omega (arith, final, s.most));
+        others = λ u low high. other_in_stretch m last u s (omega (arith, low, first)) (omega (arith, high, final));
+        behind_is = ap (λ all. behind all 1) s.is ∙ ap (λ n. n + 1) (sym final);
+      }
+]
+
+module _ (p : Policy) (m : Arch) (k upto : ℕ) (foreign d : Numbers) (old : List Range) (between : Between p m k upto old)
+    (inside : k < length (other_numbers m)) (at : foreign ≡ slice_index_or (other_numbers m) k d) where
+  which : IsOne m k foreign
+  which = is_one m k foreign d inside at
+
+  from_zero : upto ≡ 0
+  from_zero = between.place ∙ ap (behind (other_numbers m)) which.first_place
+
+  pub own_upto : upto ≤ foreign.first
+  own_upto = omega (arith, from_zero)
+
+  pub first_small : foreign.first ≤ 2 ^ 32
+  first_small = omega (arith, which.begins)
+
+  pub last_small : foreign.last + 1 ≤ 2 ^ 32
+  last_small = let e = which.ends in omega (arith, e.1)
+
+  pub own_before : AreOwn m upto foreign.first
+  own_before u low high = low_is_own m u (omega (arith, high, which.begins))
+
+  pub own_reached : Reached p m 513 foreign.first upto old
+  own_reached = record {
+    tiles = between.tiles;
+    worded = between.worded;
+    few = λ plain. inl (omega (arith, from_zero), omega (arith, from_zero, between.few plain, which.first_place));
+  }
+
+  module _ (mid new : List Range) (reached : Reached p m 513 foreign.first foreign.first mid)
+      (last : IsExtended mid foreign.first (foreign.last + 1) (Word 0) new) where
+    pub between_next : Between p m (k + 1) (max foreign.first (foreign.last + 1)) new
+    between_next =
+        let one = which in
+        let more = count_extended mid new foreign.first (foreign.last + 1) (Word 0) last in
+        record {
+          tiles = tiles_extended mid new foreign.first (foreign.last + 1) (Word 0) reached.tiles last;
+          worded = λ plain listed.
+              worded_extended mid new foreign.first (foreign.last + 1) (Word 0) (said_of p (token_of m)) 0 reached.tiles
+              (reached.worded plain listed) last refl
+              (λ u low high.
+              said_foreign p plain (token_of m) u (token_of-fits m) (omega (arith, high, one.ends.1))
+              (foreign_other p m u listed (one.others u low (omega (arith, high)))));
+          few = λ plain. elim (reached.few plain) [
+            | inl few ↦ absurd (omega (arith, few.0, one.begins))
+            | inr behind ↦ elim behind [
+              | inl few ↦ absurd (omega (arith, few.1))
+              | inr all ↦ omega (arith, all.1, more, one.first_place)
+            ]
+          ];
+          place =
+              let e : max foreign.first (foreign.last + 1) ≡ foreign.last + 1 = omega (arith, one.begins, one.ends.0) in
+              e ∙ sym one.behind_is ∙ ap (λ n. behind (other_numbers m) (n + 1)) (sym one.first_place);
+        }
+
+-- behind all of them
+module _ (p : Policy) (m : Arch) (k upto : ℕ) (old : List Range) (between : Between p m k upto old) (all : k ≡ length (other_numbers m)) where
+  last_cases : ((upto ≡ 0) × (k ≡ 0) × (other_numbers m ≡ [])) ⊎ ((0xffffffff ≤ upto) × (upto ≤ 2 ^ 32) × (k ≡ 1) × ((u : ℕ) → upto ≤ u → u < 2 ^ 32 → IsOwn m u))
+  last_cases = elim (stretch m) [
+    | inl none ↦
+        let zeroth : k ≡ 0 = all ∙ ap length none in
+        inl (between.place ∙ ap (behind (other_numbers m)) zeroth, zeroth, none)
+    | inr (last, s) ↦
+        let one : k ≡ 1 = all ∙ ap length s.is in
+        let at : upto ≡ last + 1 =
+        between.place ∙ ap (behind (other_numbers m)) one ∙ ap (λ these. behind these 1) s.is in
+        inr (
+          omega (arith, at, s.least),
+          omega (arith, at, s.most),
+          one,
+          λ u low high. elim (own_or_other m u high) [
+            | inl own ↦ own
+            | inr other ↦ let within = within_stretch m last u s other in absurd (omega (arith, within.1, low, at))
+          ],
+        )
+  ]
+
+  pub last_upto : upto ≤ 2 ^ 32
+  last_upto = elim last_cases [ inl none ↦ omega (arith, none.0) | inr some ↦ some.1 ]
+
+  pub last_own : AreOwn m upto (2 ^ 32)
+  last_own u low high = elim last_cases [ inl none ↦ all_own m u none.2 high | inr some ↦ some.3 u low high ]
+
+  pub last_reached : Reached p m 515 (2 ^ 32) upto old
+  last_reached = record {
+    tiles = between.tiles;
+    worded = between.worded;
+    few = λ plain. elim last_cases [
+      | inl none ↦ inl (omega (arith, none.0), omega (arith, none.0, none.1, between.few plain))
+      | inr some ↦ elim (cases_lt upto (2 ^ 32)) [
+        | inl less ↦ inr (inl (omega (arith, some.0), less, omega (arith, some.2, between.few plain)))
+        | inr not ↦ inr (inr (omega (arith, not, some.1), omega (arith, some.2, between.few plain)))
+      ]
+    ];
+  }
+
+pub whole_few : (p : Policy) (m : Arch) (new : List Range) → Reached p m 515 (2 ^ 32) (2 ^ 32) new → IsPlain p → length new ≤ 515
+whole_few p m new reached plain = elim (reached.few plain) [
+  | inl few ↦ absurd (omega (arith, few.0))
+  | inr behind ↦ elim behind [ inl few ↦ absurd (omega (arith, few.1)) | inr all ↦ all.1 ]
+]

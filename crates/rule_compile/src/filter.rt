@@ -1,7 +1,6 @@
 //! The filter of a profile.
-ghost use Rattle.std.specs.Prelude.{◌≡◌, ◌≤◌, ◌<◌, ◌+◌, ◌*◌, [], None, length, vec_len, All, Contains, OnOk, IfErr, IfOk, IsErrOf, MatchOption};
+ghost use Rattle.std.specs.Prelude.{◌≡◌, ◌≤◌, ◌<◌, ◌+◌, ◌*◌, [], None, length, vec_len, All, OnOk, IfErr, IfOk, IsErrOf, MatchOption};
 ghost use Rattle.bpf_insn.specs.Bytes.{insns_of, view_fault};
-ghost use Rattle.call_tables.specs.Arch.{token_of};
 ghost use Rattle.rule_compile.specs.Shape.{IsCallFilter, IsPlain};
 ghost use Rattle.rule_compile.specs.inner.Calls.{Apart, CallsOf};
 ghost use Rattle.rule_compile.specs.inner.Numbers.{IsListed};
@@ -96,7 +95,7 @@ fn tell_machines_apart(
 ) -> Result<Target, CompileError>
     ensures apart { IfOk result (Apart profile.now machines.now (vec_len blocks.old.blocks) code.old code.new) }
     ensures no_block { IsPlain profile.now → OnOk result (blocks.new ≡ blocks.old) }
-    ensures full { IsErrOf result CompileError.TooLong → IsPlain profile.now → vec_len blocks.old.blocks ≡ 0 → All (Contains profile.now.machines) machines.now → 4096 < length code.old + 1543 * length machines.now }
+    ensures full { IsErrOf result CompileError.TooLong → IsPlain profile.now → vec_len blocks.old.blocks ≡ 0 → All (IsListed profile.now) machines.now → 4096 < length code.old + 1546 * length machines.now }
 {
     let [machine, others @ ..] = machines else {
         return Ok(Target::Return(Word::KILL_THREAD));
@@ -136,9 +135,9 @@ fn calls_of(
     blocks: &mut Blocks,
     written: &mut Vec<Written>,
 ) -> Result<Target, CompileError>
-    ensures calls { IfOk result (CallsOf profile.now (token_of machine) (vec_len blocks.old.blocks) code.old code.new) }
+    ensures calls { IfOk result (CallsOf profile.now machine (vec_len blocks.old.blocks) code.old code.new) }
     ensures no_block { IsPlain profile.now → OnOk result (blocks.new ≡ blocks.old) }
-    ensures full { IsErrOf result CompileError.TooLong → IsPlain profile.now → vec_len blocks.old.blocks ≡ 0 → IsListed profile.now (token_of machine) → 4096 < length code.old + 1540 }
+    ensures full { IsErrOf result CompileError.TooLong → IsPlain profile.now → vec_len blocks.old.blocks ≡ 0 → IsListed profile.now machine → 4096 < length code.old + 1543 }
 {
     let ranges = ranges_of(alloc, profile, machine, blocks)?;
     write_blocks(code, alloc, blocks, written)?;

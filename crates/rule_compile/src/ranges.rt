@@ -1,15 +1,16 @@
 //! What decides the calls of one machine, as ranges of call numbers.
 ghost use Rattle.std.specs.Prelude.{◌≡◌, ◌↔◌, ◌≤◌, ◌<◌, ◌^◌, [], length, max, All, IfOk, IfSome, IsSome, IsTrue, OnOk};
+ghost use Rattle.std.specs.Prelude.{ℕ};
 ghost use Rattle.call_tables.specs.Arch.{token_of};
 ghost use Rattle.rule_compile.specs.Shape.{IsPlain};
-ghost use Rattle.rule_compile.specs.inner.Numbers.{AreUnconditional, IsExtended, IsFor, IsLastAlike, IsListed, IsNativeEnd, IsNext, IsWorded, LeafFor, Reached, Tiles, said_of};
+ghost use Rattle.rule_compile.specs.inner.Numbers.{AreOwn, AreUnconditional, IsExtended, IsFor, IsLastAlike, IsListed, IsNext, IsWorded, LeafFor, Reached, Tiles, said_of};
 ghost use Rattle.rule_compile.specs.inner.Ranges.{IsLike};
 
 use crate::blocks::Blocks;
 use crate::open::Placed;
 use call_record::Word;
 use call_tables::Arch;
-use profile::{LEAST_X32_NUMBER, Profile, Rule, has_x32_calls};
+use profile::{Profile, Rule};
 use std::alloc::{AllocError, Global};
 
 /// What decides a call.
@@ -179,21 +180,45 @@ impl Ranges {
         ranges
     }
 
+    // Adds the numbers up to an end that are missing, which are the machine's own.
+    fn add_own(
+        &mut self,
+        alloc: Global,
+        profile: &Profile,
+        machine: Arch,
+        end: u64,
+        blocks: &mut Blocks,
+    ) -> Result<(), AllocError>
+        requires upto { self.old.end ≤ end }
+        requires small { end ≤ 2 ^ 32 }
+        requires own { AreOwn machine self.old.end end }
+        ensures end { OnOk result (self.new.end ≡ end) }
+        ensures no_block { IsPlain profile.now → OnOk result (blocks.new ≡ blocks.old) }
+        ensures reached { (most : ℕ) → 513 ≤ most → Reached profile.now machine most end self.old.end self.old.ranges.items → OnOk result (Reached profile.now machine most end end self.new.ranges.items) }
+    {
+        'own: while self.end < end {
+            self.add_next(alloc, profile, machine, end, blocks)?;
+        }
+        Ok(())
+    }
+
     // Adds the numbers up to the next one that has a rule, and that one, or all up to the end.
     fn add_next(
         &mut self,
         alloc: Global,
         profile: &Profile,
-        token: u32,
+        machine: Arch,
         end: u64,
         blocks: &mut Blocks,
     ) -> Result<(), AllocError>
         requires before { self.old.end < end }
-        requires native { IsNativeEnd token end }
+        requires small { end ≤ 2 ^ 32 }
+        requires own { AreOwn machine self.old.end end }
         ensures further { OnOk result ((self.old.end < self.new.end) × (self.new.end ≤ end)) }
         ensures no_block { IsPlain profile.now → OnOk result (blocks.new ≡ blocks.old) }
-        ensures reached { Reached profile.now token end self.old.end self.old.ranges.items → OnOk result (Reached profile.now token end self.new.end self.new.ranges.items) }
+        ensures reached { (most : ℕ) → 513 ≤ most → Reached profile.now machine most end self.old.end self.old.ranges.items → OnOk result (Reached profile.now machine most end self.new.end self.new.ranges.items) }
     {
+        let token = machine.token();
         let default = profile.default_word();
         let rules = profile.rules();
         let next = next_number(rules, token, self.end, end);
@@ -256,27 +281,16 @@ pub(crate) fn ranges_of(
     ensures no_block { IsPlain profile.now → OnOk result (blocks.new ≡ blocks.old) }
     ensures tiled { IfOk result (λ ranges. Tiles 0 ranges.items (2 ^ 32)) }
     ensures some { IfOk result (λ ranges. 1 ≤ length ranges.items) }
-    ensures few { IsPlain profile.now → IfOk result (λ ranges. length ranges.items ≤ 514) }
-    ensures worded { IsPlain profile.now → IsListed profile.now (token_of machine) → IfOk result (λ ranges. All (IsWorded (said_of profile.now (token_of machine))) ranges.items) }
+    ensures few { IsPlain profile.now → IfOk result (λ ranges. length ranges.items ≤ 515) }
+    ensures worded { IsPlain profile.now → IsListed profile.now machine → IfOk result (λ ranges. All (IsWorded (said_of profile.now (token_of machine))) ranges.items) }
 {
-    let token = machine.token();
-    let native = native_numbers(token);
     let mut ranges = Ranges::new(alloc);
-    'native: while ranges.end < native {
-        ranges.add_next(alloc, profile, token, native, blocks)?;
+    for foreign in machine.other_numbers() {
+        ranges.add_own(alloc, profile, machine, u64::from(foreign.first), blocks)?;
+        ranges.extend(u64::from(foreign.last) + 1, Leaf::Word(Word::KILL_THREAD))?;
     }
-    ranges.extend(NUMBERS, Leaf::Word(Word::KILL_THREAD))?;
+    ranges.add_own(alloc, profile, machine, NUMBERS, blocks)?;
     Ok(ranges.ranges)
-}
-
-// How many call numbers are the machine's own. From there on they are foreign.
-fn native_numbers(token: u32) -> u64
-    ensures { IsNativeEnd token result }
-{
-    if token == Arch::X86_64.token() {
-        return u64::from(LEAST_X32_NUMBER);
-    }
-    NUMBERS
 }
 
 // Whether the rule is for the number of the machine with the token.

@@ -1,7 +1,6 @@
 -- The whole tables stand in order, and their lists of places fit them: computed over each.
 use Rattle.std.proofs.Common.{◌≡◌, true, refl}
-use Rattle.call_tables.specs.declared.linux_aarch64.TheConstants.{LINUX_AARCH64_PLACES}
-use Rattle.call_tables.specs.declared.linux_x86_64.TheConstants.{LINUX_X86_64_PLACES}
+use Rattle.call_tables.specs.declared.places.TheConstants.{LINUX_AARCH64_PLACES, LINUX_X86_64_PLACES}
 use Rattle.call_tables.specs.Machines.{linux_x86_64_table, linux_aarch64_table}
 use Rattle.call_tables.specs.Table.{is_one_to_one}
 use Rattle.call_tables.specs.inner.Order.{Ascends, are_placed}

@@ -60,7 +60,7 @@ path_cost p pc calls = weight p pc + 2 * calls
 abbrev pub return_cost : ℕ → ℕ → ℕ → ℕ
 return_cost machines at calls = 2 * (machines - at) + 1 + 2 * calls
 
--- what a return of one machine costs: once the x32 calls are apart, each further node has a call of its own
+-- what a return of one machine costs: once the foreign numbers are apart, each further node has a call of its own
 abbrev pub halves_cost : ℕ → ℕ → ℕ
 halves_cost halvings calls = 1 + 2 * (calls + halvings / 10 - 1)
 

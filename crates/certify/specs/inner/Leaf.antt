@@ -1,10 +1,11 @@
 -- Where what is known at a return settles the word.
-use Rattle.std.specs.Prelude.{◌≡◌, ℕ, ◌<◌, ◌≤◌, ◌⊎◌, List, [], Contains}
-use Rattle.std.specs.List.{All}
+use Rattle.std.specs.Prelude.{◌≡◌, ℕ, ◌<◌, ◌≤◌, ◌⊎◌, List, [], Contains, length}
+use Rattle.std.specs.List.{All, Any}
 use Rattle.call_tables.specs.declared.arch.Arch.{Arch}
-use Rattle.call_tables.specs.declared.arch.Arch.TheVariants.{X86_64}
+use Rattle.call_tables.specs.declared.numbers.Numbers.{Numbers}
 use Rattle.call_tables.specs.Arch.{token_of}
-use Rattle.profile.specs.Policy.{Policy, Says, least_x32_number}
+use Rattle.call_tables.specs.Numbers.{other_numbers}
+use Rattle.profile.specs.Policy.{InOrder, Policy, Says}
 use Rattle.cert_state.specs.declared.literal.Lit.{Lit}
 use Rattle.cert_state.specs.Literals.{index_of}
 use Rattle.cert_state.specs.Points.{IsPoint, IsRange, IsWhole}
@@ -23,16 +24,21 @@ SaysThere policy known v = (t u : ℕ) → IsPoint known 1 t → IsPoint known 0
 abbrev pub IsForeign : Policy → List Lit → Type 0
 IsForeign policy known = (arch : Arch) → Contains policy.machines arch → IsPoint known 1 (token_of arch) → ⊥
 
+-- the numbers from one to another are all of one of these stretches
+abbrev pub LieIn : ℕ → ℕ → List Numbers → Type 0
+LieIn lo hi all = Any (λ numbers. (numbers.first ≤ lo) × (hi ≤ numbers.last)) all
+
 -- it is one machine's, and one number, or the default word, or no number of the machine's own
 pub record IsOfOne (policy : Policy) (known : List Lit) (v lo hi : ℕ) : Type 0 where
   pub arch : Arch
   pub listed : Contains policy.machines arch
   pub token : IsRange known 1 (token_of arch) (token_of arch)
-  pub numbers : (lo ≡ hi) ⊎ ((policy.default_word ≡ v) ⊎ ((token_of arch ≡ token_of X86_64) × (least_x32_number ≤ lo)))
+  pub numbers : (lo ≡ hi) ⊎ ((policy.default_word ≡ v) ⊎ LieIn lo hi (other_numbers arch))
 
 -- so the rules of the profile agree
 abbrev pub LeafAgrees : Type 0
 LeafAgrees =
-    (policy : Policy) (known : List Lit) (v lo hi from to : ℕ) → All IsPlainRule policy.rules → All IsOfCalls known
+    (policy : Policy) (known : List Lit) (v lo hi from to : ℕ) → InOrder policy.machines → length known ≤ 512
+    → All IsPlainRule policy.rules → All IsOfCalls known
     → SaysThere policy known v
     → IsRange known 0 lo hi → IsRange known 1 from to → IsForeign policy known ⊎ IsOfOne policy known v lo hi → Agrees policy [] [] known v

@@ -18,7 +18,7 @@ use Rattle.certify.specs.inner.Made.{regs_of, StandsAt}
 
 -- the node of a place
 abbrev pub node_of : Option ℕ → ℕ → List Lit → Kind → PlainNode
-node_of held pc known kind = record { kind = kind; pc = pc; regs = regs_of held; known = known; out = []; met = [] }
+node_of held pc known kind = record { kind = kind; pc = pc; regs = regs_of held; known = known; out = []; met = []; sharp = false }
 
 -- of node i at an instruction of the program, by what it is
 pub record NodesKeepAt (policy : Policy) (p : List Insn) (ns : List PlainNode) (i : ℕ) (insn : Insn) (held : Option ℕ) (pc : ℕ)

@@ -1,11 +1,11 @@
 -- What is known where a path stands.
 use Rattle.std.specs.Prelude.{◌≡◌, ℕ, ◌+◌, ◌^◌, ◌<◌, ◌≤◌, ◌⊎◌, List, Some, Contains, slice_get}
 use Rattle.call_tables.specs.declared.arch.Arch.{Arch}
-use Rattle.call_tables.specs.declared.arch.Arch.TheVariants.{X86_64}
 use Rattle.call_tables.specs.Arch.{token_of}
+use Rattle.call_tables.specs.Numbers.{IsOther}
 use Rattle.bpf_insn.specs.declared.instruction.Insn.{Insn}
 use Rattle.bpf_insn.specs.Code.{operation_of}
-use Rattle.profile.specs.Policy.{Policy, least_x32_number}
+use Rattle.profile.specs.Policy.{Policy}
 use Rattle.cert_state.specs.declared.literal.Lit.{Lit}
 use Rattle.cert_state.specs.Points.{IsPoint, IsRange}
 use Rattle.rule_compile.specs.Moves.{Ends, move_at}
@@ -50,9 +50,9 @@ AreOutBefore policy s place n =
 
 -- ---- halvings that tell the numbers apart
 
--- all numbers that are possible are of x32 calls
-abbrev pub AreX32 : List Lit → Arch → Type 0
-AreX32 known arch = (token_of arch ≡ token_of X86_64) × ((u : ℕ) → IsPoint known 0 u → least_x32_number ≤ u)
+-- all numbers that are possible are foreign
+abbrev pub AreForeign : List Lit → Arch → Type 0
+AreForeign known arch = (u : ℕ) → IsPoint known 0 u → IsOther arch u
 
 -- they are small, and no two are so far from each other
 abbrev pub AreNear : List Lit → ℕ → Type 0
@@ -60,7 +60,7 @@ AreNear known distance = (u w : ℕ) → IsPoint known 0 u → IsPoint known 0 w
 
 -- so many halvings are left, at first 10, that the numbers come apart where they have to
 abbrev pub IsEnough : List Lit → Arch → ℕ → Type 0
-IsEnough known arch halvings = (halvings ≡ 10) ⊎ (AreX32 known arch ⊎ ((halvings < 10) × AreNear known (2 ^ halvings)))
+IsEnough known arch halvings = (halvings ≡ 10) ⊎ (AreForeign known arch ⊎ ((halvings < 10) × AreNear known (2 ^ halvings)))
 
 -- no other token is possible
 abbrev pub IsOnlyToken : Store → Place → Arch → Type 0

@@ -1,14 +1,12 @@
 //! A return, at which the calls that lead there are told apart until the profile says one word of them.
 ghost use Rattle.std.specs.Prelude.{◌≡◌, ◌≤◌, ◌<◌, ◌+◌, ◌-◌, ◌/◌, [], length, slice_get, IfErr, IfOk, IfSome, IsTrue, ◌↔◌, Contains};
-ghost use Rattle.call_tables.specs.declared.arch.Arch.TheVariants.{X86_64};
-ghost use Rattle.call_tables.specs.Arch.{token_of};
+ghost use Rattle.call_tables.specs.Numbers.{IsOwn, other_numbers};
 ghost use Rattle.bpf_insn.specs.Program.{insns};
-ghost use Rattle.profile.specs.Policy.{least_x32_number};
 ghost use Rattle.cert_check.specs.Agree.{Agrees};
 ghost use Rattle.cert_state.specs.Entailment.{IsDead};
 ghost use Rattle.cert_walk.specs.declared.fault.CertifyError.TheVariants.{OutOfMemory};
 ghost use Rattle.certify.specs.inner.Counts.{HasRoom, halves_cost, inside, return_cost};
-ghost use Rattle.certify.specs.inner.Leaf.{SaysThere};
+ghost use Rattle.certify.specs.inner.Leaf.{LieIn, SaysThere};
 ghost use Rattle.certify.specs.inner.Meant.{IsMeant};
 ghost use Rattle.certify.specs.inner.Ways.{AreOutBefore, IsAtReturn, IsEnough, IsOfMachine, IsOnlyToken, IsReturnOf};
 ghost use Rattle.certify.specs.inner.Store.{IsMadeAt, IsPlace, IsStore, known_at};
@@ -17,13 +15,13 @@ use crate::plain::place::Place;
 use crate::plain::store::Store;
 use crate::plain::unlike::is_unlike;
 use bpf_insn::Program;
-use call_tables::Arch;
+use call_tables::{Arch, LEAST_X32_NUMBER, Numbers};
 use cert_form::Kind;
 use cert_state::Lit;
 use cert_walk::CertifyError;
-use profile::{LEAST_X32_NUMBER, Profile};
+use profile::Profile;
 
-// So many halvings tell any two numbers of a table apart, once x32 calls are apart.
+// So many halvings tell any two numbers of a table apart, once the foreign ones are apart.
 const HALVINGS: u32 = 10;
 
 /// The node of a place where no call is possible.
@@ -89,7 +87,7 @@ fn numbers(
         return dead(store, profile, program, place);
     };
     let default = profile.default_word().0;
-    if low == high || default == word || is_x32(arch, low) {
+    if low == high || default == word || are_foreign(arch, low, high) {
         return ends(store, profile, program, place, word);
     }
     if halvings == 0 {
@@ -105,29 +103,40 @@ fn numbers(
     Ok(fork.number)
 }
 
-// Whether these numbers are of x32 calls, which carry the token of x86-64.
-fn is_x32(arch: Arch, low: u32) -> bool
-    ensures { IsTrue result ↔ ((token_of arch ≡ token_of X86_64) × (least_x32_number ≤ low)) }
+// Whether the numbers from one to another are all foreign.
+fn are_foreign(arch: Arch, low: u32, high: u32) -> bool
+    ensures { IsTrue result ↔ LieIn low high (other_numbers arch) }
 {
-    if arch.token() != Arch::X86_64.token() {
-        return false;
-    }
-    low >= LEAST_X32_NUMBER
+    arch.other_numbers()
+        .iter()
+        .any(|numbers| has_both(*numbers, low, high))
 }
 
-// Where the numbers from one to another are cut: in the middle, but that x32 calls come apart first.
+fn has_both(numbers: Numbers, low: u32, high: u32) -> bool
+    ensures { IsTrue result ↔ (numbers.first ≤ low) × (high ≤ numbers.last) }
+{
+    if low < numbers.first {
+        return false;
+    }
+    high <= numbers.last
+}
+
+// Where the numbers from one to another are cut: in the middle, but that foreign ones come apart first.
 fn middle(arch: Arch, low: u32, high: u32) -> u32
-    requires some { low < high }
-    requires native { token_of arch ≡ token_of X86_64 → low < least_x32_number }
+    requires { low < high }
     ensures from { low ≤ result }
     ensures to { result < high }
-    ensures native { token_of arch ≡ token_of X86_64 → least_x32_number ≤ high → result + 1 ≡ least_x32_number }
-    ensures half { (token_of arch ≡ token_of X86_64 → high < least_x32_number) → result ≡ low + (high - low) / 2 }
+    ensures foreign { (IsOwn arch high → ⊥) → low < 0x40000000 → result + 1 ≡ 0x40000000 }
+    ensures half { IsOwn arch high → result ≡ low + (high - low) / 2 }
 {
-    if is_x32(arch, high) {
+    let half = low + (high - low) / 2;
+    if arch.has_number(high) {
+        return half;
+    }
+    if low < LEAST_X32_NUMBER {
         return LEAST_X32_NUMBER - 1;
     }
-    low + (high - low) / 2
+    half
 }
 
 // A return of calls of one machine, if any is possible.

@@ -15,7 +15,7 @@ use Rattle.profile_json.specs.Keys as key
 use Rattle.profile_json.specs.Fault.{Fault, wrong_type, missing_key, unknown_call, empty_names, repeated_index, too_many}
 use Rattle.profile_json.specs.Parts.{CondParts, EntryParts}
 use Rattle.profile_json.specs.Lookup.{holds, member, or_default, object, text, whole, list}
-use Rattle.profile_json.specs.Names.{is_known, most_names}
+use Rattle.profile_json.specs.Names.{is_known, most_entries, most_names}
 use Rattle.profile_json.specs.CallName.{short_name}
 use Rattle.profile_json.specs.inner.Outcome.{◌>>=◌}
 use Rattle.profile_json.specs.inner.Reading.{typed, needed, is_empty, each, arg_of, args_after, args_of, name_of, names_of, entry_word}
@@ -272,19 +272,19 @@ pub entries_mean : (family : Family) (s : Data) (es : List EntryParts) → entri
 unfolding entries_of
 entries_mean family s es h =
     let step = bind_ok (typed (or_default [] (member list key.syscalls s)))
-    (λ ds. cond (nat_lt 256 (length ds)) (Err too_many) (each (entry_of family) ds)) es h in
-    let few = guard_ok (nat_lt 256 (length step.0)) too_many (each (entry_of family) step.0) es step.2 in
+    (λ ds. cond (nat_lt (most_entries family) (length ds)) (Err too_many) (each (entry_of family) ds)) es h in
+    let few = guard_ok (nat_lt (most_entries family) (length step.0)) too_many (each (entry_of family) step.0) es step.2 in
     record {
       values = step.0;
       values_are = ok_or_ok (or_default [] (member list key.syscalls s)) wrong_type step.0 step.1;
-      few = ltb-false 256 (length step.0) few.0;
+      few = ltb-false (most_entries family) (length step.0) few.0;
       each = each_ok (entry_of family) (EntryMeans family) (entry_means family) step.0 es few.1;
     }
 
 -- why entries are refused, each by itself
 pub data EntriesRefused (family : Family) (s : Data) : Fault → Type 0 where
   is_no_list : or_default [] (member list key.syscalls s) ≡ None → EntriesRefused family s wrong_type
-  are_many : (ds : List Data) → or_default [] (member list key.syscalls s) ≡ Some ds → 256 < length ds → EntriesRefused family s too_many
+  are_many : (ds : List Data) → or_default [] (member list key.syscalls s) ≡ Some ds → most_entries family < length ds → EntriesRefused family s too_many
   in_one_entry : (ds : List Data) (d : Data) (f : Fault) → or_default [] (member list key.syscalls s) ≡ Some ds → Contains ds d
       → EntryBreaks family d f → EntriesRefused family s f
 
@@ -292,13 +292,13 @@ pub entries_refused : (family : Family) (s : Data) (f : Fault) → entries_of fa
 unfolding entries_of
 entries_refused family s f h =
     elim (bind_err (typed (or_default [] (member list key.syscalls s)))
-    (λ ds. cond (nat_lt 256 (length ds)) (Err too_many) (each (entry_of family) ds)) f h) [
+    (λ ds. cond (nat_lt (most_entries family) (length ds)) (Err too_many) (each (entry_of family) ds)) f h) [
       | inl bad ↦ (let at = ok_or_err (or_default [] (member list key.syscalls s)) wrong_type f bad in subst (EntriesRefused family s) at.1
           (is_no_list at.0))
       | inr step ↦
           let at = ok_or_ok (or_default [] (member list key.syscalls s)) wrong_type step.0 step.1 in
-          elim (guard_err (nat_lt 256 (length step.0)) too_many f (each (entry_of family) step.0) step.2) [
-            | inl many ↦ subst (EntriesRefused family s) many.1 (are_many step.0 at (ltb-true 256 (length step.0) many.0))
+          elim (guard_err (nat_lt (most_entries family) (length step.0)) too_many f (each (entry_of family) step.0) step.2) [
+            | inl many ↦ subst (EntriesRefused family s) many.1 (are_many step.0 at (ltb-true (most_entries family) (length step.0) many.0))
             | inr few ↦ (let bad = each_err (entry_of family) step.0 f few.1 in in_one_entry step.0 bad.0 f at bad.1 (entry_breaks family bad.0 f bad.2))
           ]
     ]

@@ -17,7 +17,7 @@ use Rattle.profile_json.specs.Fault.{unknown_call, empty_names, errno_not_taken,
 use Rattle.profile_json.specs.Fault.{stray_datum, unsupported_key, too_many}
 use Rattle.profile_json.specs.Parts.{CondParts, EntryParts}
 use Rattle.profile_json.specs.Lookup.{Member, missing, other_type, holds, member, or_default, object, text, whole, list}
-use Rattle.profile_json.specs.Names.{editions, action_named, takes_data, word_of, op_named, arch_named, is_known, most_names}
+use Rattle.profile_json.specs.Names.{editions, action_named, takes_data, word_of, op_named, arch_named, is_known, most_entries, most_names}
 use Rattle.profile_json.specs.Rules.{or_native, same_arch}
 use Rattle.profile_json.specs.CallName.{short_name}
 use Rattle.profile_json.specs.inner.Outcome.{◌>>=◌}
@@ -180,7 +180,7 @@ entry_of family d = do
 unfoldable pub entries_of : Family → Data → Result (List EntryParts) Fault
 entries_of family s = do
   ds ← typed (or_default [] (member list key.syscalls s))
-  if nat_lt 256 (length ds) then Err too_many else each (entry_of family) ds
+  if nat_lt (most_entries family) (length ds) then Err too_many else each (entry_of family) ds
 
 -- ---- the whole
 

@@ -1,6 +1,6 @@
 -- Code that answers the calls of one machine, and of several, whose token is loaded.
 use Rattle.std.specs.Prelude.{ℕ, ◌≡◌, ◌≤◌, ◌<◌, ◌+◌, ◌*◌, ◌^◌, ◌⊎◌, List, [], ◌∷◌, length, Option, Some}
-use Rattle.std.specs.List.{All, Contains}
+use Rattle.std.specs.List.{All}
 use Rattle.bpf_insn.specs.declared.instruction.Insn.{Insn}
 use Rattle.call_tables.specs.declared.arch.Arch.{Arch}
 use Rattle.call_tables.specs.Arch.{token_of}
@@ -16,17 +16,17 @@ use Rattle.rule_compile.specs.inner.Ranges.{IsAtFront}
 -- from the target on, each call of the machine gets its word
 pub record AnswersMachine (policy : Policy) (token : ℕ) (old new : List Insn) (to : Target) : Type 0 where
   pub answers : (held : Option ℕ) (u : ℕ) → u < 2 ^ 32 → goes new to held (call token u) ≡ Some (said_of policy token u)
-  pub short : length new ≤ length old + 1540
-  pub light : cost new to ≤ 4111
+  pub short : length new ≤ length old + 1543
+  pub light : cost new to ≤ 4119
   pub shallow : deep new to ≤ 306
   pub fine : AreFine old → AreFine new
   pub front : IsAtFront old new to
 
 -- where there are no blocks yet
-pub record CallsOf (policy : Policy) (token count : ℕ) (old new : List Insn) (to : Target) : Type 0 where
+pub record CallsOf (policy : Policy) (machine : Arch) (count : ℕ) (old new : List Insn) (to : Target) : Type 0 where
   pub grows : Grows old new
   pub placed : IsTarget new to
-  pub told : IsPlain policy → count ≡ 0 → IsListed policy token → AnswersMachine policy token old new to
+  pub told : IsPlain policy → count ≡ 0 → IsListed policy machine → AnswersMachine policy (token_of machine) old new to
 
 -- the token is that of one of the machines
 abbrev pub IsOneOf : List Arch → ℕ → Type 0
@@ -37,8 +37,8 @@ IsOneOf (arch ∷ archs) token = (token_of arch ≡ token) ⊎ IsOneOf archs tok
 pub record AnswersThese (policy : Policy) (machines : List Arch) (old new : List Insn) (to : Target) : Type 0 where
   pub listed : (token u : ℕ) → u < 2 ^ 32 → IsOneOf machines token → goes new to (Some 1) (call token u) ≡ Some (said_of policy token u)
   pub foreign : (token u : ℕ) → (IsOneOf machines token → ⊥) → goes new to (Some 1) (call token u) ≡ Some 0
-  pub short : length new ≤ length old + 1543 * length machines
-  pub light : cost new to ≤ 4113 * length machines + 6
+  pub short : length new ≤ length old + 1546 * length machines
+  pub light : cost new to ≤ 4121 * length machines + 6
   pub shallow : deep new to ≤ 306 + length machines
   pub fine : AreFine old → AreFine new
   pub front : IsAtFront old new to
@@ -46,4 +46,4 @@ pub record AnswersThese (policy : Policy) (machines : List Arch) (old new : List
 pub record Apart (policy : Policy) (machines : List Arch) (count : ℕ) (old new : List Insn) (to : Target) : Type 0 where
   pub grows : Grows old new
   pub placed : IsTarget new to
-  pub told : IsPlain policy → count ≡ 0 → All (Contains policy.machines) machines → AnswersThese policy machines old new to
+  pub told : IsPlain policy → count ≡ 0 → All (IsListed policy) machines → AnswersThese policy machines old new to

@@ -1,10 +1,11 @@
 -- The ranges of all call numbers of one machine.
-use Rattle.std.specs.Prelude.{ℕ, ◌≡◌, ◌≢◌, ◌≤◌, ◌<◌, ◌+◌, ◌-◌, ◌^◌, ◌⊎◌, List, [], ◌∷◌, ◌++◌, length}
+use Rattle.std.specs.Prelude.{ℕ, zero, suc, ◌*◌, ◌≡◌, ◌≤◌, ◌<◌, ◌+◌, ◌-◌, ◌⊎◌, List, [], ◌∷◌, ◌++◌, length, slice_index_or}
 use Rattle.std.specs.List.{All, Contains}
 use Rattle.call_tables.specs.declared.arch.Arch.{Arch}
-use Rattle.call_tables.specs.declared.arch.Arch.TheVariants.{X86_64}
 use Rattle.call_tables.specs.Arch.{token_of}
-use Rattle.profile.specs.Policy.{Policy, least_x32_number}
+use Rattle.call_tables.specs.declared.numbers.Numbers.{Numbers}
+use Rattle.call_tables.specs.Numbers.{IsOwn, from_to, other_numbers}
+use Rattle.profile.specs.Policy.{InOrder, Policy}
 use Rattle.profile.specs.Said.{said}
 use Rattle.profile.specs.declared.rules.Rule.{Rule}
 use Rattle.rule_compile.specs.declared.ranges.Leaf.{Leaf}
@@ -72,19 +73,32 @@ abbrev pub said_of : Policy → ℕ → ℕ → ℕ
 said_of policy token nr = said policy (call token nr)
 
 -- the machine is listed
-abbrev pub IsListed : Policy → ℕ → Type 0
-IsListed policy token = (arch : Arch) × Contains policy.machines arch × (token_of arch ≡ token)
+abbrev pub IsListed : Policy → Arch → Type 0
+IsListed policy machine = InOrder policy.machines × Contains policy.machines machine
 
--- how many ranges there are of the numbers so far: as many as numbers, or one more than there are small numbers
-abbrev pub AreFew : ℕ → ℕ → ℕ → Type 0
-AreFew native end count = ((end ≤ 512) × (count ≤ end)) ⊎ ((end ≡ native) × (count ≤ 513))
+-- the numbers from one to an end are the machine's own
+abbrev pub AreOwn : Arch → ℕ → ℕ → Type 0
+AreOwn machine from end = (nr : ℕ) → from ≤ nr → nr < end → IsOwn machine nr
 
--- the ranges of a machine's numbers up to an end that is none of a foreign call
-pub record Reached (policy : Policy) (token native end : ℕ) (ranges : List Range) : Type 0 where
-  pub tiles : Tiles 0 ranges end
-  pub worded : IsPlain policy → IsListed policy token → All (IsWorded (said_of policy token)) ranges
-  pub few : IsPlain policy → AreFew native end (length ranges)
+-- how many ranges there are of the numbers so far: as many as numbers, or so many at most behind all that have rules
+abbrev pub AreFew : ℕ → ℕ → ℕ → ℕ → Type 0
+AreFew most end upto count =
+    ((upto ≤ 512) × (count ≤ upto)) ⊎ (((512 ≤ upto) × (upto < end) × (count < most)) ⊎ ((upto ≡ end) × (count ≤ most)))
 
--- the machine's own numbers end here
-abbrev pub IsNativeEnd : ℕ → ℕ → Type 0
-IsNativeEnd token native = ((token ≡ token_of X86_64) × (native ≡ least_x32_number)) ⊎ ((token ≢ token_of X86_64) × (native ≡ 2 ^ 32))
+-- the ranges of a machine's numbers so far, of those that go up to an end
+pub record Reached (policy : Policy) (machine : Arch) (most end upto : ℕ) (ranges : List Range) : Type 0 where
+  pub tiles : Tiles 0 ranges upto
+  pub worded : IsPlain policy → IsListed policy machine → All (IsWorded (said_of policy (token_of machine))) ranges
+  pub few : IsPlain policy → AreFew most end upto (length ranges)
+
+-- the first number behind so many of these stretches
+abbrev pub behind : List Numbers → ℕ → ℕ
+behind all zero = 0
+behind all (suc k) = (slice_index_or all k (from_to 0 0)).last + 1
+
+-- the ranges of a machine's numbers so far, up to the end of so many stretches of foreign ones
+pub record Between (policy : Policy) (machine : Arch) (k upto : ℕ) (ranges : List Range) : Type 0 where
+  pub tiles : Tiles 0 ranges upto
+  pub worded : IsPlain policy → IsListed policy machine → All (IsWorded (said_of policy (token_of machine))) ranges
+  pub few : IsPlain policy → length ranges ≤ 514 * k
+  pub place : upto ≡ behind (other_numbers machine) k

@@ -1,79 +1,97 @@
-use Rattle.std.proofs.Common.{refl, ◌∙◌, ◌≡◌, ◌^◌, arith, subst, sym}
-use Rattle.std.specs.List.{All}
+use Rattle.std.proofs.Common.{◌≡◌, ◌+◌, ◌^◌, ◌<◌, ◌∙◌, List, length, get_or, ap, arith, max, subst, sym}
+use Rattle.std.specs.Prelude.{slice_index_or}
+use Rattle.call_tables.specs.declared.numbers.Numbers.{Numbers}
+use Rattle.call_tables.specs.Numbers.{from_to, other_numbers}
 use Rattle.rule_compile.specs.declared.ranges.Leaf.TheVariants.{Word}
-use Rattle.rule_compile.specs.inner.Numbers.{IsExtended, IsListed, IsWorded, Reached, said_of}
-use Rattle.rule_compile.proofs.RangeLaws.{reached_none, tiles_some, whole_few, whole_tiles, whole_worded}
+use Rattle.rule_compile.specs.inner.Numbers.{AreOwn, Between, IsExtended, Reached}
+use Rattle.rule_compile.proofs.RangeLaws.{between_next, last_own, last_reached, own_before, own_reached, tiles_some, whole_few}
 use Rattle.rule_compile.proofs.ranges.ranges_of.Goals as goal
 
-pub native-init : goal.native-init
-native-init c = record {
-  within = omega (arith, c.new-ranges.ensures.end);
-  reached =
-      let p = c.args.profile.now in
-      let t = c.token-token.result in
-      let end = c.native_numbers-native.result in
-      subst (λ n. Reached p t end n c.new-ranges.result.ranges.items) (sym c.new-ranges.ensures.end)
-      (subst (Reached p t end 0) (sym c.new-ranges.ensures.ranges) (reached_none p t end));
-  no_block = λ plain. refl;
-}
+pub add_own-requires-clause-own : goal.add_own-requires-clause-own
+add_own-requires-clause-own c =
+    let m = c.args.machine in
+    let these = c.other_numbers-foreign-items.result.now in
+    let k = c.loop-foreign.foreign-index in
+    let inside : k < length (other_numbers m) = subst (λ (all : List Numbers). k < length all) c.other_numbers-foreign-items.ensures
+    c.loop-foreign-test.true in
+    subst (AreOwn m c.loop-foreign.ranges.end) (sym c.from.ensures)
+    (own_before c.args.profile.now m k c.loop-foreign.ranges.end (get_or these k (from_to 0 0)) (from_to 0 0)
+    c.loop-foreign.ranges.ranges.items c.loop-foreign.invariant.between inside
+    (ap (λ (all : List Numbers). slice_index_or all k (from_to 0 0)) c.other_numbers-foreign-items.ensures))
 
-pub native-preserved : goal.native-preserved
-native-preserved c = record {
-  within = c.in_ok-add_next.ensures.further.1;
-  reached = c.in_ok-add_next.ensures.reached c.native.invariant.reached;
-  no_block = λ plain. c.in_ok-add_next.ensures.no_block plain ∙ c.native.invariant.no_block plain;
-}
+pub loop-foreign-preserved : goal.loop-foreign-preserved
+loop-foreign-preserved c =
+    let p = c.args.profile.now in
+    let m = c.args.machine in
+    let these = c.other_numbers-foreign-items.result.now in
+    let k = c.loop-foreign.foreign-index in
+    let upto = c.loop-foreign.ranges.end in
+    let foreign = get_or these k (from_to 0 0) in
+    let old = c.loop-foreign.ranges.ranges.items in
+    let mid = c.add_own.new.self.ranges.items in
+    let new = c.extend.new.self.ranges.items in
+    let between = c.loop-foreign.invariant.between in
+    let inside : k < length (other_numbers m) = subst (λ (all : List Numbers). k < length all) c.other_numbers-foreign-items.ensures
+    c.loop-foreign-test.true in
+    let at : foreign ≡ slice_index_or (other_numbers m) k (from_to 0 0) =
+    ap (λ (all : List Numbers). slice_index_or all k (from_to 0 0)) c.other_numbers-foreign-items.ensures in
+    let first : c.from.result ≡ foreign.first = c.from.ensures in
+    let final : c.from-in-loop-foreign.result ≡ foreign.last = c.from-in-loop-foreign.ensures in
+    let reached : Reached p m 513 foreign.first foreign.first mid =
+    subst (λ n. Reached p m 513 n n mid) first
+    (c.in_ok-add_own.ensures.reached 513 (omega arith)
+    (subst (λ n. Reached p m 513 n upto old) (sym first)
+    (own_reached p m k upto foreign (from_to 0 0) old between inside at))) in
+    let last : IsExtended mid foreign.first (foreign.last + 1) (Word 0) new =
+    subst (λ n. IsExtended mid foreign.first (n + 1) (Word 0) new) final
+    (subst (λ n. IsExtended mid n (c.from-in-loop-foreign.result + 1) (Word 0) new) (c.in_ok-add_own.ensures.end ∙ first)
+    c.in_ok-extend.ensures.extended) in
+    let end : c.extend.new.self.end ≡ max foreign.first (foreign.last + 1) =
+    c.in_ok-extend.ensures.end
+    ∙ ap (λ n. max n (c.from-in-loop-foreign.result + 1)) (c.in_ok-add_own.ensures.end ∙ first)
+    ∙ ap (λ n. max foreign.first (n + 1)) final in
+    record {
+      between = subst (λ n. Between p m (k + 1) n new) (sym end)
+          (between_next p m k upto foreign (from_to 0 0) old between inside at mid new reached last);
+      no_block = λ plain. c.in_ok-add_own.ensures.no_block plain ∙ c.loop-foreign.invariant.no_block plain;
+    }
+
+pub add_own-requires-2-clause-own : goal.add_own-requires-2-clause-own
+add_own-requires-2-clause-own c =
+    let all : c.loop-foreign.foreign-index ≡ length (other_numbers c.args.machine) =
+    omega (arith, c.loop-foreign-test.false, c.loop-foreign.auto.foreign-index-end, ap length c.other_numbers-foreign-items.ensures) in
+    last_own c.args.profile.now c.args.machine c.loop-foreign.foreign-index c.loop-foreign.ranges.end
+    c.loop-foreign.ranges.ranges.items c.loop-foreign.invariant.between all
 
 pub returns-clause-tiled : goal.returns-clause-tiled
 returns-clause-tiled c =
-    let p = c.args.profile.now in
-    let t = c.token-token.result in
-    let end = c.native_numbers-native.result in
-    let old = c.native.ranges.ranges.items in
-    let new = c.extend.new.self.ranges.items in
-    let at : c.native.ranges.end ≡ end = omega (arith, c.native.invariant.within, c.native-test.false) in
-    let reached : Reached p t end end old = subst (λ n. Reached p t end n old) at c.native.invariant.reached in
-    let last : IsExtended old end (2 ^ 32) (Word 0) new = subst (λ n. IsExtended old n (2 ^ 32)
-    (Word 0) new) at c.in_ok-extend.ensures.extended in
-    whole_tiles p t end old new c.token-token.type_inv c.native_numbers-native.ensures reached last
+    let all : c.loop-foreign.foreign-index ≡ length (other_numbers c.args.machine) =
+    omega (arith, c.loop-foreign-test.false, c.loop-foreign.auto.foreign-index-end, ap length c.other_numbers-foreign-items.ensures) in
+    let reached : Reached c.args.profile.now c.args.machine 515 (2 ^ 32) (2 ^ 32) c.add_own-2.new.self.ranges.items =
+    c.in_ok-add_own-2.ensures.reached 515 (omega arith)
+    (last_reached c.args.profile.now c.args.machine c.loop-foreign.foreign-index c.loop-foreign.ranges.end
+    c.loop-foreign.ranges.ranges.items c.loop-foreign.invariant.between all) in
+    reached.tiles
 
 pub returns-clause-some : goal.returns-clause-some
-returns-clause-some c =
-    let p = c.args.profile.now in
-    let t = c.token-token.result in
-    let end = c.native_numbers-native.result in
-    let old = c.native.ranges.ranges.items in
-    let new = c.extend.new.self.ranges.items in
-    let at : c.native.ranges.end ≡ end = omega (arith, c.native.invariant.within, c.native-test.false) in
-    let reached : Reached p t end end old = subst (λ n. Reached p t end n old) at c.native.invariant.reached in
-    let last : IsExtended old end (2 ^ 32) (Word 0) new = subst (λ n. IsExtended old n (2 ^ 32)
-    (Word 0) new) at c.in_ok-extend.ensures.extended in
-    tiles_some new (2 ^ 32) (omega arith) (whole_tiles p t end old new c.token-token.type_inv c.native_numbers-native.ensures reached last)
+returns-clause-some c = tiles_some c.add_own-2.new.self.ranges.items (2 ^ 32) (omega arith) (returns-clause-tiled c)
 
 pub returns-clause-few : goal.returns-clause-few
-returns-clause-few c plain =
-    let p = c.args.profile.now in
-    let t = c.token-token.result in
-    let end = c.native_numbers-native.result in
-    let old = c.native.ranges.ranges.items in
-    let new = c.extend.new.self.ranges.items in
-    let at : c.native.ranges.end ≡ end = omega (arith, c.native.invariant.within, c.native-test.false) in
-    let reached : Reached p t end end old = subst (λ n. Reached p t end n old) at c.native.invariant.reached in
-    let last : IsExtended old end (2 ^ 32) (Word 0) new = subst (λ n. IsExtended old n (2 ^ 32)
-    (Word 0) new) at c.in_ok-extend.ensures.extended in
-    whole_few p t end old new c.token-token.type_inv c.native_numbers-native.ensures reached last plain
+returns-clause-few c =
+    let all : c.loop-foreign.foreign-index ≡ length (other_numbers c.args.machine) =
+    omega (arith, c.loop-foreign-test.false, c.loop-foreign.auto.foreign-index-end, ap length c.other_numbers-foreign-items.ensures) in
+    let reached : Reached c.args.profile.now c.args.machine 515 (2 ^ 32) (2 ^ 32) c.add_own-2.new.self.ranges.items =
+    c.in_ok-add_own-2.ensures.reached 515 (omega arith)
+    (last_reached c.args.profile.now c.args.machine c.loop-foreign.foreign-index c.loop-foreign.ranges.end
+    c.loop-foreign.ranges.ranges.items c.loop-foreign.invariant.between all) in
+    whole_few c.args.profile.now c.args.machine c.add_own-2.new.self.ranges.items reached
 
 pub returns-clause-worded : goal.returns-clause-worded
-returns-clause-worded c plain listed =
-    let p = c.args.profile.now in
-    let t = c.token-token.result in
-    let end = c.native_numbers-native.result in
-    let old = c.native.ranges.ranges.items in
-    let new = c.extend.new.self.ranges.items in
-    let at : c.native.ranges.end ≡ end = omega (arith, c.native.invariant.within, c.native-test.false) in
-    let reached : Reached p t end end old = subst (λ n. Reached p t end n old) at c.native.invariant.reached in
-    let last : IsExtended old end (2 ^ 32) (Word 0) new = subst (λ n. IsExtended old n (2 ^ 32)
-    (Word 0) new) at c.in_ok-extend.ensures.extended in
-    subst (λ token. All (IsWorded (said_of p token)) new) c.token-token.ensures
-    (whole_worded p t end old new c.token-token.type_inv c.native_numbers-native.ensures reached last plain (subst (IsListed p)
-    (sym c.token-token.ensures) listed))
+returns-clause-worded c =
+    let all : c.loop-foreign.foreign-index ≡ length (other_numbers c.args.machine) =
+    omega (arith, c.loop-foreign-test.false, c.loop-foreign.auto.foreign-index-end, ap length c.other_numbers-foreign-items.ensures) in
+    let reached : Reached c.args.profile.now c.args.machine 515 (2 ^ 32) (2 ^ 32) c.add_own-2.new.self.ranges.items =
+    c.in_ok-add_own-2.ensures.reached 515 (omega arith)
+    (last_reached c.args.profile.now c.args.machine c.loop-foreign.foreign-index c.loop-foreign.ranges.end
+    c.loop-foreign.ranges.ranges.items c.loop-foreign.invariant.between all) in
+    reached.worded

@@ -1,13 +1,13 @@
 use Rattle.std.proofs.Common.{rules, ◌≡◌, ◌+◌, ◌-◌, ◌<◌, ◌≤◌, ◌⊎◌, inl, inr, refl, sym, subst, ap, ◌∙◌, arith, length, ◌∷◌}
 use Rattle.std.proofs.Common.{List, ℕ, true, false}
-use Rattle.call_tables.specs.declared.arch.Arch.TheVariants.{X86_64}
-use Rattle.call_tables.specs.Arch.{token_of}
+use Rattle.call_tables.specs.Numbers.{other_numbers}
 use Rattle.bpf_insn.specs.Program.{insns}
 use Rattle.cert_state.specs.declared.literal.Lit.{Lit}
 use Rattle.cert_state.specs.declared.literal.Lit.TheVariants.{In}
 use Rattle.cert_state.specs.Points.{IsRange}
 use Rattle.cert_form.specs.declared.node.Kind.TheVariants.{Split}
 use Rattle.certify.specs.inner.Counts.{halves_cost, inside}
+use Rattle.certify.specs.inner.Leaf.{LieIn}
 use Rattle.certify.specs.inner.Made.{StandsAt}
 use Rattle.certify.specs.inner.Meant.{IsMeant}
 use Rattle.certify.specs.inner.Store.{known_at}
@@ -20,18 +20,19 @@ use Rattle.certify.proofs.WayLaws.{at_child, machine_agrees_there, no_child, of_
 use Rattle.certify.proofs.plain.splits.+numbers.Goals as goal
 use Rattle.certify.proofs.plain.splits.+numbers.Goals.{then-low-high-via-then-low-high}
 use Rattle.certify.proofs.plain.splits.+numbers.Goals.{then-low-high-via-else-low-high+then-default-word}
-use Rattle.certify.proofs.plain.splits.+numbers.Goals.{then-low-high-via-else-low-high+else-default-word+then-is_x32}
+use Rattle.certify.proofs.plain.splits.+numbers.Goals.{then-low-high-via-else-low-high+else-default-word+then-are_foreign}
 
 pub ends-requires-clause-agrees : goal.ends-requires-clause-agrees
 ends-requires-clause-agrees t c =
     let policy = c.args.profile.now in
     let numbers : (c.in-Some.low ≡ c.in-Some.high)
-    ⊎ ((policy.default_word ≡ c.args.word) ⊎ ((token_of c.args.arch ≡ token_of X86_64) × (0x40000000 ≤ c.in-Some.low))) =
+    ⊎ ((policy.default_word ≡ c.args.word) ⊎ LieIn c.in-Some.low c.in-Some.high (other_numbers c.args.arch)) =
     elim c.then-low-high.branch [
       | then-low-high-via-then-low-high w ↦ inl w.if-low-high.true
       | then-low-high-via-else-low-high+then-default-word w ↦ inr
           (inl (sym c.default_word.ensures ∙ sym c.default.view_is ∙ w.if-default-word.true))
-      | then-low-high-via-else-low-high+else-default-word+then-is_x32 w ↦ inr (inr (w.is_x32.ensures.0 w.if-is_x32.true))
+      | then-low-high-via-else-low-high+else-default-word+then-are_foreign w ↦ inr
+          (inr (w.are_foreign.ensures.0 w.if-are_foreign.true))
     ] in
     λ meant. machine_agrees_there policy (insns c.args.program.now) c.args.store.now c.args.place c.args.word c.in-Some.low
     c.in-Some.high c.args.arch
@@ -41,10 +42,10 @@ pub returns-then-halvings-eq0-clause-never : goal.returns-then-halvings-eq0-clau
 returns-then-halvings-eq0-clause-never t c = λ meant.
     absurd (some_left (known_at c.args.store.now c.args.place) c.args.arch c.in-Some.low c.in-Some.high c.args.halvings
     c.in-Some.ensures c.if-low-high.false
-    (c.requires.enough meant) (λ x32. let e : false ≡ true = sym c.if-is_x32.false ∙ c.is_x32.ensures.1 x32 in cc) c.if-halvings-eq0.true)
+    (c.requires.enough meant) (λ all. let e : false ≡ true = sym c.if-are_foreign.false ∙ c.are_foreign.ensures.1 all in cc) c.if-halvings-eq0.true)
 
-pub middle-cut-requires-clause-some : goal.middle-cut-requires-clause-some
-middle-cut-requires-clause-some t c =
+pub middle-cut-requires : goal.middle-cut-requires
+middle-cut-requires t c =
     let range : IsRange (known_at c.args.store.now c.args.place) 0 c.in-Some.low c.in-Some.high = c.in-Some.ensures in
     let order = (range.between c.in-Some.low range.least).1 in
     omega (arith, order, c.if-low-high.false)
@@ -72,10 +73,10 @@ numbers-requires t c =
       cuts = record {
         from = c.middle-cut.ensures.from;
         upto = c.middle-cut.ensures.to;
-        native = c.middle-cut.ensures.native;
+        foreign = c.middle-cut.ensures.foreign;
         half = c.middle-cut.ensures.half;
       };
-      native = λ x32. let e : false ≡ true = sym c.if-is_x32.false ∙ c.is_x32.ensures.1 x32 in cc;
+      some_own = λ all. let e : false ≡ true = sym c.if-are_foreign.false ∙ c.are_foreign.ensures.1 all in cc;
       differ = λ e. c.if-default-word.false (c.default.view_is ∙ c.default_word.ensures ∙ e);
     } in
     let child = yes_child s u place l m fork f.forked in
@@ -125,10 +126,10 @@ numbers-requires-2 t c =
       cuts = record {
         from = c.middle-cut.ensures.from;
         upto = c.middle-cut.ensures.to;
-        native = c.middle-cut.ensures.native;
+        foreign = c.middle-cut.ensures.foreign;
         half = c.middle-cut.ensures.half;
       };
-      native = λ x32. let e : false ≡ true = sym c.if-is_x32.false ∙ c.is_x32.ensures.1 x32 in cc;
+      some_own = λ all. let e : false ≡ true = sym c.if-are_foreign.false ∙ c.are_foreign.ensures.1 all in cc;
       differ = λ e. c.if-default-word.false (c.default.view_is ∙ c.default_word.ensures ∙ e);
     } in
     let count : List Lit → ℕ = λ ls. halves_cost less (inside 512 policy.machines ls) in
@@ -198,10 +199,10 @@ returns-clause-made t c =
       cuts = record {
         from = c.middle-cut.ensures.from;
         upto = c.middle-cut.ensures.to;
-        native = c.middle-cut.ensures.native;
+        foreign = c.middle-cut.ensures.foreign;
         half = c.middle-cut.ensures.half;
       };
-      native = λ x32. let e : false ≡ true = sym c.if-is_x32.false ∙ c.is_x32.ensures.1 x32 in cc;
+      some_own = λ all. let e : false ≡ true = sym c.if-are_foreign.false ∙ c.are_foreign.ensures.1 all in cc;
       differ = λ e. c.if-default-word.false (c.default.view_is ∙ c.default_word.ensures ∙ e);
     } in
     let count : List Lit → ℕ = λ ls. halves_cost less (inside 512 policy.machines ls) in

@@ -15,7 +15,7 @@ use Rattle.certify.proofs.NodeLaws.{nodes_keep}
 use Rattle.certify.proofs.LeafLaws.{ruled_out, zero_agrees}
 use Rattle.certify.proofs.RoomLaws.{room_no, room_yes, tokens_total}
 use Rattle.certify.proofs.GrowLaws.{longer_than, made_fork}
-use Rattle.certify.proofs.WayLaws.{at_child, foreign_agrees_there, listed_at, no_child, none_left, not_bits, only_bits}
+use Rattle.certify.proofs.WayLaws.{at_child, few_known, foreign_agrees_there, listed_at, no_child, none_left, not_bits, only_bits}
 use Rattle.certify.proofs.WayLaws.{out_child, out_more, stays_short, yes_child}
 use Rattle.certify.proofs.plain.splits.+tokens.Goals as goal
 
@@ -26,7 +26,8 @@ pub ends-requires-clause-agrees : goal.ends-requires-clause-agrees
 ends-requires-clause-agrees t c = λ meant.
     let is = c.is_refusal.ensures.0 c.if-is_refusal.true in
     zero_agrees c.args.profile.now (known_at c.args.store.now c.args.place) c.args.word c.in-Some._low c.in-Some._high
-    c.in-Some-range.from c.in-Some-range.to
+    c.in-Some-range.from c.in-Some-range.to meant.profile.machines_in_order
+    (few_known c.args.store.now (insns c.args.program.now) c.args.place c.requires.at.fits)
     meant.plain.rules (c.requires.at.store.calls c.args.place.chain) (c.requires.at.says meant) c.in-Some.ensures
     c.in-Some-range.ensures is.0 is.1
 

@@ -1,37 +1,42 @@
 use Rattle.std.proofs.Common.{◌≡◌, ◌+◌, ◌<◌, ◌∙◌, ap, arith, max, subst, sym}
+use Rattle.call_tables.specs.Arch.{token_of}
 use Rattle.rule_compile.specs.declared.ranges.Leaf.TheVariants.{Word}
 use Rattle.rule_compile.specs.inner.Numbers.{AreUnconditional, IsExtended, IsNext, LeafFor, Reached}
 use Rattle.rule_compile.proofs.RangeLaws.{reached_end, reached_next}
 use Rattle.rule_compile.proofs.ranges.Ranges.add_next.Goals as goal
 
 pub returns-then-next-end-clause-reached : goal.returns-then-next-end-clause-reached
-returns-then-next-end-clause-reached c reached =
+returns-then-next-end-clause-reached c most many reached =
     let p = c.args.profile.now in
-    let t = c.args.token in
+    let m = c.args.machine in
+    let t = c.token-token.result in
     let from = c.args.self.now.end in
     let end = c.args.end in
     let next = c.next_number-next.result in
     let old = c.args.self.now.ranges.items in
     let mid = c.extend.new.self.ranges.items in
-    let is_next : IsNext p.rules t from end next = subst (λ rs. IsNext rs t from end next) c.rules-rules.ensures.rules
-    c.next_number-next.ensures in
+    let is_next : IsNext p.rules (token_of m) from end next =
+    subst (λ n. IsNext p.rules n from end next) c.token-token.ensures
+    (subst (λ rs. IsNext rs t from end next) c.rules-rules.ensures.rules c.next_number-next.ensures) in
     let first : IsExtended old from next (Word p.default_word) mid =
     subst (λ w. IsExtended old from next (Word w) mid) c.default_word-default.ensures c.in_ok-extend.ensures.extended in
-    subst (λ n. Reached p t end n mid) (sym c.in_ok-extend.ensures.end)
-    (reached_end p t from end next old mid c.ranges.token.fits c.requires.before c.requires.native reached is_next first
+    subst (λ n. Reached p m most end n mid) (sym c.in_ok-extend.ensures.end)
+    (reached_end p m most from end next old mid c.requires.before c.requires.small c.requires.own many reached is_next first
     c.if-next-end.true)
 
 pub returns-clause-reached : goal.returns-clause-reached
-returns-clause-reached c reached =
+returns-clause-reached c most many reached =
     let p = c.args.profile.now in
-    let t = c.args.token in
+    let m = c.args.machine in
+    let t = c.token-token.result in
     let from = c.args.self.now.end in
     let end = c.args.end in
     let next = c.next_number-next.result in
     let old = c.args.self.now.ranges.items in
     let mid = c.extend.new.self.ranges.items in
-    let is_next : IsNext p.rules t from end next = subst (λ rs. IsNext rs t from end next) c.rules-rules.ensures.rules
-    c.next_number-next.ensures in
+    let is_next : IsNext p.rules (token_of m) from end next =
+    subst (λ n. IsNext p.rules n from end next) c.token-token.ensures
+    (subst (λ rs. IsNext rs t from end next) c.rules-rules.ensures.rules c.next_number-next.ensures) in
     let first : IsExtended old from next (Word p.default_word) mid =
     subst (λ w. IsExtended old from next (Word w) mid) c.default_word-default.ensures c.in_ok-extend.ensures.extended in
     let new = c.extend-2.new.self.ranges.items in
@@ -39,13 +44,14 @@ returns-clause-reached c reached =
     let of_rules : AreUnconditional p.rules → LeafFor p.rules t next c.default_word-default.result leaf =
     subst (λ rs. AreUnconditional rs → LeafFor rs t next c.default_word-default.result leaf) c.rules-rules.ensures.rules
     c.in_ok-leaf.ensures.word in
-    let decided : AreUnconditional p.rules → LeafFor p.rules t next p.default_word leaf =
-    subst (λ w. AreUnconditional p.rules → LeafFor p.rules t next w leaf) c.default_word-default.ensures of_rules in
+    let decided : AreUnconditional p.rules → LeafFor p.rules (token_of m) next p.default_word leaf =
+    subst (λ n. AreUnconditional p.rules → LeafFor p.rules n next p.default_word leaf) c.token-token.ensures
+    (subst (λ w. AreUnconditional p.rules → LeafFor p.rules t next w leaf) c.default_word-default.ensures of_rules) in
     let inside : next < end = omega (arith, c.if-next-end.false, is_next.most) in
     let one : IsExtended mid (max from next) (next + 1) leaf new =
     subst (λ n. IsExtended mid n (next + 1) leaf new) c.in_ok-extend.ensures.end c.in_ok-extend-2.ensures.extended in
     let at : c.extend-2.new.self.end ≡ max (max from next) (next + 1) =
     c.in_ok-extend-2.ensures.end ∙ ap (λ n. max n (next + 1)) c.in_ok-extend.ensures.end in
-    subst (λ n. Reached p t end n new) (sym at)
-    (reached_next p t from end next old mid c.ranges.token.fits c.requires.before c.requires.native reached is_next first new leaf
+    subst (λ n. Reached p m most end n new) (sym at)
+    (reached_next p m most from end next old mid c.requires.before c.requires.small c.requires.own many reached is_next first new leaf
     inside decided one)

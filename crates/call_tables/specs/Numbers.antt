@@ -1,0 +1,48 @@
+-- Which numbers of calls are a machine's own. x32 calls carry the token of x86-64 and the bit 0x40000000 in their number
+-- (the kernel's arch/x86/include/uapi/asm/unistd.h, __X32_SYSCALL_BIT). A call that a tracer skipped has the number
+-- 0xffffffff, which the kernel takes for none of x32. The chosen lists leave all numbers from 0x40000000 on foreign.
+use Rattle.std.specs.Prelude.{◌≡◌, ℕ, ◌≤◌, ◌==◌, ◌&&◌, nat_le, Bool, List, [], ◌∷◌}
+use Rattle.std.specs.List.{Any, list_any}
+use Rattle.call_tables.specs.declared.arch.Arch.{Arch}
+use Rattle.call_tables.specs.declared.arch.Arch.TheVariants.{X86_64, Aarch64, LinuxX86_64, LinuxAarch64}
+use Rattle.call_tables.specs.declared.numbers.Numbers.{Numbers}
+use Rattle.call_tables.specs.Arch.{token_of}
+
+abbrev pub from_to : ℕ → ℕ → Numbers
+from_to first last = record { first = first; last = last }
+
+-- the numbers that are a machine's own
+abbrev pub own_numbers : Arch → List Numbers
+own_numbers X86_64 = from_to 0 0x3fffffff ∷ []
+own_numbers Aarch64 = from_to 0 0xffffffff ∷ []
+own_numbers LinuxX86_64 = from_to 0 0x3fffffff ∷ from_to 0xffffffff 0xffffffff ∷ []
+own_numbers LinuxAarch64 = from_to 0 0xffffffff ∷ []
+
+-- all others
+abbrev pub other_numbers : Arch → List Numbers
+other_numbers X86_64 = from_to 0x40000000 0xffffffff ∷ []
+other_numbers Aarch64 = []
+other_numbers LinuxX86_64 = from_to 0x40000000 0xfffffffe ∷ []
+other_numbers LinuxAarch64 = []
+
+abbrev pub IsWithin : ℕ → Numbers → Type 0
+IsWithin nr numbers = (numbers.first ≤ nr) × (nr ≤ numbers.last)
+
+-- one of a machine's own
+abbrev pub IsOwn : Arch → ℕ → Type 0
+IsOwn arch nr = Any (IsWithin nr) (own_numbers arch)
+
+-- one of the others
+abbrev pub IsOther : Arch → ℕ → Type 0
+IsOther arch nr = Any (IsWithin nr) (other_numbers arch)
+
+-- a call with this token and this number is the machine's
+abbrev pub HasCall : ℕ → ℕ → Arch → Type 0
+HasCall token nr arch = (token_of arch ≡ token) × IsOwn arch nr
+
+-- the same as a test
+abbrev pub is_within : ℕ → Numbers → Bool
+is_within nr numbers = nat_le numbers.first nr && nat_le nr numbers.last
+
+abbrev pub has_call : ℕ → ℕ → Arch → Bool
+has_call token nr arch = token_of arch == token && list_any (is_within nr) (own_numbers arch)
