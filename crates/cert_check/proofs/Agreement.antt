@@ -10,8 +10,9 @@ use Rattle.std.proofs.lemmas.Bool.{cases_eq, ltb-true, ltb-false, leb-true, leb-
 use Rattle.std.proofs.lemmas.Bool.Decides.{not_from_Decides}
 use Rattle.call_record.specs.Words.{IsRecord, word, argument}
 use Rattle.call_tables.specs.declared.arch.Arch.{Arch}
-use Rattle.call_tables.specs.declared.arch.Arch.TheVariants.{X86_64}
 use Rattle.call_tables.specs.Arch.{token_of}
+use Rattle.call_tables.specs.Numbers.{IsOwn}
+use Rattle.call_tables.proofs.NumberLaws.{all_own, own_not_other}
 use Rattle.profile.specs.declared.conditions.Op.{Op}
 use Rattle.profile.specs.declared.conditions.Op.TheVariants.{Ne, Lt, Le, Eq, Ge, Gt, MaskedEq}
 use Rattle.profile.specs.declared.conditions.Cond.{Cond}
@@ -228,38 +229,35 @@ module _ (r : List ℕ) (rec : IsRecord r) (known : List Lit) (so : All (λ l. H
           | inr agrees ↦ agrees
         ]
 
-    -- where the number is no x32 number its rules agree
-    rules_agree : (arch : Arch) → IsNative policy r → Contains policy.machines arch
-        → word r 1 ≡ token_of arch → RulesAgree policy out met known v arch
-    rules_agree arch native listed machine =
+    -- where the number is one of the machine's own its rules agree
+    rules_agree : (arch : Arch) → Contains policy.machines arch → word r 1 ≡ token_of arch → IsOwn arch (word r 0)
+        → RulesAgree policy out met known v arch
+    rules_agree arch listed machine own =
         elim (machine_agrees arch listed machine).rules [
-          | inl (is, above) ↦
-              let low = native.no_x32 (machine ∙ is) in
-              let high = entailed_is_true r rec known so (In 0 0x40000000 all_bits) above in
-              absurd (omega (arith, low, high.0))
+          | inl (k, numbers, inside, at, among) ↦
+              let within = entailed_is_true r rec known so (In 0 numbers.first numbers.last) among in
+              absurd (own_not_other arch (word r 0) own (k, numbers, inside, at, within))
           | inr agrees ↦ agrees
         ]
 
-    -- the record's machine, where it is listed
-    listed_machine : Any (λ a. word r 1 ≡ token_of a) policy.machines
-        → (arch : Arch) × Contains policy.machines arch × (word r 1 ≡ token_of arch)
-    listed_machine (k, arch, inside, at, machine) = (arch, (k, inside, at), machine)
+    -- the record's machine
+    own_machine : IsNative policy r → (arch : Arch) × Contains policy.machines arch × (word r 1 ≡ token_of arch) × IsOwn arch (word r 0)
+    own_machine (k, arch, inside, at, has) = (arch, (k, inside, at), sym has.0, has.1)
 
     foreign_agrees : (¬ IsNative policy r) → v ≡ 0
     foreign_agrees alien = elim h.foreign [
       | inr zero ↦ zero
       | inl (arch, listed, token) ↦
           let machine : word r 1 ≡ token_of arch = word_is 1 (token_of arch) token in
-          let some : Any (λ a. word r 1 ≡ token_of a) policy.machines = (listed.0, arch, listed.1, listed.2, machine) in
-          elim (cases_eq (word r 1) (token_of X86_64)) [
-            | inr other ↦ absurd (alien (record { listed = some; no_x32 = λ e. absurd (other e) }))
-            | inl is ↦
-                elim ((machine_agrees arch listed machine).foreign_numbers (sym machine ∙ is)) [
-                  | inr zero ↦ zero
-                  | inl low ↦
-                      let at = entailed_is_true r rec known so (In 0 0 0x3fffffff) low in
-                      absurd (alien (record { listed = some; no_x32 = λ _. omega (arith, at.1) }))
-                ]
+          let native : IsOwn arch (word r 0) → IsNative policy r = λ own. (listed.0, arch, listed.1, listed.2, (sym machine, own)) in
+          elim (machine_agrees arch listed machine).foreign [
+            | inl none ↦ absurd (alien (native (all_own arch (word r 0) none (rec.words 0))))
+            | inr more ↦ elim more [
+              | inl zero ↦ zero
+              | inr (k, numbers, inside, at, among) ↦
+                  let within = entailed_is_true r rec known so (In 0 numbers.first numbers.last) among in
+                  absurd (alien (native (k, numbers, inside, at, within)))
+            ]
           ]
     ]
 
@@ -268,9 +266,9 @@ module _ (r : List ℕ) (rec : IsRecord r) (known : List Lit) (so : All (λ l. H
     agrees_sound = record {
       foreign = foreign_agrees;
       matched = λ native rule has m.
-          let at = listed_machine native.listed in
-          rule_agrees at.0 rule at.2 has m (rules_agree at.0 native at.1 at.2);
+          let at = own_machine native in
+          rule_agrees at.0 rule at.2 has m (rules_agree at.0 at.1 at.2 at.3);
       unmatched = λ native none.
-          let at = listed_machine native.listed in
-          default_agrees at.0 at.2 none (rules_agree at.0 native at.1 at.2);
+          let at = own_machine native in
+          default_agrees at.0 at.2 none (rules_agree at.0 at.1 at.2 at.3);
     }

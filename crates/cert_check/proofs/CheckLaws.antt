@@ -27,7 +27,7 @@ use Rattle.cert_check.proofs.FirstLaws.{first_form}
 -- a certificate has at least one node, and not too many
 count_said : (version : ℕ) (bytes : List ℕ) (ns : List PlainNode) → SpellsSaid version bytes ns → (1 ≤ length ns) × (length ns ≤ 16384)
 count_said version bytes ns s =
-    let size : length ns ≡ length s.cs = rw s.same (length-map s.cs (said s.es)) in (
+    let size : length ns ≡ length s.cs = rw s.same (length-map s.cs (said version s.es)) in (
       omega (arith, size, s.spells.some),
       omega (arith, size, s.spells.few),
     )

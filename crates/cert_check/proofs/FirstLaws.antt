@@ -64,7 +64,7 @@ module _ (policy : Policy) (filter cert : List ℕ) where
         all_kept valid (Form d) = (ns, spelled)
         all_kept valid Root = λ ms spells. subst RootRule (only ms spells) valid.root
         all_kept valid (Edge j) = of_each (λ xs k m. EdgeRule (insns_of filter) xs k m) j (λ m at. (valid.each j m at).edge)
-        all_kept valid (Split j) = of_each (λ xs k m. SplitRule m.kind) j (λ m at. (valid.each j m at).split)
+        all_kept valid (Split j) = of_each (λ xs k m. SplitRule m.sharp m.kind) j (λ m at. (valid.each j m at).split)
         all_kept valid (Entail j) = of_each (λ xs k m. EntailRule policy (insns_of filter) xs m) j (λ m at. (valid.each j m at).entail)
         all_kept valid (Return j) = of_each (λ xs k m. m.kind ≡ kind.Return
             → ReturnRule policy (insns_of filter) m) j (λ m at. (valid.each j m at).return)
@@ -99,8 +99,8 @@ module _ (policy : Policy) (filter cert : List ℕ) where
           edge_up_to : (j : ℕ) → j ≤ i → (j ≡ i → EdgeRule (insns_of filter) ns i n) → Kept policy filter cert (Edge j)
           edge_up_to = up_to (λ xs k m. EdgeRule (insns_of filter) xs k m) (λ j m k. k.edge)
 
-          split_up_to : (j : ℕ) → j ≤ i → (j ≡ i → SplitRule n.kind) → Kept policy filter cert (Split j)
-          split_up_to = up_to (λ xs k m. SplitRule m.kind) (λ j m k. k.split)
+          split_up_to : (j : ℕ) → j ≤ i → (j ≡ i → SplitRule n.sharp n.kind) → Kept policy filter cert (Split j)
+          split_up_to = up_to (λ xs k m. SplitRule m.sharp m.kind) (λ j m k. k.split)
 
           entail_up_to : (j : ℕ) → j ≤ i → (j ≡ i → EntailRule policy (insns_of filter) ns n) → Kept policy filter cert (Entail j)
           entail_up_to = up_to (λ xs k m. EntailRule policy (insns_of filter) xs m) (λ j m k. k.entail)
@@ -111,7 +111,7 @@ module _ (policy : Policy) (filter cert : List ℕ) where
 
           -- all that is looked for before a turn of node i
           before_turn : (turn : ℕ) → turn ≤ 7 + 4 * i → (4 + 4 * i < turn → EdgeRule (insns_of filter) ns i n)
-              → (5 + 4 * i < turn → SplitRule n.kind) → (6 + 4 * i < turn → EntailRule policy (insns_of filter) ns n)
+              → (5 + 4 * i < turn → SplitRule n.sharp n.kind) → (6 + 4 * i < turn → EntailRule policy (insns_of filter) ns n)
               → KeptBefore policy filter cert turn
           before_turn turn most edge split entail (View d) lt = whole
           before_turn turn most edge split entail (Kernel d) lt = accepted

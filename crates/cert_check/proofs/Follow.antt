@@ -1,10 +1,10 @@
 -- A valid certificate follows each run to a return whose word the profile says.
 use Rattle.std.proofs.Common.{◌≡◌, ◌==◌, ℕ, zero, suc, ◌+◌, ◌<◌, ◌≤◌, Bool, true, false, cond, List, [], ◌∷◌, ◌++◌}
 use Rattle.std.proofs.Common.{length, Option, Some, None, sym, refl, ap, ◌∙◌, subst, inl, inr, ◌⊎◌, arith}
-use Rattle.std.specs.Prelude.{bit_and, slice_index, slice_index_or, slice_get, unwrap_or, All, Contains, IfSome, option_to_list}
+use Rattle.std.specs.Prelude.{bit_and, IsTrue, slice_index, slice_index_or, slice_get, unwrap_or, All, Contains, IfSome, option_to_list}
 use Rattle.std.proofs.lemmas.List.Elements.{All-contains, All-append, All-nil, All-cons}
 use Rattle.cert_check.proofs.Elements.{contains_at, each_of}
-use Rattle.std.proofs.lemmas.Bool.{cases_eq, cases_lt}
+use Rattle.std.proofs.lemmas.Bool.{cases_eq, cases_lt, eqb-true}
 use Rattle.std.proofs.lemmas.Option.{slice_get_within, same_Some, cond_some, none-some, unwrap_or-slice_get}
 use Rattle.call_record.specs.Words.{IsRecord, argument}
 use Rattle.bpf_insn.specs.declared.code.Operand.{Operand}
@@ -34,15 +34,17 @@ use Rattle.cert_state.specs.Literals.{Holds}
 use Rattle.cert_state.specs.States.{HasValue, IsKept, Inside}
 use Rattle.cert_state.specs.Entailment.{Entails}
 use Rattle.cert_state.specs.Transfer.{transfer, edge_fact}
+use Rattle.cert_state.specs.Sharp.{lowest_bit, sharp_fact}
 use Rattle.cert_state.proofs.KnownLaws.{entailed_is_true, dead_is_none}
 use Rattle.cert_state.proofs.StepLaws.{stays_inside}
 use Rattle.cert_state.proofs.EdgeLaws.{follows_fact}
+use Rattle.cert_state.proofs.SharpLaws.{above_lowest, bit_is_set, follows_sharp_fact}
 use Rattle.cert_form.specs.declared.node.Kind.{Kind}
 use Rattle.cert_form.specs.declared.node.Kind.TheVariants as kind
 use Rattle.cert_form.specs.Nodes.{PlainNode}
 use Rattle.cert_check.specs.Agree.{Agrees, IsRefuted, IsYes}
 use Rattle.cert_check.proofs.Agreement.{AreOut, AreMet, refuted_rule, yes_condition}
-use Rattle.cert_check.specs.Rules.{no_node, Edge, one_edge, step_edges, edges_by, Leads, Covers, SplitRule, Allows}
+use Rattle.cert_check.specs.Rules.{no_node, Edge, one_edge, step_edges, edges_by, fact_at, Leads, Covers, CoversSharply, SplitRule, Allows}
 use Rattle.cert_check.specs.Rules.{IsOutOn, IsMetBy, Carries, known_on, value_word, word_by, Keeps, IsValid}
 
 -- what gives a word after one instruction gives it before
@@ -141,29 +143,40 @@ module _ (r : List ℕ) (rec : IsRecord r) (p : List Insn) (accepted : IsAccepte
         on = goes_back n.pc pc skip i s t found e at;
       }
 
+  -- the fact of the edge of a jump that the run takes is true
+  fact_holds : (n : PlainNode) (i : Insn) (s : Registers) (test : Test) (c : Operand) → Inside n.regs n.known r s
+      → operation_of i.code ≡ Some (Branch test c) → IfSome (fact_at n i (holds test s.a (operand c i s))) (λ l. Holds l r)
+  fact_holds n i s test c inside op = by_form n.sharp where
+    taken : Bool
+    taken = holds test s.a (operand c i s)
+
+    by_form : (b : Bool) → IfSome (cond b (sharp_fact n.regs i taken) (edge_fact n.regs i taken)) (λ l. Holds l r)
+    by_form true = follows_sharp_fact n.regs n.known i r s test c rec inside op
+    by_form false = follows_fact n.regs n.known i r s test c rec inside op
+
   -- the edge of a jump that is taken, or is not
   branch_way : (i : Insn) (n : PlainNode) (s : Registers) (test : Test) (c : Operand) (first second : ℕ) (out : List Edge) (b : Bool)
       → holds test s.a (operand c i s) ≡ b → operation_of i.code ≡ Some (Branch test c)
       → slice_get p n.pc ≡ Some i → Inside n.regs n.known r s
       → step_edges (Some (Branch test c)) n first second i ≡ Some out → Way n s out
   branch_way i n s test c first second out true is op found inside leave =
-      let edge : Edge = record { to = first; pc = n.pc + 1 + i.jt; fact = edge_fact n.regs i true; regs = transfer n.regs i } in
+      let edge : Edge = record { to = first; pc = n.pc + 1 + i.jt; fact = fact_at n i true; regs = transfer n.regs i } in
       let e : step r i s ≡ Goes i.jt s = ap (λ o. perform_if o r i s) op ∙ ap (λ b. Goes (cond b i.jt i.jf) s) is in
       record {
         edge = edge;
         stands = subst (λ es. Contains es edge) (same_Some _ out leave) (0, omega arith, refl);
-        fact = subst (λ b. IfSome (edge_fact n.regs i b) (λ l. Holds l r)) is (follows_fact n.regs n.known i r s test c rec inside op);
+        fact = subst (λ b. IfSome (fact_at n i b) (λ l. Holds l r)) is (fact_holds n i s test c inside op);
         next = s;
         fits = stays_inside n.regs n.known i (plain p n.pc i accepted found) r s i.jt s rec inside e;
         on = goes_back n.pc (n.pc + 1 + i.jt) i.jt i s s found e refl;
       }
   branch_way i n s test c first second out false is op found inside leave =
-      let edge : Edge = record { to = second; pc = n.pc + 1 + i.jf; fact = edge_fact n.regs i false; regs = transfer n.regs i } in
+      let edge : Edge = record { to = second; pc = n.pc + 1 + i.jf; fact = fact_at n i false; regs = transfer n.regs i } in
       let e : step r i s ≡ Goes i.jf s = ap (λ o. perform_if o r i s) op ∙ ap (λ b. Goes (cond b i.jt i.jf) s) is in
       record {
         edge = edge;
         stands = subst (λ es. Contains es edge) (same_Some _ out leave) (1, omega arith, refl);
-        fact = subst (λ b. IfSome (edge_fact n.regs i b) (λ l. Holds l r)) is (follows_fact n.regs n.known i r s test c rec inside op);
+        fact = subst (λ b. IfSome (fact_at n i b) (λ l. Holds l r)) is (fact_holds n i s test c inside op);
         next = s;
         fits = stays_inside n.regs n.known i (plain p n.pc i accepted found) r s i.jf s rec inside e;
         on = goes_back n.pc (n.pc + 1 + i.jf) i.jf i s s found e refl;
@@ -196,9 +209,33 @@ module _ (r : List ℕ) (rec : IsRecord r) (p : List Insn) (accepted : IsAccepte
       ]
   covered _ _ h = absurd h
 
-  split_covers : (c d : Lit) → Covers c d ⊎ Covers d c → Holds c r ⊎ Holds d r
-  split_covers c d (inl h) = covered c d h
-  split_covers c d (inr h) = elim (covered d c h) [ inl second ↦ inr second | inr first ↦ inl first ]
+  covered_sharply : (c d : Lit) → CoversSharply c d → Holds c r ⊎ Holds d r
+  covered_sharply (Bits w m d) (Bits v n e) (same, mask, none, set, one) =
+      elim (cases_eq (bit_and (slice_index r w) m) 0) [
+        | inl q ↦ inl (q ∙ sym none)
+        | inr q ↦ inr (ap (λ i. bit_and (slice_index r i) n) (sym same) ∙ (ap (λ i. bit_and (slice_index r w) i) (sym mask)
+            ∙ (bit_is_set m (slice_index r w) (eqb-true m (lowest_bit m) one) q ∙ sym set)))
+      ]
+  covered_sharply (Bits w m d) (In v a b) (same, fits, none, low, high) =
+      elim (cases_eq (bit_and (slice_index r w) m) 0) [
+        | inl q ↦ inl (q ∙ sym none)
+        | inr q ↦ inr (subst (λ i. (a ≤ slice_index r i) × (slice_index r i ≤ b)) same (
+            let least = above_lowest (slice_index r w) m fits q in
+            let small = rec.words w in
+            (omega (arith, least, low), omega (arith, small, high))))
+      ]
+  covered_sharply _ _ h = absurd h
+
+  turned : (c d : Lit) → Holds d r ⊎ Holds c r → Holds c r ⊎ Holds d r
+  turned c d (inl second) = inr second
+  turned c d (inr first) = inl first
+
+  split_covers : (c d : Lit) (sharp : Bool) → (Covers c d ⊎ Covers d c) ⊎ (IsTrue sharp × (CoversSharply c d ⊎ CoversSharply d c))
+      → Holds c r ⊎ Holds d r
+  split_covers c d sharp (inl (inl h)) = covered c d h
+  split_covers c d sharp (inl (inr h)) = turned c d (covered d c h)
+  split_covers c d sharp (inr (is, inl h)) = covered_sharply c d h
+  split_covers c d sharp (inr (is, inr h)) = turned c d (covered_sharply d c h)
 
   -- the edge of a split
   split_way : (n : PlainNode) (s : Registers) (first second : ℕ) (c d : Lit) (i : Insn) (out : List Edge) → Inside n.regs n.known r s
@@ -347,7 +384,7 @@ module _ (r : List ℕ) (rec : IsRecord r) (p : List Insn) (accepted : IsAccepte
         let leave : edges_by (kind.Split c d first second) n rule.insn ≡ Some rule.out = ap (λ k. edges_by k n rule.insn) (sym is)
         ∙ rule.leave in
         along i n s rule.out inside.known gone rule.lead (keeps.entail.carry rule.insn rule.out rule.inside rule.leave) later
-        (split_way n s first second c d rule.insn rule.out inside leave (split_covers c d (subst SplitRule is keeps.split)))
+        (split_way n s first second c d rule.insn rule.out inside leave (split_covers c d n.sharp (subst (SplitRule n.sharp) is keeps.split)))
     at_node kind.Return i n s is keeps inside gone later = λ v count given.
         let rule = keeps.return is in
         let does = returns (operation_of rule.insn.code) r rule.insn s n.regs rule.word rule.known in

@@ -1,9 +1,10 @@
 -- Where what is known of a record settles the word that a profile says of it. Arguments have 64 bits, and what is
 -- known is of their halves: the low half of argument j is word 4 + 2 * j, the high half the word after it.
-use Rattle.std.specs.Prelude.{◌≡◌, ℕ, ◌+◌, ◌*◌, ◌/◌, ◌%◌, ◌^◌, ◌⊎◌, Bool, true, false, List, All, Contains, Some, slice_get}
+use Rattle.std.specs.Prelude.{◌≡◌, ℕ, ◌+◌, ◌*◌, ◌/◌, ◌%◌, ◌^◌, ◌⊎◌, Bool, true, false, List, [], All, Any, Contains, Some, slice_get}
 use Rattle.call_tables.specs.declared.arch.Arch.{Arch}
-use Rattle.call_tables.specs.declared.arch.Arch.TheVariants.{X86_64}
+use Rattle.call_tables.specs.declared.numbers.Numbers.{Numbers}
 use Rattle.call_tables.specs.Arch.{token_of}
+use Rattle.call_tables.specs.Numbers.{own_numbers, other_numbers}
 use Rattle.profile.specs.declared.conditions.Op.{Op}
 use Rattle.profile.specs.declared.conditions.Op.TheVariants.{Ne, Lt, Le, Eq, Ge, Gt, MaskedEq}
 use Rattle.profile.specs.declared.conditions.Cond.{Cond}
@@ -125,10 +126,18 @@ pub record NoneSays (policy : Policy) (out : List ℕ) (met : List (ℕ × ℕ))
 abbrev pub RulesAgree : Policy → List ℕ → List (ℕ × ℕ) → List Lit → ℕ → Arch → Type 0
 RulesAgree policy out met known v arch = OneSays policy out met known v arch ⊎ NoneSays policy out met known v arch
 
--- a machine agrees with v: v is 0 where an x32 number is possible, and its rules agree unless the number is one
+-- the number is known to be one of these
+abbrev pub IsAmong : List Lit → List Numbers → Type 0
+IsAmong known all = Any (λ numbers. Entails known (In 0 numbers.first numbers.last)) all
+
+-- each number is the machine's own; or v is 0, or the number is known to be one of the machine's own
+abbrev pub ForeignNumbersAgree : List Lit → ℕ → Arch → Type 0
+ForeignNumbersAgree known v arch = (other_numbers arch ≡ []) ⊎ ((v ≡ 0) ⊎ IsAmong known (own_numbers arch))
+
+-- a machine agrees with v: v is 0 where a foreign number is possible, and its rules agree unless the number is one
 pub record MachineAgrees (policy : Policy) (out : List ℕ) (met : List (ℕ × ℕ)) (known : List Lit) (v : ℕ) (arch : Arch) : Type 0 where
-  pub foreign_numbers : token_of arch ≡ token_of X86_64 → Entails known (In 0 0 0x3fffffff) ⊎ (v ≡ 0)
-  pub rules : ((token_of arch ≡ token_of X86_64) × Entails known (In 0 0x40000000 all_bits)) ⊎ RulesAgree policy out met known v arch
+  pub foreign : ForeignNumbersAgree known v arch
+  pub rules : IsAmong known (other_numbers arch) ⊎ RulesAgree policy out met known v arch
 
 -- a listed machine is known to be another than the record's, or agrees
 abbrev pub ListedAgrees : Policy → List ℕ → List (ℕ × ℕ) → List Lit → ℕ → Arch → Type 0

@@ -1,6 +1,7 @@
 -- The rules that each node of a certificate keeps. A node stands at a position of the program and says what is
 -- known there; its edges lead on to later nodes.
-use Rattle.std.specs.Prelude.{◌≡◌, ◌==◌, ℕ, ◌+◌, ◌<◌, ◌⊎◌, ⊤, true, false, if◌then◌else◌, List, [], ◌∷◌, ◌++◌, Option, Some, None}
+use Rattle.std.specs.Prelude.{◌≡◌, ◌==◌, ℕ, ◌+◌, ◌^◌, ◌<◌, ◌⊎◌, ⊤, Bool, true, false, IsTrue, if◌then◌else◌}
+use Rattle.std.specs.Prelude.{List, [], ◌∷◌, ◌++◌, Option, Some, None}
 use Rattle.std.specs.Prelude.{option_to_list, slice_get, slice_index_or, All, Contains}
 use Rattle.bpf_insn.specs.declared.instruction.Insn.{Insn}
 use Rattle.bpf_insn.specs.declared.code.Operation.{Operation}
@@ -17,6 +18,7 @@ use Rattle.cert_state.specs.declared.literal.Regs.{Regs}
 use Rattle.cert_state.specs.Literals.{all_bits}
 use Rattle.cert_state.specs.Entailment.{Entails, IsDead}
 use Rattle.cert_state.specs.Transfer.{transfer, edge_fact}
+use Rattle.cert_state.specs.Sharp.{is_bit, lowest_bit, sharp_fact}
 use Rattle.cert_form.specs.declared.node.Kind.{Kind}
 use Rattle.cert_form.specs.declared.node.Kind.TheVariants.{Step, Split, Return, Dead}
 use Rattle.cert_form.specs.Nodes.{PlainNode}
@@ -33,6 +35,10 @@ pub record Edge : Type 0 where
   pub fact : Option Lit
   pub regs : Regs
 
+-- what is known on an edge of a jump: its fact, or where the certificate is sharp, its sharp fact
+abbrev pub fact_at : PlainNode → Insn → Bool → Option Lit
+fact_at n i taken = if n.sharp then sharp_fact n.regs i taken else edge_fact n.regs i taken
+
 -- the one edge of a step that has no second successor
 abbrev pub one_edge : ℕ → ℕ → ℕ → Regs → Option (List Edge)
 one_edge first second pc regs =
@@ -42,8 +48,8 @@ one_edge first second pc regs =
 -- conditional jump has two successors (taken, not taken), a step at a return has no place, any other has one
 abbrev pub step_edges : Option Operation → PlainNode → ℕ → ℕ → Insn → Option (List Edge)
 step_edges (Some (Branch test operand)) n first second i =
-    Some (record { to = first; pc = n.pc + 1 + i.jt; fact = edge_fact n.regs i true; regs = transfer n.regs i }
-    ∷ record { to = second; pc = n.pc + 1 + i.jf; fact = edge_fact n.regs i false; regs = transfer n.regs i } ∷ [])
+    Some (record { to = first; pc = n.pc + 1 + i.jt; fact = fact_at n i true; regs = transfer n.regs i }
+    ∷ record { to = second; pc = n.pc + 1 + i.jf; fact = fact_at n i false; regs = transfer n.regs i } ∷ [])
 step_edges (Some Jump) n first second i = one_edge first second (n.pc + 1 + i.k) (transfer n.regs i)
 step_edges (Some ReturnK) n first second i = None
 step_edges (Some ReturnA) n first second i = None
@@ -92,10 +98,16 @@ Covers (In w a b) (In v c d) = (w ≡ v) × (a ≡ 0) × (c ≡ b + 1) × (d ≡
 Covers (Bits w m d) (NotBits v n e) = (w ≡ v) × (m ≡ n) × (d ≡ e)
 Covers _ _ = ⊥
 
--- Split: the two literals cover each record, in either order
-abbrev pub SplitRule : Kind → Type 0
-SplitRule (Split a b first second) = Covers a b ⊎ Covers b a
-SplitRule _ = ⊤
+-- the same by bits: none of them is set, and else the only one is, or the word is at least the lowest
+abbrev pub CoversSharply : Lit → Lit → Type 0
+CoversSharply (Bits w m d) (Bits v n e) = (w ≡ v) × (m ≡ n) × (d ≡ 0) × (e ≡ m) × IsTrue (is_bit m)
+CoversSharply (Bits w m d) (In v a b) = (w ≡ v) × (m < 2 ^ 32) × (d ≡ 0) × (a ≡ lowest_bit m) × (b ≡ all_bits)
+CoversSharply _ _ = ⊥
+
+-- Split: the two literals cover each record, in either order; by bits in a sharp certificate alone
+abbrev pub SplitRule : Bool → Kind → Type 0
+SplitRule sharp (Split a b first second) = (Covers a b ⊎ Covers b a) ⊎ (IsTrue sharp × (CoversSharply a b ⊎ CoversSharply b a))
+SplitRule sharp _ = ⊤
 
 -- what a successor says of a register: nothing, or the value that it has there
 abbrev pub Allows : AVal → AVal → Type 0
@@ -157,7 +169,7 @@ pub record ReturnRule (policy : Policy) (p : List Insn) (n : PlainNode) : Type 0
 -- node i keeps each rule
 pub record Keeps (policy : Policy) (p : List Insn) (ns : List PlainNode) (i : ℕ) (n : PlainNode) : Type 0 where
   pub edge : EdgeRule p ns i n
-  pub split : SplitRule n.kind
+  pub split : SplitRule n.sharp n.kind
   pub entail : EntailRule policy p ns n
   pub return : n.kind ≡ Return → ReturnRule policy p n
 

@@ -2,12 +2,11 @@
 ghost use Rattle.std.specs.Prelude.{◌≡◌, ◌<◌, ◌↔◌, ◌⊎◌, IsTrue, All, Any, Contains};
 ghost use Rattle.call_tables.specs.Arch.{token_of};
 ghost use Rattle.call_tables.specs.declared.arch.Arch.{Arch as TheArch};
-ghost use Rattle.call_tables.specs.declared.arch.Arch.TheVariants as machine;
 ghost use Rattle.cert_state.specs.declared.literal.Lit.TheVariants.{Bits};
 ghost use Rattle.cert_state.specs.Literals.{all_bits};
 ghost use Rattle.cert_state.specs.Entailment.{Entails};
 ghost use Rattle.cert_form.specs.Views.{says};
-ghost use Rattle.cert_check.specs.Agree.{Agrees, AllAreYes, IsLeft, IsNoRule, IsYesRule, ListedAgrees, MachineAgrees, OneIsNo, RulesAgree};
+ghost use Rattle.cert_check.specs.Agree.{Agrees, AllAreYes, ForeignNumbersAgree, IsAmong, IsLeft, IsNoRule, IsYesRule, ListedAgrees, MachineAgrees, OneIsNo, RulesAgree};
 ghost use Rattle.cert_check.specs.inner.Judged.{AreKnownNumbers, Bears, IsAnswered, IsJudged, IsKnownNumber};
 
 use crate::conditions::{judge_conditions, judge_left};
@@ -15,9 +14,9 @@ use crate::judged::{Answered, Bearing, Judged, Number};
 use crate::mets::Mets;
 use crate::outs::Outs;
 use call_record::Word;
-use call_tables::Arch;
+use call_tables::{Arch, Numbers};
 use cert_state::{Facts, Lit, State};
-use profile::{Cond, LEAST_X32_NUMBER, Op, Profile, Rule, has_x32_calls};
+use profile::{Cond, Op, Profile, Rule};
 
 // The words of a record that hold the call's number and the machine's token.
 pub(crate) const NUMBER: u8 = 0;
@@ -279,35 +278,25 @@ fn rules_agree<S: State>(
     profile.default_word() == word
 }
 
-// Whether a literal follows, or the word is that of what is foreign.
-fn follows_or_kills<S: State>(facts: &Facts<'_, S>, literal: &Lit, word: Word) -> bool
-    ensures { IsTrue result ↔ Entails (S.known facts.now.state.now) literal.now ⊎ (word ≡ 0) }
+// Whether the number is known to be one of some.
+fn is_among<S: State>(facts: &Facts<'_, S>, all: &[Numbers]) -> bool
+    ensures { IsTrue result ↔ IsAmong (S.known facts.now.state.now) all.now }
 {
+    all.iter().any(|numbers| facts.entails(&Lit::In(NUMBER, numbers.first, numbers.last)))
+}
+
+// Whether no foreign number with the machine's token is possible, or such a one gets its word.
+fn foreign_numbers_agree<S: State>(facts: &Facts<'_, S>, word: Word, arch: Arch) -> bool
+    ensures { IsTrue result ↔ ForeignNumbersAgree (S.known facts.now.state.now) word arch }
+{
+    if arch.other_numbers().is_empty() {
+        return true;
+    }
     if word == Word::KILL_THREAD {
         return true;
     }
-    facts.entails(literal)
-}
-
-// Whether an x86-64 agrees with a word: an x32 call is foreign.
-fn x86_64_agrees<S: State>(
-    profile: &Profile,
-    outs: &Outs<'_, '_>,
-    mets: &Mets<'_, '_>,
-    facts: &Facts<'_, S>,
-    word: Word,
-    arch: Arch,
-) -> bool
-    requires { token_of arch ≡ token_of machine.X86_64 }
-    ensures { IsTrue result ↔ MachineAgrees profile.now (says outs.now.node).out (says mets.now.node).met (S.known facts.now.state.now) word arch }
-{
-    if !follows_or_kills(facts, &Lit::In(NUMBER, 0, LEAST_X32_NUMBER - 1), word) {
-        return false;
-    }
-    if facts.entails(&Lit::In(NUMBER, LEAST_X32_NUMBER, u32::MAX)) {
-        return true;
-    }
-    rules_agree(profile, outs, mets, facts, word, arch)
+    let own = arch.own_numbers();
+    is_among(facts, own)
 }
 
 // Whether a machine agrees with a word.
@@ -321,8 +310,12 @@ fn machine_agrees<S: State>(
 ) -> bool
     ensures { IsTrue result ↔ MachineAgrees profile.now (says outs.now.node).out (says mets.now.node).met (S.known facts.now.state.now) word arch }
 {
-    if has_x32_calls(arch) {
-        return x86_64_agrees(profile, outs, mets, facts, word, arch);
+    if !foreign_numbers_agree(facts, word, arch) {
+        return false;
+    }
+    let others = arch.other_numbers();
+    if is_among(facts, others) {
+        return true;
     }
     rules_agree(profile, outs, mets, facts, word, arch)
 }

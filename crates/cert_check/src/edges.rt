@@ -4,12 +4,12 @@ ghost use Rattle.std.specs.Option.{option_map};
 ghost use Rattle.bpf_insn.specs.Causes.{IsPlain};
 ghost use Rattle.bpf_insn.specs.Code.{operation_of};
 ghost use Rattle.cert_form.specs.Views.{nodes_of, says};
-ghost use Rattle.cert_check.specs.Rules.{Leads, edges, one_edge, step_edges};
+ghost use Rattle.cert_check.specs.Rules.{Leads, edges, fact_at, one_edge, step_edges};
 ghost use Rattle.cert_check.specs.inner.Ways.{edge_list, edge_of};
 
 use bpf_insn::{Insn, Operation};
 use cert_form::{CertView, Kind, NodeView};
-use cert_state::{Lit, Regs, State, edge_fact, transfer};
+use cert_state::{Lit, Regs, State, edge_fact, sharp_fact, transfer};
 
 // The number that stands for no second successor.
 const NO_NODE: u32 = u32::MAX;
@@ -46,6 +46,16 @@ fn one_way(first: u32, second: u32, pc: u64, regs: Regs) -> Option<Ways>
     }))
 }
 
+// What is known on an edge of a jump.
+fn fact_of(node: &NodeView<'_>, insn: &Insn, taken: bool) -> Option<Lit>
+    ensures { result ≡ fact_at (says node.now) insn.now taken }
+{
+    if node.is_sharp() {
+        return sharp_fact(node, insn, taken);
+    }
+    edge_fact(node, insn, taken)
+}
+
 // The ways of a step at an instruction, or none where it may not stand there.
 fn step_ways(node: &NodeView<'_>, first: u32, second: u32, insn: &Insn) -> Option<Ways>
     requires { IsPlain insn.now }
@@ -59,13 +69,13 @@ fn step_ways(node: &NodeView<'_>, first: u32, second: u32, insn: &Insn) -> Optio
             let taken = Way {
                 to: first,
                 pc: next + u64::from(insn.jt),
-                fact: edge_fact(node, insn, true),
+                fact: fact_of(node, insn, true),
                 regs,
             };
             let not_taken = Way {
                 to: second,
                 pc: next + u64::from(insn.jf),
-                fact: edge_fact(node, insn, false),
+                fact: fact_of(node, insn, false),
                 regs,
             };
             Some(Ways::Two(taken, not_taken))

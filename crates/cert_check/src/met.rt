@@ -8,7 +8,7 @@ ghost use Rattle.cert_check.specs.inner.Ways.{edge_of};
 use crate::conditions::judge_condition;
 use crate::edges::Way;
 use crate::judged::Judged;
-use crate::mets::{Mets, has_no_met, mets_of};
+use crate::mets::{Mets, has_no_met, mark_mets};
 use cert_form::NodeView;
 use cert_state::{Facts, State, With};
 use profile::{Cond, Profile};
@@ -90,6 +90,7 @@ pub(crate) fn mets_follow(
     if has_no_met(node) {
         return all_are_met(profile, &known, &Mets::none(node), there);
     }
-    let marked = mets_of(node);
+    let mut marked = [false; 49152];
+    mark_mets(node, &mut marked);
     all_are_met(profile, &known, &Mets::of(node, &marked), there)
 }

@@ -1,5 +1,5 @@
 //! The conditions that a node says to be met, by the places of their rules in the profile's order and their own.
-ghost use Rattle.std.specs.Prelude.{◌≡◌, ◌↔◌, ◌+◌, ◌*◌, ◌<◌, ◌⊎◌, [], ℕ, Bool as TheBool, Contains, IsTrue, slice_index_or, true};
+ghost use Rattle.std.specs.Prelude.{◌≡◌, ◌↔◌, ◌+◌, ◌*◌, ◌<◌, ◌⊎◌, [], ℕ, Bool as TheBool, Contains, IsTrue, false, replicate, slice_index_or, true};
 ghost use Rattle.cert_form.specs.Views.{says};
 ghost use Rattle.cert_check.specs.inner.Marked.{AreMetMarked};
 
@@ -33,17 +33,16 @@ fn mark(marked: &mut [bool; 49152], place: (u32, u32))
     marked[6 * rule + own] = true;
 }
 
-/// The conditions that a node says to be met, marked.
-pub(crate) fn mets_of(node: &NodeView<'_>) -> [bool; 49152]
-    ensures { AreMetMarked (says node.now).met result }
+/// Marks the conditions that a node says to be met, in a table where none is.
+pub(crate) fn mark_mets(node: &NodeView<'_>, marked: &mut [bool; 49152])
+    requires { marked.old ≡ replicate 49152 false }
+    ensures { AreMetMarked (says node.now).met marked.new }
 {
-    let mut marked = [false; 49152];
     let mut at = node.first_met();
     while let Some((place, next)) = node.next_met(at) {
-        mark(&mut marked, place);
+        mark(marked, place);
         at = next;
     }
-    marked
 }
 
 impl<'t, 'a> Mets<'t, 'a> {

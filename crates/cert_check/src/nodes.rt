@@ -47,7 +47,7 @@ fn check_node(
     if !all_lead(view, i as usize, &ways) {
         return Err(CheckError::Edge(i));
     }
-    if !split_is_kept(&node.kind()) {
+    if !split_is_kept(&node) {
         return Err(CheckError::Split(i));
     }
     if !entail_is_kept(profile, view, &node, &ways) {

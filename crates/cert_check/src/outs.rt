@@ -1,5 +1,5 @@
 //! The rules that a node says to be out, by their places in the profile's order.
-ghost use Rattle.std.specs.Prelude.{◌≡◌, ◌↔◌, ◌<◌, ◌⊎◌, [], ℕ, All, Bool as TheBool, Contains, IsTrue, slice_index_or, true};
+ghost use Rattle.std.specs.Prelude.{◌≡◌, ◌↔◌, ◌<◌, ◌⊎◌, [], ℕ, All, Bool as TheBool, Contains, IsTrue, false, replicate, slice_index_or, true};
 ghost use Rattle.cert_form.specs.Views.{says};
 ghost use Rattle.cert_check.specs.inner.Marked.{AreMarked};
 
@@ -27,17 +27,16 @@ fn mark(marked: &mut [bool; 8192], place: u32)
     }
 }
 
-/// The places that a node says to be out, marked.
-pub(crate) fn marked_of(node: &NodeView<'_>) -> [bool; 8192]
-    ensures { AreMarked (says node.now).out result }
+/// Marks the places that a node says to be out, in a table where none is.
+pub(crate) fn mark_outs(node: &NodeView<'_>, marked: &mut [bool; 8192])
+    requires { marked.old ≡ replicate 8192 false }
+    ensures { AreMarked (says node.now).out marked.new }
 {
-    let mut marked = [false; 8192];
     let mut at = node.first_out();
     while let Some((place, next)) = node.next_out(at) {
-        mark(&mut marked, place);
+        mark(marked, place);
         at = next;
     }
-    marked
 }
 
 impl<'t, 'a> Outs<'t, 'a> {

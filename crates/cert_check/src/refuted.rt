@@ -10,7 +10,7 @@ ghost use Rattle.cert_check.specs.inner.Ways.{edge_of};
 use crate::agree::{NUMBER, TOKEN, answer_of};
 use crate::edges::Way;
 use crate::judged::{Answered, Judged};
-use crate::outs::{Outs, are_below, has_none, marked_of};
+use crate::outs::{Outs, are_below, has_none, mark_outs};
 use cert_form::NodeView;
 use cert_state::{Facts, Lit, State, With};
 use profile::{Profile, Rule};
@@ -99,11 +99,13 @@ pub(crate) fn outs_follow(
         state: node,
         more: way.fact,
     };
-    let newly = marked_of(there);
+    let mut newly = [false; 8192];
+    mark_outs(there, &mut newly);
     let there = Outs::of(there, &newly);
     if has_none(node) {
         return all_are_out(profile, &known, &Outs::none(node), &there);
     }
-    let marked = marked_of(node);
+    let mut marked = [false; 8192];
+    mark_outs(node, &mut marked);
     all_are_out(profile, &known, &Outs::of(node, &marked), &there)
 }

@@ -8,8 +8,8 @@ ghost use Rattle.cert_check.specs.Rules.{word_by};
 ghost use Rattle.cert_check.specs.inner.Broken.{ReturnsAt};
 
 use crate::agree::agrees;
-use crate::mets::{Mets, has_no_met, mets_of};
-use crate::outs::{Outs, has_none, marked_of};
+use crate::mets::{Mets, has_no_met, mark_mets};
+use crate::outs::{Outs, has_none, mark_outs};
 use bpf_insn::{Insn, Operation};
 use call_record::Word;
 use cert_form::{Kind, NodeView};
@@ -38,7 +38,8 @@ fn agrees_by_mets(profile: &Profile, node: &NodeView<'_>, outs: &Outs<'_, '_>, w
     ensures { let n = says node.now in IsTrue result ↔ Agrees profile.now n.out n.met n.known word }
 {
     let facts = Facts::of(node);
-    let marked = mets_of(node);
+    let mut marked = [false; 49152];
+    mark_mets(node, &mut marked);
     agrees(profile, outs, &Mets::of(node, &marked), &facts, word)
 }
 
@@ -59,7 +60,8 @@ fn agrees_but_for(profile: &Profile, node: &NodeView<'_>, outs: &Outs<'_, '_>, w
 fn agrees_by_outs(profile: &Profile, node: &NodeView<'_>, word: Word) -> bool
     ensures { let n = says node.now in IsTrue result ↔ Agrees profile.now n.out n.met n.known word }
 {
-    let marked = marked_of(node);
+    let mut marked = [false; 8192];
+    mark_outs(node, &mut marked);
     agrees_but_for(profile, node, &Outs::of(node, &marked), word)
 }
 

@@ -9,7 +9,7 @@ use Rattle.cert_form.specs.declared.fault.FormError.TheVariants.{BadMagic, BadVe
 use Rattle.cert_form.specs.declared.node.ChainNode.{ChainNode}
 use Rattle.cert_form.specs.Nodes.{PlainNode, said}
 use Rattle.cert_form.specs.Spelling.{IsChained, SpellsChained}
-use Rattle.cert_form.specs.Reading.{version_of, chain_node_at, place_of, nodes_in}
+use Rattle.cert_form.specs.Reading.{entries_of, version_of, chain_node_at, place_of, nodes_in}
 use Rattle.cert_form.specs.Faults.{HasBadPart, HasBadCount, EndsEarly, Faulty}
 use Rattle.cert_form.proofs.ReadLaws.{length-nodes_in, slice_get-nodes_in}
 use Rattle.cert_form.proofs.WalkLaws.{Whole, whole, node_stands, last_end, offset_is, entry_stands, entry_not_bad, at_place, not_1}
@@ -73,22 +73,23 @@ chained_no_fault version bytes es ns known s OutOfMemory bad =
 -- the nodes that are read are those that were spelled
 pub chained_nodes : (version : ℕ) (bytes : List ℕ) (es : List (ℕ × Claim)) (ns : List ChainNode) → IsChained version
     → SpellsChained version bytes es ns
-    → nodes_in bytes ≡ map (said es) ns
+    → nodes_in bytes ≡ map (said version es) ns
 chained_nodes version bytes es ns known s =
     let w = whole version bytes es ns (chained_version version known) s in
-    same_lists (nodes_in bytes) (map (said es) ns)
-    (length-nodes_in bytes ∙ (w.nodes ∙ sym (length-map ns (said es))))
+    same_lists (nodes_in bytes) (map (said version es) ns)
+    (length-nodes_in bytes ∙ (w.nodes ∙ sym (length-map ns (said version es))))
     (λ k d less. each w k d (omega (arith, less, length-nodes_in bytes, w.nodes))) where
       each : Whole version bytes es ns → (k : ℕ) (d : PlainNode) → k < length ns
-          → get_or (nodes_in bytes) k d ≡ get_or (map (said es) ns) k d
+          → get_or (nodes_in bytes) k d ≡ get_or (map (said version es) ns) k d
       each w k d less =
           let one = node_stands version bytes es ns known w s k less in
-          let here : slice_get (nodes_in bytes) k ≡ Some (said es one.n) =
+          let here : slice_get (nodes_in bytes) k ≡ Some (said version es one.n) =
           slice_get-nodes_in bytes k (omega (arith, less, w.nodes))
           ∙ ap (λ n. Some n) (in_chain bytes (place_of bytes k) (not_1 version known (version_of bytes) w.form)
-          ∙ (ap (λ fs. said fs (chain_node_at bytes (place_of bytes k))) (entries_are version bytes es ns w s)
-          ∙ ap (λ n. said es n) one.again.same)) in
-          let there : slice_get (map (said es) ns) k ≡ Some (said es one.n) = slice_get-map (said es) ns k
-          ∙ ap (λ o. option_map (said es) o) one.got in
-          get_or_from_slice_get (nodes_in bytes) k (said es one.n) d here
-          ∙ sym (get_or_from_slice_get (map (said es) ns) k (said es one.n) d there)
+          ∙ (ap (λ v. said v (entries_of bytes) (chain_node_at bytes (place_of bytes k))) w.form
+          ∙ (ap (λ fs. said version fs (chain_node_at bytes (place_of bytes k))) (entries_are version bytes es ns w s)
+          ∙ ap (λ n. said version es n) one.again.same))) in
+          let there : slice_get (map (said version es) ns) k ≡ Some (said version es one.n) = slice_get-map (said version es) ns k
+          ∙ ap (λ o. option_map (said version es) o) one.got in
+          get_or_from_slice_get (nodes_in bytes) k (said version es one.n) d here
+          ∙ sym (get_or_from_slice_get (map (said version es) ns) k (said version es one.n) d there)

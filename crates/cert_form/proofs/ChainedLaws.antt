@@ -53,7 +53,7 @@ chained_there bytes at small form f s l t =
     }
 
 -- what a node says goes by its chain
-pub in_chain : (bytes : List ℕ) (at : ℕ) → version_of bytes ≢ 1 → node_at bytes at ≡ said (entries_of bytes) (chain_node_at bytes at)
+pub in_chain : (bytes : List ℕ) (at : ℕ) → version_of bytes ≢ 1 → node_at bytes at ≡ said (version_of bytes) (entries_of bytes) (chain_node_at bytes at)
 unfolding node_at
 in_chain bytes at form = rw (ne_eqb (version_of bytes) 1 form) refl
 

@@ -1,7 +1,8 @@
 -- Entries that all state literals, as claims.
 use Rattle.std.proofs.Common.{◌≡◌, ℕ, suc, Bool, true, false, cond, eqb, List, [], ◌∷◌, ◌++◌, length, reverse, map, refl, ap}
 use Rattle.std.proofs.Common.{sym, subst, ◌∙◌}
-use Rattle.std.specs.Prelude.{Option, Some, None, option_map, slice_get}
+use Rattle.std.specs.Prelude.{◌≢◌, Option, Some, None, option_map, slice_get}
+use Rattle.std.proofs.lemmas.Bool.{ne_eqb}
 use Rattle.std.proofs.lemmas.List.{length-map, map-append, reverse-append}
 use Rattle.std.proofs.lemmas.Option.{same_Some, none-some, slice_get-map}
 use Rattle.cert_state.specs.declared.literal.Lit.{Lit}
@@ -56,19 +57,23 @@ mets_known (l ∷ ls) = mets_known ls
 pub length_known : (es : List (ℕ × Lit)) (n : ℕ) → length (on_chain (all_known es) n) ≡ length (literals es n)
 length_known es n = ap length (stated_known es n) ∙ length-map (literals es n) Knows
 
-same_said : (es : List (ℕ × Lit)) (n : ChainNode) → said (all_known es) n ≡ said_plainly es n
-same_said es n =
+same_said : (version : ℕ) → version ≢ 4 → (es : List (ℕ × Lit)) (n : ChainNode) → said version (all_known es) n ≡ said_plainly es n
+same_said version other es n =
     let plain : List Claim = map Knows (literals es n.chain) in
-    ap (λ cs. with_claims (literals_in cs) (outs_in cs) (mets_in cs)) (stated_known es n.chain)
-    ∙ (ap (λ ls. with_claims ls (outs_in plain) (mets_in plain)) (literals_known (literals es n.chain))
-    ∙ (ap (λ os. with_claims (literals es n.chain) os (mets_in plain)) (outs_known (literals es n.chain))
-    ∙ ap (λ ms. with_claims (literals es n.chain) [] ms) (mets_known (literals es n.chain)))) where
-      with_claims : List Lit → List ℕ → List (ℕ × ℕ) → PlainNode
-      with_claims ls os ms = record { kind = n.kind; pc = n.pc; regs = n.regs; known = ls; out = os; met = ms }
+    ap (λ cs. with_claims (literals_in cs) (outs_in cs) (mets_in cs) (eqb version 4)) (stated_known es n.chain)
+    ∙ (ap (λ ls. with_claims ls (outs_in plain) (mets_in plain) (eqb version 4)) (literals_known (literals es n.chain))
+    ∙ (ap (λ os. with_claims (literals es n.chain) os (mets_in plain) (eqb version 4)) (outs_known (literals es n.chain))
+    ∙ (ap (λ ms. with_claims (literals es n.chain) [] ms (eqb version 4)) (mets_known (literals es n.chain))
+    ∙ ap (λ b. with_claims (literals es n.chain) [] [] b) (ne_eqb version 4 other)))) where
+      with_claims : List Lit → List ℕ → List (ℕ × ℕ) → Bool → PlainNode
+      with_claims ls os ms b = record { kind = n.kind; pc = n.pc; regs = n.regs; known = ls; out = os; met = ms; sharp = b }
 
-pub all_said : (es : List (ℕ × Lit)) (ns : List ChainNode) → map (said (all_known es)) ns ≡ map (said_plainly es) ns
-all_said es [] = refl
-all_said es (n ∷ ns) = ap (λ m. m ∷ map (said (all_known es)) ns) (same_said es n) ∙ ap (λ ms. said_plainly es n ∷ ms) (all_said es ns)
+pub all_said : (version : ℕ) → version ≢ 4 → (es : List (ℕ × Lit)) (ns : List ChainNode)
+    → map (said version (all_known es)) ns ≡ map (said_plainly es) ns
+all_said version other es [] = refl
+all_said version other es (n ∷ ns) =
+    ap (λ m. m ∷ map (said version (all_known es)) ns) (same_said version other es n)
+    ∙ ap (λ ms. said_plainly es n ∷ ms) (all_said version other es ns)
 
 pub entries_known : (version : ℕ) (es : List (ℕ × Lit)) → AreLiteralEntries es → AreEntries version (all_known es)
 entries_known version es all j e got = by_place (slice_get es j) refl (sym (slice_get-map as_claim es j) ∙ got) where

@@ -1,5 +1,5 @@
 -- A certificate of form 1 that is spelled: its nodes are read, end where their spellings do, and are not bad.
-use Rattle.std.proofs.Common.{◌≡◌, ℕ, zero, suc, ◌+◌, ◌-◌, ◌*◌, ◌<◌, ◌≤◌, List, [], ◌∷◌, ◌++◌, length, take, drop, get_or, All, refl, ap}
+use Rattle.std.proofs.Common.{◌≡◌, ℕ, zero, suc, ◌+◌, ◌-◌, ◌*◌, ◌<◌, ◌≤◌, Bool, false, List, [], ◌∷◌, ◌++◌, length, take, drop, get_or, All, refl, ap}
 use Rattle.std.proofs.Common.{sym, ◌∙◌, subst, inl, inr, arith}
 use Rattle.std.specs.Prelude.{◌≢◌, Some, slice_get, slice_index}
 use Rattle.std.specs.List.{flat_map, AllByRecursion}
@@ -117,14 +117,15 @@ not_bad bytes at n end p good tag count (IsBadListed.follows bad) =
     tail_not_bad bytes (at + 17 + 10 * length n.known) n.kind end p.follows good.kind
     (subst (λ k. IsBadTail bytes (kind_number n.kind) k) (omega (arith, count)) (subst (λ t. IsBadTail bytes t (own_end bytes at)) tag bad))
 
-abbrev made : Kind → ℕ → AVal → AVal → List AVal → List Lit → List ℕ → List (ℕ × ℕ) → PlainNode
-made kind pc a x scratch known out met = record {
+abbrev made : Kind → ℕ → AVal → AVal → List AVal → List Lit → List ℕ → List (ℕ × ℕ) → Bool → PlainNode
+made kind pc a x scratch known out met sharp = record {
   kind = kind;
   pc = pc;
   regs = record { a = a; x = x; scratch = scratch };
   known = known;
   out = out;
   met = met;
+  sharp = sharp;
 }
 
 again : (bytes : List ℕ) (at : ℕ) (n : PlainNode) (end : ℕ) → Stands bytes at (node n) end → IsNode n → version_of bytes ≡ 1
@@ -154,14 +155,15 @@ again bytes at n end stands good form =
     record {
       ends = listed_end bytes at form ∙ omega (arith, end_is, ap tail_length tag, length-tail n.kind, p.follows.ends);
       same =
-          ap (λ v. made v m.pc m.regs.a m.regs.x m.regs.scratch m.known [] []) kind
-          ∙ (ap (λ v. made n.kind v m.regs.a m.regs.x m.regs.scratch m.known [] []) pc
-          ∙ (ap (λ v. made n.kind n.pc v m.regs.x m.regs.scratch m.known [] []) a
-          ∙ (ap (λ v. made n.kind n.pc n.regs.a v m.regs.scratch m.known [] []) x
-          ∙ (ap (λ v. made n.kind n.pc n.regs.a n.regs.x v m.known [] []) (sym good.no_scratch)
-          ∙ (ap (λ v. made n.kind n.pc n.regs.a n.regs.x n.regs.scratch v [] []) known
-          ∙ (ap (λ v. made n.kind n.pc n.regs.a n.regs.x n.regs.scratch n.known v []) (sym good.none_out)
-          ∙ ap (λ v. made n.kind n.pc n.regs.a n.regs.x n.regs.scratch n.known n.out v) (sym good.none_met)))))));
+          ap (λ v. made v m.pc m.regs.a m.regs.x m.regs.scratch m.known [] [] false) kind
+          ∙ (ap (λ v. made n.kind v m.regs.a m.regs.x m.regs.scratch m.known [] [] false) pc
+          ∙ (ap (λ v. made n.kind n.pc v m.regs.x m.regs.scratch m.known [] [] false) a
+          ∙ (ap (λ v. made n.kind n.pc n.regs.a v m.regs.scratch m.known [] [] false) x
+          ∙ (ap (λ v. made n.kind n.pc n.regs.a n.regs.x v m.known [] [] false) (sym good.no_scratch)
+          ∙ (ap (λ v. made n.kind n.pc n.regs.a n.regs.x n.regs.scratch v [] [] false) known
+          ∙ (ap (λ v. made n.kind n.pc n.regs.a n.regs.x n.regs.scratch n.known v [] false) (sym good.none_out)
+          ∙ (ap (λ v. made n.kind n.pc n.regs.a n.regs.x n.regs.scratch n.known n.out v false) (sym good.none_met)
+          ∙ ap (λ v. made n.kind n.pc n.regs.a n.regs.x n.regs.scratch n.known n.out n.met v) (sym good.not_sharp))))))));
       few = omega (arith, count, good.few);
       sound = not_bad bytes at n end p good tag count;
     }

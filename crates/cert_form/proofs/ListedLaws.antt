@@ -93,6 +93,7 @@ listed_there bytes at small form top a x room own t =
         no_scratch = refl;
         none_out = refl;
         none_met = refl;
+        not_sharp = refl;
         few = omega (arith, n_ls, top.few);
         literals = All-from_recursion IsLit ls (literals_good bytes end (own_count bytes at) (from_last bytes at own));
       };

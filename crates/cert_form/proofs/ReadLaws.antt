@@ -141,8 +141,8 @@ all_known bytes (suc c) form =
 none_said : (bytes : List ℕ) (at : ℕ) → version_of bytes ≢ 4 → ((node_at bytes at).out ≡ []) × ((node_at bytes at).met ≡ [])
 unfolding node_at
 none_said bytes at form = by_form (eqb (version_of bytes) 1) where
-  by_form : (b : Bool) → ((cond b (listed_node bytes at) (said (entries_of bytes) (chain_node_at bytes at))).out ≡ [])
-      × ((cond b (listed_node bytes at) (said (entries_of bytes) (chain_node_at bytes at))).met ≡ [])
+  by_form : (b : Bool) → ((cond b (listed_node bytes at) (said (version_of bytes) (entries_of bytes) (chain_node_at bytes at))).out ≡ [])
+      × ((cond b (listed_node bytes at) (said (version_of bytes) (entries_of bytes) (chain_node_at bytes at))).met ≡ [])
   by_form true = (refl, refl)
   by_form false = none_in (reverse (entries_of bytes)) (chain_node_at bytes at).chain (all_known bytes (chain_count bytes) form)
 

@@ -128,11 +128,11 @@ goods bytes k (suc n) all = (all k (omega arith), goods bytes (k + 1) n (λ i h.
 
 -- and says what is read
 says : (bytes : List ℕ) (k n : ℕ) → version_of bytes ≢ 1
-    → map (λ i. node_at bytes (place_of bytes i)) (range_with_len k n) ≡ map (said (entries_of bytes)) (chained_nodes bytes k n)
+    → map (λ i. node_at bytes (place_of bytes i)) (range_with_len k n) ≡ map (said (version_of bytes) (entries_of bytes)) (chained_nodes bytes k n)
 says bytes k zero form = refl
 says bytes k (suc n) form =
     ap (λ m. m ∷ map (λ i. node_at bytes (place_of bytes i)) (range_with_len (k + 1) n)) (in_chain bytes (place_of bytes k) form)
-    ∙ ap (λ ms. said (entries_of bytes) (chain_node_at bytes (place_of bytes k)) ∷ ms) (says bytes (k + 1) n form)
+    ∙ ap (λ ms. said (version_of bytes) (entries_of bytes) (chain_node_at bytes (place_of bytes k)) ∷ ms) (says bytes (k + 1) n form)
 
 -- the whole
 pub chained_spelled : (bytes : List ℕ) → AreBytes bytes → IsTopOfFile bytes → version_of bytes ≢ 1 → chain_count bytes ≤ 65536

@@ -88,6 +88,7 @@ spelled_listed bytes ns spelled short some few plain meant = record {
     no_scratch = p.no_scratch;
     none_out = p.none_out;
     none_met = p.none_met;
+    not_sharp = p.not_sharp;
     few = p.few;
     literals = m.literals;
   }
@@ -211,10 +212,21 @@ chained_in_limits bytes es ns spelled short some few few_entries = (
   spelled_chained bytes es ns spelled short some few few_entries,
 )
 
+-- which are not of form 4
+up_to_3 : (ns : List ChainNode) → version_for ns ≤ 3
+up_to_3 [] = omega arith
+up_to_3 (n ∷ ns) = by_test (eqb (stated_bits n.regs.scratch) 0) (up_to_3 ns) where
+  by_test : (b : Bool) → version_for ns ≤ 3 → cond b (version_for ns) 3 ≤ 3
+  by_test true rest = rest
+  by_test false rest = omega arith
+
+not_4 : (ns : List ChainNode) → version_for ns ≡ 4 → ⊥
+not_4 ns four = omega (arith, up_to_3 ns, four)
+
 pub spells_chained : (bytes : List ℕ) (es : List (ℕ × Lit)) (ns : List ChainNode) → SpellsChained (version_for ns) bytes (all_known es) ns
     → Spells bytes (map (said_plainly es) ns)
 spells_chained bytes es ns s =
-    inr (version_for ns, chained_for ns, record { es = all_known es; cs = ns; spells = s; same = sym (all_said es ns) })
+    inr (version_for ns, chained_for ns, record { es = all_known es; cs = ns; spells = s; same = sym (all_said (version_for ns) (not_4 ns) es ns) })
 
 -- ---- form 4
 
@@ -262,5 +274,5 @@ claims_in_limits bytes es ns spelled short some few few_entries = (
 )
 
 pub spells_claims : (bytes : List ℕ) (es : List (ℕ × Claim)) (ns : List ChainNode) → SpellsChained 4 bytes es ns
-    → Spells bytes (map (said es) ns)
+    → Spells bytes (map (said 4 es) ns)
 spells_claims bytes es ns s = inr (4, (omega arith, omega arith), record { es = es; cs = ns; spells = s; same = refl })

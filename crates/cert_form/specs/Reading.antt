@@ -1,6 +1,7 @@
 -- What stands at a place of a file: the reading of each part. A part that no certificate has there is
 -- read as something all the same.
-use Rattle.std.specs.Prelude.{ℕ, zero, suc, ◌+◌, ◌-◌, ◌*◌, ◌/◌, ◌%◌, ◌==◌, nat_le, if◌then◌else◌, List, [], ◌∷◌, ◌++◌, drop, slice_index}
+use Rattle.std.specs.Prelude.{ℕ, zero, suc, ◌+◌, ◌-◌, ◌*◌, ◌/◌, ◌%◌, ◌==◌, nat_le, false, if◌then◌else◌}
+use Rattle.std.specs.Prelude.{List, [], ◌∷◌, ◌++◌, drop, slice_index}
 use Rattle.std.specs.Prelude.{map}
 use Rattle.std.specs.List.{range_with_len}
 use Rattle.byteorder.specs.Endian.{little_number}
@@ -75,6 +76,7 @@ listed_node bytes at = record {
   known = literals_to bytes (own_end bytes at) (own_count bytes at);
   out = [];
   met = [];
+  sharp = false;
 }
 
 -- forms 2 to 4: the entry at a position, counted from 0, and those before it; in form 4 the tag 4 says that a
@@ -127,7 +129,8 @@ chain_node_at bytes at = record {
 
 -- what the node at a place says, in each form
 unfoldable pub node_at : List ℕ → ℕ → PlainNode
-node_at bytes at = if version_of bytes == 1 then listed_node bytes at else said (entries_of bytes) (chain_node_at bytes at)
+node_at bytes at =
+    if version_of bytes == 1 then listed_node bytes at else said (version_of bytes) (entries_of bytes) (chain_node_at bytes at)
 
 -- where the node at a place ends
 unfoldable pub tail_place : List ℕ → ℕ → ℕ

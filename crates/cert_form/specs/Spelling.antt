@@ -1,6 +1,7 @@
 -- The bytes of certificates, in four forms: one spelling for a list of nodes, or for a list of
 -- entries of chains and a list of nodes.
-use Rattle.std.specs.Prelude.{◌≡◌, ℕ, ◌+◌, ◌*◌, ◌==◌, ◌^◌, ◌<◌, ◌≤◌, ◌⊎◌, ⊤, if◌then◌else◌, Some, List, [], ◌∷◌, ◌++◌, length, slice_get}
+use Rattle.std.specs.Prelude.{◌≡◌, ℕ, ◌+◌, ◌*◌, ◌==◌, ◌^◌, ◌<◌, ◌≤◌, ◌⊎◌, ⊤, false, if◌then◌else◌}
+use Rattle.std.specs.Prelude.{Some, List, [], ◌∷◌, ◌++◌, length, slice_get}
 use Rattle.std.specs.Prelude.{map, replicate}
 use Rattle.std.specs.List.{flat_map, All}
 use Rattle.byteorder.specs.Endian.{little_bytes}
@@ -116,6 +117,7 @@ pub record IsNode (n : PlainNode) : Type 0 where
   pub no_scratch : n.regs.scratch ≡ nothing_stated
   pub none_out : n.out ≡ []
   pub none_met : n.met ≡ []
+  pub not_sharp : n.sharp ≡ false
   pub few : length n.known ≤ 512
   pub literals : All IsLit n.known
 
@@ -163,7 +165,7 @@ pub record SpellsSaid (version : ℕ) (bytes : List ℕ) (ns : List PlainNode) :
   pub es : List (ℕ × Claim)
   pub cs : List ChainNode
   pub spells : SpellsChained version bytes es cs
-  pub same : ns ≡ map (said es) cs
+  pub same : ns ≡ map (said version es) cs
 
 -- the forms whose nodes share literals
 abbrev pub IsChained : ℕ → Type 0

@@ -1,5 +1,5 @@
 -- When nodes are written, and why they are not.
-use Rattle.std.specs.Prelude.{◌≡◌, ◌<◌, ◌≤◌, ◌^◌, ◌⊎◌, ⊤, ℕ, ◌==◌, if◌then◌else◌, List, [], ◌∷◌, All, Some, length, map, slice_get}
+use Rattle.std.specs.Prelude.{◌≡◌, ◌<◌, ◌≤◌, ◌^◌, ◌⊎◌, ⊤, ℕ, ◌==◌, false, if◌then◌else◌, List, [], ◌∷◌, All, Some, length, map, slice_get}
 use Rattle.cert_state.specs.declared.literal.Lit.{Lit}
 use Rattle.cert_state.specs.Literals.{IsLit, AreValues}
 use Rattle.cert_form.specs.declared.fault.FormError.{FormError}
@@ -13,7 +13,7 @@ use Rattle.cert_form.specs.Spelling.{IsKind, AreEntries, listed, chained, stated
 
 -- what a node says that has its own list of literals
 abbrev pub plain : Node → PlainNode
-plain n = record { kind = n.kind; pc = n.pc; regs = n.regs; known = n.lits.items; out = []; met = [] }
+plain n = record { kind = n.kind; pc = n.pc; regs = n.regs; known = n.lits.items; out = []; met = []; sharp = false }
 
 abbrev pub plains : List Node → List PlainNode
 plains ns = map plain ns

@@ -204,7 +204,7 @@ pub fn write_claims(
     ensures kept { OnOk result (AreClaimsWritable entries.now nodes.now) }
     // It is their certificate, given that parents, chains, literals and values are such, and is read as what they say.
     ensures written { IfOk result (λ bytes. AreClaimsMeant entries.now nodes.now → SpellsChained 4 bytes.items entries.now nodes.now) }
-    ensures read { IfOk result (λ bytes. AreClaimsMeant entries.now nodes.now → Spells bytes.items (map (said entries.now) nodes.now)) }
+    ensures read { IfOk result (λ bytes. AreClaimsMeant entries.now nodes.now → Spells bytes.items (map (said 4 entries.now) nodes.now)) }
     ensures refused { IfErr result (λ e. ClaimsRefused e entries.now nodes.now) }
 {
     if nodes.is_empty() || nodes.len() > MAX_NODES || entries.len() > MAX_ENTRIES {

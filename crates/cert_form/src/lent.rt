@@ -45,6 +45,13 @@ impl<'a> NodeView<'a> {
         read_short(self.bytes, self.at + 2)
     }
 
+    /// Whether its certificate is sharp, as those of form 4 are.
+    pub fn is_sharp(&self) -> bool
+        ensures { result ≡ (says self.now).sharp }
+    {
+        read_long(self.bytes, 4) == 4
+    }
+
     /// The place of its chain from which all rules are left that it says to be out.
     pub fn first_out(&self) -> usize
         ensures { outs_from self.now result ≡ (says self.now).out }

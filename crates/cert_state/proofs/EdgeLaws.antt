@@ -27,7 +27,7 @@ certain_is_true false r e = cc
 whole : (r : List ℕ) (w m a : ℕ) → IsRecord r → a ≡ bit_and (word r w) m → eqb m all_bits ≡ true → a ≡ word r w
 whole r w m a rec h e = h ∙ ap (λ n. bit_and (word r w) n) (eqb-true m all_bits e) ∙ and_all (word r w) (rec.words w)
 
-masked_is_true : (t : Test) (r : List ℕ) (w m c a : ℕ) (b : Bool) → IsRecord r → a ≡ bit_and (word r w) m → holds t a c ≡ b
+pub masked_is_true : (t : Test) (r : List ℕ) (w m c a : ℕ) (b : Bool) → IsRecord r → a ≡ bit_and (word r w) m → holds t a c ≡ b
     → IfSome (masked_fact t w m c b) (λ l. Holds l r)
 masked_is_true Equal r w m c a true rec h e =
     let same : a ≡ c = eqb-true a c e in
@@ -91,7 +91,7 @@ const_is_true t r m n a c true h k e = certain_is_true (holds t m n) r (ap (λ x
 const_is_true t r m n a c false h k e =
     certain_is_true (not (holds t m n)) r (ap not (ap (λ x. holds t x n) (sym h) ∙ ap (λ x. holds t a x) (sym k) ∙ e))
 
-test_is_true : (t : Test) (r : List ℕ) (v w : AVal) (a c : ℕ) → IsRecord r → HasValue v r a → HasValue w r c
+pub test_is_true : (t : Test) (r : List ℕ) (v w : AVal) (a c : ℕ) → IsRecord r → HasValue v r a → HasValue w r c
     → IfSome (test_fact t v w (holds t a c)) (λ l. Holds l r)
 test_is_true t r (Const m) (Const n) a c rec h k = const_is_true t r m n a c (holds t a c) h k refl
 test_is_true t r (Masked i m) (Const n) a c rec h k =

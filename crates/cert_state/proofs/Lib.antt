@@ -2,6 +2,7 @@ pub mod BitLaws
 pub mod KnownLaws
 pub mod StepLaws
 pub mod EdgeLaws
+pub mod SharpLaws
 pub mod PointLaws
 pub mod ListLaws
 pub mod WindowLaws

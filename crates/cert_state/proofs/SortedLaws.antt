@@ -1,11 +1,11 @@
 -- Parts of a table of literals, as it is filled.
-use Rattle.std.proofs.Common.{◌≡◌, ℕ, ◌+◌, ◌-◌, ◌<◌, ◌≤◌, ◌++◌, length, List, [], ◌∷◌, sym, refl, ap, subst, ◌∙◌, arith, take, drop, append_assoc}
-use Rattle.std.specs.Prelude.{slice_range, slice_set}
+use Rattle.std.proofs.Common.{◌≡◌, ℕ, ◌-◌, ◌≤◌, ◌++◌, length, List, sym, ap, ◌∙◌, arith, take, drop}
+use Rattle.std.specs.Prelude.{slice_range}
 use Rattle.std.proofs.lemmas.List.{drop-take, take-take, length-take-le}
 use Rattle.std.proofs.Math.Seq.{drop-append_seam}
 use Rattle.cert_state.specs.declared.literal.Lit.{Lit}
 use Rattle.cert_state.specs.declared.sorted.Part.{Part}
-use Rattle.cert_state.specs.inner.Sorted.{IsPartOf, of_word}
+use Rattle.cert_state.specs.inner.Sorted.{IsPartOf}
 
 -- a part is what a front has past a place
 part_of_front : (xs : List Lit) (a b : ℕ) → a ≤ b → slice_range xs a b ≡ drop a (take b xs)

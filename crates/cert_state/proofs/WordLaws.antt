@@ -1,15 +1,13 @@
 -- What is said of a word is said by the literals of that word.
-use Rattle.std.proofs.Common.{◌≡◌, ℕ, zero, suc, ◌+◌, ◌-◌, ◌<◌, ◌≤◌, ◌++◌, cond, length, List, [], ◌∷◌, sym, refl, ap, subst, ◌∙◌, arith, inl, inr, ⊎_elim, ◌↔◌, take, drop}
+use Rattle.std.proofs.Common.{◌≡◌, ℕ, cond, List, [], ◌∷◌, sym, refl, ap, subst, ◌∙◌, inl, inr, ⊎_elim}
 use Rattle.std.specs.Prelude.{All, Contains, bit_and, bit_or, get_or}
 use Rattle.std.proofs.lemmas.Bool.{cases_eq, eq-eqb, ne_eqb}
-use Rattle.std.proofs.lemmas.List.{drop-take, take-take, length-take-le}
 use Rattle.std.proofs.lemmas.List.Elements.{All-contains, Contains-get_or}
-use Rattle.std.proofs.Math.Seq.{drop-append_seam}
 use Rattle.cert_state.specs.declared.literal.Lit.{Lit}
 use Rattle.cert_state.specs.declared.literal.Lit.TheVariants.{In, Bits, NotBits}
 use Rattle.cert_state.specs.Literals.{index_of, Meets}
 use Rattle.cert_state.specs.Points.{AreKnown, HasNoPoint, IsMissed, IsPoint, IsRange, IsWhole, IsWithin, datum_of, mask_of, union_of}
-use Rattle.cert_state.specs.Entailment.{Differ, Entails, IsBounded, IsExcluded, IsOnePoint}
+use Rattle.cert_state.specs.Entailment.{Differ, Entails, IsBounded, IsOnePoint}
 use Rattle.cert_state.specs.inner.Sorted.{of_word}
 use Rattle.cert_state.proofs.ListLaws.{first_or_later, contains_here, contains_later}
 

@@ -12,6 +12,7 @@ use Rattle.cert_state.specs.declared.literal.Regs.{Regs}
 use Rattle.cert_state.specs.Literals.{Holds}
 use Rattle.cert_state.specs.States.{Inside}
 use Rattle.cert_state.specs.Transfer.{edge_fact, transfer}
+use Rattle.cert_state.specs.Sharp.{sharp_fact}
 
 -- one step of the machine leads from inside a state to inside what `transfer` gives
 abbrev pub StaysInside : Regs → List Lit → Insn → Type 0
@@ -24,6 +25,12 @@ abbrev pub FollowsFact : Regs → List Lit → Insn → Type 0
 FollowsFact regs lits i =
     (r : List ℕ) (s : Registers) (test : Test) (c : Operand) → IsRecord r → Inside regs lits r s
     → operation_of i.code ≡ Some (Branch test c) → IfSome (edge_fact regs i (holds test s.a (operand c i s))) (λ l. Holds l r)
+
+-- and so is its sharp fact
+abbrev pub FollowsSharpFact : Regs → List Lit → Insn → Type 0
+FollowsSharpFact regs lits i =
+    (r : List ℕ) (s : Registers) (test : Test) (c : Operand) → IsRecord r → Inside regs lits r s
+    → operation_of i.code ≡ Some (Branch test c) → IfSome (sharp_fact regs i (holds test s.a (operand c i s))) (λ l. Holds l r)
 
 -- a literal is true of each record inside
 abbrev pub HoldsInside : Regs → List Lit → Lit → Type 0

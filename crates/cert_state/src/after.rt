@@ -11,8 +11,8 @@ use bpf_insn::{Arithmetic, Insn, Operand, Operation, Test};
 // A literal that is true of no record.
 const FALSE: Lit = Lit::In(0, 1, 0);
 
-// What is known of the second operand.
-fn value(operand: Operand, insn: &Insn, regs: &Regs) -> AVal
+/// What is known of the second operand.
+pub(crate) fn value(operand: Operand, insn: &Insn, regs: &Regs) -> AVal
     ensures { result ≡ operand_value operand insn.now regs.now }
 {
     match operand {
@@ -72,15 +72,15 @@ pub fn transfer<S: State>(state: &S, insn: &Insn) -> Regs
     regs
 }
 
-// What is known where a comparison of two constants came out so.
-fn certain(holds: bool) -> Option<Lit>
+/// What is known where a comparison of two constants came out so.
+pub(crate) fn certain(holds: bool) -> Option<Lit>
     ensures { result ≡ certain_fact holds }
 {
     if holds { None } else { Some(FALSE) }
 }
 
-// What is known where a comparison of a word under a mask came out so.
-fn masked(test: Test, word: u8, mask: u32, c: u32, taken: bool) -> Option<Lit>
+/// What is known where a comparison of a word under a mask came out so.
+pub(crate) fn masked(test: Test, word: u8, mask: u32, c: u32, taken: bool) -> Option<Lit>
     ensures { result ≡ masked_fact test word mask c taken }
 {
     let whole = mask == u32::MAX;

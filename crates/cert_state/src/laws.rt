@@ -1,7 +1,7 @@
 //! Laws of states that are promised to users: what is known is true.
 ghost use Rattle.bpf_insn.specs.Causes.{IsPlain};
 ghost use Rattle.cert_state.specs.Entailment.{Entails, IsDead};
-ghost use Rattle.cert_state.specs.Soundness.{FollowsFact, HoldsInside, IsEmpty, StaysInside};
+ghost use Rattle.cert_state.specs.Soundness.{FollowsFact, FollowsSharpFact, HoldsInside, IsEmpty, StaysInside};
 
 use crate::literal::Lit;
 use crate::state::State;
@@ -16,6 +16,11 @@ pub fn transfer_is_sound<S: State>(state: &S, insn: &Insn)
 /// The fact of the edge of a conditional jump that the machine takes is true.
 pub fn edge_fact_is_sound<S: State>(state: &S, insn: &Insn)
     ensures { FollowsFact (S.regs state.now) (S.known state.now) insn.now }
+{}
+
+/// So is its sharp fact, which certificates of form 4 tell.
+pub fn sharp_fact_is_sound<S: State>(state: &S, insn: &Insn)
+    ensures { FollowsSharpFact (S.regs state.now) (S.known state.now) insn.now }
 {}
 
 /// What a state entails is true of each record inside.

@@ -1,8 +1,8 @@
 //! What is known where an execution of a program stands, and what follows from it.
 //!
 //! A [`State`] says what A, X and the scratch words hold, and lends [`Lit`]s, each of which is known of a
-//! word of the record. [`transfer`] and [`edge_fact`] say what is known after an instruction, [`entails`]
-//! what else is known, [`range`] from where to where a word may lie, and [`dead`] that no record is left.
+//! word of the record. [`transfer`] and [`edge_fact`] say what is known after an instruction, [`sharp_fact`] a little
+//! more than `edge_fact`, [`entails`] what else is known, [`range`] from where to where a word may lie, and [`dead`] that no record is left.
 //! The functions with `is_sound` in their names promise that all this is true. Nothing here takes memory.
 #![tactic(auto)]
 
@@ -12,14 +12,18 @@ mod gathered;
 mod laws;
 mod literal;
 mod points;
+mod sharp;
 mod sorted;
 mod state;
 mod summary;
 
 pub use after::{edge_fact, transfer};
 pub use entailment::{dead, entails};
-pub use laws::{dead_is_sound, edge_fact_is_sound, entails_is_sound, transfer_is_sound};
+pub use laws::{
+    dead_is_sound, edge_fact_is_sound, entails_is_sound, sharp_fact_is_sound, transfer_is_sound,
+};
 pub use literal::{AVal, Lit, Regs};
 pub use points::range;
+pub use sharp::{is_bit, lowest_bit, sharp_fact};
 pub use sorted::Facts;
 pub use state::{Listed, State, With};

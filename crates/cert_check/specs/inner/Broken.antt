@@ -26,10 +26,10 @@ CarriesTo policy ns n e = (m : PlainNode) → slice_get ns e.to ≡ Some m → C
 -- the error names the first rule that node i breaks
 abbrev pub IsBrokenAt : Policy → List Insn → List PlainNode → ℕ → PlainNode → CheckError → Type 0
 IsBrokenAt policy p ns i n (Edge j) = (j ≡ i) × (EdgeRule p ns i n → ⊥)
-IsBrokenAt policy p ns i n (Split j) = (j ≡ i) × EdgeRule p ns i n × (SplitRule n.kind → ⊥)
-IsBrokenAt policy p ns i n (Entail j) = (j ≡ i) × EdgeRule p ns i n × SplitRule n.kind × (EntailRule policy p ns n → ⊥)
+IsBrokenAt policy p ns i n (Split j) = (j ≡ i) × EdgeRule p ns i n × (SplitRule n.sharp n.kind → ⊥)
+IsBrokenAt policy p ns i n (Entail j) = (j ≡ i) × EdgeRule p ns i n × SplitRule n.sharp n.kind × (EntailRule policy p ns n → ⊥)
 IsBrokenAt policy p ns i n (Return j) =
-    (j ≡ i) × EdgeRule p ns i n × SplitRule n.kind × EntailRule policy p ns n × ((n.kind ≡ kind.Return → ReturnRule policy p n) → ⊥)
+    (j ≡ i) × EdgeRule p ns i n × SplitRule n.sharp n.kind × EntailRule policy p ns n × ((n.kind ≡ kind.Return → ReturnRule policy p n) → ⊥)
 IsBrokenAt policy p ns i n _ = ⊥
 
 -- each node before this one keeps its rules

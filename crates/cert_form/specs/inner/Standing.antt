@@ -1,5 +1,5 @@
 -- What was judged sound, and what a judge of one part may answer.
-use Rattle.std.specs.Prelude.{◌≡◌, ◌≢◌, ℕ, zero, suc, ◌+◌, ◌*◌, ◌/◌, ◌==◌, ◌<◌, ◌≤◌, if◌then◌else◌, List, [], ◌∷◌, ◌++◌, All, length}
+use Rattle.std.specs.Prelude.{◌≡◌, false, ◌≢◌, ℕ, zero, suc, ◌+◌, ◌*◌, ◌/◌, ◌==◌, ◌<◌, ◌≤◌, if◌then◌else◌, List, [], ◌∷◌, ◌++◌, All, length}
 use Rattle.std.specs.Prelude.{take, drop, slice_index}
 use Rattle.std.specs.List.{flat_map, AllByRecursion}
 use Rattle.byteorder.specs.Endian.{little_bytes}
@@ -142,9 +142,11 @@ pub record IsTopOfFile (bytes : List ℕ) : Type 0 where
   pub some : 1 ≤ node_count bytes
   pub few : node_count bytes ≤ 16384
 
--- what form 1 can say: no scratch value is stated, no rule is out, no condition is met, and the literals are few
+-- what form 1 can say: no scratch value is stated, no rule is out, no condition is met, nothing is told sharply, and the
+-- literals are few
 pub record IsPlain (n : PlainNode) : Type 0 where
   pub no_scratch : n.regs.scratch ≡ nothing_stated
   pub none_out : n.out ≡ []
   pub none_met : n.met ≡ []
+  pub not_sharp : n.sharp ≡ false
   pub few : length n.known ≤ 512

@@ -1,14 +1,30 @@
-use Rattle.std.proofs.Common.{◌≡◌, true, false, inl, inr, sym, ◌∙◌}
+use Rattle.std.proofs.Common.{◌≡◌, true, false, List, refl, inl, inr, sym, subst}
+use Rattle.call_tables.specs.declared.numbers.Numbers.{Numbers}
+use Rattle.cert_check.specs.Agree.{IsAmong}
 use Rattle.cert_check.proofs.agree.machine_agrees.Goals as goal
 
-pub returns : goal.returns
-returns g c = (
-  λ t. record {
-    foreign_numbers = λ e. absurd (let is : false ≡ true = sym c.if-has_x32_calls.false ∙ c.has_x32_calls.ensures.1 e in cc);
-    rules = inr (c.rules_agree.ensures.0 t);
-  },
-  λ h. elim h.rules [
-    | inl x86 ↦ absurd (let is : false ≡ true = sym c.if-has_x32_calls.false ∙ c.has_x32_calls.ensures.1 x86.0 in cc)
-    | inr agree ↦ c.rules_agree.ensures.1 agree
-  ],
+pub returns-then-not-foreign_numbers_agree : goal.returns-then-not-foreign_numbers_agree
+returns-then-not-foreign_numbers_agree g c = (
+  λ t. let e : false ≡ true = t in cc,
+  λ h. let e : false ≡ true = c.if-not-foreign_numbers_agree.ensures.1 h.foreign in cc,
 )
+
+pub returns-then-is_among : goal.returns-then-is_among
+returns-then-is_among g c =
+    let P : List Numbers → Type 0 = IsAmong (g.S.State.known c.args.facts.now.state.now) in (
+      λ _. record {
+        foreign = c.if-not-foreign_numbers_agree.ensures.0 refl;
+        rules = inl (subst P c.other_numbers-others.ensures (c.if-is_among.ensures.0 refl));
+      },
+      λ _. refl,
+    )
+
+pub returns : goal.returns
+returns g c =
+    let P : List Numbers → Type 0 = IsAmong (g.S.State.known c.args.facts.now.state.now) in (
+      λ t. record { foreign = c.if-not-foreign_numbers_agree.ensures.0 refl; rules = inr (c.rules_agree.ensures.0 t) },
+      λ h. elim h.rules [
+        | inl among ↦ absurd (let e : false ≡ true = c.if-is_among.ensures.1 (subst P (sym c.other_numbers-others.ensures) among) in cc)
+        | inr agree ↦ c.rules_agree.ensures.1 agree
+      ],
+    )

@@ -3,7 +3,7 @@ use Rattle.std.specs.Prelude.{slice_get, Some, None, Ok, Err}
 use Rattle.kernel_check.specs.Lent.{accepted_insns}
 use Rattle.cert_form.specs.Views.{nodes_of, says}
 use Rattle.cert_check.specs.declared.fault.CheckError.TheVariants.{Edge, Entail, Return, Split}
-use Rattle.cert_check.specs.Rules.{SplitRule, edges}
+use Rattle.cert_check.specs.Rules.{edges}
 use Rattle.cert_check.specs.inner.Ways.{edge_list}
 use Rattle.cert_check.proofs.NodeLaws.{found_at, no_insn, no_edges, return_from, return_back}
 use Rattle.cert_check.proofs.NodeLaws.{edge_from, edge_back, there, entail_from, entail_back}
@@ -58,7 +58,7 @@ returns-then-not-split_is_kept c =
     let lead = c.if-not-all_lead.ensures.0 refl in
     let edge = edge_from policy p ns i n insn at out leave lead in
     found_at policy p ns i n (Err (Split i)) c.node-node.ensures
-    (refl, edge, λ rule. let e : false ≡ true = c.if-not-split_is_kept.ensures.1 (subst SplitRule (sym c.kind.ensures) rule) in cc)
+    (refl, edge, λ rule. let e : false ≡ true = c.if-not-split_is_kept.ensures.1 rule in cc)
 
 pub entail_is_kept-requires : goal.entail_is_kept-requires
 entail_is_kept-requires c =
@@ -86,7 +86,7 @@ returns-then-not-entail_is_kept c =
     let leave : edges n insn ≡ Some out = sym c.in-Some-ways_of.ensures in
     let lead = c.if-not-all_lead.ensures.0 refl in
     let edge = edge_from policy p ns i n insn at out leave lead in
-    let split = subst SplitRule c.kind.ensures (c.if-not-split_is_kept.ensures.0 refl) in
+    let split = c.if-not-split_is_kept.ensures.0 refl in
     found_at policy p ns i n (Err (Entail i)) c.node-node.ensures (
       refl,
       edge,
@@ -108,7 +108,7 @@ returns-then-not-return_is_kept c =
     let leave : edges n insn ≡ Some out = sym c.in-Some-ways_of.ensures in
     let lead = c.if-not-all_lead.ensures.0 refl in
     let edge = edge_from policy p ns i n insn at out leave lead in
-    let split = subst SplitRule c.kind.ensures (c.if-not-split_is_kept.ensures.0 refl) in
+    let split = c.if-not-split_is_kept.ensures.0 refl in
     let entail = entail_from policy p ns i n insn at out leave (c.if-not-entail_is_kept.ensures.0 refl) in
     found_at policy p ns i n (Err (Return i)) c.node-node.ensures (
       refl,
@@ -132,7 +132,7 @@ returns c =
     let leave : edges n insn ≡ Some out = sym c.in-Some-ways_of.ensures in
     let lead = c.if-not-all_lead.ensures.0 refl in
     let edge = edge_from policy p ns i n insn at out leave lead in
-    let split = subst SplitRule c.kind.ensures (c.if-not-split_is_kept.ensures.0 refl) in
+    let split = c.if-not-split_is_kept.ensures.0 refl in
     let entail = entail_from policy p ns i n insn at out leave (c.if-not-entail_is_kept.ensures.0 refl) in
     found_at policy p ns i n (Ok tt) c.node-node.ensures
     (record {

@@ -24,6 +24,7 @@ loop-n-preserved c =
       no_scratch = c.if-not-states_nothing.ensures.0 refl;
       none_out = refl;
       none_met = refl;
+      not_sharp = refl;
       few = omega (arith, c.len.ensures, c.if-len-gt-MAX_LITERALS.false);
     } in
     record {

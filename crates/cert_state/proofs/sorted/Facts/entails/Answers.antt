@@ -1,8 +1,6 @@
-use Rattle.std.proofs.Common.{◌≡◌, List, sym, subst}
+use Rattle.std.proofs.Common.{List, sym, subst}
 use Rattle.cert_state.specs.declared.literal.Lit.{Lit}
-use Rattle.cert_state.specs.Literals.{index_of}
 use Rattle.cert_state.specs.Entailment.{Entails}
-use Rattle.cert_state.specs.inner.Sorted.{of_word}
 use Rattle.cert_state.proofs.WordLaws.{entails_of_all, entails_of_own}
 use Rattle.cert_state.proofs.sorted.Facts.entails.Goals as goal
 

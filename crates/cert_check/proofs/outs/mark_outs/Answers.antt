@@ -1,9 +1,14 @@
+use Rattle.std.proofs.Common.{sym, subst}
 use Rattle.cert_form.specs.Views.{outs_from, says}
+use Rattle.cert_check.specs.inner.Marked.{AreMarkedBut}
 use Rattle.cert_check.proofs.OutsLaws.{none_marked, one_marked, all_marked}
-use Rattle.cert_check.proofs.outs.marked_of.Goals as goal
+use Rattle.cert_check.proofs.outs.mark_outs.Goals as goal
 
 pub loop-place-init : goal.loop-place-init
-loop-place-init c = none_marked (says c.args.node.now).out (outs_from c.args.node.now c.first_out-at.result) c.first_out-at.ensures
+loop-place-init c =
+    let rest = outs_from c.args.node.now c.first_out-at.result in
+    subst (λ table. AreMarkedBut (says c.args.node.now).out table rest) (sym c.requires)
+    (none_marked (says c.args.node.now).out rest c.first_out-at.ensures)
 
 pub loop-place-preserved : goal.loop-place-preserved
 loop-place-preserved c =

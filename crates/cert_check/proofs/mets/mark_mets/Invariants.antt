@@ -1,7 +1,7 @@
 use Rattle.std.proofs.Common.{length}
 use Rattle.cert_form.specs.Views.{mets_from, says}
 use Rattle.cert_check.specs.inner.Marked.{AreMetMarkedBut}
-use Rattle.cert_check.proofs.mets.mets_of.Given as goal
+use Rattle.cert_check.proofs.mets.mark_mets.Given as goal
 
 abbrev pub invariant-loop-place : goal.invariant-loop-place
 invariant-loop-place l = AreMetMarkedBut (says l.node).met l.marked (mets_from l.node l.at)
