@@ -103,8 +103,9 @@ impl Known {
 
     // The mask under which a literal excludes this datum, by bits under a part of all.
     fn excluding_part(&self, word: u8, mask: u32, datum: u32) -> Option<u32> {
-        let mut next = self.word(word).partial;
-        for _ in 0..=self.len() {
+        let facts = self.word(word);
+        let mut next = facts.partial;
+        for _ in 0..facts.parts {
             let (literal, before) = self.at(next)?;
             if let Lit::NotBits(_, m, d) = literal {
                 if m & mask == m && datum & m == d {
@@ -128,6 +129,11 @@ impl Known {
             return Some(mask);
         }
         self.excluding_part(word, mask, datum)
+    }
+
+    /// How many steps it takes at most to see whether a literal of a word follows.
+    pub(crate) fn cost(&self, word: u8) -> usize {
+        self.word(word).parts.saturating_add(4)
     }
 
     /// Whether a word may be a number.
@@ -157,6 +163,11 @@ impl Known {
         let facts = self.word(word);
         let excluding = self.excluding_mask(word, facts.mask, facts.datum);
         facts.is_empty() || excluding.is_some()
+    }
+
+    /// All literals, in their order.
+    pub(crate) fn literals(&self) -> &[Lit] {
+        self.literals.as_slice()
     }
 
     /// The literals of a word, in their order.

@@ -7,8 +7,11 @@ use crate::known::Known;
 use crate::place::Place;
 use crate::registers::{BEGINNING, are_so};
 use crate::split::Split;
-use cert_form::{ChainNode, Kind, MAX_LITERALS, MAX_NODES, write_chained};
-use cert_state::{Lit, Regs};
+use crate::work::Work;
+use bpf_insn::Insn;
+use cert_form::{ChainNode, Claim, Kind, MAX_LITERALS, MAX_NODES, write_chained, write_claims};
+use cert_state::{Listed, Lit, Regs, edge_fact, sharp_fact};
+use kernel_check::Accepted;
 use std::alloc::{AllocError, Global};
 
 /// Stands for no node.
@@ -82,12 +85,13 @@ impl Nodes {
     }
 
     // Whether each literal of a chain follows from what is known.
-    fn follow(&self, known: &Known, chain: u32) -> bool {
+    fn follow(&self, known: &Known, chain: u32, work: &mut Work) -> bool {
         let mut left = chain;
         for _ in 0..=MAX_LITERALS {
             let Some((parent, literal)) = self.chains.last(left) else {
                 return true;
             };
+            work.spend(known.cost(literal.word()));
             if !known.entails(literal) {
                 return false;
             }
@@ -97,12 +101,12 @@ impl Nodes {
     }
 
     /// The last node that stands at a place and states nothing but what is known.
-    pub(crate) fn find(&self, place: &Place, known: &Known) -> Option<u32> {
+    pub(crate) fn find(&self, place: &Place, known: &Known, work: &mut Work) -> Option<u32> {
         let mut next = self.index.latest(place.pc as usize);
         for _ in 0..TRIES {
             let number = next?;
             let node = self.nodes.get(number)?;
-            if self.follow(known, node.chain) && are_so(&node.regs, &place.regs) {
+            if are_so(&node.regs, &place.regs) && self.follow(known, node.chain, work) {
                 return u32::try_from(number).ok();
             }
             next = self.index.before(number);
@@ -127,8 +131,18 @@ impl Nodes {
         }
     }
 
-    /// The certificate.
-    pub(crate) fn written(&self) -> Result<Vec<u8>, CertifyError> {
+    // Whether a node rests on what certificates of form 4 alone tell.
+    fn is_sharp(&self, program: &Accepted<'_>) -> bool {
+        for node in self.nodes.iter() {
+            if is_sharp(node, program.insn_at(node.pc)) {
+                return true;
+            }
+        }
+        false
+    }
+
+    /// The certificate of a program.
+    pub(crate) fn written(&self, program: &Accepted<'_>) -> Result<Vec<u8>, CertifyError> {
         let mut turned = Vec::new(self.alloc);
         for node in self.nodes.iter().rev() {
             let kind = turned_kind(node.kind, self.nodes.len());
@@ -137,7 +151,32 @@ impl Nodes {
         if let Some(root) = turned.first_mut() {
             root.regs = BEGINNING;
         }
-        Ok(write_chained(self.alloc, self.chains.entries(), &turned)?)
+        if !self.is_sharp(program) {
+            return Ok(write_chained(self.alloc, self.chains.entries(), &turned)?);
+        }
+        let mut entries = Vec::new(self.alloc);
+        for (parent, literal) in self.chains.entries() {
+            entries.push((*parent, Claim::Knows(*literal)))?;
+        }
+        Ok(write_claims(self.alloc, &entries, &turned)?)
+    }
+}
+
+// Whether a node at this instruction rests on what certificates of form 4 alone tell: on the fact of an edge, or on two
+// literals that cover each record by bits.
+fn is_sharp(node: &ChainNode, insn: Option<Insn>) -> bool {
+    match (node.kind, insn) {
+        (Kind::Split(Lit::Bits(_, _, _), Lit::Bits(_, _, _) | Lit::In(_, _, _), _, _), _) => true,
+        (Kind::Step(_, _), Some(insn)) => {
+            let state = Listed {
+                regs: node.regs,
+                lits: &[],
+                more: None,
+            };
+            sharp_fact(&state, &insn, true) != edge_fact(&state, &insn, true)
+                || sharp_fact(&state, &insn, false) != edge_fact(&state, &insn, false)
+        }
+        _ => false,
     }
 }
 

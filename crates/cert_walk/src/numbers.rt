@@ -3,8 +3,8 @@
 use crate::known::Known;
 use call_record::least_below;
 
-// How many numbers are tried.
-const TRIES: usize = 1024;
+/// How many numbers are tried.
+pub(crate) const TRIES: usize = 256;
 
 // The least number above one that has other bits under the mask.
 fn next_under(number: u32, mask: u32) -> Option<u32> {

@@ -3,7 +3,7 @@ ghost use Rattle.bpf_insn.specs.Causes.{IsPlain};
 
 use crate::split::Split;
 use bpf_insn::{Insn, Operation};
-use cert_state::{Listed, Lit, Regs, edge_fact, transfer};
+use cert_state::{Listed, Lit, Regs, sharp_fact, transfer};
 
 /// Where a path stands, with the fact of the way that it came.
 #[derive(Clone, Copy)]
@@ -35,8 +35,8 @@ impl Place {
         };
         match insn.operation() {
             Some(Operation::Branch(_, _)) => {
-                let not_taken = self.ahead(u32::from(insn.jf), edge_fact(&state, insn, false));
-                let taken = self.ahead(u32::from(insn.jt), edge_fact(&state, insn, true));
+                let not_taken = self.ahead(u32::from(insn.jf), sharp_fact(&state, insn, false));
+                let taken = self.ahead(u32::from(insn.jt), sharp_fact(&state, insn, true));
                 (not_taken, Some(taken))
             }
             Some(Operation::Jump) => (self.ahead(insn.k, None), None),

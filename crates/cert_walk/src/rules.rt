@@ -31,6 +31,13 @@ impl<'a> Rules<'a> {
         first..self.places.len()
     }
 
+    /// How many rules a machine's numbers from one to another have.
+    pub(crate) fn count(&self, token: u32, least: u32, greatest: u32) -> usize {
+        let first = self.from(token, least).start;
+        let next = self.from(token, greatest.saturating_add(1)).start;
+        next.saturating_sub(first)
+    }
+
     /// The rule of a turn, if it is one of a machine's whose number is not above one.
     pub(crate) fn at(&self, turn: usize, token: u32, greatest: u32) -> Option<&'a Rule> {
         let (machine, nr, place) = self.places.get(turn)?;

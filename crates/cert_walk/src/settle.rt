@@ -8,7 +8,7 @@ use crate::words::{NUMBER, TOKEN, Words};
 use call_record::Word;
 use call_tables::Arch;
 use cert_state::Lit;
-use profile::{LEAST_X32_NUMBER, Rule};
+use profile::Rule;
 
 /// What comes of the question.
 #[derive(Clone, Copy)]
@@ -57,15 +57,45 @@ pub(crate) struct Question<'a> {
 }
 
 impl Question<'_> {
-    /// The answer.
+    /// The answer. Where nothing more can be asked, what is known is said in other words first.
     pub(crate) fn settle(&self) -> Outcome {
+        match self.answer() {
+            Outcome::Undecided => Outcome::cut(self.sharpened()),
+            outcome => outcome,
+        }
+    }
+
+    /// How many rules bear on the numbers that are possible.
+    pub(crate) fn rules_asked(&self) -> usize {
+        let (least, greatest) = self.known.range(NUMBER).unwrap_or((0, 0));
+        let mut asked = 0usize;
+        for arch in self.rules.profile.machines() {
+            asked = asked.saturating_add(self.rules.count(arch.token(), least, greatest));
+        }
+        asked
+    }
+
+    // A split that says something known in other words, of which not all follows.
+    fn sharpened(&self) -> Option<Split> {
+        for literal in self.known.literals() {
+            if let Some(split) = Split::sharpened(*literal)
+                && !self.known.entails(split.second)
+            {
+                return Some(split);
+            }
+        }
+        None
+    }
+
+    // The answer by what is known as it stands.
+    fn answer(&self) -> Outcome {
         if self.is_said_of_all() {
             return Outcome::Settled(Words::NONE);
         }
         for arch in self.rules.profile.machines() {
             let token = arch.token();
             if self.known.entails(Lit::Bits(TOKEN, u32::MAX, token)) {
-                return self.settle_machine(token).with(Words::of(TOKEN));
+                return self.settle_machine(*arch).with(Words::of(TOKEN));
             }
             if !self.known.entails(Lit::NotBits(TOKEN, u32::MAX, token)) {
                 return Outcome::Cut(Split::bits(TOKEN, u32::MAX, token));
@@ -89,17 +119,23 @@ impl Question<'_> {
         Outcome::by(Words::of(by), self.word == Word::KILL_THREAD)
     }
 
-    // Whether the records of a machine get the word. The x32 calls among those of x86-64 are foreign.
-    fn settle_machine(&self, token: u32) -> Outcome {
+    // Whether the records with a machine's token get the word. Those of foreign numbers come apart first.
+    fn settle_machine(&self, arch: Arch) -> Outcome {
         let Some((least, greatest)) = self.known.range(NUMBER) else {
             return Outcome::Undecided;
         };
-        if token == Arch::X86_64.token() && greatest >= LEAST_X32_NUMBER {
-            if least >= LEAST_X32_NUMBER {
+        for foreign in arch.other_numbers() {
+            if foreign.first <= greatest && least <= foreign.last {
+                if least < foreign.first {
+                    return Outcome::cut(Split::at(NUMBER, foreign.first));
+                }
+                if foreign.last < greatest {
+                    return Outcome::cut(Split::above(NUMBER, foreign.last));
+                }
                 return self.settle_foreign(NUMBER);
             }
-            return Outcome::cut(Split::at(NUMBER, LEAST_X32_NUMBER));
         }
+        let token = arch.token();
         let outcome = if least == greatest {
             self.settle_number(token, least)
         } else {

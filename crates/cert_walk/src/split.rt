@@ -1,6 +1,6 @@
 //! Two literals of which one holds of each record.
 
-use cert_state::Lit;
+use cert_state::{Lit, is_bit, lowest_bit};
 
 /// Two literals of which one holds of each record.
 #[derive(Clone, Copy)]
@@ -22,6 +22,25 @@ impl Split {
     /// A word up to a number, or above it. Nothing is above the greatest.
     pub(crate) fn above(word: u8, to: u32) -> Option<Split> {
         Split::at(word, to.checked_add(1)?)
+    }
+
+    /// What a literal says in other words, in certificates of form 4: that a word has not this bit, as it has the other one;
+    /// that it has some bits, as it is at least the lowest. The first half says the contrary.
+    pub(crate) fn sharpened(literal: Lit) -> Option<Split> {
+        let Lit::NotBits(word, mask, datum) = literal else {
+            return None;
+        };
+        let second = if is_bit(mask) {
+            Lit::Bits(word, mask, mask ^ datum)
+        } else if datum == 0 {
+            Lit::In(word, u32::try_from(lowest_bit(mask)).ok()?, u32::MAX)
+        } else {
+            return None;
+        };
+        Some(Split {
+            first: Lit::Bits(word, mask, datum),
+            second,
+        })
     }
 
     /// A word with these bits under a mask, or with others.

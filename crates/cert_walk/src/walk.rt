@@ -12,11 +12,12 @@ use crate::nodes::{Nodes, kind_of};
 use crate::place::Place;
 use crate::registers::{BEGINNING, NOTHING, needed};
 use crate::rules::Rules;
-use crate::search::Search;
 use crate::settle::{Outcome, Question};
 use crate::split::Split;
 use crate::summary::{add_word, add_words};
+use crate::trials::Trials;
 use crate::words::Words;
+use crate::work::Work;
 use bpf_insn::{Insn, Operation};
 use call_record::{Record, Word};
 use cert_form::{Kind, MAX_NODES};
@@ -30,6 +31,11 @@ const MAX_TURNS: usize = 4 * MAX_NODES;
 
 // Where so many numbers more of a word are excluded one by one, it is cut in two, since a node has few literals.
 const CROWD: usize = 320;
+
+// How much work a walk may be, and how much a rule is that is asked.
+const WORK: u64 = 50_000_000;
+
+const RULE: usize = 16;
 
 // A node to be made, once those are found that follow it.
 #[derive(Clone, Copy)]
@@ -64,18 +70,16 @@ impl Visit {
 pub(crate) struct Walk<'a> {
     alloc: Global,
     program: Accepted<'a>,
-    rules: Rules<'a>,
+    rules: &'a Rules<'a>,
     // What is known on the path, and the nodes on it that are still to be made.
     known: Known,
     visits: Vec<Visit>,
     nodes: Nodes,
     // What the node states that is made next.
     needs: Literals,
-    // Whether it looks for a record that gets unlike words, and those found: a call of the tables, which ends the walk, and
-    // any other one.
-    hunts: bool,
-    found: Option<Record>,
-    other: Option<Record>,
+    // Where it looks for a record that gets unlike words, those that were tried.
+    trials: Option<Trials<'a>>,
+    work: Work,
 }
 
 fn undecided(pc: u16) -> CertifyError {
@@ -86,21 +90,20 @@ impl<'a> Walk<'a> {
     /// A walk that begins. It may look for a record that gets unlike words.
     pub(crate) fn new(
         alloc: Global,
-        profile: &'a Profile,
+        rules: &'a Rules<'a>,
         program: Accepted<'a>,
-        hunts: bool,
+        trials: Option<Trials<'a>>,
     ) -> Result<Walk<'a>, CertifyError> {
         Ok(Walk {
             alloc,
             program,
-            rules: Rules::new(alloc, profile)?,
+            rules,
             known: Known::new(alloc)?,
             visits: Vec::new(alloc),
             nodes: Nodes::new(alloc, program.program().len())?,
             needs: Literals::new(alloc)?,
-            hunts,
-            found: None,
-            other: None,
+            trials,
+            work: Work::new(WORK),
         })
     }
 
@@ -113,7 +116,7 @@ impl<'a> Walk<'a> {
         };
         let mut found = self.enter(&root)?;
         for _ in 0..MAX_TURNS {
-            if self.found.is_some() {
+            if self.has_found() {
                 return Ok(());
             }
             let Some(visit) = self.visits.pop() else {
@@ -157,7 +160,10 @@ impl<'a> Walk<'a> {
         let Some(insn) = self.program.insn_at(place.pc) else {
             return Err(undecided(place.pc));
         };
-        if let Some(number) = self.nodes.find(place, &self.known) {
+        if self.work.is_over() {
+            return Err(CertifyError::TooLarge);
+        }
+        if let Some(number) = self.nodes.find(place, &self.known, &mut self.work) {
             return Ok(Some(number));
         }
         if split.is_some() {
@@ -185,6 +191,7 @@ impl<'a> Walk<'a> {
         before: usize,
     ) -> Result<Option<u32>, CertifyError> {
         let own = self.known.of_word(self.alloc, fact.word())?;
+        self.work.spend(own.len());
         self.known.truncate(before);
         Ok(Some(self.dead(place.pc, own, fact)?))
     }
@@ -225,11 +232,16 @@ impl<'a> Walk<'a> {
     // Comes to a return.
     fn end(&mut self, place: &Place, word: Word, regs: Regs) -> Result<Option<u32>, CertifyError> {
         let question = Question {
-            rules: &self.rules,
+            rules: self.rules,
             known: &self.known,
             word,
         };
-        match question.settle() {
+        let outcome = question.settle();
+        // Of a question that is asked again of either half the work is counted there.
+        if !matches!(outcome, Outcome::Cut(_)) {
+            self.work.spend(question.rules_asked().saturating_mul(RULE));
+        }
+        match outcome {
             Outcome::Settled(words) => {
                 self.needs.clear();
                 add_words(self.alloc, &mut self.needs, &self.known, words)?;
@@ -243,28 +255,30 @@ impl<'a> Walk<'a> {
     // Comes to a return whose word is not the profile's, as far as is known. Who looks for a record tries some that come
     // here, and goes on elsewhere.
     fn stuck(&mut self, place: &Place) -> Result<Option<u32>, CertifyError> {
-        if !self.hunts {
+        let Some(trials) = &mut self.trials else {
             return Err(undecided(place.pc));
-        }
-        let found = self.search(true).first();
-        self.found = found;
-        if self.other.is_none() {
-            let other = self.search(false).first();
-            self.other = other;
-        }
+        };
+        trials.visit(&self.known)?;
         self.needs.clear();
         add_words(self.alloc, &mut self.needs, &self.known, Words::ALL)?;
         self.make(Kind::Return, place.pc, place.regs)
     }
 
-    // A search among the records that come here.
-    fn search(&self, is_listed: bool) -> Search<'_> {
-        Search {
-            rules: &self.rules,
-            program: &self.program,
-            known: &self.known,
-            is_listed,
+    // Whether a record is found than which no other tells more.
+    fn has_found(&self) -> bool {
+        match &self.trials {
+            Some(trials) => trials.found.is_some(),
+            None => false,
         }
+    }
+
+    // The record that was found, after more are tried where none tells the most.
+    fn told(&mut self) -> Result<Option<Record>, CertifyError> {
+        let Some(trials) = &mut self.trials else {
+            return Ok(None);
+        };
+        trials.explore()?;
+        Ok(trials.found.or(trials.other))
     }
 
     // Makes a node that states what is needed.
@@ -307,6 +321,7 @@ impl<'a> Walk<'a> {
         if fact == Some(literal) {
             return Ok(());
         }
+        self.work.spend(self.known.cost(literal.word()));
         if self.known.entails(literal) {
             return Ok(self.needs.add(literal)?);
         }
@@ -329,28 +344,31 @@ impl<'a> Walk<'a> {
 }
 
 /// A certificate that the filter gives each call record the word that the profile says, for the checker to decide on.
-pub fn walk_through(
+pub fn walk_through<'a>(
     alloc: Global,
-    profile: &Profile,
-    program: Accepted<'_>,
+    profile: &'a Profile,
+    program: Accepted<'a>,
 ) -> Result<Vec<u8>, CertifyError> {
-    let mut walk = Walk::new(alloc, profile, program, false)?;
+    let rules = Rules::new(alloc, profile)?;
+    let mut walk = Walk::new(alloc, &rules, program, None)?;
     walk.go_all()?;
-    walk.nodes.written()
+    walk.nodes.written(&program)
 }
 
 /// A record for which the filter may give another word than the profile says, if one is found.
 ///
 /// Calls of the tables of the profile's machines come before all others. That none is found says nothing.
-pub fn hunt(
+pub fn hunt<'a>(
     alloc: Global,
-    profile: &Profile,
-    program: Accepted<'_>,
+    profile: &'a Profile,
+    program: Accepted<'a>,
 ) -> Result<Option<Record>, CertifyError> {
-    let mut walk = Walk::new(alloc, profile, program, true)?;
+    let rules = Rules::new(alloc, profile)?;
+    let trials = Trials::new(alloc, &rules, program)?;
+    let mut walk = Walk::new(alloc, &rules, program, Some(trials))?;
     match walk.go_all() {
         Err(CertifyError::OutOfMemory) => Err(CertifyError::OutOfMemory),
         // Where there is too much to go over, what is left is given up.
-        _ => Ok(walk.found.or(walk.other)),
+        _ => walk.told(),
     }
 }

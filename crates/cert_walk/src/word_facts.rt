@@ -12,8 +12,9 @@ pub(crate) struct WordFacts {
     /// The union of the masks of its `Bits`, and that of their data.
     pub(crate) mask: u32,
     pub(crate) datum: u32,
-    /// How many numbers are excluded one by one.
+    /// How many numbers are excluded one by one, and how many literals exclude bits under a part of all.
     pub(crate) excluded: usize,
+    pub(crate) parts: usize,
     /// The place of its last literal, and of the last that excludes bits under a part of all.
     pub(crate) last: Option<usize>,
     pub(crate) partial: Option<usize>,
@@ -41,6 +42,7 @@ impl WordFacts {
         mask: 0,
         datum: 0,
         excluded: 0,
+        parts: 0,
         last: None,
         partial: None,
     };
@@ -82,6 +84,7 @@ impl WordFacts {
             },
             Lit::NotBits(_, _, _) => WordFacts {
                 partial: last,
+                parts: self.parts.saturating_add(1),
                 ..self
             },
         };
