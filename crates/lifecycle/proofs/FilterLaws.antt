@@ -20,15 +20,17 @@ use Rattle.processes.specs.declared.outcome.Outcome.{Outcome}
 use Rattle.processes.specs.declared.outcome.Outcome.TheVariants.{Done, Failed, Absent, Denied, NoTask}
 use Rattle.processes.specs.Laws.{Each, KeepsBehind}
 use Rattle.processes.proofs.Laws.{first_is_behind, found, keeps_behind, signal_keeps_behind}
+use Rattle.lifecycle.specs.declared.command.Reply.{Reply}
 use Rattle.lifecycle.specs.declared.command.Reply.TheVariants.{Presented}
 use Rattle.lifecycle.specs.declared.command.Status.{Status}
 use Rattle.lifecycle.specs.declared.command.Status.TheVariants.{Created, Running, Stopped}
 use Rattle.lifecycle.specs.Orders.{Order}
 use Rattle.lifecycle.specs.Orders.Order.{Start, Call}
-use Rattle.lifecycle.specs.Promises.{FirstFilterIsOldest, IsDeniedStart, IsOldest, MadeBy, NotCarriedOut, RefusedIsNotCarriedOut}
+use Rattle.lifecycle.specs.Promises.{FirstFilterIsOldest, IsDeniedStart, IsOldest, MadeBy, NotCarriedOut, RefusedIsNotCarriedOut, RefusesIn}
 use Rattle.lifecycle.specs.Promises.{world_after}
-use Rattle.lifecycle.specs.Steps.{acted, call, first_call, left_after, start, start_reply, step}
-use Rattle.lifecycle.specs.Worlds.{Container, First, container_at}
+use Rattle.lifecycle.specs.Runs.{IsRun}
+use Rattle.lifecycle.specs.Steps.{acted, call, first_call, left_after, run, start, start_reply, step}
+use Rattle.lifecycle.specs.Worlds.{Container, First, World, container_at}
 use Rattle.lifecycle.proofs.CommandLaws.{never}
 use Rattle.lifecycle.proofs.Containers.{At, IsKept, holds_after}
 use Rattle.lifecycle.proofs.GivenLaws.{AsGiven, as_given, is_there}
@@ -162,15 +164,22 @@ start_step os id given m c there created refusal =
     (start_refused c.processes.native c.first word)
 
 pub refused_is_not_carried_out : RefusedIsNotCarriedOut
-refused_is_not_carried_out = record {
-  call = λ os i id given task r a at m refusal. record {
+refused_is_not_carried_out os = record {
+  call = λ i id given task r a at m refusal. record {
     reply = (step by_profile (Call id task r a) (world_after by_profile (take i os))).0;
     at = replies_are_steps by_profile os i (Call id task r a) at;
     is = call_step (take i os) id given m task r a refusal;
   };
-  start = λ os i id given c at m there created refusal. record {
+  start = λ i id given c at m there created refusal. record {
     reply = (step by_profile (Start id) (world_after by_profile (take i os))).0;
     at = replies_are_steps by_profile os i (Start id) at;
     is = start_step (take i os) id given m c there created refusal;
   };
 }
+
+-- and in a run of the runtime's, where it had no containers before
+pub refused_in_run : (os : List Order) (replies : List Reply) (w w' : World) → IsRun by_profile os w replies w' → w ≡ []
+    → RefusesIn os replies
+refused_in_run os replies w w' ran none =
+    let from_none : run by_profile os [] ≡ (replies, w') = subst (λ (v : World). run by_profile os v ≡ (replies, w')) none ran in
+    subst (λ (rs : List Reply). RefusesIn os rs) (ap (λ p. p.0) from_none) (refused_is_not_carried_out os)

@@ -1,5 +1,5 @@
 -- The places of containers in the order of creation, and what is kept under their numbers.
-use Rattle.std.specs.Prelude.{◌≡◌, ℕ, ◌+◌, ◌≤◌, ◌==◌, Bool, true, false, List, [], ◌∷◌, Option, None, Some, is_some, if◌then◌else◌}
+use Rattle.std.specs.Prelude.{ℕ, ◌+◌, ◌≤◌, ◌==◌, Bool, true, false, List, [], ◌∷◌, Option, None, Some, is_some, if◌then◌else◌}
 use Rattle.std.proofs.Props.{props}
 use Rattle.processes.specs.Views.{same_text}
 use Rattle.lifecycle.specs.declared.entry.Entry.{Entry}

@@ -33,9 +33,9 @@ abbrev pub replies_to : First → List Order → List Reply
 replies_to F orders = (run F orders []).0
 
 -- the reply at a place is of a kind
-pub record RepliesAt (P : Reply → Type 0) (F : First) (orders : List Order) (i : ℕ) : Type 0 where
+pub record ReplyAt (P : Reply → Type 0) (replies : List Reply) (i : ℕ) : Type 0 where
   pub reply : Reply
-  pub at : slice_get (replies_to F orders) i ≡ Some reply
+  pub at : slice_get replies i ≡ Some reply
   pub is : P reply
 
 -- each reply is that of the order at its place, in the world after the orders before it
@@ -121,14 +121,18 @@ NotCarriedOut reply = ((v : ℕ) × (reply ≡ Presented (Denied v))) ⊎ (reply
 abbrev pub IsDeniedStart : Reply → Type 0
 IsDeniedStart reply = (v : ℕ) × (reply ≡ Refused (StartDenied v))
 
--- A call that the profile refuses with which its container was made is not carried out, whoever of its tasks presents it,
--- with whatever further filters; nor does a container start whose profile refuses the execve with which it begins. Both
--- are told by the reply at the order's place, in a run of any orders, where there were no containers before.
-pub record RefusedIsNotCarriedOut : Type 0 where
-  pub call : (orders : List Order) (i : ℕ) (id : List ℕ) (given : Checked) (task : ℕ) (r : Record) (a : Attached)
+-- In a run of these orders with these replies, where there were no containers before: a call that the profile refuses with
+-- which its container was made is not carried out, whoever of its tasks presents it, with whatever further filters; nor does
+-- a container start whose profile refuses the execve with which it begins. Both are told by the reply at the order's place.
+pub record RefusesIn (orders : List Order) (replies : List Reply) : Type 0 where
+  pub call : (i : ℕ) (id : List ℕ) (given : Checked) (task : ℕ) (r : Record) (a : Attached)
       → slice_get orders i ≡ Some (Call id task r a) → MadeBy by_profile (take i orders) id given
-      → IsRefusal (said (profile_of given) (words r)) → RepliesAt NotCarriedOut by_profile orders i
-  pub start : (orders : List Order) (i : ℕ) (id : List ℕ) (given : Checked) (c : Container)
+      → IsRefusal (said (profile_of given) (words r)) → ReplyAt NotCarriedOut replies i
+  pub start : (i : ℕ) (id : List ℕ) (given : Checked) (c : Container)
       → slice_get orders i ≡ Some (Start id) → MadeBy by_profile (take i orders) id given
       → container_at id (world_after by_profile (take i orders)) ≡ Some c → c.status ≡ Created
-      → IsRefusal (said (profile_of given) (words (execve_of (profile_of given).native))) → RepliesAt IsDeniedStart by_profile orders i
+      → IsRefusal (said (profile_of given) (words (execve_of (profile_of given).native))) → ReplyAt IsDeniedStart replies i
+
+-- so it is in every run
+abbrev pub RefusedIsNotCarriedOut : Type 0
+RefusedIsNotCarriedOut = (orders : List Order) → RefusesIn orders (replies_to by_profile orders)

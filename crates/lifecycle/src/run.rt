@@ -1,8 +1,9 @@
 //! Whole runs.
-ghost use Rattle.std.specs.Prelude.{◌≡◌, ◌<◌, IfOk, OnOk, OnErr, length, take};
+ghost use Rattle.std.specs.Prelude.{◌≡◌, ◌<◌, [], IfOk, OnOk, OnErr, length, take};
 ghost use Rattle.processes.specs.First.{by_profile, by_program};
 ghost use Rattle.lifecycle.specs.Growth.{MayGrow, NextMayGrow};
 ghost use Rattle.lifecycle.specs.Orders.{order_of};
+ghost use Rattle.lifecycle.specs.Promises.{RefusesIn};
 ghost use Rattle.lifecycle.specs.Runs.{EachRunsAlone, IsRun, orders_of};
 ghost use Rattle.lifecycle.specs.Steps.{step};
 
@@ -23,6 +24,7 @@ impl<'a, K: Kernel> Runtime<'a, K> {
     pub fn run(&mut self, commands: &[Command<'a>]) -> (Vec<Reply>, Result<(), AllocError>)
         ensures headline { IsRun by_profile (orders_of (take (length result.0.items) commands.now)) (world_of self.old) result.0.items (world_of self.new) }
         ensures so_far { IsRun by_program (orders_of (take (length result.0.items) commands.now)) (world_of self.old) result.0.items (world_of self.new) }
+        ensures refused { world_of self.old ≡ [] → RefusesIn (orders_of (take (length result.0.items) commands.now)) result.0.items }
         ensures all { OnOk result.1 (length result.0.items ≡ length commands.now) }
         ensures left { OnErr result.1 (length result.0.items < length commands.now) }
         ensures growth { OnErr result.1 (NextMayGrow (orders_of commands.now) result.0.items (world_of self.new)) }

@@ -1,5 +1,5 @@
 -- What a request's command did.
-use Rattle.std.proofs.Common.{◌≡◌, ap, sym}
+use Rattle.std.proofs.Common.{◌≡◌, ap, inl, sym}
 use Rattle.std.specs.Prelude.{Option, Some, None, Ok, Err}
 use Rattle.std.specs.declared.alloc.AllocError.{AllocError}
 use Rattle.cert_check.specs.declared.checked.Checked.{Checked}
@@ -7,6 +7,7 @@ use Rattle.call_record.specs.declared.layout.Record.{Record}
 use Rattle.processes.specs.Attached.{attached_of}
 use Rattle.processes.specs.First.{by_program}
 use Rattle.lifecycle.specs.declared.command.Reply.{Reply}
+use Rattle.lifecycle.specs.Growth.{MayGrow}
 use Rattle.lifecycle.specs.Orders.{Order, id_of}
 use Rattle.lifecycle.specs.Orders as command
 use Rattle.lifecycle.specs.Steps.{step}
@@ -20,12 +21,12 @@ use Rattle.session.specs.inner.Carried.{CarriesOut, id_in}
 
 pub carried : (bundles : Bundles) (order : script.Order) (c : Order) (w w' : World) (r : Reply) → Commands bundles order (Some c)
     → (r, w') ≡ step by_program c w → CarriesOut bundles order w w' (Ok (Some r))
-carried bundles order c w w' r is e = record { command = Some c; is = is; done = e; kept = tt }
+carried bundles order c w w' r is e = record { command = Some c; is = is; done = e; kept = tt; wants = tt }
 
 pub not_carried : (bundles : Bundles) (order : script.Order) (c : Order) (w w' : World) (fault : AllocError)
     → Commands bundles order (Some c)
-    → w' ≡ w → CarriesOut bundles order w w' (Err fault)
-not_carried bundles order c w w' fault is e = record { command = Some c; is = is; done = tt; kept = e }
+    → w' ≡ w → MayGrow c w → CarriesOut bundles order w w' (Err fault)
+not_carried bundles order c w w' fault is e grows = record { command = Some c; is = is; done = tt; kept = e; wants = inl grows }
 
 -- a command names what its order names
 pub names : (bundles : Bundles) (order : script.Order) (c : Order) → Commands bundles order (Some c) → id_of c ≡ id_in order

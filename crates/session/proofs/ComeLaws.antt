@@ -7,11 +7,15 @@ use Rattle.std.proofs.lemmas.List.{append-nil}
 use Rattle.texts.specs.Lines.{line_feed}
 use Rattle.processes.specs.First.{by_profile, by_program}
 use Rattle.lifecycle.specs.Orders.{Order}
+use Rattle.lifecycle.specs.Steps.{run}
+use Rattle.lifecycle.specs.Worlds.{First}
+use Rattle.lifecycle.proofs.Headline.{same_first}
 use Rattle.script.specs.Lines.{lines_of}
 use Rattle.session.specs.declared.bundles.Bundles.{Bundles}
-use Rattle.session.specs.Answer.{answer_of, counted}
+use Rattle.session.specs.Answer.{answer_of, commands_of, counted}
 use Rattle.session.specs.Commands.{CommandIs, CommandsAre}
 use Rattle.session.specs.Scripts.{HasRead, HasReadAll, HasReadWhole, IsAnswered, StopsForMemory, StopsReading, StopsWriting, ended_lines}
+use Rattle.session.specs.Wants.{WantsMemory}
 use Rattle.session.specs.inner.Cuts.{IsCut, kept_of}
 use Rattle.session.specs.inner.Lines.{BreaksOff, GoesOn, HasCome, RunsOut, Standing}
 use Rattle.session.proofs.AnswerLaws.{are-more, by_profiles, counted-add}
@@ -79,7 +83,14 @@ lacking : (bundles : Bundles) (left left' held held' : Option (List ℕ)) (part 
     → (b : RunsOut bundles held held' part cs line) → HasReadWhole bundles left left' (cs ++ b.command ∷ [])
     → StopsForMemory bundles left left' held held' line
 lacking bundles left left' held held' part cs line b whole =
-    record { commands = cs; last = b.command; read = whole; written = profiled held held' cs b.written; told = b.told }
+    record {
+      commands = cs;
+      last = b.command;
+      read = whole;
+      written = profiled held held' cs b.written;
+      told = b.told;
+      wants = subst (λ (F : First). WantsMemory b.command (run F (commands_of cs) []).1) same_first b.wants;
+    }
 
 -- Before the first byte.
 pub nothing_came : (bundles : Bundles) (s : Standing) (left held : Option (List ℕ)) → s.world ≡ [] → s.kept ≡ [] → s.count ≡ 0 → s.out ≡ 0

@@ -1,5 +1,5 @@
 -- A line is answered, and what that makes of a script.
-use Rattle.std.proofs.Common.{◌≡◌, ℕ, ◌+◌, ◌<◌, List, [], length, take, ap, sym, subst, ◌∙◌}
+use Rattle.std.proofs.Common.{◌≡◌, ℕ, ◌+◌, ◌<◌, List, [], length, take, ap, inr, refl, sym, subst, ◌∙◌}
 use Rattle.std.specs.Prelude.{Option, Some, None, Result, Ok, Err, IfOk}
 use Rattle.std.specs.Io.KnownBytes.{Appends}
 use Rattle.export.specs.declared.fault.ExportFault.{ExportFault}
@@ -8,6 +8,8 @@ use Rattle.export.specs.Failures.{Failures, HasFailed, NoneFailed}
 use Rattle.export.specs.Sink.{WritesMade}
 use Rattle.processes.specs.First.{by_program}
 use Rattle.lifecycle.specs.declared.command.Reply.{Reply}
+use Rattle.lifecycle.specs.declared.command.Reply.TheVariants.{IsIn}
+use Rattle.lifecycle.specs.declared.command.Status.{Status}
 use Rattle.lifecycle.specs.Orders.{Order, id_of}
 use Rattle.lifecycle.specs.Steps.{step}
 use Rattle.lifecycle.specs.Worlds.{World}
@@ -20,6 +22,7 @@ use Rattle.session.specs.Replies.{reply_line}
 use Rattle.session.specs.inner.Carried.{AnswersLine, CarriesOut, Replies, answer_line, id_in}
 use Rattle.session.specs.inner.Lines.{BreaksOff, GoesOn, RunsOut, Standing, Stands}
 use Rattle.session.proofs.CarryLaws.{names}
+use Rattle.session.proofs.WantLaws.{state_told}
 use Rattle.session.proofs.StandLaws.{broke_off, ran_out, went_on}
 
 module _ {S : Type 0} (sheld : S → Option (List ℕ)) (failures : S → Failures) (bundles : Bundles) where
@@ -27,8 +30,9 @@ module _ {S : Type 0} (sheld : S → Option (List ℕ)) (failures : S → Failur
   pub answered : (line : List ℕ) (number : ℕ) (order : script.Order) (w w' : World) (old new : S) (result : Result ℕ ExportFault) (reply : Reply) (id : List ℕ)
       → LineIs bundles.native line (Some order) → CarriesOut bundles order w w' (Ok (Some reply)) → id ≡ id_in order
       → WritesMade sheld failures old new (reply_line id reply) result → IfOk result (λ n. n ≡ length (reply_line id reply))
+      → (result ≡ Err OutOfMemory → (s : Status) × (reply ≡ IsIn s))
       → AnswersLine sheld failures bundles line number w w' old new result
-  answered line number order w w' old new result reply id is done named written len = by_command done.command done.is done.done where
+  answered line number order w w' old new result reply id is done named written len told = by_command done.command done.is done.done where
     always : (r : Result ℕ ExportFault) (P : Type 0) → P → IfOk r (λ _. P)
     always (Ok n) P p = p
     always (Err e) P p = tt
@@ -47,6 +51,7 @@ module _ {S : Type 0} (sheld : S → Option (List ℕ)) (failures : S → Failur
           written = subst (λ (t : List ℕ). WritesMade sheld failures old new t result) same written;
           len = subst (λ (t : List ℕ). IfOk result (λ n. n ≡ length t)) same len;
           world = always result (w' ≡ (step by_program c w).1) after;
+          wants = λ none. inr (state_told by_program c w (told none).0 (sym (told none).1 ∙ ap (λ (p : Reply × World). p.0) e));
         }
 
   module _ (s : Standing) (held : Option (List ℕ)) (lines : List (List ℕ)) (part : List ℕ) (cs : List (Option Order)) (line : List ℕ) (number : ℕ) (same : line ≡ s.kept) (numbered : number ≡ counted (s.count + 1)) (w' : World) (old new : S) (st : Stands bundles s held (sheld old) lines part cs) where
@@ -78,7 +83,7 @@ module _ {S : Type 0} (sheld : S → Option (List ℕ)) (failures : S → Failur
         let h : AnswersLine sheld failures bundles line number s.world w' old new (Err OutOfMemory) =
         subst (λ (f : ExportFault). AnswersLine sheld failures bundles line number s.world w' old new (Err f)) none g in
         let stays : RunsOut bundles held (sheld old) part cs told =
-        ran_out bundles s held (sheld old) lines part cs st h.command told (is_kept h.command h.is) (e ∙ numbered) in
+        ran_out bundles s held (sheld old) lines part cs st h.command told (is_kept h.command h.is) (e ∙ numbered) (h.wants refl) in
         subst (λ (x : S). RunsOut bundles held (sheld x) part cs told) (sym h.written) stays
 
 -- a fault of writing, and want of memory

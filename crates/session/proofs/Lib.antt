@@ -10,3 +10,4 @@ mod RunLaws
 mod Tests
 mod FailedLaws
 mod OneLaws
+mod WantLaws

@@ -11,6 +11,7 @@ use Rattle.processes.specs.First.{by_program}
 use Rattle.session.specs.declared.bundles.Bundles.{Bundles}
 use Rattle.session.specs.Answer.{answer_of, commands_of, counted}
 use Rattle.session.specs.Commands.{CommandIs}
+use Rattle.session.specs.Wants.{WantsMemory}
 use Rattle.session.specs.inner.Carried.{answer_line, world_after}
 use Rattle.session.specs.inner.Lines.{BreaksOff, GoesOn, RunsOut, Standing, Stands}
 use Rattle.session.proofs.AnswerLaws.{answer-more, are-more, counted-add, world-more}
@@ -70,10 +71,11 @@ module _ (bundles : Bundles) (s : Standing) (held h : Option (List ℕ)) (lines 
   }
 
   pub ran_out : (c : Option Order) (line : ℕ) → CommandIs bundles s.kept c
-      → line ≡ counted (s.count + 1) → RunsOut bundles held h part cs line
-  ran_out c line is told = record {
+      → line ≡ counted (s.count + 1) → WantsMemory c s.world → RunsOut bundles held h part cs line
+  ran_out c line is told wants = record {
     command = c;
     is = is_part c is;
     written = st.written;
     told = told ∙ numbered;
+    wants = subst (λ (w : World). WantsMemory c w) st.world wants;
   }

@@ -8,8 +8,10 @@ use Rattle.script.specs.Lines.{Parts, lines_of}
 use Rattle.session.specs.declared.bundles.Bundles.{Bundles}
 use Rattle.session.specs.declared.fault.ScriptFault.{ScriptFault}
 use Rattle.session.specs.declared.fault.ScriptFault.TheVariants.{Read, Write}
-use Rattle.session.specs.Answer.{answer_of, counted}
+use Rattle.lifecycle.specs.Steps.{run}
+use Rattle.session.specs.Answer.{answer_of, commands_of, counted}
 use Rattle.session.specs.Commands.{CommandsAre}
+use Rattle.session.specs.Wants.{WantsMemory}
 
 -- which lines of a text are meant, by its parts between line feeds
 abbrev pub Choice : Type 0
@@ -63,13 +65,15 @@ pub record StopsWriting (bundles : Bundles) (left left' held held' : Option (Lis
   pub short : n < length (answer_of by_profile (commands ++ last ∷ []))
   pub told : out ≡ counted n
 
--- The answer of the lines before this one was written, and none was read after it.
+-- The answer of the lines before this one was written, and none was read after it. It is a command that may want memory
+-- in the world that they left.
 pub record StopsForMemory (bundles : Bundles) (left left' held held' : Option (List ℕ)) (line : ℕ) : Type 0 where
   pub commands : List (Option Order)
   pub last : Option Order
   pub read : HasReadWhole bundles left left' (commands ++ last ∷ [])
   pub written : Appends held held' (answer_of by_profile commands)
   pub told : line ≡ counted (length commands + 1)
+  pub wants : WantsMemory last (run by_profile (commands_of commands) []).1
 
 -- By which calls of the source failed before and after: where a failed read is told just one did, the last; and else none.
 abbrev pub TellsFailedRead : {T : Type 0} → Failures → Failures → Result T ScriptFault → Type 0

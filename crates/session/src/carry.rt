@@ -1,14 +1,16 @@
 //! Orders, carried out.
-ghost use Rattle.std.specs.Prelude.{◌≡◌, IfOk, OnErr, []};
+ghost use Rattle.std.specs.Prelude.{◌≡◌, ◌≤◌, IfOk, OnErr, []};
 ghost use Rattle.std.specs.Option.{option_map};
+ghost use Rattle.std.specs.Vec.{vec_capacity};
 ghost use Rattle.processes.specs.Attached.{attached_of};
 ghost use Rattle.processes.specs.First.{by_program};
+ghost use Rattle.lifecycle.specs.Growth.{MayGrow};
 ghost use Rattle.lifecycle.specs.Orders.Order.{Call};
 ghost use Rattle.lifecycle.specs.Steps.{step};
 ghost use Rattle.lifecycle.specs.Views.{world_of};
 ghost use Rattle.script.specs.Requests.{bytes_of, order_of};
 ghost use Rattle.session.specs.Commands.{IsRecordOf};
-ghost use Rattle.session.specs.inner.Carried.{CarriesOut, id_in};
+ghost use Rattle.session.specs.inner.Carried.{CarriesOut, Fits, FitsLine, id_in};
 
 use crate::bundles::Bundles;
 use call_record::Record;
@@ -25,6 +27,7 @@ pub(crate) struct Session<'a> {
     pub(crate) runtime: Runtime<'a, SharedTable>,
     // What holds the program of a call while it is presented.
     program: Vec<u8>,
+    ghost room: { 35000 ≤ vec_capacity program },
 }
 
 /// The id that a request names.
@@ -75,16 +78,17 @@ impl<'a> Session<'a> {
         rec: &Record,
         program: Option<Hex<'_>>,
     ) -> Result<Reply, AllocError>
+        requires { FitsLine (option_map bytes_of program) }
         ensures bundles { self.new.bundles ≡ self.old.bundles }
         ensures step { let given = attached_of (option_map bytes_of program.entry) in
             IfOk result (λ r. (r, world_of self.new.runtime) ≡ step by_program (Call id.now task rec.now given) (world_of self.old.runtime)) }
         ensures err { OnErr result (world_of self.new.runtime ≡ world_of self.old.runtime) }
+        ensures growth { let given = attached_of (option_map bytes_of program.entry) in
+            OnErr result (MayGrow (Call id.now task rec.now given) (world_of self.old.runtime)) }
     {
         match program {
             None => self.runtime.call(id, task, rec, None),
             Some(hex) => {
-                self.program.clear();
-                self.program.reserve(hex.byte_count())?;
                 hex.put_into(&mut self.program);
                 let bytes = self.program.as_slice();
                 self.runtime.call(id, task, rec, Some(bytes))
@@ -94,6 +98,7 @@ impl<'a> Session<'a> {
 
     /// Carries out what a line asks for, if it is a command.
     pub(crate) fn carry_out(&mut self, request: &Request<'_>) -> Result<Option<Reply>, AllocError>
+        requires { Fits (order_of request.now) }
         ensures bundles { self.new.bundles ≡ self.old.bundles }
         ensures done { CarriesOut self.old.bundles (order_of request.now) (world_of self.old.runtime) (world_of self.new.runtime) result }
     {

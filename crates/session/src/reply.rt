@@ -1,10 +1,13 @@
 //! The lines that are answered.
-ghost use Rattle.std.specs.Prelude.{◌≡◌, ◌≤◌, ◌+◌, ◌++◌, ◌∷◌, [], IfOk, length, string_bytes};
+ghost use Rattle.std.specs.Prelude.{◌≡◌, ◌≤◌, ◌+◌, ◌++◌, ◌∷◌, [], Err, IfOk, length, string_bytes};
 ghost use Rattle.arrayvec.specs.ArrayVec.{array_vec_len};
 ghost use Rattle.serde_json.specs.View.{view};
 ghost use Rattle.serde_json.specs.Written.{compact_text};
 ghost use Rattle.export.specs.Sink.{Writes, WritesMade};
+ghost use Rattle.export.specs.declared.fault.ExportFault.TheVariants.{OutOfMemory};
 ghost use Rattle.lifecycle.specs.Fault as refusal;
+ghost use Rattle.lifecycle.specs.declared.command.Reply.TheVariants.{IsIn};
+ghost use Rattle.lifecycle.specs.declared.command.Status.{Status};
 ghost use Rattle.texts.specs.Lines.{line_feed};
 ghost use Rattle.session.specs.Replies.{no_command_line, outcome_text, reply_line, state_of, status_name};
 
@@ -107,6 +110,7 @@ pub(crate) fn write_reply<S: Sink>(
 ) -> Result<usize, ExportFault>
     ensures written { WritesMade S.held S.failures sink.old sink.new (reply_line id.now reply.now) result }
     ensures len { IfOk result (λ n. n ≡ length (reply_line id.now reply.now)) }
+    ensures memory { result ≡ Err OutOfMemory → (s : Status) × (reply.now ≡ IsIn s) }
 {
     let mut line = Line::new();
     match reply {

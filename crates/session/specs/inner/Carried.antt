@@ -1,9 +1,10 @@
 -- What one line does.
-use Rattle.std.specs.Prelude.{ℕ, ◌≡◌, List, Option, None, Some, Result, IfOk, OnErr, length}
+use Rattle.std.specs.Prelude.{ℕ, ◌≡◌, ◌≤◌, List, Option, None, Some, Result, Err, IfOk, OnErr, length}
 use Rattle.std.specs.declared.alloc.AllocError.{AllocError}
 use Rattle.export.specs.Failures.{Failures}
 use Rattle.export.specs.Sink.{WritesMade}
 use Rattle.export.specs.declared.fault.ExportFault.{ExportFault}
+use Rattle.export.specs.declared.fault.ExportFault.TheVariants.{OutOfMemory}
 use Rattle.processes.specs.First.{by_program}
 use Rattle.lifecycle.specs.declared.command.Reply.{Reply}
 use Rattle.lifecycle.specs.Orders.{Order, id_of}
@@ -13,6 +14,20 @@ use Rattle.script.specs.Orders as script
 use Rattle.session.specs.declared.bundles.Bundles.{Bundles}
 use Rattle.session.specs.Commands.{CommandIs, Commands}
 use Rattle.session.specs.Replies.{no_command_line, reply_line}
+use Rattle.session.specs.Wants.{WantsMemory}
+
+-- the program beside a call has at most half as many bytes as a line may have
+abbrev pub FitsLine : Option (List ℕ) → Type 0
+FitsLine None = Unit {0}
+FitsLine (Some program) = length program ≤ 35000
+
+abbrev pub Fits : script.Order → Type 0
+Fits (script.Create id name) = Unit {0}
+Fits (script.Start id) = Unit {0}
+Fits (script.Delete id) = Unit {0}
+Fits (script.State id) = Unit {0}
+Fits (script.Kill id signal) = Unit {0}
+Fits (script.Call id task arch nr args program) = FitsLine program
 
 -- the id that an order of a script names
 abbrev pub id_in : script.Order → List ℕ
@@ -45,6 +60,7 @@ pub record CarriesOut (bundles : Bundles) (order : script.Order) (w w' : World) 
   pub is : Commands bundles order command
   pub done : IfOk result (λ r. Replies command w w' r)
   pub kept : OnErr result (w' ≡ w)
+  pub wants : OnErr result (WantsMemory command w)
 
 -- a line was carried out and answered, by so many bytes
 pub record AnswersLine {S : Type 0} (held : S → Option (List ℕ)) (failures : S
@@ -54,3 +70,4 @@ pub record AnswersLine {S : Type 0} (held : S → Option (List ℕ)) (failures :
   pub written : WritesMade held failures old new (answer_line by_program number command w) result
   pub len : IfOk result (λ n. n ≡ length (answer_line by_program number command w))
   pub world : IfOk result (λ n. w' ≡ world_after by_program command w)
+  pub wants : result ≡ Err OutOfMemory → WantsMemory command w

@@ -8,6 +8,7 @@ use Rattle.lifecycle.specs.Worlds.{World}
 use Rattle.session.specs.declared.bundles.Bundles.{Bundles}
 use Rattle.session.specs.Answer.{answer_of, commands_of, counted}
 use Rattle.session.specs.Commands.{CommandIs, CommandsAre}
+use Rattle.session.specs.Wants.{WantsMemory}
 use Rattle.session.specs.inner.Cuts.{IsCut, kept_of}
 
 -- the world, what is kept of the line that is read, and how many lines were answered by how many bytes
@@ -51,6 +52,7 @@ pub record RunsOut (bundles : Bundles) (held held' : Option (List ℕ)) (part : 
   pub is : CommandIs bundles part command
   pub written : Appends held held' (answer_of by_program commands)
   pub told : line ≡ counted (length commands + 1)
+  pub wants : WantsMemory command (run by_program (commands_of commands) []).1
 
 -- a text came of the source, and its lines were answered
 pub record HasCome (bundles : Bundles) (s : Standing) (left left' held held' : Option (List ℕ)) : Type 0 where

@@ -5,6 +5,7 @@ use Rattle.std.specs.Prelude.{Option, Ok}
 use Rattle.std.proofs.Common.{subst}
 use Rattle.lifecycle.specs.declared.command.Reply.{Reply}
 use Rattle.session.proofs.EndLaws.{answered}
+use Rattle.session.proofs.WantLaws.{program_fits}
 use Rattle.session.proofs.answer.answer_line.Goals as goal
 
 pub returns-in-Some-2-clause-done : goal.returns-in-Some-2-clause-done
@@ -15,3 +16,9 @@ returns-in-Some-2-clause-done g c =
     let done = subst (λ (r : Option Reply). CarriesOut c.args.session.now.bundles order w w' (Ok r)) c.in-Some-2.is c.in_ok-reply.ensures.done in
     answered g.S.Sink.held g.S.Sink.failures c.args.session.now.bundles c.args.line.now c.args.number order w w' c.args.sink.now c.write_reply.new.sink
     c.write_reply.result c.in-Some-2.reply c.id_named.result.now c.in-Some.ensures done c.id_named.ensures c.write_reply.ensures.written c.write_reply.ensures.len
+    (λ none. c.write_reply.ensures.memory none)
+
+-- src/answer.rt:26:11
+pub carry_out-requires : goal.carry_out-requires
+carry_out-requires g c =
+    program_fits c.args.session.now.bundles.native c.args.line.now (order_of c.in-Some.request) c.in-Some.ensures

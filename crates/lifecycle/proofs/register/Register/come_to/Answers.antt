@@ -1,8 +1,7 @@
-use Rattle.std.proofs.Common.{◌≡◌, None, Some, Option, refl, sym, ap, subst, ◌∙◌}
+use Rattle.std.proofs.Common.{Some, refl, ap, subst, ◌∙◌}
 use Rattle.std.specs.Map.{lookup, set_value}
 use Rattle.processes.specs.Views.{same_text}
 use Rattle.lifecycle.specs.declared.entry.Entry.{Entry}
-use Rattle.lifecycle.specs.declared.register.Numbered.{Numbered}
 use Rattle.lifecycle.specs.Listed.{known_in, listed}
 use Rattle.lifecycle.specs.Places.{Known, at_phase, listed_by}
 use Rattle.lifecycle.specs.Entries.{FindsAt}

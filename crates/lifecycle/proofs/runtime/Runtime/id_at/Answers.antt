@@ -1,5 +1,4 @@
 use Rattle.std.proofs.Common.{Some, sym, ap, ◌∙◌}
-use Rattle.std.specs.Option.{option_map}
 use Rattle.lifecycle.specs.Listed.{listed}
 use Rattle.lifecycle.specs.Views.{world_of}
 use Rattle.lifecycle.proofs.CommandLaws.{id_at}

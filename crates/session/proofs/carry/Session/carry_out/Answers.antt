@@ -16,7 +16,7 @@ returns-in_err-create-in-Some-clause-done c =
     let p = err_from_is_err_and c.from_residual.result c.from_residual.ensures.1 in
     rw (c.in-Create.is, p.1) (not_carried c.args.self.now.bundles (script.Create c.in-Create.id.now c.in-Create.bundle.now)
     (command.Create c.in-Create.id.now c.in-Some.checked) (world_of c.args.self.now.runtime) (world_of c.create.new.self) p.0
-    (ap (λ (o : Option Checked). option_map (command.Create c.in-Create.id.now) o) c.in-Some.ensures) c.in_err-create-in-Some.ensures.err)
+    (ap (λ (o : Option Checked). option_map (command.Create c.in-Create.id.now) o) c.in-Some.ensures) c.in_err-create-in-Some.ensures.err c.in_err-create-in-Some.ensures.growth)
 
 pub returns-in_ok-create-in-Some-clause-done : goal.returns-in_ok-create-in-Some-clause-done
 returns-in_ok-create-in-Some-clause-done c =
@@ -28,7 +28,7 @@ pub returns-in_err-start-in-Start-clause-done : goal.returns-in_err-start-in-Sta
 returns-in_err-start-in-Start-clause-done c =
     let p = err_from_is_err_and c.from_residual-in_err-start-in-Start.result c.from_residual-in_err-start-in-Start.ensures.1 in
     rw (c.in-Start.is, p.1) (not_carried c.args.self.now.bundles (script.Start c.in-Start.id.now) (command.Start c.in-Start.id.now)
-    (world_of c.args.self.now.runtime) (world_of c.start.new.self) p.0 refl c.in_err-start-in-Start.ensures.err)
+    (world_of c.args.self.now.runtime) (world_of c.start.new.self) p.0 refl c.in_err-start-in-Start.ensures.err c.in_err-start-in-Start.ensures.growth)
 
 pub returns-in_ok-start-in-Start-clause-done : goal.returns-in_ok-start-in-Start-clause-done
 returns-in_ok-start-in-Start-clause-done c =
@@ -58,7 +58,7 @@ returns-in_err-call-in-Call-clause-done c =
     (script.Call c.in-Call.id.now c.in-Call.task c.in-Call.arch c.in-Call.nr c.in-Call.args (option_map bytes_of c.in-Call.program))
     (command.Call c.in-Call.id.now c.in-Call.task c.record_of-rec.result given)
     (world_of c.args.self.now.runtime) (world_of c.call.new.self.runtime) p.0
-    (c.record_of-rec.result, c.record_of-rec.ensures, refl) c.in_err-call-in-Call.ensures.err)
+    (c.record_of-rec.result, c.record_of-rec.ensures, refl) c.in_err-call-in-Call.ensures.err c.in_err-call-in-Call.ensures.growth)
 
 pub returns-in_ok-call-in-Call-clause-done : goal.returns-in_ok-call-in-Call-clause-done
 returns-in_ok-call-in-Call-clause-done c =
