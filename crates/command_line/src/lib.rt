@@ -1,22 +1,25 @@
-//! The words of a command line of `ccell`. It is a crate of its own since a check of clap's calls takes a minute.
+//! The command line of `ccell`: which command its arguments are.
 #![tactic(auto)]
 
-ghost use Rattle.std.specs.Prelude.{◌≡◌, ◌↔◌, IsTrue, Any, IfOk, IsErrOf};
-ghost use Rattle.command_line.specs.Words.{IsDashed, IsOrderOf, form_called};
+ghost use Rattle.std.specs.Prelude.{◌≡◌, ◌↔◌, IsTrue, Any, None, map};
+ghost use Rattle.std.specs.Option.{option_map};
+ghost use Rattle.std.specs.Prelude.{Some};
+ghost use Rattle.command_line.specs.Arguments.{Given, IsCommandLine, IsDashed, NoCommandLine, command_of, form_called, given, texts};
+ghost use Rattle.command_line.specs.Arguments as spec;
 
-mod orders;
+mod behind;
 
-use crate::orders::named_order;
+use crate::behind::{
+    adapt, annotate, assemble, certify, check, compare, draw, explain, export, manual, read,
+    record_for, run, verdict, version,
+};
 use call_tables::Arch;
-use clap::error::ErrorKind;
-use clap::{Arg, ArgMatches, Command, Error};
 pub use export::Form;
-use std::alloc::{AllocError, Global};
 
-/// What the words after the program's name ask for.
+/// What the arguments after the program's name ask for.
 #[derive(Clone, Copy)]
-pub enum Order<'a> {
-    /// The word that a filter answers to a record, both given as names of files.
+pub enum Command<'a> {
+    /// The verdict of a filter on a record, both given as names of files.
     Verdict {
         filter: &'a str,
         record: &'a str,
@@ -44,7 +47,7 @@ pub enum Order<'a> {
         form: Form,
     },
     /// What a bundle, read for a native machine, says of a call record, and why. The bundle is given as the name of a file,
-    /// and the record by a call and its arguments, or by `record` and its digits: one word at least.
+    /// and the record by a call and its arguments, or by `record` and its digits: one argument at least.
     Explain {
         native: Arch,
         bundle: &'a str,
@@ -55,7 +58,7 @@ pub enum Order<'a> {
         native: Arch,
         bundle: &'a str,
     },
-    /// The bytes of the call record that one word at least asks for: a call of a native machine, and its arguments.
+    /// The bytes of the call record that one argument at least asks for: a call of a native machine, and its arguments.
     Record {
         native: Arch,
         call: &'a [&'a str],
@@ -80,6 +83,13 @@ pub enum Order<'a> {
         first: &'a str,
         second: &'a str,
     },
+    /// The bundle that is made of an engine's configuration, to be read for a native machine, and whether it may say less
+    /// strict verdicts. The configuration is given as the name of a file.
+    Adapt {
+        native: Arch,
+        config: &'a str,
+        may_widen: bool,
+    },
     /// The page of a command by its name, or the list of them.
     Manual {
         command: Option<&'a str>,
@@ -94,129 +104,82 @@ pub enum Order<'a> {
     },
 }
 
-/// Why words are no order. A call for help is no order either.
-#[derive(Clone, Copy, Debug, PartialEq, Eq)]
-pub enum Misuse {
-    Usage,
-    OutOfMemory,
-}
-
-impl From<AllocError> for Misuse {
-    fn from(_error: AllocError) -> Misuse {
-        Misuse::OutOfMemory
-    }
-}
-
-impl From<Error> for Misuse {
-    fn from(error: Error) -> Misuse {
-        match error.kind() {
-            ErrorKind::OutOfMemory => Misuse::OutOfMemory,
-            _ => Misuse::Usage,
-        }
-    }
-}
-
-/// The form that a word calls by its name, `raw`, `listing` or `cert`.
-#[tactic(auto, unfolding(crate::specs::Words::form_called))]
-pub fn form_named(word: &str) -> Option<Form>
-    ensures { result ≡ form_called word.now }
+/// The form of an export by its name, `raw`, `listing` or `cert`.
+#[tactic(auto, unfolding(crate::specs::Arguments::form_called))]
+pub fn form_named(name: &str) -> Option<Form>
+    ensures { result ≡ form_called name.now }
 {
-    if word == "raw" {
+    if name == "raw" {
         return Some(Form::Raw);
     }
-    if word == "listing" {
+    if name == "listing" {
         return Some(Form::Listing);
     }
-    if word == "cert" {
+    if name == "cert" {
         return Some(Form::Certificate);
     }
     None
 }
 
-// The orders by their names, with the names of their parts.
-const ORDERS: &[(&str, &[&str])] = &[
-    ("verdict", &["filter", "record"]),
-    ("check", &["machine", "bundle", "filter", "certificate"]),
-    ("certify", &["machine", "bundle", "filter"]),
-    ("export", &["machine", "bundle", "form"]),
-    ("run", &["machine", "bundles"]),
-    ("explain", &["machine", "bundle", "call"]),
-    ("read", &["machine", "bundle"]),
-    ("record", &["machine", "call"]),
-    ("assemble", &["listing"]),
-    ("annotate", &["machine", "filter"]),
-    ("draw", &["machine", "filter"]),
-    ("compare", &["machine", "first", "second"]),
-    ("manual", &["command"]),
-    ("version", &[]),
-];
-
-// A part of an order. It is one word, but bundles and a call are one word at least, and a command's name may be left out.
-fn part_named<'a>(alloc: Global, name: &'a str) -> Arg<'a> {
-    let part = Arg::new(alloc, name).required(name != "command");
-    if name == "bundles" || name == "call" {
-        part.num_args(1..)
-    } else {
-        part
-    }
-}
-
-// Adds an order of that name, with those parts.
-fn with_order<'a>(
-    alloc: Global,
-    command: Command<'a>,
-    name: &'a str,
-    parts: &'a [&'a str],
-) -> Result<Command<'a>, AllocError> {
-    let mut order = Command::new(alloc, name);
-    for part in parts {
-        order = order.arg(part_named(alloc, part))?;
-    }
-    command.subcommand(order)
-}
-
-fn command<'a>(alloc: Global) -> Result<Command<'a>, AllocError> {
-    let mut command = Command::new(alloc, "ccell")
-        .no_binary_name(true)
-        .subcommand_required(true)
-        .disable_help_subcommand(true);
-    for (name, parts) in ORDERS {
-        command = with_order(alloc, command, name, parts)?;
-    }
-    Ok(command)
-}
-
-// Whether a word begins with `-`.
-fn is_dashed(word: &str) -> bool
-    ensures { IsTrue result ↔ IsDashed word.now }
+// Whether an argument begins with `-`.
+fn is_dashed(argument: &str) -> bool
+    ensures { IsTrue result ↔ IsDashed argument.now }
 {
-    word.as_bytes().first() == Some(&b'-')
+    argument.as_bytes().first() == Some(&b'-')
 }
 
-fn has_dashed(words: &[&str]) -> bool
-    ensures { IsTrue result ↔ Any (λ word. IsDashed word.now) words.now }
+fn has_dashed(arguments: &[&str]) -> bool
+    ensures { IsTrue result ↔ Any (λ a. IsDashed a.now) arguments.now }
 {
-    words.iter().any(|word| is_dashed(word))
+    arguments.iter().any(|argument| is_dashed(argument))
 }
 
-// The order of words that the command takes.
-fn order_of<'a>(matches: &ArgMatches<'a>, words: &'a [&'a str]) -> Result<Order<'a>, Misuse>
-    ensures { IfOk result (IsOrderOf words.entry.now) }
+// The command of a name that tells, with these parts.
+#[tactic(auto, unfolding(crate::specs::Arguments::telling))]
+fn telling<'a>(name: &str, parts: &'a [&'a str]) -> Option<Command<'a>>
+    ensures { option_map given result ≡ spec.telling name.now (texts parts.entry.now) }
 {
-    match matches.subcommand() {
-        Some((name, _)) => named_order(name, words),
-        None => Err(Misuse::Usage),
+    match name {
+        "explain" => explain(parts),
+        "read" => read(parts),
+        "record" => record_for(parts),
+        "assemble" => assemble(parts),
+        "annotate" => annotate(parts),
+        "draw" => draw(parts),
+        "compare" => compare(parts),
+        "adapt" => adapt(parts),
+        "manual" => manual(parts),
+        "version" => version(parts),
+        _ => None,
     }
 }
 
-/// The order that words give: its name and its parts, each a word, in their order. A word that begins with `-` is never
-/// part of one.
-pub fn read_words<'a>(alloc: Global, words: &'a [&'a str]) -> Result<Order<'a>, Misuse>
-    ensures dashed { Any (λ word. IsDashed word.now) words.entry.now → IsErrOf result Misuse.Usage }
-    ensures order { IfOk result (IsOrderOf words.entry.now) }
+// The command of a name, with these parts.
+#[tactic(auto, unfolding(crate::specs::Arguments::judging))]
+fn command_named<'a>(name: &str, parts: &'a [&'a str]) -> Option<Command<'a>>
+    ensures { option_map given result ≡ spec.judging name.now (texts parts.entry.now) (spec.telling name.now (texts parts.entry.now)) }
+{
+    match name {
+        "verdict" => verdict(parts),
+        "check" => check(parts),
+        "certify" => certify(parts),
+        "export" => export(parts),
+        "run" => run(parts),
+        _ => telling(name, parts),
+    }
+}
+
+/// The command that arguments are: its name first, and its parts behind it, each an argument. One that begins with `-` is
+/// never part of a command.
+pub fn read_words<'a>(words: &'a [&'a str]) -> Option<Command<'a>>
+    ensures command { (g : Given) → IsCommandLine words.entry.now g → option_map given result ≡ Some g }
+    ensures none { NoCommandLine words.entry.now → result ≡ None }
 {
     if has_dashed(words) {
-        return Err(Misuse::Usage);
+        return None;
     }
-    order_of(&command(alloc)?.try_get_matches_from(words)?, words)
+    match words {
+        [name, parts @ ..] => command_named(name, parts),
+        [] => None,
+    }
 }

@@ -3,10 +3,9 @@ use crate::flow::{Known, is_jump, targets};
 use crate::lines::Lines;
 use bpf_insn::{Insn, Operation, Program, ViewError};
 use call_record::Word;
-use call_tables::Arch;
+use call_tables::{Arch, LEAST_X32_NUMBER};
 use explain::{ActionText, Told, machine_of};
 use kernel_check::accept;
-use profile::LEAST_X32_NUMBER;
 use std::alloc::{AllocError, Global};
 use std::fmt::Write;
 

@@ -52,6 +52,11 @@ const PAGES: &[Page] = &[
         text: "ccell compare MACHINE BUNDLE BUNDLE\n\nTells same where both bundles say the same of every call record, or a line for each call of which they do not: the call,\nwhat the first and what the second says, and a record as explain takes it. The last line is stricter or looser where the\nsecond bundle is that in each line, and undecided is told where neither could be shown.\nStatus 0 for same, or 1.\n\nExample: ccell compare linux-x86-64 old.json new.json\n",
     },
     Page {
+        name: "adapt",
+        purpose: "a bundle of what an engine hands to its runtime",
+        text: "ccell adapt MACHINE CONFIG [widen]\n\nMakes a bundle, as the other commands read it, of an engine's config.json, or of a section linux.seccomp by itself, and tells\neach change on standard error, with its place. Where a change widens the profile nothing is written, unless widen stands\nbehind the file.\nStatus 0, or 1 and the reason on standard error, or a line that begins with 'refused'.\n\nExample: ccell adapt linux-x86-64 config.json > web.json\n",
+    },
+    Page {
         name: "record",
         purpose: "the call record of a call",
         text: "ccell record MACHINE WHAT [ARGUMENT..]\n\nWrites the 64 bytes of a call record, as verdict takes it. WHAT and the arguments are those of a script.\nStatus 0, or 1 and the line 'refused call'.\n\nExample: ccell record x86-64 write 1 0 4097 > write.rec\n",

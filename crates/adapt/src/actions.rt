@@ -1,0 +1,53 @@
+//! Actions, by how strict they are (seccomp(2)).
+use serde_json::Value;
+
+/// What engines call an action that is written under another name.
+pub(crate) const KILL_THREAD: &str = "SCMP_ACT_KILL_THREAD";
+
+pub(crate) const KILL: &str = "SCMP_ACT_KILL";
+
+const KILL_PROCESS: &str = "SCMP_ACT_KILL_PROCESS";
+
+// The place of an action in the order of strictness, the strictest first.
+fn place_of(action: &str) -> Option<u8> {
+    match action {
+        "SCMP_ACT_KILL_PROCESS" => Some(0),
+        "SCMP_ACT_KILL" | "SCMP_ACT_KILL_THREAD" => Some(1),
+        "SCMP_ACT_TRAP" => Some(2),
+        "SCMP_ACT_ERRNO" => Some(3),
+        "SCMP_ACT_NOTIFY" => Some(4),
+        "SCMP_ACT_TRACE" => Some(5),
+        "SCMP_ACT_LOG" => Some(6),
+        "SCMP_ACT_ALLOW" => Some(7),
+        _ => None,
+    }
+}
+
+/// Whether an action is stricter than another, or may be: one that is not known may be anything.
+pub(crate) fn may_be_stricter(action: &str, other: &str) -> bool {
+    match (place_of(action), place_of(other)) {
+        (Some(first), Some(second)) => first < second,
+        _ => true,
+    }
+}
+
+/// The text under a key, empty where there is none.
+pub(crate) fn text_at<'a>(object: &'a Value, key: &str) -> &'a str {
+    object.get(key).and_then(Value::as_str).unwrap_or("")
+}
+
+// Whether an entry's action may be stricter than that of calls of a machine that is not listed.
+fn may_kill_process(entry: &Value) -> bool {
+    text_at(entry, "action") == KILL_PROCESS
+}
+
+/// Whether a section says KILL_PROCESS somewhere, which is stricter than what calls of unlisted machines get.
+pub(crate) fn says_kill_process(section: &Value) -> bool {
+    if text_at(section, "defaultAction") == KILL_PROCESS {
+        return true;
+    }
+    match section.get("syscalls").and_then(Value::as_array) {
+        Some(entries) => entries.iter().any(|entry| may_kill_process(entry)),
+        None => false,
+    }
+}

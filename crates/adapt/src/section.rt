@@ -1,0 +1,79 @@
+//! The section of a configuration, and its edition.
+use crate::changes::Changes;
+use crate::keys::{member_at, tell_keys};
+use crate::place::Place;
+use serde_json::Value;
+use std::alloc::{AllocError, Global};
+
+/// A section, and what stands before it in a place.
+#[derive(Clone, Copy)]
+pub(crate) struct Section<'a> {
+    pub(crate) value: &'a Value,
+    pub(crate) top: &'static str,
+}
+
+// Whether a text is a section by itself.
+fn is_by_itself(config: &Value) -> bool {
+    config.get("linux").is_none() && config.get("defaultAction").is_some()
+}
+
+/// The section of a configuration, or one that stands by itself.
+pub(crate) fn section_of(config: &Value) -> Option<Section<'_>> {
+    if is_by_itself(config) {
+        return Some(Section {
+            value: config,
+            top: "",
+        });
+    }
+    let linux = config.get("linux")?;
+    Some(Section {
+        value: member_at(linux, "seccomp")?,
+        top: "linux.seccomp.",
+    })
+}
+
+/// Tells the keys of what stands above a section, and its own.
+pub(crate) fn tell_section_keys(
+    changes: &mut Changes,
+    config: &Value,
+    section: Section<'_>,
+) -> Result<(), AllocError> {
+    tell_keys(changes, Place::top(""), config)?;
+    if section.top == "" {
+        return Ok(());
+    }
+    if let Some(linux) = config.get("linux") {
+        tell_keys(changes, Place::top("linux."), linux)?;
+    }
+    tell_keys(changes, Place::top(section.top), section.value)
+}
+
+const EDITION: &str = "\"1.0.2\"";
+
+fn is_read(edition: &str) -> bool {
+    edition == "1.0.2" || edition == "1.1.0"
+}
+
+/// The edition of a configuration: one of the first that is not read is written as one that is.
+pub(crate) fn edition_of(
+    alloc: Global,
+    changes: &mut Changes,
+    config: &Value,
+) -> Result<String, AllocError> {
+    let place = Place::top("").key("ociVersion");
+    let Some(member) = member_at(config, "ociVersion") else {
+        changes.tell(place, "missing, and written as 1.0.2", false)?;
+        return String::from_str(alloc, EDITION);
+    };
+    let edition = member.as_str().unwrap_or("");
+    if is_read(edition) || !edition.starts_with("1.") {
+        return format!(in alloc; "{member}");
+    }
+    changes.tell_text(
+        place,
+        edition,
+        "is not read, and is written as 1.0.2",
+        false,
+    )?;
+    String::from_str(alloc, EDITION)
+}

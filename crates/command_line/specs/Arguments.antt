@@ -1,0 +1,176 @@
+-- The arguments of a command line: which command they are.
+use Rattle.std.specs.Prelude.{Any, Bool, true, false, ℕ, ◌≡◌, ◌⊎◌, List, [], ◌∷◌, if◌then◌else◌, map, Option, Some, None, slice_get, codes}
+use Rattle.std.specs.Option.{option_map}
+use Rattle.std.specs.Str.{bytes_eq}
+use denote.Ref.{Bor}
+use Rattle.call_tables.specs.declared.arch.Arch.{Arch}
+use Rattle.call_tables.specs.Arch.{machine_called}
+use Rattle.command_line.specs.declared.Command.{Command}
+use Rattle.command_line.specs.declared.Command.TheVariants as command
+use Rattle.export.specs.declared.form.Form.{Form}
+use Rattle.export.specs.declared.form.Form.TheVariants.{Raw, Listing, Certificate}
+
+abbrev pub hyphen : ℕ
+hyphen = 45
+
+-- the argument begins with a hyphen
+abbrev pub IsDashed : List ℕ → Type 0
+IsDashed argument = slice_get argument 0 ≡ Some hyphen
+
+-- the form of that name
+unfoldable pub form_called : List ℕ → Option Form
+form_called name =
+    if bytes_eq name (codes "raw") then Some Raw
+    else if bytes_eq name (codes "listing") then Some Listing
+    else if bytes_eq name (codes "cert") then Some Certificate
+    else None
+
+-- a command with what it is given, without where the texts lie in memory
+pub data Given : Type 0 where
+  Verdict : (filter rec : List ℕ) → Given
+  Check : (native : Arch) → (bundle filter cert : List ℕ) → Given
+  Certify : (native : Arch) → (bundle filter : List ℕ) → Given
+  Export : (native : Arch) → (bundle : List ℕ) → (form : Form) → Given
+  Run : (native : Arch) → (bundles : List (List ℕ)) → Given
+  Explain : (native : Arch) → (bundle : List ℕ) → (call : List (List ℕ)) → Given
+  Read : (native : Arch) → (bundle : List ℕ) → Given
+  Record : (native : Arch) → (call : List (List ℕ)) → Given
+  Assemble : (listing : List ℕ) → Given
+  Annotate : (native : Arch) → (filter : List ℕ) → Given
+  Draw : (native : Arch) → (filter : List ℕ) → Given
+  Compare : (native : Arch) → (first second : List ℕ) → Given
+  Adapt : (native : Arch) → (config : List ℕ) → (may_widen : Bool) → Given
+  Manual : (name : Option (List ℕ)) → Given
+  Version : Given
+
+abbrev pub given : Command → Given
+given (command.Verdict filter rec) = Verdict filter.now rec.now
+given (command.Check native bundle filter cert) = Check native bundle.now filter.now cert.now
+given (command.Certify native bundle filter) = Certify native bundle.now filter.now
+given (command.Export native bundle form) = Export native bundle.now form
+given (command.Run native bundles) = Run native (map (λ b. b.now) bundles.now)
+given (command.Explain native bundle call) = Explain native bundle.now (map (λ c. c.now) call.now)
+given (command.Read native bundle) = Read native bundle.now
+given (command.Record native call) = Record native (map (λ c. c.now) call.now)
+given (command.Assemble listing) = Assemble listing.now
+given (command.Annotate native filter) = Annotate native filter.now
+given (command.Draw native filter) = Draw native filter.now
+given (command.Compare native first second) = Compare native first.now second.now
+given (command.Adapt native config may_widen) = Adapt native config.now may_widen
+given (command.Manual name) = Manual (option_map (λ n. n.now) name)
+given command.Version = Version
+
+-- arguments, without where they lie in memory
+abbrev pub texts : List (Bor (List ℕ)) → List (List ℕ)
+texts arguments = map (λ a. a.now) arguments
+
+-- ---- what stands behind a command's name
+
+abbrev pub verdict : List (List ℕ) → Option Given
+verdict (filter ∷ rec ∷ []) = Some (Verdict filter rec)
+verdict _ = None
+
+abbrev pub check : List (List ℕ) → Option Given
+check (machine ∷ bundle ∷ filter ∷ cert ∷ []) = option_map (λ native. Check native bundle filter cert) (machine_called machine)
+check _ = None
+
+abbrev pub certify : List (List ℕ) → Option Given
+certify (machine ∷ bundle ∷ filter ∷ []) = option_map (λ native. Certify native bundle filter) (machine_called machine)
+certify _ = None
+
+abbrev pub export_in : List ℕ → List ℕ → Option Form → Option Given
+export_in machine bundle (Some form) = option_map (λ native. Export native bundle form) (machine_called machine)
+export_in machine bundle None = None
+
+abbrev pub export : List (List ℕ) → Option Given
+export (machine ∷ bundle ∷ form ∷ []) = export_in machine bundle (form_called form)
+export _ = None
+
+-- one bundle at least
+abbrev pub run : List (List ℕ) → Option Given
+run (machine ∷ bundle ∷ bundles) = option_map (λ native. Run native (bundle ∷ bundles)) (machine_called machine)
+run _ = None
+
+-- one argument at least for the call
+abbrev pub explain : List (List ℕ) → Option Given
+explain (machine ∷ bundle ∷ call ∷ more) = option_map (λ native. Explain native bundle (call ∷ more)) (machine_called machine)
+explain _ = None
+
+abbrev pub read : List (List ℕ) → Option Given
+read (machine ∷ bundle ∷ []) = option_map (λ native. Read native bundle) (machine_called machine)
+read _ = None
+
+-- one argument at least for the call
+abbrev pub record_for : List (List ℕ) → Option Given
+record_for (machine ∷ call ∷ more) = option_map (λ native. Record native (call ∷ more)) (machine_called machine)
+record_for _ = None
+
+abbrev pub assemble : List (List ℕ) → Option Given
+assemble (listing ∷ []) = Some (Assemble listing)
+assemble _ = None
+
+abbrev pub annotate : List (List ℕ) → Option Given
+annotate (machine ∷ filter ∷ []) = option_map (λ native. Annotate native filter) (machine_called machine)
+annotate _ = None
+
+abbrev pub draw : List (List ℕ) → Option Given
+draw (machine ∷ filter ∷ []) = option_map (λ native. Draw native filter) (machine_called machine)
+draw _ = None
+
+abbrev pub compare : List (List ℕ) → Option Given
+compare (machine ∷ first ∷ second ∷ []) = option_map (λ native. Compare native first second) (machine_called machine)
+compare _ = None
+
+-- the word `widen` may stand behind the file
+abbrev pub adapt : List (List ℕ) → Option Given
+adapt (machine ∷ config ∷ []) = option_map (λ native. Adapt native config false) (machine_called machine)
+adapt (machine ∷ config ∷ word ∷ []) =
+    if bytes_eq word (codes "widen") then option_map (λ native. Adapt native config true) (machine_called machine) else None
+adapt _ = None
+
+abbrev pub manual : List (List ℕ) → Option Given
+manual [] = Some (Manual None)
+manual (name ∷ []) = Some (Manual (Some name))
+manual _ = None
+
+abbrev pub version : List (List ℕ) → Option Given
+version [] = Some Version
+version _ = None
+
+-- the five commands that judge filters and run containers, then those that tell
+unfoldable pub judging : List ℕ → List (List ℕ) → Option Given → Option Given
+judging name parts other =
+    if bytes_eq name (codes "verdict") then verdict parts
+    else if bytes_eq name (codes "check") then check parts
+    else if bytes_eq name (codes "certify") then certify parts
+    else if bytes_eq name (codes "export") then export parts
+    else if bytes_eq name (codes "run") then run parts
+    else other
+
+unfoldable pub telling : List ℕ → List (List ℕ) → Option Given
+telling name parts =
+    if bytes_eq name (codes "explain") then explain parts
+    else if bytes_eq name (codes "read") then read parts
+    else if bytes_eq name (codes "record") then record_for parts
+    else if bytes_eq name (codes "assemble") then assemble parts
+    else if bytes_eq name (codes "annotate") then annotate parts
+    else if bytes_eq name (codes "draw") then draw parts
+    else if bytes_eq name (codes "compare") then compare parts
+    else if bytes_eq name (codes "adapt") then adapt parts
+    else if bytes_eq name (codes "manual") then manual parts
+    else if bytes_eq name (codes "version") then version parts
+    else None
+
+-- the command that these arguments are: its name, and its parts behind it
+abbrev pub command_of : List (List ℕ) → Option Given
+command_of [] = None
+command_of (name ∷ parts) = judging name parts (telling name parts)
+
+-- The arguments are this command, and none of them begins with a hyphen.
+pub record IsCommandLine (arguments : List (Bor (List ℕ))) (given : Given) : Type 0 where
+  pub command : command_of (texts arguments) ≡ Some given
+  pub plain : Any (λ a. IsDashed a.now) arguments → ⊥
+
+-- they are none: they are no command, or one of them begins with a hyphen
+abbrev pub NoCommandLine : List (Bor (List ℕ)) → Type 0
+NoCommandLine arguments = (command_of (texts arguments) ≡ None) ⊎ Any (λ a. IsDashed a.now) arguments
