@@ -44,6 +44,11 @@ fn read_up_to(alloc: Global, reader: &mut impl Read, most: u32) -> io::Result<Ve
 pub struct Disk<'a>(pub &'a HostRuntime);
 
 impl Files for Disk<'_> {
+    ghost use Rattle.std.specs.Prelude.{None};
+
+    // What the files of a process have is not told.
+    ghost folder = { λ _. None };
+
     fn read(&mut self, _alloc: Global, name: &str) -> Result<Vec<u8>, FileFault> {
         fs::read(self.0, name).map_err(fault_of)
     }

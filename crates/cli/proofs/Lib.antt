@@ -1,3 +1,7 @@
 mod TurnLaws
 mod RunLaws
 mod HeadlineLaws
+mod ReportLaws
+mod EnoughLaws
+mod FileLaws
+mod DispatchLaws

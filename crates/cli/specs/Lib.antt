@@ -1,5 +1,7 @@
 pub mod Stop
 pub mod Fault
+pub mod Files
 pub mod Running
+pub mod Dispatch
 pub mod Headline
 pub mod inner

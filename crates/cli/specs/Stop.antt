@@ -1,7 +1,9 @@
--- Why a run stopped, and its exit status.
-use Rattle.std.specs.Prelude.{ℕ}
-use Rattle.command_line.specs.declared.Misuse.{Misuse}
-use Rattle.command_line.specs.declared.Misuse.TheVariants as misuse
+-- Why a run stopped, its exit status, and the line that says so.
+use Rattle.std.specs.Prelude.{ℕ, List, [], ◌∷◌, ◌++◌, Result, Option, codes}
+use Rattle.std.specs.Fmt.{decimal}
+use Rattle.texts.specs.Lines.{line_feed}
+use Rattle.export.specs.Failures.{Failures}
+use Rattle.export.specs.Sink.{Writes}
 use Rattle.export.specs.declared.fault.ExportFault.{ExportFault}
 use Rattle.export.specs.declared.fault.ExportFault.TheVariants as fault
 use Rattle.session.specs.declared.fault.ScriptFault.{ScriptFault}
@@ -16,9 +18,25 @@ status_of (Read line) = 3
 status_of (Write out) = 3
 status_of OutOfMemory = 3
 
-abbrev pub stop_at_misuse : Misuse → Stop
-stop_at_misuse misuse.Usage = Usage
-stop_at_misuse misuse.OutOfMemory = OutOfMemory
+-- the text that says it
+abbrev pub text_of : Stop → List ℕ
+text_of Usage = codes "ccell: usage"
+text_of (CannotRead name) = codes "ccell: cannot read " ++ name.now
+text_of (Read line) = codes "ccell: read failed at line " ++ decimal line
+text_of (Write out) = codes "ccell: write failed after " ++ decimal out ++ codes " bytes"
+text_of OutOfMemory = codes "ccell: out of memory"
+
+-- the line that says it
+abbrev pub line_of : Stop → List ℕ
+line_of stop = text_of stop ++ line_feed ∷ []
+
+-- the line of a file that cannot be read
+abbrev pub name_line : List ℕ → List ℕ
+name_line name = codes "ccell: cannot read " ++ name ++ line_feed ∷ []
+
+-- the line was written, or a beginning of it where a write failed
+abbrev pub Reports : {S : Type 0} → (S → Option (List ℕ)) → (S → Failures) → S → S → List ℕ → Type 0
+Reports held failures old new line = (written : Result (Unit {0}) ExportFault) × Writes held failures old new line written
 
 abbrev pub stop_at_fault : ExportFault → Stop
 stop_at_fault (fault.Write out) = Write out

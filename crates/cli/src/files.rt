@@ -1,4 +1,8 @@
 //! Files by their names, and what the commands read of them.
+ghost use Rattle.std.specs.Prelude.{◌≡◌, IfErr, IfOk, map};
+ghost use Rattle.cli.specs.Dispatch.{FirstUnread, HaveBytes, StopsAt};
+ghost use Rattle.cli.specs.Files.{HasBytes, HasEnough};
+
 use crate::fault::FileFault;
 use crate::stops::Stop;
 use bpf_insn::MAX_INSNS;
@@ -7,14 +11,24 @@ use std::alloc::Global;
 
 /// What reads files by their names.
 pub trait Files {
+    ghost use Rattle.std.specs.Prelude.{Option};
+    ghost use Rattle.cli.specs.Files.{Folder, IsUnread};
+
+    /// The bytes of the file of each name, where they are told.
+    ghost folder: { Self → Option Folder };
+
     /// All bytes of a file.
-    fn read(&mut self, alloc: Global, name: &str) -> Result<Vec<u8>, FileFault>;
+    fn read(&mut self, alloc: Global, name: &str) -> Result<Vec<u8>, FileFault>
+        ensures same { folder self.new ≡ folder self.old }
+        ensures ok { IfOk result (λ bytes. HasBytes (folder self.old) name.now bytes.items) }
+        ensures err { IfErr result (λ fault. IsUnread (folder self.old) name.now fault) };
 
     /// The bytes of a file that is refused by its length alone where it has more than so many, a multiple of eight. Of
     /// a longer one it may be the first bytes: more than so many, and as many over a multiple of eight as the file has.
-    fn read_up_to(&mut self, alloc: Global, name: &str, _most: u32) -> Result<Vec<u8>, FileFault> {
-        self.read(alloc, name)
-    }
+    fn read_up_to(&mut self, alloc: Global, name: &str, most: u32) -> Result<Vec<u8>, FileFault>
+        ensures same { folder self.new ≡ folder self.old }
+        ensures ok { IfOk result (λ bytes. HasEnough most (folder self.old) name.now bytes.items) }
+        ensures err { IfErr result (λ fault. IsUnread (folder self.old) name.now fault) };
 }
 
 // The longest files that are judged by more than their length, in bytes: a call record, a filter, a certificate.
@@ -24,70 +38,97 @@ const FILTER_SIZE: u32 = 8 * MAX_INSNS as u32;
 
 const CERTIFICATE_SIZE: u32 = MAX_BYTES as u32;
 
-fn stop_of(fault: FileFault, name: &str) -> Stop<'_> {
-    match fault {
-        FileFault::CannotRead => Stop::CannotRead(name),
-        FileFault::OutOfMemory => Stop::OutOfMemory,
+fn read_up_to<'a, F: Files>(
+    alloc: Global,
+    files: &mut F,
+    name: &'a str,
+    most: u32,
+) -> Result<Vec<u8>, Stop<'a>>
+    ensures same { F.folder files.new ≡ F.folder files.old }
+    ensures ok { IfOk result (λ bytes. HasEnough most (F.folder files.old) name.entry.now bytes.items) }
+    ensures err { IfErr result (λ stop. StopsAt (F.folder files.old) name.entry.now stop) }
+{
+    match files.read_up_to(alloc, name, most) {
+        Ok(bytes) => Ok(bytes),
+        Err(FileFault::CannotRead) => Err(Stop::CannotRead(name)),
+        Err(FileFault::OutOfMemory) => Err(Stop::OutOfMemory),
     }
 }
 
-fn read_up_to<'a>(
-    alloc: Global,
-    files: &mut impl Files,
-    name: &'a str,
-    most: u32,
-) -> Result<Vec<u8>, Stop<'a>> {
-    files
-        .read_up_to(alloc, name, most)
-        .map_err(|fault| stop_of(fault, name))
-}
-
 /// The bytes of a file.
-pub fn read<'a>(alloc: Global, files: &mut impl Files, name: &'a str) -> Result<Vec<u8>, Stop<'a>> {
-    files
-        .read(alloc, name)
-        .map_err(|fault| stop_of(fault, name))
+pub fn read<'a, F: Files>(alloc: Global, files: &mut F, name: &'a str) -> Result<Vec<u8>, Stop<'a>>
+    ensures same { F.folder files.new ≡ F.folder files.old }
+    ensures ok { IfOk result (λ bytes. HasBytes (F.folder files.old) name.entry.now bytes.items) }
+    ensures err { IfErr result (λ stop. StopsAt (F.folder files.old) name.entry.now stop) }
+{
+    match files.read(alloc, name) {
+        Ok(bytes) => Ok(bytes),
+        Err(FileFault::CannotRead) => Err(Stop::CannotRead(name)),
+        Err(FileFault::OutOfMemory) => Err(Stop::OutOfMemory),
+    }
 }
 
 /// The bytes of a file that is judged as a call record.
-pub fn read_record<'a>(
+pub fn read_record<'a, F: Files>(
     alloc: Global,
-    files: &mut impl Files,
+    files: &mut F,
     name: &'a str,
-) -> Result<Vec<u8>, Stop<'a>> {
+) -> Result<Vec<u8>, Stop<'a>>
+    ensures same { F.folder files.new ≡ F.folder files.old }
+    ensures ok { IfOk result (λ bytes. HasEnough 64 (F.folder files.old) name.entry.now bytes.items) }
+    ensures err { IfErr result (λ stop. StopsAt (F.folder files.old) name.entry.now stop) }
+{
     read_up_to(alloc, files, name, RECORD_SIZE)
 }
 
 /// The bytes of a file that is judged as a filter.
-pub fn read_filter<'a>(
+pub fn read_filter<'a, F: Files>(
     alloc: Global,
-    files: &mut impl Files,
+    files: &mut F,
     name: &'a str,
-) -> Result<Vec<u8>, Stop<'a>> {
+) -> Result<Vec<u8>, Stop<'a>>
+    ensures same { F.folder files.new ≡ F.folder files.old }
+    ensures ok { IfOk result (λ bytes. HasEnough 32768 (F.folder files.old) name.entry.now bytes.items) }
+    ensures err { IfErr result (λ stop. StopsAt (F.folder files.old) name.entry.now stop) }
+{
     read_up_to(alloc, files, name, FILTER_SIZE)
 }
 
 /// The bytes of a file that is judged as a certificate.
-pub fn read_certificate<'a>(
+pub fn read_certificate<'a, F: Files>(
     alloc: Global,
-    files: &mut impl Files,
+    files: &mut F,
     name: &'a str,
-) -> Result<Vec<u8>, Stop<'a>> {
+) -> Result<Vec<u8>, Stop<'a>>
+    ensures same { F.folder files.new ≡ F.folder files.old }
+    ensures ok { IfOk result
+        (λ bytes. HasEnough 4194304 (F.folder files.old) name.entry.now bytes.items) }
+    ensures err { IfErr result (λ stop. StopsAt (F.folder files.old) name.entry.now stop) }
+{
     read_up_to(alloc, files, name, CERTIFICATE_SIZE)
 }
 
 /// The bytes of files, in the order of their names.
-pub fn read_each<'a>(
+pub fn read_each<'a, F: Files>(
     alloc: Global,
-    files: &mut impl Files,
+    files: &mut F,
     names: &'a [&'a str],
-) -> Result<Vec<Vec<u8>>, Stop<'a>> {
+) -> Result<Vec<Vec<u8>>, Stop<'a>>
+    ensures ok { IfOk result (λ texts. HaveBytes (F.folder files.old) (map (λ n. n.now) names.entry.now)
+        (map (λ t. t.items) texts.items)) }
+    ensures err { IfErr result
+        (λ stop. FirstUnread (F.folder files.old) (map (λ n. n.now) names.entry.now) stop) }
+{
     let mut texts = Vec::new(alloc);
     for name in names {
-        let text = read(alloc, files, name)?;
-        let Ok(()) = texts.push(text) else {
-            return Err(Stop::OutOfMemory);
-        };
+        match read(alloc, files, name) {
+            Ok(text) => {
+                if texts.push(text).is_err() {
+                    return Err(Stop::OutOfMemory);
+                }
+            }
+            Err(stop) => return Err(stop),
+        }
     }
     Ok(texts)
 }

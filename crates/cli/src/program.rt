@@ -1,38 +1,48 @@
 //! The whole program, from the words after its name to its exit status.
-ghost use Rattle.std.specs.Prelude.{◌≤◌};
+ghost use Rattle.std.specs.Prelude.{◌≡◌, ◌⊎◌, ◌≤◌, Err, Ok, OnErr, true, map};
+ghost use Rattle.command_line.specs.Arguments.{Given, IsCommandLine, NoCommandLine, given};
+ghost use Rattle.cli.specs.Dispatch.{Answers, AnswersCertify, AnswersCheck, AnswersExport, AnswersRun, AnswersVerdict, Does, TellsChanges};
+ghost use Rattle.cli.specs.Stop.{Reports, line_of};
+ghost use Rattle.cli.specs.declared.stops.Stop.TheVariants.{Usage};
 
 use crate::comparing::{compare, tell_conviction};
 use crate::files::{Files, read, read_certificate, read_each, read_filter, read_record};
 use crate::run::run_bundles;
 use crate::stops::{Stop, report};
 use call_tables::Arch;
-use command_line::{Form, Order, read_words};
+use command_line::{Command, Form, read_words};
 use explain::Told;
 use export::{Sink, Source, write_all};
 use pipeline::{certify_bundle, check_line, export_bundle, verdict_line};
 use std::alloc::Global;
 
 // Answers a filter to a record.
-fn verdict<'a>(
+fn verdict<'a, F: Files, O: Sink>(
     alloc: Global,
     filter: &'a str,
-    record: &'a str,
-    files: &mut impl Files,
-    out: &mut impl Sink,
-) -> Result<bool, Stop<'a>> {
-    let filter = read_filter(alloc, files, filter)?;
-    let record = read_record(alloc, files, record)?;
-    Ok(verdict_line(&filter, &record, out)?)
+    rec: &'a str,
+    files: &mut F,
+    out: &mut O,
+) -> Result<bool, Stop<'a>>
+    ensures { AnswersVerdict O.held O.failures (F.folder files.old) out.old out.new filter.entry.now rec.entry.now result }
+{
+    let program = read_filter(alloc, files, filter)?;
+    let call = read_record(alloc, files, rec)?;
+    Ok(verdict_line(&program, &call, out)?)
 }
 
 // Says whether a certificate shows that a filter answers what a bundle says.
-fn check<'a>(
+fn check<'a, F: Files, O: Sink>(
     alloc: Global,
     native: Arch,
-    [bundle, filter, certificate]: [&'a str; 3],
-    files: &mut impl Files,
-    out: &mut impl Sink,
-) -> Result<bool, Stop<'a>> {
+    bundle: &'a str,
+    filter: &'a str,
+    certificate: &'a str,
+    files: &mut F,
+    out: &mut O,
+) -> Result<bool, Stop<'a>>
+    ensures { AnswersCheck O.held O.failures (F.folder files.old) out.old out.new native bundle.entry.now filter.entry.now certificate.entry.now result }
+{
     let bundle = read(alloc, files, bundle)?;
     let filter = read_filter(alloc, files, filter)?;
     let certificate = read_certificate(alloc, files, certificate)?;
@@ -41,45 +51,56 @@ fn check<'a>(
 
 // Writes a certificate that a filter answers what a bundle says, or what tells that it has none. A record that convicts the
 // filter is told in words too.
-fn certify<'a>(
+fn certify<'a, F: Files, O: Sink, E: Sink>(
     alloc: Global,
     native: Arch,
-    [bundle, filter]: [&'a str; 2],
-    files: &mut impl Files,
-    out: &mut impl Sink,
-    err: &mut impl Sink,
-) -> Result<bool, Stop<'a>> {
+    bundle: &'a str,
+    filter: &'a str,
+    files: &mut F,
+    out: &mut O,
+    err: &mut E,
+) -> Result<bool, Stop<'a>>
+    ensures answers { AnswersCertify O.held O.failures (F.folder files.old) out.old out.new native bundle.entry.now filter.entry.now result }
+    ensures stopped { OnErr result (err.new ≡ err.old) }
+    ensures quiet { result ≡ Ok true → err.new ≡ err.old }
+{
     let bundle = read(alloc, files, bundle)?;
     let filter = read_filter(alloc, files, filter)?;
     let done = certify_bundle(alloc, native, &bundle, &filter, out)?;
-    if !done {
-        tell_conviction(alloc, native, &bundle, &filter, err);
+    if done {
+        return Ok(true);
     }
-    Ok(done)
+    tell_conviction(alloc, native, &bundle, &filter, err);
+    Ok(false)
 }
 
 // Writes the filter of a bundle in a form, once it is checked, or why it has none.
-fn export<'a>(
+fn export<'a, F: Files, O: Sink>(
     alloc: Global,
     native: Arch,
     bundle: &'a str,
     form: Form,
-    files: &mut impl Files,
-    out: &mut impl Sink,
-) -> Result<bool, Stop<'a>> {
+    files: &mut F,
+    out: &mut O,
+) -> Result<bool, Stop<'a>>
+    ensures { AnswersExport O.held O.failures (F.folder files.old) out.old out.new native bundle.entry.now form result }
+{
     let bundle = read(alloc, files, bundle)?;
     Ok(export_bundle(alloc, native, &bundle, form, out)?)
 }
 
 // Answers a script with the filters of bundles, once they are checked, or says why the first without one has none.
-fn run<'a>(
+fn run<'a, F: Files, I: Source, O: Sink>(
     alloc: Global,
     native: Arch,
     bundles: &'a [&'a str],
-    files: &mut impl Files,
-    input: &mut impl Source,
-    out: &mut impl Sink,
-) -> Result<bool, Stop<'a>> {
+    files: &mut F,
+    input: &mut I,
+    out: &mut O,
+) -> Result<bool, Stop<'a>>
+    ensures { AnswersRun I.left I.failures O.held O.failures (F.folder files.old) input.old input.new out.old out.new
+        native (map (λ b. b.now) bundles.entry.now) result }
+{
     let texts = read_each(alloc, files, bundles)?;
     run_bundles(alloc, native, &texts, input, out)
 }
@@ -150,6 +171,25 @@ fn draw<'a>(
     tell(&describe::drawn(alloc, native, &filter)?, out)
 }
 
+// Writes the bundle that is made of an engine's configuration, or why there is none, and tells what was changed.
+fn adapt<'a, E: Sink>(
+    alloc: Global,
+    native: Arch,
+    config: &'a str,
+    may_widen: bool,
+    files: &mut impl Files,
+    out: &mut impl Sink,
+    err: &mut E,
+) -> Result<bool, Stop<'a>>
+    ensures stopped { OnErr result (err.new ≡ err.old) }
+{
+    let config = read(alloc, files, config)?;
+    let adapted = adapt::adapt(alloc, native, &config, may_widen)?;
+    let done = tell(&adapted.told, out)?;
+    let _ = write_all(adapted.changes.as_bytes(), err);
+    Ok(done)
+}
+
 // Tells how a command is used, or which there are.
 fn manual<'a>(
     alloc: Global,
@@ -162,66 +202,110 @@ fn manual<'a>(
     }
 }
 
-// Carries the order out: true where it answered a word or yes, wrote what was asked for or ran a script, false where it
+// Carries a command out: true where it answered a word or yes, wrote what was asked for or ran a script, false where it
 // refused.
-fn carry_out<'a>(
+fn obey<'a, F: Files, I: Source, O: Sink, E: Sink>(
     alloc: Global,
-    words: &'a [&'a str],
-    files: &mut impl Files,
-    input: &mut impl Source,
-    out: &mut impl Sink,
-    err: &mut impl Sink,
-) -> Result<bool, Stop<'a>> {
-    match read_words(alloc, words)? {
-        Order::Verdict { filter, record } => verdict(alloc, filter, record, files, out),
-        Order::Check {
+    command: Command<'a>,
+    files: &mut F,
+    input: &mut I,
+    out: &mut O,
+    err: &mut E,
+) -> Result<bool, Stop<'a>>
+    ensures does { Does I.left I.failures O.held O.failures (F.folder files.old) input.old input.new out.old out.new
+        (given command.entry) result }
+    // Nothing is told on standard error but of a filter that is convicted, and of what was changed.
+    ensures stopped { OnErr result (err.new ≡ err.old) }
+    ensures quiet { result ≡ Ok true → TellsChanges (given command.entry) ⊎ (err.new ≡ err.old) }
+{
+    match command {
+        Command::Verdict { filter, record } => verdict(alloc, filter, record, files, out),
+        Command::Check {
             native,
             bundle,
             filter,
             certificate,
-        } => check(alloc, native, [bundle, filter, certificate], files, out),
-        Order::Certify {
+        } => check(alloc, native, bundle, filter, certificate, files, out),
+        Command::Certify {
             native,
             bundle,
             filter,
-        } => certify(alloc, native, [bundle, filter], files, out, err),
-        Order::Export {
+        } => certify(alloc, native, bundle, filter, files, out, err),
+        Command::Export {
             native,
             bundle,
             form,
         } => export(alloc, native, bundle, form, files, out),
-        Order::Run { native, bundles } => run(alloc, native, bundles, files, input, out),
-        Order::Explain {
+        Command::Run { native, bundles } => run(alloc, native, bundles, files, input, out),
+        Command::Explain {
             native,
             bundle,
             call,
         } => explain(alloc, native, bundle, call, files, out),
-        Order::Read { native, bundle } => read_out(alloc, native, bundle, files, out),
-        Order::Record { native, call } => tell(&explain::record(alloc, native, call)?, out),
-        Order::Assemble { listing } => assemble(alloc, listing, files, out),
-        Order::Annotate { native, filter } => annotate(alloc, native, filter, files, out),
-        Order::Draw { native, filter } => draw(alloc, native, filter, files, out),
-        Order::Compare {
+        Command::Read { native, bundle } => read_out(alloc, native, bundle, files, out),
+        Command::Record { native, call } => tell(&explain::record(alloc, native, call)?, out),
+        Command::Assemble { listing } => assemble(alloc, listing, files, out),
+        Command::Annotate { native, filter } => annotate(alloc, native, filter, files, out),
+        Command::Draw { native, filter } => draw(alloc, native, filter, files, out),
+        Command::Compare {
             native,
             first,
             second,
         } => tell(&compare(alloc, native, [first, second], files)?, out),
-        Order::Manual { command } => manual(alloc, command, out),
-        Order::Version => tell(&explain::version(alloc)?, out),
+        Command::Adapt {
+            native,
+            config,
+            may_widen,
+        } => adapt(alloc, native, config, may_widen, files, out, err),
+        Command::Manual { command } => manual(alloc, command, out),
+        Command::Version => tell(&explain::version(alloc)?, out),
+    }
+}
+
+// Carries out the command that the arguments are.
+fn carry_out<'a, F: Files, I: Source, O: Sink, E: Sink>(
+    alloc: Global,
+    words: &'a [&'a str],
+    files: &mut F,
+    input: &mut I,
+    out: &mut O,
+    err: &mut E,
+) -> Result<bool, Stop<'a>>
+    ensures does { (command : Given) → IsCommandLine words.entry.now command
+        → Does I.left I.failures O.held O.failures (F.folder files.old) input.old input.new out.old out.new command result }
+    ensures stopped { OnErr result (err.new ≡ err.old) }
+    ensures quiet { (command : Given) → IsCommandLine words.entry.now command → result ≡ Ok true → TellsChanges command ⊎ (err.new ≡ err.old) }
+    ensures usage { NoCommandLine words.entry.now → result ≡ Err Usage }
+    ensures unread { NoCommandLine words.entry.now → input.new ≡ input.old }
+    ensures unwritten { NoCommandLine words.entry.now → out.new ≡ out.old }
+{
+    match read_words(words) {
+        Some(command) => obey(alloc, command, files, input, out, err),
+        None => Err(Stop::Usage),
     }
 }
 
 /// Runs the program on the words after its name, and gives the exit status: 0 done, 1 refused, 2 a fault of the
 /// command line, 3 a file, a stream or memory that failed.
-pub fn dispatch(
+pub fn dispatch<F: Files, I: Source, O: Sink, E: Sink>(
     alloc: Global,
     words: &[&str],
-    files: &mut impl Files,
-    input: &mut impl Source,
-    out: &mut impl Sink,
-    err: &mut impl Sink,
+    files: &mut F,
+    input: &mut I,
+    out: &mut O,
+    err: &mut E,
 ) -> u8
-    ensures { result ≤ 3 }
+    ensures status { result ≤ 3 }
+    // Arguments that are a command are carried out, on the bytes of the files that they name.
+    ensures answers { (command : Given) → IsCommandLine words.entry.now command
+        → Answers I.left I.failures O.held O.failures E.held E.failures (F.folder files.old) input.old input.new out.old out.new
+        err.old err.new command result }
+    // Arguments that are no command are a fault of the command line: no input is read, no output is written, and standard
+    // error says so.
+    ensures usage { NoCommandLine words.entry.now → result ≡ 2 }
+    ensures unread { NoCommandLine words.entry.now → input.new ≡ input.old }
+    ensures unwritten { NoCommandLine words.entry.now → out.new ≡ out.old }
+    ensures told { NoCommandLine words.entry.now → Reports E.held E.failures err.old err.new (line_of Usage) }
 {
     match carry_out(alloc, words, files, input, out, err) {
         Ok(true) => 0,

@@ -1,28 +1,28 @@
 //! Why the program stops before its line is written, and how that is told.
-ghost use Rattle.std.specs.Prelude.{◌≡◌};
-ghost use Rattle.cli.specs.Stop.{status_of};
+ghost use Rattle.std.specs.Prelude.{◌≡◌, IfSome};
+ghost use Rattle.cli.specs.Stop.{Reports, line_of, name_line, status_of};
+ghost use Rattle.cli.specs.declared.stops.Stop.TheVariants.{Read, Write};
 
 use arrayvec::ArrayString;
-use command_line::Misuse;
 use export::{ExportFault, Sink, write_all};
 use session::ScriptFault;
 use std::alloc::AllocError;
+use std::error::Error;
 use std::fmt;
-use std::fmt::Write;
-use thiserror::Error;
+use texts::{Line, put, put_number};
 
 /// What stops the program before its line is written. Its text is the line on standard error.
-#[derive(Debug, Drop, Error)]
+#[derive(Debug, Drop)]
 pub enum Stop<'a> {
-    #[error("ccell: usage")]
+    /// The arguments are no command.
     Usage,
-    #[error("ccell: cannot read {0}")]
+    /// The file of this name cannot be read.
     CannotRead(&'a str),
-    #[error("ccell: read failed at line {0}")]
+    /// Standard input failed at this line, counted from 1.
     Read(u64),
-    #[error("ccell: write failed after {0} bytes")]
+    /// Standard output failed after so many bytes.
     Write(u64),
-    #[error("ccell: out of memory")]
+    /// There is not enough memory.
     OutOfMemory,
 }
 
@@ -41,18 +41,24 @@ impl Stop<'_> {
     }
 }
 
-impl From<Misuse> for Stop<'_> {
-    ghost use Rattle.cli.specs.Stop.{stop_at_misuse};
+impl fmt::Display for Stop<'_> {
+    ghost use Rattle.std.specs.Prelude.{Some};
+    ghost use Rattle.cli.specs.Stop.{text_of};
 
-    ghost from_gives = { λ misuse stop. stop ≡ stop_at_misuse misuse };
+    ghost output = { λ stop. Some (text_of stop) };
 
-    fn from(misuse: Misuse) -> Self {
-        match misuse {
-            Misuse::Usage => Stop::Usage,
-            Misuse::OutOfMemory => Stop::OutOfMemory,
+    fn fmt<W: fmt::Write>(&self, f: &mut fmt::Formatter<W>) -> fmt::Result {
+        match *self {
+            Stop::Usage => write!(f, "ccell: usage"),
+            Stop::CannotRead(name) => write!(f, "ccell: cannot read {name}"),
+            Stop::Read(line) => write!(f, "ccell: read failed at line {line}"),
+            Stop::Write(out) => write!(f, "ccell: write failed after {out} bytes"),
+            Stop::OutOfMemory => write!(f, "ccell: out of memory"),
         }
     }
 }
+
+impl Error for Stop<'_> {}
 
 impl From<AllocError> for Stop<'_> {
     ghost use Rattle.cli.specs.declared.stops.Stop.TheVariants.{OutOfMemory};
@@ -93,43 +99,80 @@ impl From<ScriptFault> for Stop<'_> {
 
 const ROOM: usize = 1024;
 
-// A line on its way to a sink: it goes out in one write where it fits into the buffer. Of the texts only a file's name
-// has no bound. A name that does not fit goes out by itself, after what stands before it, and the line feed after it.
-#[derive(Drop)]
-struct Line<'a, S: Sink> {
-    buffer: ArrayString<ROOM>,
-    sink: &'a mut S,
+// The line of a file that cannot be read, where it has room.
+fn line_of_name(name: &str) -> Option<ArrayString<ROOM>>
+    ensures { IfSome result (λ line. line.bytes ≡ name_line name.now) }
+{
+    let mut line = ArrayString::new();
+    if line.try_push_str("ccell: cannot read ").is_err() {
+        return None;
+    }
+    if line.try_push_str(name).is_err() {
+        return None;
+    }
+    if line.try_push_str("\n").is_err() {
+        return None;
+    }
+    Some(line)
 }
 
-impl<S: Sink> Line<'_, S> {
-    // Writes what the buffer holds.
-    fn send(&mut self) -> fmt::Result {
-        let sent = write_all(self.buffer.as_str().as_bytes(), self.sink);
-        self.buffer.clear();
-        sent.map_err(|_| fmt::Error)
+// Writes the line of a file that cannot be read in three parts.
+fn tell_parts<E: Sink>(name: &str, err: &mut E) -> Result<(), ExportFault>
+    ensures { Reports E.held E.failures err.old err.new (name_line name.now) }
+{
+    write_all(b"ccell: cannot read ", err)?;
+    write_all(name.as_bytes(), err)?;
+    write_all(b"\n", err)
+}
+
+// Writes the line of a file that cannot be read: in one write where it has room, since a file's name has no bound.
+fn tell_name<E: Sink>(name: &str, err: &mut E) -> Result<(), ExportFault>
+    ensures { Reports E.held E.failures err.old err.new (name_line name.now) }
+{
+    match line_of_name(name) {
+        Some(line) => write_all(line.as_str().as_bytes(), err),
+        None => tell_parts(name, err),
     }
 }
 
-impl<S: Sink> fmt::Write for Line<'_, S> {
-    fn write_str(&mut self, text: &str) -> fmt::Result {
-        if self.buffer.try_push_str(text).is_ok() {
-            return Ok(());
-        }
-        self.send()?;
-        write_all(text.as_bytes(), self.sink).map_err(|_| fmt::Error)
+fn line_of_read(at: u64) -> Line
+    ensures { result.items ≡ line_of (Read at) }
+{
+    let mut line = Line::new();
+    put(&mut line, b"ccell: read failed at line ");
+    put_number(&mut line, at);
+    put(&mut line, b"\n");
+    line
+}
+
+fn line_of_write(out: u64) -> Line
+    ensures { result.items ≡ line_of (Write out) }
+{
+    let mut line = Line::new();
+    put(&mut line, b"ccell: write failed after ");
+    put_number(&mut line, out);
+    put(&mut line, b" bytes\n");
+    line
+}
+
+// Writes the line that says why the program stops.
+fn tell<E: Sink>(stop: &Stop<'_>, err: &mut E) -> Result<(), ExportFault>
+    ensures { Reports E.held E.failures err.old err.new (line_of stop.now) }
+{
+    match stop {
+        Stop::Usage => write_all(b"ccell: usage\n", err),
+        Stop::CannotRead(name) => tell_name(name, err),
+        Stop::Read(at) => write_all(line_of_read(*at).as_slice(), err),
+        Stop::Write(out) => write_all(line_of_write(*out).as_slice(), err),
+        Stop::OutOfMemory => write_all(b"ccell: out of memory\n", err),
     }
 }
 
 /// Writes the line that says why the program stops, and gives the exit status. A failure to write it changes nothing.
-pub fn report(stop: &Stop<'_>, err: &mut impl Sink) -> u8
-    ensures { result ≡ status_of stop.now }
+pub fn report<E: Sink>(stop: &Stop<'_>, err: &mut E) -> u8
+    ensures status { result ≡ status_of stop.now }
+    ensures line { Reports E.held E.failures err.old err.new (line_of stop.now) }
 {
-    let mut line = Line {
-        buffer: ArrayString::new(),
-        sink: err,
-    };
-    if writeln!(line, "{stop}").is_ok() {
-        let _ = line.send();
-    }
+    let _ = tell(stop, err);
     stop.status()
 }

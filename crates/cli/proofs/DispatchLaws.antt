@@ -1,0 +1,176 @@
+-- What the commands do, by what they read and write.
+use Rattle.std.proofs.Common.{◌≡◌, ◌⊎◌, ℕ, ◌+◌, ◌<◌, inl, inr, List, [], ◌∷◌, ◌++◌, ap, drop, get_or, length, map, refl, subst, sym, take, ◌∙◌}
+use Rattle.std.proofs.lemmas.List.{get_or_default, map-append, take_more}
+use denote.Ref.{Bor}
+use Rattle.std.specs.Prelude.{Bool, Option, Result, Ok, Err}
+use Rattle.call_tables.specs.declared.arch.Arch.{Arch}
+use Rattle.export.specs.Failures.{Failures}
+use Rattle.export.specs.declared.fault.ExportFault.{ExportFault}
+use Rattle.export.specs.declared.form.Form.{Form}
+use Rattle.pipeline.specs.Answer.{WritesAnswer}
+use Rattle.pipeline.specs.Certified.{Certifies}
+use Rattle.pipeline.specs.Exported.{Exports}
+use Rattle.pipeline.specs.Finding.{WritesFinding}
+use Rattle.cli.specs.declared.stops.Stop.{Stop}
+use Rattle.cli.specs.Dispatch.{AnswersCertify, AnswersCheck, AnswersExport, AnswersVerdict, FirstUnread, HaveBytes, StopsAt}
+use Rattle.cli.specs.Files.{Folder, HasBytes, HasEnough}
+use Rattle.cli.specs.Running.{told_line}
+use Rattle.cli.proofs.TurnLaws.{cut_at}
+use Rattle.cli.proofs.FileLaws.{certified_of_file, check_of_file, verdict_of_files}
+
+abbrev pub now_of : Bor (List ℕ) → List ℕ
+now_of name = name.now
+
+-- a file that is read, and one that is not behind it
+behind : (folder : Option Folder) (name bytes : List ℕ) (names : List (List ℕ)) (stop : Stop) → HasBytes folder name bytes
+    → FirstUnread folder names stop → FirstUnread folder (name ∷ names) stop
+behind folder name bytes names stop h g = inr ((bytes, h), g)
+
+module _ {O : Type 0} (held : O → Option (List ℕ)) (failures : O → Failures) (folder : Option Folder) (old : O) where
+  module _ (filter rec : List ℕ) where
+    pub verdict_first : (stop : Stop) (result : Result Bool Stop) → StopsAt folder filter stop → result ≡ Err stop
+        → AnswersVerdict held failures folder old old filter rec result
+    verdict_first stop result h e = inl (record { stop = stop; at = inl h; told = e; unwritten = refl })
+
+    module _ (f : List ℕ) (of_filter : HasEnough 32768 folder filter f) (later : Option Folder) (same : later ≡ folder) where
+      pub verdict_second : (stop : Stop) (result : Result Bool Stop) → StopsAt later rec stop → result ≡ Err stop
+          → AnswersVerdict held failures folder old old filter rec result
+      verdict_second stop result h e = inl (record {
+        stop = stop;
+        at = behind folder filter of_filter.file (rec ∷ []) stop of_filter.is (inl (subst (λ d. StopsAt d rec stop) same h));
+        told = e;
+        unwritten = refl;
+      })
+
+      pub verdict_done : (new : O) (r : List ℕ) (answer : Result Bool ExportFault) (result : Result Bool Stop) → HasEnough 64 later rec r
+          → WritesAnswer held failures old new f r answer → result ≡ told_line answer
+          → AnswersVerdict held failures folder old new filter rec result
+      verdict_done new r answer result of_record h e =
+          inr (
+            of_filter.file,
+            of_record.file,
+            of_filter.is,
+            subst (λ d. HasBytes d rec of_record.file) same of_record.is,
+            record {
+              answer = answer;
+              written = verdict_of_files of_filter.file f of_record.file r of_filter.enough of_record.enough held failures old new answer h;
+              told = e;
+            },
+          )
+
+  module _ (native : Arch) (bundle : List ℕ) where
+    pub export_first : (form : Form) (stop : Stop) (result : Result Bool Stop) → StopsAt folder bundle stop → result ≡ Err stop
+        → AnswersExport held failures folder old old native bundle form result
+    export_first form stop result h e = inl (record { stop = stop; at = inl h; told = e; unwritten = refl })
+
+    pub export_done : (form : Form) (new : O) (b : List ℕ) (answer : Result Bool ExportFault) (result : Result Bool Stop)
+        → HasBytes folder bundle b → Exports held failures old new native b form answer → result ≡ told_line answer
+        → AnswersExport held failures folder old new native bundle form result
+    export_done form new b answer result of_bundle h e = inr (b, of_bundle, record { answer = answer; written = h; told = e })
+
+    module _ (filter : List ℕ) where
+      pub certify_first : (stop : Stop) (result : Result Bool Stop) → StopsAt folder bundle stop → result ≡ Err stop
+          → AnswersCertify held failures folder old old native bundle filter result
+      certify_first stop result h e = inl (record { stop = stop; at = inl h; told = e; unwritten = refl })
+
+      pub check_first : (cert : List ℕ) (stop : Stop) (result : Result Bool Stop) → StopsAt folder bundle stop → result ≡ Err stop
+          → AnswersCheck held failures folder old old native bundle filter cert result
+      check_first cert stop result h e = inl (record { stop = stop; at = inl h; told = e; unwritten = refl })
+
+      module _ (b : List ℕ) (of_bundle : HasBytes folder bundle b) (later : Option Folder) (same : later ≡ folder) where
+        second : (names : List (List ℕ)) (stop : Stop) → StopsAt later filter stop
+            → FirstUnread folder (bundle ∷ filter ∷ names) stop
+        second names stop h =
+            behind folder bundle b (filter ∷ names) stop of_bundle (inl (subst (λ d. StopsAt d filter stop) same h))
+
+        pub certify_second : (stop : Stop) (result : Result Bool Stop) → StopsAt later filter stop → result ≡ Err stop
+            → AnswersCertify held failures folder old old native bundle filter result
+        certify_second stop result h e = inl (record { stop = stop; at = second [] stop h; told = e; unwritten = refl })
+
+        pub check_second : (cert : List ℕ) (stop : Stop) (result : Result Bool Stop) → StopsAt later filter stop → result ≡ Err stop
+            → AnswersCheck held failures folder old old native bundle filter cert result
+        check_second cert stop result h e = inl (record { stop = stop; at = second (cert ∷ []) stop h; told = e; unwritten = refl })
+
+        module _ (f : List ℕ) (of_filter : HasEnough 32768 later filter f) where
+          has_filter : HasBytes folder filter of_filter.file
+          has_filter = subst (λ d. HasBytes d filter of_filter.file) same of_filter.is
+
+          pub certify_done : (new : O) (answer : Result Bool ExportFault) (result : Result Bool Stop)
+              → Certifies held failures old new native b f answer → result ≡ told_line answer
+              → AnswersCertify held failures folder old new native bundle filter result
+          certify_done new answer result h e = inr (
+            b,
+            of_filter.file,
+            of_bundle,
+            has_filter,
+            record {
+              answer = answer;
+              written = certified_of_file native b of_filter.file f of_filter.enough held failures old new answer h;
+              told = e;
+            },
+          )
+
+          module _ (cert : List ℕ) (last : Option Folder) (still : last ≡ later) where
+            pub check_third : (stop : Stop) (result : Result Bool Stop) → StopsAt last cert stop → result ≡ Err stop
+                → AnswersCheck held failures folder old old native bundle filter cert result
+            check_third stop result h e = inl (record {
+              stop = stop;
+              at = behind folder bundle b (filter ∷ cert ∷ []) stop of_bundle (behind folder filter of_filter.file (cert ∷ []) stop has_filter
+                  (inl (subst (λ d. StopsAt d cert stop) same (subst (λ d. StopsAt d cert stop) still h))));
+              told = e;
+              unwritten = refl;
+            })
+
+            pub check_done : (new : O) (c : List ℕ) (answer : Result Bool ExportFault) (result : Result Bool Stop)
+                → HasEnough 4194304 last cert c → WritesFinding held failures old new native b f c answer → result ≡ told_line answer
+                → AnswersCheck held failures folder old new native bundle filter cert result
+            check_done new c answer result of_cert h e =
+                let has_cert = subst (λ d. HasEnough 4194304 d cert c) same (subst (λ d. HasEnough 4194304 d cert c) still of_cert) in
+                inr (
+                  b,
+                  of_filter.file,
+                  c,
+                  of_bundle,
+                  has_filter,
+                  has_cert,
+                  record {
+                    answer = answer;
+                    written = check_of_file native b of_filter.file f of_filter.enough held failures old new c answer h;
+                    told = e;
+                  },
+                )
+
+-- files in turn
+pub one_more_read : (folder : Option Folder) (names texts : List (List ℕ)) (name text : List ℕ) → HaveBytes folder names texts
+    → HasBytes folder name text → HaveBytes folder (names ++ name ∷ []) (texts ++ text ∷ [])
+one_more_read folder [] [] name text h g = (g, tt)
+one_more_read folder [] (t ∷ ts) name text h g = absurd h
+one_more_read folder (n ∷ ns) [] name text h g = absurd h
+one_more_read folder (n ∷ ns) (t ∷ ts) name text h g = (h.0, one_more_read folder ns ts name text h.1 g)
+
+pub unread_behind : (folder : Option Folder) (names texts : List (List ℕ)) (name : List ℕ) (more : List (List ℕ)) (stop : Stop)
+    → HaveBytes folder names texts → StopsAt folder name stop → FirstUnread folder (names ++ name ∷ more) stop
+unread_behind folder [] [] name more stop h g = inl g
+unread_behind folder [] (t ∷ ts) name more stop h g = absurd h
+unread_behind folder (n ∷ ns) [] name more stop h g = absurd h
+unread_behind folder (n ∷ ns) (t ∷ ts) name more stop h g =
+    behind folder n t (ns ++ name ∷ more) stop h.0 (unread_behind folder ns ts name more stop h.1 g)
+
+-- of a list of names, up to the one at a place
+module _ (folder later : Option Folder) (same : later ≡ folder) (ns : List (Bor (List ℕ))) (texts : List (List ℕ)) (i : ℕ)
+    (d : Bor (List ℕ)) (lt : i < length ns) (so_far : HaveBytes folder (map now_of (take i ns)) texts) where
+  pub read_on : (text : List ℕ) (more : List (List ℕ)) → more ≡ texts ++ text ∷ [] → HasBytes later (get_or ns i d).now text
+      → HaveBytes folder (map now_of (take (i + 1) ns)) more
+  read_on text more pushed h =
+      let n = get_or ns i d in
+      let names : map now_of (take (i + 1) ns) ≡ map now_of (take i ns) ++ n.now ∷ [] =
+      ap (map now_of) (take_more ns i d lt) ∙ map-append now_of (take i ns) (n ∷ []) in
+      rw (names, pushed) (one_more_read folder (map now_of (take i ns)) texts n.now text so_far (subst (λ f. HasBytes f n.now text) same h))
+
+  pub unread_at : (stop : Stop) → StopsAt later (get_or ns i d).now stop → FirstUnread folder (map now_of ns) stop
+  unread_at stop h =
+      let n = get_or ns i d in
+      let names : map now_of ns ≡ map now_of (take i ns) ++ n.now ∷ map now_of (drop (i + 1) ns) =
+      ap (map now_of) (cut_at ns i n lt (get_or_default ns i d n lt)) ∙ map-append now_of (take i ns) (n ∷ drop (i + 1) ns) in
+      subst (λ l. FirstUnread folder l stop) (sym names) (unread_behind folder (map now_of (take i ns)) texts n.now
+      (map now_of (drop (i + 1) ns)) stop so_far (subst (λ f. StopsAt f n.now stop) same h))

@@ -1,0 +1,92 @@
+-- What is written of the bytes that are read of files is so of the files' own.
+use Rattle.std.proofs.Common.{◌≡◌, ◌⊎◌, ℕ, inl, inr, List, ap, length, subst, sym, ◌∙◌, arith}
+use Rattle.std.specs.Prelude.{Bool, Option, None, Result, Ok, Err}
+use Rattle.bpf_insn.specs.Bytes.{view_fault}
+use Rattle.bpf_insn.specs.declared.fault.ViewError.TheVariants.{NotMultipleOf8}
+use Rattle.call_tables.specs.declared.arch.Arch.{Arch}
+use Rattle.cert_check.specs.declared.fault.CheckError.TheVariants.{View}
+use Rattle.export.specs.Failures.{Failures}
+use Rattle.export.specs.declared.fault.ExportFault.{ExportFault}
+use Rattle.export.specs.declared.fault.ExportFault.TheVariants as fault
+use Rattle.pipeline.specs.Answer.{IsAnswer, WritesAnswer}
+use Rattle.pipeline.specs.Certified.{AreJudged, Certifies, IsConvicted, IsOpen}
+use Rattle.pipeline.specs.Finding.{IsFinding, TellsFinding, WritesFinding}
+use Rattle.pipeline.specs.declared.check.Finding.{Finding}
+use Rattle.pipeline.specs.declared.check.Finding.TheVariants.{Yes, No, NoProfile}
+use Rattle.pipeline.specs.declared.unready.Unready.{Unready}
+use Rattle.pipeline.specs.declared.unready.Unready.TheVariants.{Profile, Compile, Certify, Check, OutOfMemory}
+use Rattle.pipeline.specs.declared.verdict.Answer.{Answer}
+use Rattle.pipeline.specs.declared.verdict.Answer.TheVariants.{Verdict, NoRecord, NoProgram, Refusal}
+use Rattle.cli.specs.Files.{IsEnough}
+use Rattle.cli.proofs.EnoughLaws.{all_read, all_read_of, first_of_file, same_fault, whole_filter}
+
+-- the answer of a filter to a record
+module _ (filter f rec r : List ℕ) (of_filter : IsEnough 32768 filter f) (of_record : IsEnough 64 rec r) where
+  same_record : length r ≡ 64 → r ≡ rec
+  same_record e = all_read 64 rec r of_record (omega arith)
+
+  same_both : length r ≡ 64 → view_fault f ≡ None → (a : Answer) → IsAnswer f r a → IsAnswer filter rec a
+  same_both e whole a h =
+      subst (λ x. IsAnswer x rec a) (whole_filter filter f of_filter whole) (subst (λ x. IsAnswer f x a) (same_record e) h)
+
+  answer_of_files : (a : Answer) → IsAnswer f r a → IsAnswer filter rec a
+  answer_of_files NoRecord h = λ e. h (ap length (all_read_of 64 rec r of_record (omega arith)) ∙ e)
+  answer_of_files (NoProgram e) h = (ap length (sym (same_record h.0)) ∙ h.0, same_fault filter f of_filter ∙ h.1)
+  answer_of_files (Refusal e) h = same_both h.0 h.1 (Refusal e) h
+  answer_of_files (Verdict v) h = same_both h.0 h.1 (Verdict v) h
+
+  pub verdict_of_files : {S : Type 0} (held : S → Option (List ℕ)) (failures : S → Failures) (old new : S) (result : Result Bool ExportFault)
+      → WritesAnswer held failures old new f r result → WritesAnswer held failures old new filter rec result
+  verdict_of_files held failures old new result h =
+      record { answer = h.answer; stands = answer_of_files h.answer h.stands; written = h.written; told = h.told }
+
+-- what is found of a filter
+module _ (native : Arch) (bundle filter f : List ℕ) (enough : IsEnough 32768 filter f) where
+  yes_of_file : (cert : List ℕ) → IsFinding native bundle f cert Yes → IsFinding native bundle filter cert Yes
+  yes_of_file cert h =
+      subst (λ x. IsFinding native bundle x cert Yes) (whole_filter filter f enough (h.2.kept (View NotMultipleOf8))) h
+
+  finding_of_file : (cert : List ℕ) (finding : Finding) → IsFinding native bundle f cert finding
+      → IsFinding native bundle filter cert finding
+  finding_of_file cert Yes h = yes_of_file cert h
+  finding_of_file cert (No e) h = (h.0, h.1, (h.2.0, first_of_file filter f enough h.0 cert e h.2.0 h.2.1))
+  finding_of_file cert (NoProfile e) h = h
+
+  module _ {S : Type 0} (held : S → Option (List ℕ)) (failures : S → Failures) (old new : S) where
+    told_of_file : (cert : List ℕ) (result : Result Bool ExportFault) → TellsFinding held failures old new native bundle f cert result
+        → TellsFinding held failures old new native bundle filter cert result
+    told_of_file cert result h =
+        record { finding = h.finding; stands = finding_of_file cert h.finding h.stands; written = h.written; told = h.told }
+
+    pub check_of_file : (cert : List ℕ) (result : Result Bool ExportFault) → WritesFinding held failures old new native bundle f cert result
+        → WritesFinding held failures old new native bundle filter cert result
+    check_of_file cert (Ok done) h = told_of_file cert (Ok done) h
+    check_of_file cert (Err (fault.Write out)) h = told_of_file cert (Err (fault.Write out)) h
+    check_of_file cert (Err fault.OutOfMemory) h = h
+
+    open_of_file : (u : Unready) → IsOpen native bundle f u → IsOpen native bundle filter u
+    open_of_file (Profile e) h = h
+    open_of_file (Compile e) h = absurd h
+    open_of_file (Certify e) h =
+        (h.0, (h.1.0, subst (λ x. AreJudged native bundle x h.1.0) (whole_filter filter f enough h.1.1.program) h.1.1))
+    open_of_file (Check e) h = (h.0, (h.1.0, h.1.1, h.1.2, first_of_file filter f enough h.1.0 h.1.1 e h.0 h.1.3))
+    open_of_file OutOfMemory h = absurd h
+
+    pub certified_of_file : (result : Result Bool ExportFault) → Certifies held failures old new native bundle f result
+        → Certifies held failures old new native bundle filter result
+    certified_of_file result (inl h) = inl (record { cert = h.cert; is = yes_of_file h.cert h.is; written = h.written; told = h.told })
+    certified_of_file result (inr (inl h)) = inr (inl (record {
+      rec = h.rec;
+      given = h.given;
+      said = h.said;
+      is = subst (λ x. IsConvicted native bundle x h.rec h.given h.said) (whole_filter filter f enough h.is.judged.program) h.is;
+      written = h.written;
+      told = h.told;
+    }))
+    certified_of_file result (inr (inr (inl h))) = inr (inr (inl (record {
+      unready = h.unready;
+      is = open_of_file h.unready h.is;
+      written = h.written;
+      told = h.told;
+    })))
+    certified_of_file result (inr (inr (inr h))) = inr (inr (inr h))

@@ -1,0 +1,119 @@
+-- THE PROGRAM. What it writes and the status that it ends with, of a command, of files, and of what is read on standard input.
+use Rattle.std.specs.Prelude.{ℕ, ◌≡◌, ◌⊎◌, Bool, true, false, List, [], ◌∷◌, Option, Result, Ok, Err}
+use Rattle.call_tables.specs.declared.arch.Arch.{Arch}
+use Rattle.command_line.specs.Arguments.{Given}
+use Rattle.command_line.specs.Arguments.Given.{Verdict, Check, Certify, Export, Run, Adapt}
+use Rattle.export.specs.Failures.{Failures}
+use Rattle.export.specs.declared.fault.ExportFault.{ExportFault}
+use Rattle.export.specs.declared.form.Form.{Form}
+use Rattle.pipeline.specs.Answer.{WritesAnswer}
+use Rattle.pipeline.specs.Certified.{Certifies}
+use Rattle.pipeline.specs.Exported.{Exports}
+use Rattle.pipeline.specs.Finding.{WritesFinding}
+use Rattle.cli.specs.declared.stops.Stop.{Stop}
+use Rattle.cli.specs.declared.stops.Stop.TheVariants.{CannotRead, OutOfMemory}
+use Rattle.cli.specs.Files.{CannotBeRead, Folder, HasBytes, HasEnough}
+use Rattle.cli.specs.Running.{RunsBundles, told_line}
+use Rattle.cli.specs.Stop.{Reports, line_of, status_of}
+
+-- the program stops since the file of that name cannot be read, or for want of memory
+abbrev pub StopsAt : Option Folder → List ℕ → Stop → Type 0
+StopsAt folder name (CannotRead told) = (told.now ≡ name) × CannotBeRead folder name
+StopsAt folder name OutOfMemory = Unit {0}
+StopsAt folder name other = ⊥
+
+-- it stops at one of the files, and those before it can be read
+abbrev pub FirstUnread : Option Folder → List (List ℕ) → Stop → Type 0
+FirstUnread folder [] stop = ⊥
+FirstUnread folder (name ∷ names) stop =
+    StopsAt folder name stop ⊎ (((bytes : List ℕ) × HasBytes folder name bytes) × FirstUnread folder names stop)
+
+-- the files of these names have these bytes, in order
+abbrev pub HaveBytes : Option Folder → List (List ℕ) → List (List ℕ) → Type 0
+HaveBytes folder [] [] = Unit {0}
+HaveBytes folder (name ∷ names) (bytes ∷ texts) = HasBytes folder name bytes × HaveBytes folder names texts
+HaveBytes folder names texts = ⊥
+
+-- the exit status: 0 where the answer is yes or it was done, 1 where it was refused, 2 or 3 where the program stopped
+abbrev pub exit_status : Result Bool Stop → ℕ
+exit_status (Ok true) = 0
+exit_status (Ok false) = 1
+exit_status (Err stop) = status_of stop
+
+-- `adapt` alone tells on standard error what it changed, also where it was done
+abbrev pub TellsChanges : Given → Type 0
+TellsChanges (Adapt native config may_widen) = Unit {0}
+TellsChanges other = ⊥
+
+-- what is on standard error: nothing but changes where the answer is yes, and the line that says why where the program stopped
+abbrev pub Tells : {E : Type 0} → (E → Option (List ℕ)) → (E → Failures) → E → E → Given → Result Bool Stop → Type 0
+Tells held failures old new command (Ok true) = TellsChanges command ⊎ (new ≡ old)
+Tells held failures old new command (Ok false) = Unit {0}
+Tells held failures old new command (Err stop) = Reports held failures old new (line_of stop)
+
+-- a file is not read: the program stops there, and nothing is written
+pub record StopsAtFile {O : Type 0} (folder : Option Folder) (old new : O) (names : List (List ℕ)) (result : Result Bool Stop)
+    : Type 0 where
+  pub stop : Stop
+  pub at : FirstUnread folder names stop
+  pub told : result ≡ Err stop
+  pub unwritten : new ≡ old
+
+-- an answer is written, and the program tells it
+pub record AnswersBy (Writes : Result Bool ExportFault → Type 0) (result : Result Bool Stop) : Type 0 where
+  pub answer : Result Bool ExportFault
+  pub written : Writes answer
+  pub told : result ≡ told_line answer
+
+-- what the commands write that judge the bytes of files
+module _ {O : Type 0} (held : O → Option (List ℕ)) (failures : O → Failures) (folder : Option Folder) (old new : O) where
+  abbrev pub AnswersVerdict : List ℕ → List ℕ → Result Bool Stop → Type 0
+  AnswersVerdict filter rec result =
+      StopsAtFile folder old new (filter ∷ rec ∷ []) result
+      ⊎ ((f : List ℕ) × (r : List ℕ) × HasBytes folder filter f × HasBytes folder rec r
+      × AnswersBy (WritesAnswer held failures old new f r) result)
+
+  -- of a certificate with more than 4,194,304 bytes, its first bytes may be judged
+  abbrev pub AnswersCheck : Arch → List ℕ → List ℕ → List ℕ → Result Bool Stop → Type 0
+  AnswersCheck native bundle filter cert result =
+      StopsAtFile folder old new (bundle ∷ filter ∷ cert ∷ []) result
+      ⊎ ((b : List ℕ) × (f : List ℕ) × (c : List ℕ) × HasBytes folder bundle b × HasBytes folder filter f
+      × HasEnough 4194304 folder cert c × AnswersBy (WritesFinding held failures old new native b f c) result)
+
+  abbrev pub AnswersCertify : Arch → List ℕ → List ℕ → Result Bool Stop → Type 0
+  AnswersCertify native bundle filter result =
+      StopsAtFile folder old new (bundle ∷ filter ∷ []) result
+      ⊎ ((b : List ℕ) × (f : List ℕ) × HasBytes folder bundle b × HasBytes folder filter f
+      × AnswersBy (Certifies held failures old new native b f) result)
+
+  abbrev pub AnswersExport : Arch → List ℕ → Form → Result Bool Stop → Type 0
+  AnswersExport native bundle form result =
+      StopsAtFile folder old new (bundle ∷ []) result
+      ⊎ ((b : List ℕ) × HasBytes folder bundle b × AnswersBy (Exports held failures old new native b form) result)
+
+-- What the program does as a command. `run` alone reads its input. Of the commands that tell in words, nothing is said.
+module _ {I O : Type 0} (left : I → Option (List ℕ)) (given : I → Failures) (held : O → Option (List ℕ)) (taken : O → Failures)
+    (folder : Option Folder) (input input' : I) (out out' : O) where
+  abbrev pub AnswersRun : Arch → List (List ℕ) → Result Bool Stop → Type 0
+  AnswersRun native bundles result =
+      ((input' ≡ input) × StopsAtFile folder out out' bundles result)
+      ⊎ ((texts : List (List ℕ)) × HaveBytes folder bundles texts
+      × RunsBundles left given held taken input input' out out' native texts result)
+
+  abbrev pub Does : Given → Result Bool Stop → Type 0
+  Does (Verdict filter rec) result = (input' ≡ input) × AnswersVerdict held taken folder out out' filter rec result
+  Does (Check native bundle filter cert) result =
+      (input' ≡ input) × AnswersCheck held taken folder out out' native bundle filter cert result
+  Does (Certify native bundle filter) result = (input' ≡ input) × AnswersCertify held taken folder out out' native bundle filter result
+  Does (Export native bundle form) result = (input' ≡ input) × AnswersExport held taken folder out out' native bundle form result
+  Does (Run native bundles) result = AnswersRun native bundles result
+  Does other result = input' ≡ input
+
+-- The program did what a command asks for: its outcome, as the exit status and standard error tell it.
+pub record Answers {I O E : Type 0} (left : I → Option (List ℕ)) (given : I → Failures) (held : O → Option (List ℕ))
+    (taken : O → Failures) (shown : E → Option (List ℕ)) (dropped : E → Failures) (folder : Option Folder)
+    (input input' : I) (out out' : O) (err err' : E) (command : Given) (status : ℕ) : Type 0 where
+  pub outcome : Result Bool Stop
+  pub does : Does left given held taken folder input input' out out' command outcome
+  pub ends : status ≡ exit_status outcome
+  pub tells : Tells shown dropped err err' command outcome

@@ -1,0 +1,37 @@
+-- Files by their names, and what is read of them.
+use Rattle.std.specs.Prelude.{ℕ, ◌≡◌, ◌≤◌, ◌%◌, List, [], ◌++◌, length, Option, Some, None}
+use Rattle.cli.specs.declared.fault.FileFault.{FileFault}
+use Rattle.cli.specs.declared.fault.FileFault.TheVariants.{CannotRead, OutOfMemory}
+
+-- the bytes of the file of each name, if it can be read
+abbrev pub Folder : Type 0
+Folder = List ℕ → Option (List ℕ)
+
+-- The file of that name has these bytes. Where it is not told what files have, nothing is said.
+abbrev pub HasBytes : Option Folder → List ℕ → List ℕ → Type 0
+HasBytes (Some folder) name bytes = folder name ≡ Some bytes
+HasBytes None name bytes = Unit {0}
+
+-- the file of that name cannot be read
+abbrev pub CannotBeRead : Option Folder → List ℕ → Type 0
+CannotBeRead (Some folder) name = folder name ≡ None
+CannotBeRead None name = Unit {0}
+
+-- why a file is not read; memory may be refused at any time
+abbrev pub IsUnread : Option Folder → List ℕ → FileFault → Type 0
+IsUnread folder name CannotRead = CannotBeRead folder name
+IsUnread folder name OutOfMemory = Unit {0}
+
+-- What is read of a file that is refused by its length alone where it has more than so many bytes: all of it; or, of a longer
+-- one, its first bytes, more than so many, and a multiple of eight is left out.
+pub record IsEnough (most : ℕ) (file bytes : List ℕ) : Type 0 where
+  pub rest : List ℕ
+  pub split : file ≡ bytes ++ rest
+  pub whole : length bytes ≤ most → rest ≡ []
+  pub eights : length rest % 8 ≡ 0
+
+-- such bytes of the file of that name
+pub record HasEnough (most : ℕ) (folder : Option Folder) (name bytes : List ℕ) : Type 0 where
+  pub file : List ℕ
+  pub is : HasBytes folder name file
+  pub enough : IsEnough most file bytes
