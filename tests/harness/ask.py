@@ -6,17 +6,15 @@ later call knows nothing of those before it.
 """
 import subprocess
 
+from harness.limits import ENDLESS
 from harness.places import ASK
 from harness.rows import Fault
-
-# The seconds that all questions of one file may take.
-LIMIT = 600
 
 
 def answers(lines):
     """The answers to these lines, each as its own lines."""
     given = "".join(f"{line}\n" for line in lines)
-    ran = subprocess.run([ASK], input=given.encode(), capture_output=True, timeout=LIMIT, check=False)
+    ran = subprocess.run([ASK], input=given.encode(), capture_output=True, timeout=ENDLESS, check=False)
     told, answer = [], []
     for line in ran.stdout.decode().split("\n")[:-1]:
         if line == ".":
@@ -42,15 +40,14 @@ def ask_all(askers):
 
 
 def side_by_side(askers):
-    """Asks as one what several ask, with an empty line between the questions of any two, and returns what each returns."""
+    """Asks as one what several ask, and returns what each returns."""
     ended, pending = {}, {}
     for place, asker in enumerate(askers):
         go_on(ended, pending, place, asker, None)
     while pending:
-        told = iter((yield [line for _, lines in pending.values() for line in (*lines, "")][:-1]))
+        told = iter((yield [line for _, lines in pending.values() for line in lines]))
         for place, (asker, lines) in [*pending.items()]:
             go_on(ended, pending, place, asker, [next(told) for _ in lines])
-            next(told, None)
     return [ended[place] for place in sorted(ended)]
 
 

@@ -1,7 +1,7 @@
 """The questions of one file, and where their answers come from."""
 import subprocess
 
-from harness import library
+from harness import calls, library
 from harness.ask import ask_all
 from harness.blocks import ask_blocks, whole_bundle
 from harness.pace import pace
@@ -48,6 +48,10 @@ class Bench:
             row.tell(pace(self.shelf, rest))
         elif word in Streams.WORDS:
             row.tell(self.streams.answer(word, rest))
+        elif calls.is_on_calls(word):
+            row.tell(*calls.answer(word, rest))
+        elif word in library.ON_LISTINGS:
+            row.tell(*library.ON_LISTINGS[word](written_out(rest)))
         elif word not in ("", "#"):
             self.askers.append(told(row, self.question(word, rest)))
 
@@ -64,8 +68,6 @@ class Bench:
             return ON_FRAMES[word](f"profile bundle {self.bundle(rest)}")
         if word in ON_SEEDS:
             return ON_SEEDS[word](*map(number, rest.split()))
-        if word.removeprefix("linux-") in library.ON_CALLS:
-            return library.on_calls(word, rest)
         if word in library.ON_FILES:
             return library.ON_FILES[word](*map(self.shelf.bytes_of, rest.split()))
         if word in library.CHECKS:
@@ -83,10 +85,11 @@ class Bench:
         if word == "filter":
             return library.is_filter(self.made["profile"], rest)
         if word == "program":
-            self.made["filter"] = f"filter assemble {rest}"
+            self.made["filter"] = library.bytes_line(rest)
             return library.accepted(self.made["filter"])
         if word in library.ON_MADE:
-            return library.on_made(self.made[library.ON_MADE[word]], word, rest)
+            made, asker = library.ON_MADE[word]
+            return asker(self.made[made], rest)
         raise Fault(f"no word of rows: {word}")
 
     def bundle(self, rest):

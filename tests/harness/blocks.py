@@ -1,25 +1,28 @@
 """Files of blocks for the modelled kernel, alone and with the runtime over it.
 
 An empty line stands between any two blocks. The first line of a block says how it is carried out: `kernel`, `runtime` or
-`scripts`, and on which machine (tests/README.md). All blocks are questions to the library, asked over both kernels, whose
-answers are compared; and those of the runtime are scripts of `ccell run` besides.
+`scripts`, and on which machine (tests/README.md). There are two kernels: that whose tasks have lists of filters, and that
+whose filters stand in a tree. Calls of the kernel are asked of both. Commands of the runtime are asked of that over lists,
+and are scripts of `ccell run`, whose kernel has a tree. Answers are compared.
 """
 import json
+import os
 import subprocess
+from itertools import takewhile
 
-from harness.ask import side_by_side
-from harness.library import names_of
+from harness.asked import optional, outcome_told, record, reply_told, task_told
+from harness.calls import TOKENS, names_of, number_of
+from harness.limits import ENDLESS
 from harness.places import CCELL
-from harness.program import LIMIT
 from harness.rows import Fault
-from harness.texts import expanded
+from harness.texts import expanded, number
 from harness.trials import draw_scripts
 
 WAYS = ("kernel", "runtime", "scripts")
-# The lines of a block that are sent as they are, and told as they are answered.
-SINGLE = (*WAYS, "bundle", "id", "every-call")
-# The kernels: that whose tasks have lists of filters, and that whose filters stand in a tree.
-KERNELS = ("lists", "tree")
+# The lines of a block that are no calls and no commands.
+OTHERS = (*WAYS, "bundle", "every-call")
+# The empty id.
+EMPTY = "''"
 
 
 def blocks_of(rows):
@@ -42,41 +45,99 @@ def whole_bundle(members):
 def lines_for(text):
     """The lines that a row of a block stands for."""
     word, _, rest = text.partition(" ")
-    if word == "#":
+    if word == "#" or word in WAYS or word == "every-call":
         return []
     if word == "bundle":
         name, _, members = rest.partition(" ")
         return [f"bundle {name} {whole_bundle(members)}"]
-    if word in SINGLE:
-        return [text]
     if word == "repeat":
         count, _, part = expanded(rest).partition(" ")
         return [line for i in range(int(count)) for line in part.replace("@", str(i)).split("\n")]
     return expanded(text).split("\n")
 
 
-def is_single(text):
-    """Whether a row of a block is no command."""
-    return text.partition(" ")[0] in SINGLE
+def called(text, native):
+    """A call of a task, `ID TASK WHAT ARGUMENT ..` and perhaps `prog BYTES`, as it is asked."""
+    name, task, what, *rest = text.split(" ")
+    name = "" if name == EMPTY else name
+    args, program = (rest[:-2], rest[-1]) if rest[-2:-1] == ["prog"] else (rest, "")
+    machine, colon, nr = what.rpartition(":")
+    nr, arch = (number(nr), TOKENS[machine]) if colon else (number_of(native, what), TOKENS[native])
+    if nr is None:
+        raise Fault(f"no call {what}")
+    return f"{name} {task} {record(nr, arch, [number(arg) for arg in args])} {program}".rstrip(" ")
 
 
-class Repeats:
-    """The answers to the lines of one row, of which the last is told, and how many of the last are alike."""
+def asked_of(line, native, places):
+    """A line of a block as it is asked, where bundles have places."""
+    word, _, rest = line.partition(" ")
+    if word == "call":
+        return f"call {called(rest, native)}"
+    name, _, last = rest.partition(" ")
+    if word in ("admit", "create"):
+        return f"{word} {'' if name == EMPTY else name} {places[last]}"
+    if word == "id":
+        return f"id - {name}"
+    return f"{word} {'' if name == EMPTY else name} {last}".rstrip(" ")
 
-    def __init__(self, row, replies):
-        """The program's replies to the lines, or nothing for each."""
-        self.row, self.replies, self.last, self.times = row, replies, None, 0
 
-    def take(self, answer):
-        """Takes the answer to the next line. What stands above its last line is told at once, and a reply that is another."""
-        *others, last = answer or [None]
-        self.row.tell(*others)
-        reply = self.replies.pop(0)
-        if reply not in (None, last):
-            self.row.tell(f"by ccell run: {reply}")
-        self.last, self.times = last, self.times + 1 if last == self.last else 1
-        if not self.replies and last is not None:
-            self.row.tell(last if self.times == 1 else f"{last}, {self.times} times")
+def bundles_in(block):
+    """The texts of a block's bundles by their names."""
+    lines = [lines_for(row.text)[0].split(" ", 2) for row in block if row.text.startswith("bundle ")]
+    return {name: text for _, name, text in lines}
+
+
+def kept(native, bundles):
+    """What keeps bundles, with filters that are checked, and begins without containers."""
+    lines = [f"profile bundle {native} {text}" for text in bundles.values()]
+    return ["kernel anew", *(it for line in lines for it in (line, "profile compile", "profile certify", "profile keep"))]
+
+
+def by_kernels(native, bundles, lines):
+    """The answers to calls of the kernel: by that with lists, and where the other has another, by both."""
+    places = {name: place for place, name in enumerate(bundles)}
+    first = kept(native, bundles)
+    told = yield [*first, *(f"kernel {asked_of(line, native, places)}" for line in lines)]
+    return [beside(line, answer) for line, answer in zip(lines, told[len(first) :])]
+
+
+def beside(line, answer):
+    """What a call of the kernel is answered, and the other kernel's answer where it is another."""
+    word, _, _ = line.partition(" ")
+    told = {"call": outcome_told, "task": task_told, "live": {"true": "yes", "false": "no"}.get}.get(word, str)
+    one, other = [told(it) for it in answer] or ["ok", "ok"]
+    return [one] if one == other else [one, f"over a tree: {other}"]
+
+
+def by_runtime(native, bundles, lines):
+    """The replies to commands, by the runtime over the kernel with lists."""
+    places = {name: place for place, name in enumerate(bundles)}
+    *_, told = yield [*kept(native, bundles), "runtime " + "\t".join(asked_of(line, native, places) for line in lines)]
+    return [id_told(it) if line.startswith("id ") else reply_told(it) for line, it in zip(lines, told, strict=True)]
+
+
+def id_told(text):
+    """The id at a place."""
+    return optional(text, lambda told: told.strip('"')) or "none"
+
+
+def by_program(native, bundles, lines, room):
+    """The replies of `ccell run` to these commands."""
+    for place, (name, text) in enumerate(bundles.items(), 1):
+        with open(f"{room}/b{place}", "w", encoding="utf-8") as file:
+            file.write(text)
+    places = {name: f"b{place}" for place, name in enumerate(bundles, 1)}
+    script = "".join(f"{named(line, places)}\n" for line in lines)
+    words = [CCELL, "run", native, *places.values()]
+    ran = subprocess.run(words, input=script.encode(), cwd=room, capture_output=True, timeout=ENDLESS, check=False)
+    replies = ran.stdout.decode().split("\n")[:-1]
+    if ran.returncode != 0 or len(replies) != len(lines):
+        raise Fault(f"ccell run: status {ran.returncode}, {len(replies)} replies to {len(lines)} lines")
+    return [status_or_reply(reply) for reply in replies]
+def named(line, places):
+    """A command of a script, where bundles have other names."""
+    head, _, last = line.rpartition(" ")
+    return f"{head} {places[last]}" if line.startswith("create ") else line
 
 
 def status_or_reply(reply):
@@ -84,90 +145,79 @@ def status_or_reply(reply):
     return json.loads(reply)["status"] if reply.startswith("{") else reply
 
 
-def replies_of_program(block, room):
-    """What `ccell run` replies to the commands of a block, and nothing for each where the block is none of the runtime."""
-    lines = [line for row in block if not is_single(row.text) for line in lines_for(row.text)]
-    way, native, *_ = block[0].text.split(" ")
-    if way != "runtime":
-        return [None] * len(lines)
-    bundles = [lines_for(row.text)[0].split(" ", 2) for row in block if row.text.startswith("bundle ")]
-    for place, (_, name, text) in enumerate(bundles, 1):
-        if name != f"b{place}":
-            raise Fault(f"the bundle {place} of a script is b{place}, and not {name}")
-        with open(f"{room}/{name}", "w", encoding="utf-8") as file:
-            file.write(text)
-    script = "".join(f"{line}\n" for line in lines)
-    words = [CCELL, "run", native, *(name for _, name, _ in bundles)]
-    ran = subprocess.run(words, input=script.encode(), cwd=room, capture_output=True, timeout=LIMIT, check=False)
-    replies = ran.stdout.decode().split("\n")[:-1]
-    if ran.returncode != 0 or len(replies) != len(lines):
-        raise Fault(f"{block[0].text}: ccell run: status {ran.returncode}, {len(replies)} replies to {len(lines)} lines")
-    return [status_or_reply(reply) for reply in replies]
+def by_both(native, bundles, lines, room):
+    """The replies to commands by the runtime, and above each another one of the program."""
+    ones = yield from by_runtime(native, bundles, lines)
+    others = iter(by_program(native, bundles, [line for line in lines if not line.startswith("id ")], room))
+    pairs = [(one, one if line.startswith("id ") else next(others)) for line, one in zip(lines, ones)]
+    return [[one] if one == other else [f"by ccell run: {other}", one] for one, other in pairs]
 
 
-def over_both(head, lines):
-    """The answers to the lines of a block, over the one kernel. Where those over the other are others, they are told beside them."""
-    way, _, native = head.partition(" ")
-    told = yield [line for kernel in KERNELS for line in (f"{way} {kernel} {native}", *lines, "")][:-1]
-    ones, others = told[1 : len(lines) + 1], told[len(lines) + 3 :]
-    return [one if one == other else [*one, *(f"over a tree: {line}" for line in other)] for one, other in zip(ones, others)]
+def tell_row(row, answers):
+    """Tells the answers to the lines of one row: the last, and how many of the last are alike, and what stands above any."""
+    row.tell(*(line for *above, _ in answers for line in above))
+    if answers:
+        last = answers[-1][-1]
+        times = len([*takewhile(lambda answer: answer[-1] == last, reversed(answers))])
+        row.tell(last if times == 1 else f"{last}, {times} times")
 
 
 def ask_every_call(block):
     """Tells what becomes of each call of the machine, without arguments, as the first of a container."""
     head, *rows = block
-    names = [name for name in (yield from names_of(head.text.split(" ")[1])) if name != "-"]
-    bundles = [line for row in rows if row.text.startswith("bundle ") for line in lines_for(row.text)]
+    native = head.text.split(" ")[1]
     for row in rows:
         if row.text.startswith("every-call "):
+            names = [name for name in names_of(native) if name != "-"]
             lines = [line for name in names for line in (f"admit c {row.text.split(' ')[1]}", f"call c 1 {name}")]
-            told = yield from over_both(head.text, [*bundles, *lines])
-            row.tell(*(f"{name}: {line}" for name, answer in zip(names, told[len(bundles) + 1 :: 2]) for line in answer))
+            told = yield from by_kernels(native, bundles_in(rows), lines)
+            row.tell(*(f"{name}: {line}" for name, answer in zip(names, told[1::2]) for line in answer))
 
 
-def ask_scripts(block):
-    """Tells that both kernels reply alike to so many random scripts of so many commands, from a seed, or where they do not."""
+def of_script(line, place):
+    """A line of one of many scripts, whose containers have names of their own."""
+    word, name, *rest = line.split(" ")
+    return " ".join([word, f"{name}-{place}", *rest])
+
+
+def ask_scripts(block, room):
+    """Tells that the runtime and the program reply alike to so many random scripts of so many commands, from a seed, or where they do
+    not."""
     head, *rows = block
     _, native, seed, count, commands = head.text.split(" ")
-    bundles = [line for row in rows if row.text.startswith("bundle ") for line in lines_for(row.text)]
     scripts = draw_scripts(int(seed), int(count), int(commands))
-    told = yield from side_by_side([over_both(f"runtime {native}", [*bundles, *script]) for script in scripts])
-    unlike = [
-        f"script {place}: {line}: {', '.join(answer)}"
-        for place, (script, answers) in enumerate(zip(scripts, told))
-        for line, answer in zip(script, answers[len(bundles) :])
-        if len(answer) != 1
-    ]
+    lines = [of_script(line, place) for place, script in enumerate(scripts) for line in script]
+    told = yield from by_both(native, bundles_in(rows), lines, room)
+    unlike = [f"{line}: {', '.join(answer)}" for line, answer in zip(lines, told) if len(answer) != 1]
     rows[-1].tell(*(unlike or [f"{count} scripts of {commands} commands, alike over both kernels"]))
 
 
 def ask_block(block, room):
     """Tells the answers to the lines of a block."""
-    replies = replies_of_program(block, room)
-    takers, lines = [], []
-    for row in block[1:]:
-        here = [] if row.text.startswith("every-call ") else lines_for(row.text)
-        lines += here
-        if is_single(row.text):
-            takers += [lambda answer, row=row: row.tell(*answer)] * len(here)
-            continue
-        takers += [Repeats(row, replies[: len(here)]).take] * len(here)
-        replies = replies[len(here) :]
-    for take, answer in zip(takers, (yield from over_both(block[0].text, lines))):
-        take(answer)
+    head, *rows = block
+    way, native, *_ = head.text.split(" ")
+    asking = [(row, lines_for(row.text)) for row in rows if row.text.partition(" ")[0] not in OTHERS]
+    lines = [line for _, some in asking for line in some]
+    bundles = bundles_in(rows)
+    told = yield from (by_kernels(native, bundles, lines) if way == "kernel" else by_both(native, bundles, lines, room))
+    told = iter(told)
+    for row, some in asking:
+        tell_row(row, [next(told) for _ in some])
 
 
 def ask_blocks(rows, room):
     """What asks for the answers to the blocks of a file."""
-    for block in blocks_of(rows):
+    for place, block in enumerate(blocks_of(rows)):
         if not block or block[0].text.startswith("#"):
             continue
         way = block[0].text.partition(" ")[0]
         if way not in WAYS:
             raise Fault(f"no way to carry out {block[0].text}")
+        here = f"{room}/{place}"
+        os.mkdir(here)
         if way == "scripts":
-            yield ask_scripts(block)
+            yield ask_scripts(block, here)
             continue
-        yield ask_block(block, room)
+        yield ask_block(block, here)
         if any(row.text.startswith("every-call ") for row in block):
             yield ask_every_call(block)

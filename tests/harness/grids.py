@@ -13,7 +13,9 @@ STEPS = (0, 1, 1 << 32, (1 << 32) + 1, (1 << 32) - 1)
 
 def grid(numbers, arguments):
     """The question that makes a grid."""
-    return f"profile grid {' '.join(map(str, numbers))} / {';'.join(' '.join(map(str, args)) for args in arguments)}"
+    numbers, arguments = [*numbers], [*arguments]
+    parts = [len(numbers), *numbers, len(arguments), *(arg for args in arguments for arg in (*args, *[0] * (6 - len(args))))]
+    return f"profile grid {' '.join(map(str, parts))}"
 
 
 def of_halves():

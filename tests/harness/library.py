@@ -1,57 +1,33 @@
 """What rows ask of the library: each question as the lines that `ask` is asked, and the row's answer from what it tells."""
 import re
 import struct
+import tempfile
 from collections import Counter
 from functools import partial
 
+from harness import asked
 from harness.ask import side_by_side
-from harness.drawn import TOKENS
+from harness.asked import effect_told, is_profile, optional, parts_of, record_of
+from harness.calls import MACHINES, TOKENS, names_of, of_bytes, program
 from harness.figures import figures
 from harness.grids import near, of_halves
 from harness.rows import Fault
-from harness.texts import bytes_of, grouped, is_digits, number
+from harness.texts import bytes_of, expanded, grouped, is_digits, number
 
-# Questions that `ask` answers as the row does: a word of the row, and what goes before the rest of its line.
-PLAIN = {
-    "build": "profile build",
-    "condition": "rule condition",
-    "strictest": "word strictest",
-    "effect": "word effect",
-    "least": "word least",
-}
-# Questions on the profile or the filter that an earlier row made.
-ON_MADE = {"decide": "profile", "run": "filter", "fixed": "filter"}
 # More rules of a profile than these are counted, and not told.
 MOST_RULES = 9
 
 
-def plain(word, rest):
-    """One question as it is."""
-    (answer,) = yield [f"{PLAIN[word]} {rest}".rstrip(" ")]
-    return parts_of(answer)
-
-
-def on_made(line, word, rest):
-    """One question on what a line makes."""
-    _, answer = yield [line, f"{ON_MADE[word]} {word} {rest}"]
-    return answer
-
-
-def is_profile(answer):
-    """Whether an answer is the parts of a profile, and not why there is none."""
-    return answer[0].startswith("native ")
-
-
-def parts_of(answer):
-    """The parts of a profile as rows have them, or why there is none."""
-    count = len(answer) - 1
-    return [answer[0], f"{count} rules"] if is_profile(answer) and count > MOST_RULES else answer
-
-
 def profile(line):
-    """The parts of the profile that a line has `ask` make."""
+    """The parts of the profile that a line has `ask` make, or why there is none. Of many rules only how many there are."""
     (answer,) = yield [line]
-    return parts_of(answer)
+    told, count = parts_of(answer), len(answer) - 3
+    return [told[0], f"{count} rules"] if is_profile(answer) and count > MOST_RULES else told
+
+
+def build(text):
+    """The parts of a profile that is built."""
+    return (yield from profile(asked.build(text)))
 
 
 def taken(line):
@@ -62,10 +38,76 @@ def taken(line):
     return []
 
 
-def with_bytes(word, rest):
-    """An answer whose first line is bytes, or why there are none."""
-    ((first, *others),) = yield [f"{'filter' if word == 'assemble' else 'word'} {word} {rest}"]
-    return [grouped(bytes.fromhex(first)) if is_digits(first) else first, *others]
+def decide(line, rest):
+    """What the profile of a line says of a call."""
+    _, answer = yield [line, f"profile decide {record_of(rest)}"]
+    return answer
+
+
+def of_rules(*conditions):
+    """What makes a profile of a rule for each of these conditions, with words that no two have in common."""
+    return asked.build("; ".join(["x86-64 x86-64 0x7ff00000", *(f"x86-64 135 {0x50001 + i} {it}" for i, it in enumerate(conditions))]))
+
+
+def condition(text):
+    """Whether a condition is one: whether there is a rule under it."""
+    (answer,) = yield [of_rules(text)]
+    return ["a condition" if is_profile(answer) else "none"]
+
+
+def overlap(rest):
+    """Whether rules under these conditions overlap, asked both ways round."""
+    one, _, other = rest.partition("/")
+    told = yield [of_rules(one, other), of_rules(other, one)]
+    both = ["no" if is_profile(answer) else {"3 Overlap 0 1": "yes"}[answer[0]] for answer in told]
+    return both[:1] if both[0] == both[1] else ["it depends on the order"]
+
+
+def strictest(text):
+    """The strictest of words."""
+    words = [number(word) for word in text.split()]
+    (answer,) = yield [f"word strictest {len(words)} {' '.join(map(str, words))}"]
+    return answer
+
+
+def effect(text):
+    """What becomes of a call with a word."""
+    (answer,) = yield [f"word effect {number(text)}"]
+    return [effect_told(*answer)]
+
+
+def least(text):
+    """The least number of so many bits, at least another, with such bits under a mask."""
+    ((answer,),) = yield [f"word least {' '.join(str(number(word)) for word in text.split())}"]
+    return [optional(answer, lambda told: f"{int(told):#x}") or "none"]
+
+
+def record(text):
+    """The bytes of the record `POINTER CALL`, and the words that they spell."""
+    pointer, _, call = text.partition(" ")
+    ((data, *words),) = yield [f"word record {record_of(call, pointer)}"]
+    return [grouped(bytes.fromhex(data)), " ".join(["words", *(f"{int(word):#x}" for word in words)])]
+
+
+def assembled(text):
+    """The bytes of a listing in digits, or what is told of it."""
+    with tempfile.NamedTemporaryFile("w", encoding="utf-8", newline="") as file:
+        file.write(expanded(text))
+        file.flush()
+        data, status = program("assemble", file.name)
+    return data.decode().rstrip().removeprefix("refused listing ") if status else data.hex()
+
+
+def assemble(text):
+    """The bytes of a listing, or what is told of it."""
+    told = assembled(text)
+    return [grouped(bytes.fromhex(told)) if is_digits(told) else told]
+
+
+def disassembled(text):
+    """The listing of a program."""
+    told = of_bytes(bytes_of(text), "annotate", "x86-64")
+    return [re.match("neg|tax|txa|[^ ]+ [^ ]+", line[6:])[0] for line in told if not line.startswith("refused")]
 
 
 def compiled(line):
@@ -73,7 +115,7 @@ def compiled(line):
     told, (filtered,) = yield [line, "profile compile"]
     if not is_profile(told):
         raise Fault(f"no profile: {told[0]}")
-    return told, filtered
+    return parts_of(told), filtered
 
 
 def size(line):
@@ -88,15 +130,15 @@ def figures_of(line):
     if not is_digits(filtered):
         return [filtered]
     rules = (rule.split(" ", 2) for rule in told[1:])
-    calls = [(int(nr), TOKENS[machine.removeprefix("linux-")]) for machine, nr, _ in rules]
+    calls = [(int(nr), TOKENS[machine]) for machine, nr, _ in rules]
     return [*figures(filtered, calls)]
 
 
 def agrees(line, filtered, grids):
     """Whether a filter answers on the records of grids what the profile of a line says: `agrees`, or the first other answer."""
     told = yield [line, f"filter bytes {filtered}", *(it for grid in grids for it in (grid, "profile agrees"))]
-    answers = [answer for answer in told[3::2] if answer != ["agrees"]]
-    return answers[0] if answers else ["agrees"]
+    answers = [optional(answer, "differs at {}".format) for (answer,) in told[3::2] if answer != "None"]
+    return answers[:1] or ["agrees"]
 
 
 def conforms(line):
@@ -105,8 +147,7 @@ def conforms(line):
     if not is_digits(filtered):
         return [filtered]
     both = MACHINES["linux-" if told[0].startswith("native linux-") else ""]
-    columns = yield from side_by_side([names_of(machine) for machine in both])
-    calls_there = (nr for column in columns for nr, name in enumerate(column) if name != "-")
+    calls_there = (nr for machine in both for nr, name in enumerate(names_of(machine)) if name != "-")
     return (yield from agrees(line, filtered, near(told, calls_there)))
 
 
@@ -120,7 +161,7 @@ def certified(line, filtered):
         return [cert]
     *_, (said,) = yield [*both, f"profile check {cert}"]
     count = struct.unpack_from("<I", bytes.fromhex(cert), 8)[0]
-    return [f"yes, {count} nodes" if said == "yes" else said.removeprefix("no ")]
+    return [f"yes, {count} nodes" if said == "yes" else said]
 
 
 def is_certified(line):
@@ -132,28 +173,44 @@ def is_certified(line):
 
 def is_filter(line, listing):
     """The same of the filter of a listing, and of how many nodes."""
-    ((filtered,),) = yield [f"filter assemble {listing}"]
-    return (yield from certified(line, filtered))
+    return (yield from certified(line, assembled(listing)))
+
+
+def bytes_line(listing):
+    """The line that gives `ask` the filter of a listing."""
+    told = assembled(listing)
+    if not is_digits(told):
+        raise Fault(f"no listing: {told}")
+    return f"filter bytes {told}"
 
 
 def accepted(line):
-    """What the kernel's check says of the filter that a line makes."""
-    (filtered,), said = yield [line, "filter accept"]
-    if not is_digits(filtered):
-        raise Fault(f"no listing: {filtered}")
-    return said
+    """What the kernel's check says of the filter of a line: what comes in place of its verdict."""
+    _, said = yield [line, f"filter run {asked.record(0, 0)}"]
+    return ["accepted"] if len(said) == 3 else said
 
 
-def disassembled(text):
-    """The listing of a program."""
-    _, listing = yield [f"filter bytes {bytes_of(text).hex()}", "filter listing"]
-    return listing
+def run(line, rest):
+    """The verdict of the filter of a line on a call, and how many instructions run."""
+    _, said = yield [line, f"filter run {record_of(rest)}"]
+    return [f"{said[0]} after {said[1]}"] if len(said) == 3 else said
+
+
+def fixed(line, rest):
+    """Whether that filter allows a call by its number and machine alone."""
+    _, said = yield [line, f"filter run {record_of(rest)}"]
+    return [{"true": "yes", "false": "no"}.get(said[-1], said[-1])]
 
 
 def nodes(data):
     """How many nodes a certificate has, or its fault."""
-    (answer,) = yield [f"cert nodes {data.hex()}"]
-    return answer
+    ((said,),) = yield [f"cert nodes {data.hex()}"]
+    return [read_told(said)]
+
+
+def read_told(said):
+    """What is told of a certificate that is read, or its fault."""
+    return f"read, nodes: {said}" if said.isdigit() else said
 
 
 def long_chain(text):
@@ -192,14 +249,19 @@ def counted(answers):
 def nodes_flipped(data):
     """How often a certificate with one bit flipped is read, and which faults it has."""
     told = yield [f"cert nodes {flipped.hex()}" for flipped in flips(data)]
-    return counted(said.partition(",")[0] for (said,) in told)
+    return counted(read_told(said).partition(",")[0] for (said,) in told)
+
+
+def check_told(said):
+    """What the checker says, as the program tells it."""
+    return said if said == "yes" else f"no {said}"
 
 
 def checks(line, filters, certs):
     """How often each answer comes to filters and certificates side by side. A yes is tried on a grid of records."""
     changed = [*zip(filters, certs)]
     _, *told = yield [line, *(it for data, cert in changed for it in (f"filter bytes {data.hex()}", f"profile check {cert.hex()}"))]
-    said = [answer for (answer,) in told[1::2]]
+    said = [check_told(answer) for (answer,) in told[1::2]]
     taken_ones = sorted({data for (data, _), answer in zip(changed, said) if answer == "yes"})
     told = yield from side_by_side([agrees(line, data.hex(), [of_halves()]) for data in taken_ones])
     wrong = {data: f"yes, and wrong: it {answer}" for data, (answer,) in zip(taken_ones, told) if answer != "agrees"}
@@ -221,69 +283,10 @@ def checks_of(word, line, data, cert):
 
 def codes(_rest):
     """The codes of all instructions: those that the kernel's check does not refuse for themselves."""
-    asked = (f"filter bytes {code.to_bytes(2, 'little').hex()}{'00' * 6}" for code in range(2**16))
-    told = yield [line for one in asked for line in (one, "filter accept")]
-    return [" ".join(f"{code:02x}" for code, (said,) in enumerate(told[1::2]) if not said.startswith("1 Code"))]
+    filters = (f"filter bytes {code.to_bytes(2, 'little').hex()}{'00' * 6}" for code in range(2**16))
+    told = yield [line for one in filters for line in (one, f"filter run {asked.record(0, 0)}")]
+    return [" ".join(f"{code:02x}" for code, said in enumerate(told[1::2]) if not said[0].startswith("1 Code"))]
 
-
-def overlap(rest):
-    """Whether rules under these conditions overlap, asked both ways round."""
-    one, _, other = rest.partition("/")
-    told = yield [f"rule overlap {one}/{other}", f"rule overlap {other}/{one}"]
-    return told[0] if told[0] == told[1] else ["it depends on the order"]
-
-
-# The machines of a family, by what stands before a row's word.
-MACHINES = {"": ("x86-64", "aarch64"), "linux-": ("linux-x86-64", "linux-aarch64")}
-# How many numbers of calls are asked.
-MOST_CALLS = 1024
-
-
-def names_of(machine):
-    """The names of a machine's calls by their numbers, with `-` for none."""
-    told = yield [f"calls number {machine} {nr}" for nr in range(MOST_CALLS)]
-    return [name for (name,) in told]
-
-
-def on_calls(word, rest):
-    """A question on the tables of calls, of the machines of a family."""
-    family = "linux-" if word.startswith("linux-") else ""
-    return ON_CALLS[word.removeprefix("linux-")](MACHINES[family], rest)
-
-
-def machines(both, _rest):
-    """Each machine with its name in a bundle and its token in a record."""
-    told = yield [f"calls machine {machine}" for machine in both]
-    return [line for (line,) in told]
-
-
-def counts(both, _rest):
-    """How many calls each machine has."""
-    columns = yield from side_by_side([names_of(machine) for machine in both])
-    return [f"{machine} {sum(name != '-' for name in column)}" for machine, column in zip(both, columns)]
-
-
-def call(both, name):
-    """A name with its number on each machine, or `-` for none."""
-    (here,), (there,) = yield [f"calls call {machine} {name}" for machine in both]
-    return [f"{name} {here}/{there}"]
-
-
-def names(both, nr):
-    """A number with its name on each machine."""
-    (here,), (there,) = yield [f"calls number {machine} {nr}" for machine in both]
-    return [f"{number(nr)} {here}/{there}"]
-
-
-def calls(both, _rest):
-    """All calls with their numbers: those of x86-64 in the order of their numbers, then the others."""
-    here, there = yield from side_by_side([names_of(machine) for machine in both])
-    every = dict.fromkeys(name for name in (*here, *there) if name != "-")
-    told = yield from side_by_side([call(both, name) for name in every])
-    return [line for (line,) in told]
-
-
-ON_CALLS = {"machines": machines, "counts": counts, "call": call, "number": names, "calls": calls}
 
 # Questions whose words are files, and others on what stands in the row alone.
 ON_FILES = {
@@ -294,11 +297,17 @@ ON_FILES = {
     "claimed": partial(rewritten, "claimed"),
 }
 ON_TEXTS = {
-    **{word: partial(plain, word) for word in PLAIN},
+    "build": build,
+    "condition": condition,
     "overlap": overlap,
+    "strictest": strictest,
+    "effect": effect,
+    "least": least,
+    "record": record,
     "codes": codes,
-    "assemble": partial(with_bytes, "assemble"),
-    "record": partial(with_bytes, "record"),
-    "disassemble": disassembled,
     "long-chain": long_chain,
 }
+# Questions that the program answers.
+ON_LISTINGS = {"assemble": assemble, "disassemble": disassembled}
+# Questions on the profile or the filter that an earlier row made.
+ON_MADE = {"decide": ("profile", decide), "run": ("filter", run), "fixed": ("filter", fixed)}

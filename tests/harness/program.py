@@ -2,12 +2,10 @@
 import os
 import subprocess
 
+from harness.limits import ENDLESS
 from harness.places import CCELL
 from harness.rows import Fault
 from harness.texts import expanded, grouped, lines_of
-
-# The seconds that one run may take.
-LIMIT = 120
 
 
 def words_of(line):
@@ -42,7 +40,7 @@ class Program:
 
     def run(self, words, given=b""):
         """Runs it on words and standard input."""
-        how = {"cwd": self.shelf.folder, "env": self.environment(words), "timeout": LIMIT, "check": False}
+        how = {"cwd": self.shelf.folder, "env": self.environment(words), "timeout": ENDLESS, "check": False}
         return subprocess.run([CCELL, *words], input=given, capture_output=True, **how)
 
     def session(self, row, words, inputs):

@@ -3,6 +3,7 @@ import os
 import subprocess
 import tempfile
 
+from harness.limits import ENDLESS
 from harness.places import CCELL
 from harness.rows import Fault
 from harness.texts import bytes_of, expanded, is_digits, number
@@ -23,7 +24,7 @@ def assembled(rows):
         with tempfile.NamedTemporaryFile("w", encoding="utf-8", newline="") as file:
             file.write(expanded(listing))
             file.flush()
-            ran = subprocess.run([CCELL, "assemble", file.name], capture_output=True, timeout=60, check=False)
+            ran = subprocess.run([CCELL, "assemble", file.name], capture_output=True, timeout=ENDLESS, check=False)
         told[listing] = ran.stdout.decode(errors="replace").rstrip() if ran.returncode else ran.stdout.hex()
     return told
 

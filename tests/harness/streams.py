@@ -8,8 +8,9 @@ import subprocess
 from concurrent.futures import ThreadPoolExecutor
 from dataclasses import dataclass
 
+from harness.limits import ENDLESS
 from harness.places import CCELL
-from harness.program import LIMIT, words_of
+from harness.program import words_of
 
 # What an output does that has no room left: it fails from then on; it fails once and has room again; it takes no byte.
 FULL = ("from", "alone", "none")
@@ -61,7 +62,7 @@ class Case:
         behind, before = os.pipe2(os.O_DIRECT | os.O_CLOEXEC)
         with os.fdopen(behind, "rb", buffering=0) as told:
             with os.fdopen(before, "wb", buffering=0) as err:
-                how = {"stdin": given, "stdout": subprocess.PIPE, "stderr": err, "timeout": LIMIT, "check": False}
+                how = {"stdin": given, "stdout": subprocess.PIPE, "stderr": err, "timeout": ENDLESS, "check": False}
                 ran = subprocess.run([CCELL, *self.words], cwd=self.shelf.folder, env=env, **how)
             packets = list(iter(lambda: told.read(65536), b""))
         return Ended(ran.returncode, ran.stdout, packets, os.lseek(given.fileno(), 0, os.SEEK_CUR))

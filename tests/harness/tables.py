@@ -11,6 +11,7 @@ import struct
 import subprocess
 import tempfile
 
+from harness.limits import ENDLESS
 from harness.places import CCELL, TOP
 
 # The kinds of refusals on the program's lines, and the crate of each.
@@ -46,7 +47,7 @@ def told(*words, **files):
         for name, data in files.items():
             with open(f"{room}/{name}", "wb") as file:
                 file.write(data)
-        return subprocess.run([CCELL, *words], cwd=room, capture_output=True, timeout=120, check=False).stdout
+        return subprocess.run([CCELL, *words], cwd=room, capture_output=True, timeout=ENDLESS, check=False).stdout
 
 
 def tables(text):
@@ -156,20 +157,20 @@ def faults_of_answers(page, text):
 
 
 def faults_of_actions(page, text):
-    """The table of actions and words, and that of a bundle's actions."""
+    """The table of actions with their values, and that of a bundle's actions with the verdicts that they stand for."""
     faults = []
     for head, *rows in tables(text):
-        if head[:2] == ["Action", "Word"]:
-            for action, word, *_ in rows:
-                if re.fullmatch(r"[A-Z_]+", action) and word.startswith("`0x"):
-                    listing = told("annotate", "x86-64", "filter", filter=struct.pack("<HBBI", 6, 0, 0, int(word.strip("`"), 16)))
+        if head[:2] in (["Action", "Value"], ["Action", "Verdict"]):
+            for action, value, *_ in rows:
+                if re.fullmatch(r"[A-Z_]+", action) and value.startswith("`0x"):
+                    listing = told("annotate", "x86-64", "filter", filter=struct.pack("<HBBI", 6, 0, 0, int(value.strip("`"), 16)))
                     if not listing.decode().rstrip().endswith(f" {action}"):
-                        faults.append(f"{word} is not {action}: {listing}")
+                        faults.append(f"{value} is not {action}: {listing}")
                 if action.startswith("`SCMP"):
                     bundle = f'{{"ociVersion":"1.1.0","linux":{{"seccomp":{{"defaultAction":"{action.strip("`")}"}}}}}}'
                     said = told("explain", "x86-64", "bundle", "read", bundle=bundle.encode()).decode()
-                    if f" {word.split(',')[0]}" not in re.findall("^verdict 0x[0-9a-f]+( [A-Z_]+)", said, re.M):
-                        faults.append(f"{action} is not {word}: {said}")
+                    if f" {value.split(',')[0]}" not in re.findall("^verdict 0x[0-9a-f]+( [A-Z_]+)", said, re.M):
+                        faults.append(f"{action} is not {value}: {said}")
     return faults
 
 
@@ -189,7 +190,7 @@ def faults_of_calls(page, text):
     counts = re.search(r"chosen lists: (\d+) and (\d+) calls", text)
     if counts and counts.groups() != (str(len(chosen)), str(len(chosen) - chosen.count("-"))):
         faults.append(f"its chosen lists have {len(chosen)} calls")
-    whole = [line.split() for line in read("docs/linux-6.1-calls.txt").splitlines() if not line.startswith("#")]
+    whole = [line.split() for line in read("docs/linux-6.18-calls.txt").splitlines() if not line.startswith("#")]
     both = [numbers.split("/") for _, numbers in whole]
     counts = re.search(r"(\d+) on x86-64 and (\d+) on AArch64", text)
     if counts and counts.groups() != tuple(str(sum(it[place] != "-" for it in both)) for place in (0, 1)):
@@ -222,7 +223,7 @@ def faults_of_figures(page, text):
     for head, *rows in tables(text):
         if head[0] == "Crate" and sorted(re.sub("`", "", row[0]) for row in rows if row[0] != "all") != sorted(crates):
             faults.append("a table of crates has not those of crates.txt")
-        if rows[-1][0] == "all":
+        if rows and rows[-1][0] == "all":
             for place in range(1, len(head)):
                 if sum(int(row[place] or 0) for row in rows[:-1]) != int(rows[-1][place] or 0):
                     faults.append(f"the column {head[place]} has another sum")

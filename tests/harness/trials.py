@@ -2,12 +2,13 @@
 from collections import Counter
 
 from harness.ask import side_by_side
+from harness.asked import build
 from harness.certificates import read
 from harness.changed import change, in_some_form
 from harness.dice import Dice
 from harness.drawn import draw_profile, number_filter, random_filter, text_of
 from harness.grids import near, of_halves
-from harness.library import agrees, certified, compiled, without_place
+from harness.library import agrees, certified, check_told, compiled, without_place
 from harness.texts import is_digits
 
 X, A = "x86-64", "aarch64"
@@ -29,7 +30,7 @@ def random_profiles(seed, count):
     for _ in range(count):
         machines = dice.pick(MACHINES)
         rules, default = draw_profile(dice, machines, dice.below(12) + 1, 6)
-        lines.append(f"profile build {text_of(machines, rules, default)}")
+        lines.append(build(text_of(machines, rules, default)))
     told = yield from side_by_side([try_profile(line) for line in lines])
     faults = [f"the profile {place}: {fault}" for place, fault in enumerate(told) if fault]
     return faults or [f"{count} profiles, all yes, all agree"]
@@ -60,7 +61,7 @@ def try_filter(dice):
     """The answers to certificates made of that of a random filter, if it has one."""
     machine = X if dice.below(8) < 5 else A
     rules, default = draw_profile(dice, (machine, machine), dice.pick((0, 1, 1, 1, 1, 1, 2, 2)), 1)
-    line = f"profile build {text_of((machine, machine), rules, default)}"
+    line = build(text_of((machine, machine), rules, default))
     filtered = yield from draw_filter(dice, line, rules, default)
     both = [line, f"filter bytes {filtered}"]
     *_, (cert,) = yield [*both, "profile certify"]
@@ -68,7 +69,7 @@ def try_filter(dice):
         return []
     made = [made_of(dice, bytes.fromhex(cert)) for _ in range(MADE)]
     _, _, *told = yield [*both, *(f"profile check {data.hex()}" for data in made)]
-    answers = [without_place(said) for (said,) in told]
+    answers = [without_place(check_told(said)) for (said,) in told]
     if "yes" in answers:
         (said,) = yield from agrees(line, filtered, [of_halves()])
         answers += [WRONG] if said != "agrees" else []

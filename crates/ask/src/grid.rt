@@ -1,19 +1,28 @@
 //! Records to run a filter on beside its profile.
 
-use crate::words::{arguments, narrow, record};
-use anyhow::{Context, Result};
+use crate::question::Question;
 use bpf_interp::verdict;
 use call_record::Record;
 use call_tables::Arch;
 use kernel_check::Accepted;
 use profile::Profile;
-use std::alloc::Global;
+use std::alloc::{AllocError, Global};
 
 /// The records of both machines and of none, with each of some numbers and each of some arguments.
 #[derive(Drop)]
 pub struct Grid {
     numbers: Vec<u32>,
     arguments: Vec<[u64; 6]>,
+}
+
+// The record of these parts, with 0 for the pointer.
+fn call_of(nr: u32, arch: u32, args: [u64; 6]) -> Record {
+    Record {
+        nr,
+        arch,
+        ip: 0,
+        args,
+    }
 }
 
 impl Grid {
@@ -25,17 +34,17 @@ impl Grid {
         }
     }
 
-    /// The grid of `NUMBER .. / ARGUMENT ..; ARGUMENT ..; ..`.
-    pub fn read(alloc: Global, text: &str) -> Result<Grid> {
-        let (numbers, rest) = text.split_once(" / ").context("numbers and arguments")?;
-        let mut grid = Grid::new(alloc);
-        for word in numbers.split_whitespace() {
-            grid.numbers.push(narrow(word)?)?;
+    /// Reads `COUNT NUMBER .. COUNT ARGUMENTS ..`.
+    pub fn read(&mut self, mut question: Question<'_>) -> Result<(), AllocError> {
+        self.numbers.clear();
+        self.arguments.clear();
+        for _ in 0..question.number() {
+            self.numbers.push(question.narrow())?;
         }
-        for part in rest.split(';') {
-            grid.arguments.push(arguments(part)?)?;
+        for _ in 0..question.number() {
+            self.arguments.push(question.arguments())?;
         }
-        Ok(grid)
+        Ok(())
     }
 
     /// The first record where the filter's verdict is not the word of the profile.
@@ -43,7 +52,7 @@ impl Grid {
         for arch in [Arch::X86_64.token(), Arch::Aarch64.token(), 0] {
             for nr in &self.numbers {
                 for args in &self.arguments {
-                    let call = record(*nr, arch, *args);
+                    let call = call_of(*nr, arch, *args);
                     if verdict(accepted, &call) != profile.decide(&call) {
                         return Some(call);
                     }

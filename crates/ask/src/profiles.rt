@@ -1,162 +1,145 @@
-//! Questions on profiles: `bundle MACHINE TEXT` and `build NATIVE MACHINE,.. WORD; RULE; ..` make one and tell its parts, and
-//! `decide CALL` asks for its word. Of it and the filter, `compile` makes the filter, `certify` tells a certificate's bytes,
-//! `check CERTIFICATE` what the checker says, and `agrees` whether their words are alike on the records of the last `grid NUMBER .. /
-//! ARGUMENT ..; ARGUMENT ..; ..`.
+//! Questions on profiles: `bundle MACHINE TEXT` and `build NATIVE DEFAULT COUNT MACHINE .. COUNT RULE ..` make one and tell its
+//! parts, and `decide RECORD` asks for its word. Of it and the filter, `compile` makes the filter and `certify` the certificate,
+//! and both tell their bytes; `check CERTIFICATE` asks the checker, and `agrees` whether their words are alike on the records of
+//! the last `grid COUNT NUMBER .. COUNT ARGUMENTS ..`. `keep` has the three kept for containers.
 
-use crate::desk::Desk;
+use crate::answers::Answers;
+use crate::desk::{Desk, Made};
 use crate::grid::Grid;
-use crate::rules::{read_rule, tell_rule};
-use crate::words::{call, first, machine, tell, tell_bytes, unknown, verdict_word, words};
-use anyhow::Result;
+use crate::question::Question;
+use crate::rules::rules_in;
 use bpf_insn::Program;
-use call_record::Record;
-use call_tables::Arch;
-use cert_check::{CheckError, check};
+use cert_check::check;
 use certify::certify;
-use hex::decode;
 use kernel_check::accept;
-use profile::{Profile, Rule};
+use profile::Profile;
 use profile_json::read_bundle;
 use rule_compile::compile;
-use std::alloc::Global;
-use std::fmt::Write;
+use std::mem;
 
-/// Adds the answer to a question on profiles.
-pub fn answer(desk: &mut Desk, out: &mut String, alloc: Global, line: &str) -> Result<()> {
-    let (word, rest) = first(line);
-    match word {
-        "bundle" => read(desk, out, alloc, rest),
-        "build" => build(desk, out, alloc, rest),
-        "decide" => tell_word(desk, out, rest),
-        "compile" => tell_compiled(desk, out, alloc),
-        "certify" => tell_certificate(desk, out, alloc),
-        "check" => tell_check(desk, out, alloc, rest),
-        "grid" => draw(desk, alloc, rest),
-        "agrees" => tell_agreement(desk, out),
-        _ => unknown(out),
-    }
-}
-
-// Reads the bundle `MACHINE TEXT`.
-fn read(desk: &mut Desk, out: &mut String, alloc: Global, line: &str) -> Result<()> {
-    desk.profile = None;
-    let (native, text) = first(line);
-    match read_bundle(alloc, text.as_bytes(), machine(native)?) {
-        Ok(bundle) => keep(desk, out, bundle.profile),
-        Err(e) => tell(out, e),
-    }
-}
-
-// Keeps a profile, and adds its parts: machines, default word and rules.
-fn keep(desk: &mut Desk, out: &mut String, profile: Profile) -> Result<()> {
-    write!(out, "native {}, machines", profile.native().word())?;
-    for arch in profile.machines() {
-        write!(out, " {}", arch.word())?;
-    }
-    tell(out, format_args!(", default {}", profile.default_word()))?;
-    for rule in profile.rules() {
-        tell_rule(out, rule)?;
-    }
-    desk.profile = Some(profile);
-    Ok(())
-}
-
-// Builds the profile of `NATIVE MACHINE,.. WORD; RULE; ..`.
-fn build(desk: &mut Desk, out: &mut String, alloc: Global, text: &str) -> Result<()> {
-    desk.profile = None;
-    let (head, parts) = text.split_once(';').unwrap_or((text, ""));
-    let [native, names, default, _] = words(head);
-    let archs = machines(alloc, names)?;
-    let rules = rules_of(alloc, parts)?;
-    match Profile::build(
-        alloc,
-        machine(native)?,
-        &archs,
-        verdict_word(default)?,
-        rules,
-    ) {
-        Ok(profile) => keep(desk, out, profile),
-        Err(e) => tell(out, e),
-    }
-}
-
-fn machines(alloc: Global, names: &str) -> Result<Vec<Arch>> {
-    let mut archs = Vec::new(alloc);
-    for name in names.split(',') {
-        archs.push(machine(name)?)?;
-    }
-    Ok(archs)
-}
-
-fn rules_of(alloc: Global, parts: &str) -> Result<Vec<Rule>> {
-    let mut rules = Vec::new(alloc);
-    for part in parts.split(';') {
-        if !part.is_empty() {
-            rules.push(read_rule(part.trim())?)?;
+impl Desk {
+    /// Answers a question on profiles.
+    pub fn on_profile(&mut self, mut question: Question<'_>) {
+        match question.word() {
+            "bundle" => self.read(question),
+            "build" => self.build(question),
+            "grid" => self.draw(question),
+            "keep" => self.keep(),
+            word => self.on_made(word, question),
         }
     }
-    Ok(rules)
-}
 
-// The profile's word for a call.
-fn tell_word(desk: &Desk, out: &mut String, rest: &str) -> Result<()> {
-    let call = call(rest)?;
-    tell(out, desk.asked()?.decide(&call))
-}
-
-// Makes the filter of the profile, and adds its bytes, or why it has none.
-fn tell_compiled(desk: &mut Desk, out: &mut String, alloc: Global) -> Result<()> {
-    desk.filter.clear();
-    match compile(alloc, desk.asked()?) {
-        Ok(filter) => {
-            desk.filter = filter;
-            tell_bytes(out, alloc, &desk.filter)
+    // Reads the bundle `MACHINE TEXT`.
+    fn read(&mut self, mut question: Question<'_>) {
+        self.profile = None;
+        let native = question.machine();
+        match read_bundle(self.out.alloc, question.rest.as_bytes(), native) {
+            Ok(bundle) => self.take(bundle.profile),
+            Err(e) => self.out.tell(e),
         }
-        Err(e) => tell(out, e),
+    }
+
+    // Builds the profile of parts.
+    fn build(&mut self, mut question: Question<'_>) {
+        self.profile = None;
+        let alloc = self.out.alloc;
+        let native = question.machine();
+        let default = question.verdict();
+        let mut archs = Vec::new(alloc);
+        for _ in 0..question.number() {
+            self.out.keep(archs.push(question.machine()).is_ok());
+        }
+        let Some(rules) = rules_in(&mut self.out, question) else {
+            return self.out.tell("no rules");
+        };
+        match Profile::build(alloc, native, &archs, default, rules) {
+            Ok(profile) => self.take(profile),
+            Err(e) => self.out.tell(e),
+        }
+    }
+
+    // Takes a profile, and tells its parts.
+    fn take(&mut self, profile: Profile) {
+        self.out.tell(format_args!("{:?}", profile.native()));
+        self.out.tell(format_args!("{:?}", profile.machines()));
+        self.out.tell(profile.default_word());
+        for rule in profile.rules() {
+            self.out.tell(format_args!("{rule:?}"));
+        }
+        self.profile = Some(profile);
+    }
+
+    fn draw(&mut self, question: Question<'_>) {
+        let is_drawn = self.grid.read(question).is_ok();
+        self.out.keep(is_drawn);
+    }
+
+    // Keeps profile, filter and certificate.
+    fn keep(&mut self) {
+        let alloc = self.out.alloc;
+        let Some(profile) = self.profile.take() else {
+            return self.out.fail();
+        };
+        let made = Made {
+            profile,
+            filter: mem::replace(&mut self.filter, Vec::new(alloc)),
+            cert: mem::replace(&mut self.cert, Vec::new(alloc)),
+        };
+        let is_kept = self.kept.push(made).is_ok();
+        self.out.keep(is_kept);
+    }
+
+    // Answers a question on the profile, if there is one.
+    fn on_made(&mut self, word: &str, mut question: Question<'_>) {
+        let Some(profile) = &self.profile else {
+            return self.out.fail();
+        };
+        match word {
+            "decide" => self.out.tell(profile.decide(&question.record())),
+            "compile" => {
+                let made = compile(self.out.alloc, profile);
+                self.filter = self.out.tell_made(made);
+            }
+            "certify" => self.cert = certified(&mut self.out, profile, &self.filter),
+            "check" => tell_check(&mut self.out, profile, &self.filter, question.word()),
+            _ => tell_agreement(&mut self.out, profile, &self.filter, &self.grid),
+        }
     }
 }
 
-// Adds the bytes of a certificate of the filter for the profile, or why there is none.
-fn tell_certificate(desk: &Desk, out: &mut String, alloc: Global) -> Result<()> {
-    let program = Program::view(&desk.filter)?;
-    match certify(alloc, desk.asked()?, &program) {
-        Ok(cert) => tell_bytes(out, alloc, &cert),
-        Err(e) => tell(out, e),
+// Tells the bytes of a certificate of a filter for a profile, or why there is none, and gives them.
+fn certified(out: &mut Answers, profile: &Profile, filter: &[u8]) -> Vec<u8> {
+    match Program::view(filter) {
+        Ok(program) => {
+            let made = certify(out.alloc, profile, &program);
+            out.tell_made(made)
+        }
+        Err(_) => {
+            out.fail();
+            Vec::new(out.alloc)
+        }
     }
 }
 
-// Adds what the checker says.
-fn tell_check(desk: &Desk, out: &mut String, alloc: Global, digits: &str) -> Result<()> {
-    let cert = decode(alloc, digits)?;
-    match judge(alloc, desk.asked()?, &desk.filter, &cert) {
-        Ok(()) => tell(out, "yes"),
-        Err(e) => tell(out, format_args!("no {e}")),
+// Tells what the checker says.
+fn tell_check(out: &mut Answers, profile: &Profile, filter: &[u8], digits: &str) {
+    let cert = out.bytes(digits);
+    match check(out.alloc, profile, filter, &cert) {
+        Ok(_) => out.tell("yes"),
+        Err(e) => out.tell(e),
     }
 }
 
-fn judge(alloc: Global, profile: &Profile, filter: &[u8], cert: &[u8]) -> Result<(), CheckError> {
-    check(alloc, profile, filter, cert)?;
-    Ok(())
-}
-
-fn draw(desk: &mut Desk, alloc: Global, text: &str) -> Result<()> {
-    desk.grid = Grid::read(alloc, text)?;
-    Ok(())
-}
-
-// Adds whether the kernel accepts the filter and it answers on each record of the grid what the profile says.
-fn tell_agreement(desk: &Desk, out: &mut String) -> Result<()> {
-    let profile = desk.asked()?;
-    let program = Program::view(&desk.filter)?;
+// Tells the first record of a grid on which a filter that the kernel accepts answers another word than its profile says.
+fn tell_agreement(out: &mut Answers, profile: &Profile, filter: &[u8], grid: &Grid) {
+    let Ok(program) = Program::view(filter) else {
+        return out.fail();
+    };
     match accept(&program) {
-        Ok(accepted) => tell_difference(out, desk.grid.first_difference(&accepted, profile)),
-        Err(refused) => tell(out, refused),
-    }
-}
-
-fn tell_difference(out: &mut String, found: Option<Record>) -> Result<()> {
-    match found {
-        None => tell(out, "agrees"),
-        Some(call) => tell(out, format_args!("differs at {call:?}")),
+        Ok(accepted) => {
+            let found = grid.first_difference(&accepted, profile);
+            out.tell(format_args!("{found:?}"));
+        }
+        Err(refused) => out.tell(refused),
     }
 }

@@ -1,0 +1,71 @@
+//! The words of a question.
+
+use call_record::{Record, Word};
+use call_tables::Arch;
+
+/// What is left of a question.
+#[derive(Clone, Copy)]
+pub struct Question<'a> {
+    pub rest: &'a str,
+}
+
+impl<'a> Question<'a> {
+    /// All of a line.
+    pub fn new(line: &'a str) -> Question<'a> {
+        Question { rest: line }
+    }
+
+    /// The next word, empty where none is left.
+    pub fn word(&mut self) -> &'a str {
+        let (word, rest) = self.rest.split_once(' ').unwrap_or((self.rest, ""));
+        self.rest = rest;
+        word
+    }
+
+    /// The next number.
+    pub fn number(&mut self) -> u64 {
+        self.word().parse::<u64>().unwrap_or(0)
+    }
+
+    /// The next number of 32 bits.
+    pub fn narrow(&mut self) -> u32 {
+        self.word().parse::<u32>().unwrap_or(0)
+    }
+
+    /// The next number, as a place of a list.
+    pub fn place(&mut self) -> usize {
+        self.word().parse::<usize>().unwrap_or(0)
+    }
+
+    /// The next word of a verdict.
+    pub fn verdict(&mut self) -> Word {
+        Word(self.narrow())
+    }
+
+    /// The next machine.
+    pub fn machine(&mut self) -> Arch {
+        Arch::called(self.word()).unwrap_or(Arch::X86_64)
+    }
+
+    /// The next six arguments.
+    pub fn arguments(&mut self) -> [u64; 6] {
+        [
+            self.number(),
+            self.number(),
+            self.number(),
+            self.number(),
+            self.number(),
+            self.number(),
+        ]
+    }
+
+    /// The next record: number, token, pointer and arguments.
+    pub fn record(&mut self) -> Record {
+        Record {
+            nr: self.narrow(),
+            arch: self.narrow(),
+            ip: self.number(),
+            args: self.arguments(),
+        }
+    }
+}

@@ -1,0 +1,82 @@
+//! The runtime over the kernel whose tasks have lists of filters: `runtime` and commands with tabs between, each `create ID PLACE`,
+//! where the place is that of what was kept, `start ID`, `kill ID SIG`, `delete ID`, `state ID`, `call ID TASK RECORD PROGRAM`, or
+//! `id - PLACE`, which asks for the id of a container by its place.
+
+use crate::answers::Answers;
+use crate::desk::Made;
+use crate::question::Question;
+use lifecycle::{Reply, Runtime};
+use processes::TaskTable;
+use std::alloc::AllocError;
+
+/// Tells the replies to commands.
+pub fn answer(kept: &[Made], out: &mut Answers, question: Question<'_>) {
+    let mut runtime = Runtime::new(out.alloc, TaskTable::new(out.alloc));
+    for command in question.rest.split('\t') {
+        carry_out(&mut runtime, kept, out, Question::new(command));
+    }
+}
+
+// Tells the reply to a command.
+fn carry_out<'a>(
+    runtime: &mut Runtime<'a, TaskTable>,
+    kept: &'a [Made],
+    out: &mut Answers,
+    mut question: Question<'_>,
+) {
+    let word = question.word();
+    let id = question.word();
+    let replied = match word {
+        "create" => create(runtime, kept, out, id, question.place()),
+        "start" => runtime.start(id),
+        "kill" => Ok(runtime.kill(id, question.number())),
+        "delete" => Ok(runtime.delete(id)),
+        "state" => Ok(runtime.state(id)),
+        "call" => call(runtime, out, id, question),
+        _ => return tell_id(runtime, out, question.place()),
+    };
+    match replied {
+        Ok(reply) => out.tell(format_args!("{reply:?}")),
+        Err(_) => out.keep(false),
+    }
+}
+
+// Creates a container with what was kept at a place.
+fn create<'a>(
+    runtime: &mut Runtime<'a, TaskTable>,
+    kept: &'a [Made],
+    out: &mut Answers,
+    id: &str,
+    place: usize,
+) -> Result<Reply, AllocError> {
+    let Some(made) = kept.get(place) else {
+        return Err(AllocError);
+    };
+    let Ok(checked) = made.checked(out.alloc) else {
+        return Err(AllocError);
+    };
+    runtime.create(id, checked)
+}
+
+// Makes a call.
+fn call(
+    runtime: &mut Runtime<'_, TaskTable>,
+    out: &mut Answers,
+    id: &str,
+    mut question: Question<'_>,
+) -> Result<Reply, AllocError> {
+    let task = question.number();
+    let record = question.record();
+    let program = out.bytes(question.word());
+    let attached = if program.is_empty() {
+        None
+    } else {
+        Some(program.as_slice())
+    };
+    runtime.call(id, task, &record, attached)
+}
+
+fn tell_id(runtime: &Runtime<'_, TaskTable>, out: &mut Answers, place: usize) {
+    let id = runtime.id_at(place);
+    out.tell(format_args!("{id:?}"));
+}
