@@ -1,104 +1,98 @@
 //! Where it is come to at the code of an exit, by what is pending.
 
-use crate::exit::Exit;
-use crate::facts::{ANY, only_exit};
+use crate::facts::ANY;
 use crate::fault::OutlineError;
 use crate::maker::Maker;
-use crate::spot::{At, Calls, Pending, Several, Stage};
-use rule_compile::{Block, are_alike};
+use crate::spot::{At, Calls, Lesson, NOTHING, Pending, Stage};
+use rule_compile::{Leaf, are_alike};
+use std::alloc::AllocError;
 
 // So many times it goes on over what makes no difference.
 const STEPS: usize = 1 << 16;
 
 impl<'a> Maker<'a> {
     // Whether a block asks just what is left of a call.
-    fn asks(&self, block: &Block, call: usize, list: usize) -> bool {
-        match self.left.get(list) {
-            Some(left) => {
-                Exit::of(&block.other) == self.other(call, left.part)
-                    && are_alike(&block.rules, &left.rules)
+    fn asks(&self, block: usize, call: usize, list: usize) -> bool {
+        match (self.outline.blocks.get(block), self.left.get(list)) {
+            (Some(block), Some(left)) => {
+                block.other == self.other(call, left.part) && are_alike(&block.rules, &left.rules)
             }
-            None => false,
+            _ => false,
         }
     }
 
     // The exit that is gone on at, where a block always goes on at a return.
-    fn under(&self, exit: Exit, pc: usize) -> Exit {
-        if let Exit::Block(place) = exit
+    fn under(&self, exit: Leaf, pc: usize) -> Leaf {
+        if let Leaf::Block(place) = exit
             && self.is_return(pc)
-            && let Some(spans) = self.spans.get(place)
-            && let Some(span) = spans.last()
+            && let Some(block) = self.outline.blocks.get(place)
+            && let Some(range) = block.ranges.last()
         {
-            return span.exit;
+            return range.leaf;
         }
         exit
     }
 
-    // What is pending where that is one thing for all that the facts leave.
-    fn settled(
-        &mut self,
-        call: usize,
-        list: usize,
-        facts: usize,
-    ) -> Result<Option<Pending>, OutlineError> {
-        let groups = self.groups(call, list, facts, 2)?;
-        if groups.len() == 1 {
-            return Ok(groups.first().map(|group| group.pending));
-        }
-        Ok(None)
-    }
-
     // Keeps what was learned of the bits that were asked for first, of several calls.
-    fn learn(&mut self, calls: Calls, list: usize, facts: usize) -> Result<Calls, OutlineError> {
-        let (Some(several), Some(subject)) = (calls.several, self.subject(list)) else {
-            return Ok(calls);
-        };
-        if facts == ANY {
-            return Ok(calls);
+    fn learn(&mut self, calls: Calls, list: usize, facts: usize) -> Result<usize, AllocError> {
+        if facts != ANY
+            && calls.numbers.is_some()
+            && let Some(subject) = self.subject(list)
+        {
+            return self.learned.place(Lesson {
+                before: calls.learned,
+                subject,
+                facts,
+            });
         }
-        let learned = self.learned.place(several.learned, subject, facts)?;
-        Ok(Calls {
-            call: calls.call,
-            several: Some(Several {
-                numbers: several.numbers,
-                learned,
-            }),
-        })
+        Ok(calls.learned)
     }
 
-    /// How it goes on at the code of an exit, with what is pending and what is known of the bits that are asked for first.
+    /// How it goes on at the code of an exit.
     pub(crate) fn arrive(
         &mut self,
         pc: usize,
         calls: Calls,
-        pending: Pending,
-        facts: usize,
-        exit: Exit,
+        at: At,
     ) -> Result<Stage, OutlineError> {
-        let call = calls.call;
-        let (mut calls, mut pending, mut facts, mut exit) = (calls, pending, facts, exit);
+        let At::Exit(exit, facts) = at else {
+            return Ok(Stage::Call(calls, at));
+        };
+        let (mut calls, mut facts, mut exit) = (calls, facts, exit);
         for _ in 0..STEPS {
-            let Pending::Left(list) = pending else {
-                return Ok(Stage::Call(calls, pending, At::Return));
+            let Pending::Left(list) = calls.pending else {
+                return Ok(Stage::Call(calls, At::Return));
             };
             exit = self.under(exit, pc);
             if facts == ANY
-                && let Exit::Block(place) = exit
-                && let Some(block) = self.blocks.get(place)
-                && self.asks(block, call, list)
+                && let Leaf::Block(block) = exit
+                && self.asks(block, calls.call, list)
             {
-                return Ok(Stage::Call(calls, pending, At::Block(place, ANY)));
+                return Ok(Stage::Call(calls, At::Block(block, ANY)));
             }
-            match self.settled(call, list, facts)? {
-                Some(next) => {
-                    calls = self.learn(calls, list, facts)?;
-                    pending = next;
-                }
-                None => return Ok(Stage::Call(calls, pending, At::Exit(exit, facts))),
+            let groups = self.groups(calls.call, list, facts, 2)?;
+            if groups.len() != 1 {
+                return Ok(Stage::Call(calls, At::Exit(exit, facts)));
             }
+            calls.learned = self.learn(calls, list, facts)?;
+            calls.pending = groups[0].pending;
             facts = ANY;
         }
         Err(OutlineError::Unlike)
+    }
+
+    /// How it goes on among the comparisons of a block, or where these end.
+    pub(crate) fn in_block(
+        &mut self,
+        pc: usize,
+        calls: Calls,
+        block: usize,
+        facts: usize,
+    ) -> Result<Stage, OutlineError> {
+        match self.leaf_within(block, facts) {
+            Some(exit) => self.arrive(pc, calls, At::Exit(exit, facts)),
+            None => Ok(Stage::Call(calls, At::Block(block, facts))),
+        }
     }
 
     /// How it goes on among the comparisons of numbers.
@@ -108,37 +102,53 @@ impl<'a> Maker<'a> {
         machine: usize,
         facts: usize,
     ) -> Result<Stage, OutlineError> {
-        if let Some(exit) = self.exit_of_numbers(machine, facts)
-            && let Exit::Block(_) = exit
+        if let Some(exit) = self.leaf_of_numbers(machine, facts)
+            && let Leaf::Block(_) = exit
             && let Some(stage) = self.at_once(pc, machine, facts, exit)?
         {
             return Ok(stage);
         }
         if let Some(call) = self.only_call(machine, facts) {
-            let pending = self.beginning(call)?;
-            let exit = self.call(call).map_or(self.default, |call| call.exit);
-            let calls = Calls {
-                call,
-                several: None,
-            };
-            return self.arrive(pc, calls, pending, ANY, exit);
+            let calls = self.single(call)?;
+            let exit = self.calls.get(call).map_or(self.default, |call| call.leaf);
+            return self.arrive(pc, calls, At::Exit(exit, ANY));
         }
         Ok(Stage::Numbers(machine, facts))
+    }
+
+    // How it goes on at an exit of some numbers, where nodes are made for all of them at once.
+    fn at_once(
+        &mut self,
+        pc: usize,
+        machine: usize,
+        numbers: usize,
+        exit: Leaf,
+    ) -> Result<Option<Stage>, OutlineError> {
+        match self.decided(pc, machine, numbers, exit)? {
+            Some(calls) => Ok(Some(self.arrive(pc, calls, At::Exit(exit, ANY))?)),
+            None => Ok(None),
+        }
+    }
+
+    /// One call, of which nothing is asked yet.
+    pub(crate) fn single(&mut self, call: usize) -> Result<Calls, AllocError> {
+        Ok(Calls {
+            call,
+            pending: self.beginning(call)?,
+            numbers: None,
+            learned: NOTHING,
+        })
     }
 
     // The only call that the facts leave.
     fn only_call(&self, machine: usize, facts: usize) -> Option<usize> {
         let token = self.machines.get(machine)?.token;
-        self.call_of(token, self.facts.get(facts)?.only()?)
-    }
-
-    /// What decides all numbers of a machine that the facts leave, if that is one.
-    pub(crate) fn exit_of_numbers(&self, machine: usize, facts: usize) -> Option<Exit> {
-        only_exit(&self.machines.get(machine)?.spans, self.facts.get(facts)?)
-    }
-
-    /// What decides all that the facts leave of the bits of a block, if that is one.
-    pub(crate) fn exit_within(&self, block: usize, facts: usize) -> Option<Exit> {
-        only_exit(self.spans.get(block)?, self.facts.get(facts)?)
+        let number = self.facts.get(facts)?.only()?;
+        for (place, call) in self.calls.iter().enumerate() {
+            if call.number == number && call.token == token {
+                return Some(place);
+            }
+        }
+        None
     }
 }

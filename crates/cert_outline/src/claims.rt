@@ -1,96 +1,67 @@
 //! What a node states.
 
 use crate::facts::word_of;
-use crate::maker::Maker;
-use crate::numbers::Numbered;
+use crate::maker::{Maker, NUMBER, TOKEN};
 use crate::sorting::Stated;
-use crate::spot::{At, Calls, Pending, Several, Spot, Stage};
+use crate::spot::{At, Calls, Lesson, NOTHING, Pending, Spot, Stage};
+use crate::table::bits;
 use cert_form::Claim;
 use cert_state::Lit;
-use rule_compile::{Open, Subject};
+use rule_compile::{Asker, Open, Subject};
 use std::alloc::AllocError;
 
-/// The words of a record that hold the call's number and the machine's token, as wholes.
-pub(crate) const NUMBER: Subject = Subject {
-    word: 0,
-    mask: u32::MAX,
-};
-
-pub(crate) const TOKEN: Subject = Subject {
-    word: 4,
-    mask: u32::MAX,
-};
-
-fn is_of_token(token: u32) -> Lit {
-    Lit::Bits(word_of(TOKEN), u32::MAX, token)
+fn is_number(subject: Subject, number: u32) -> Claim {
+    Claim::Knows(Lit::Bits(word_of(subject), subject.mask, number))
 }
 
-// The questions of the first rule of a list, and those of the rules after it.
-fn first_rule(rules: &[Open]) -> (&[Open], &[Open]) {
-    for place in 1..rules.len() {
-        if rules[place].begins {
-            return rules.split_at(place);
+// What is left from a condition on.
+fn left_from(left: &[Open], asker: Asker) -> &[Open] {
+    for place in 0..left.len() {
+        let own = left[place].asker;
+        if own.rule > asker.rule || own.rule == asker.rule && own.condition >= asker.condition {
+            return &left[place..];
         }
     }
-    (rules, &[])
+    &[]
 }
 
 // Whether the first question is a rule's.
-fn begins_with(rules: &[Open], rule: usize) -> bool {
-    match rules.first() {
+fn begins_with(left: &[Open], rule: usize) -> bool {
+    match left.first() {
         Some(open) => open.asker.rule == rule,
         None => false,
     }
 }
 
-// The place of a rule or of a condition, as a claim tells it.
-fn place_of(place: usize) -> u32 {
-    place.min(0xffff_ffff) as u32
-}
-
-// The claim that a condition is met.
-fn met(open: &Open) -> Claim {
-    Claim::Met(place_of(open.asker.rule), place_of(open.asker.condition))
-}
-
-// What a question that is answered says of its bits.
-fn answered(open: &Open) -> Claim {
-    let subject = open.question.subject;
-    Claim::Knows(Lit::Bits(word_of(subject), subject.mask, open.question.number))
+// Of what is left from a question's condition on, whether the question is left; nothing where the condition is met.
+fn is_left(left: &[Open], open: &Open) -> Option<bool> {
+    let mut found = None;
+    for other in left {
+        if other.asker != open.asker {
+            return found;
+        }
+        if other.question == open.question {
+            return Some(true);
+        }
+        found = Some(false);
+    }
+    found
 }
 
 impl Stated {
-    // The rules of a part.
-    fn list(&mut self, rules: &[Open]) -> Result<(), AllocError> {
+    // Whether each rule of a part is out or not.
+    fn add_rules(&mut self, rules: &[Open], are_out: bool) -> Result<(), AllocError> {
         for open in rules {
             if open.begins {
-                self.rules.push(place_of(open.asker.rule))?;
+                self.rules.push((bits(open.asker.rule), are_out))?;
             }
-        }
-        Ok(())
-    }
-
-    // Each rule of a part is out.
-    fn all_out(&mut self, rules: &[Open]) -> Result<(), AllocError> {
-        for open in rules {
-            if open.begins {
-                self.outs.push(place_of(open.asker.rule))?;
-            }
-        }
-        Ok(())
-    }
-
-    // Each rule of the first parts is out.
-    fn parts_out(&mut self, call: &Numbered<'_>, parts: usize) -> Result<(), AllocError> {
-        for part in 0..parts {
-            self.all_out(call.questions(part))?;
         }
         Ok(())
     }
 
     // A condition is met.
     fn meet(&mut self, open: &Open) -> Result<(), AllocError> {
-        let claim = met(open);
+        let claim = Claim::Met(bits(open.asker.rule), bits(open.asker.condition));
         if self.others.last() != Some(&claim) {
             self.others.push(claim)?;
         }
@@ -99,49 +70,32 @@ impl Stated {
 
     // States something besides.
     fn tell(&mut self, claim: Claim) -> Result<(), AllocError> {
-        if !self.others.iter().any(|other| *other == claim) {
+        if !self.others.contains(&claim) {
             self.others.push(claim)?;
         }
         Ok(())
     }
 
-    fn tell_all(&mut self, claims: &[Claim]) -> Result<(), AllocError> {
-        for claim in claims {
-            self.tell(*claim)?;
-        }
-        Ok(())
-    }
-
-    // What of a rule's questions is answered, by those that are left.
-    fn tell_rule(&mut self, rule: &[Open], left: &[Open]) -> Result<(), AllocError> {
-        for open in rule {
-            if !left.iter().any(|other| other.asker == open.asker) {
-                self.meet(open)?;
-            } else if !left.iter().any(|other| {
-                other.asker == open.asker && other.question == open.question
-            }) {
-                self.tell(answered(open))?;
-            }
-        }
-        Ok(())
-    }
-
     // What of a part's questions is answered, by those that are left.
-    fn tell_part(&mut self, rules: &[Open], left: &[Open]) -> Result<(), AllocError> {
-        let (mut rules, mut left) = (rules, left);
-        for _ in 0..rules.len() {
-            let (rule, others) = first_rule(rules);
-            let (next, others_left) = first_rule(left);
-            let Some(first) = rule.first() else {
-                break;
-            };
-            if begins_with(next, first.asker.rule) {
-                self.tell_rule(rule, next)?;
-                left = others_left;
-            } else {
-                self.outs.push(place_of(first.asker.rule))?;
+    fn add_part(&mut self, rules: &[Open], left: &[Open]) -> Result<(), AllocError> {
+        let mut left = left;
+        let mut is_out = true;
+        for open in rules {
+            left = left_from(left, open.asker);
+            if open.begins {
+                is_out = !begins_with(left, open.asker.rule);
+                self.rules.push((bits(open.asker.rule), is_out))?;
             }
-            rules = others;
+            if !is_out {
+                match is_left(left, open) {
+                    None => self.meet(open)?,
+                    Some(false) => self.tell(is_number(
+                        open.question.subject,
+                        open.question.number,
+                    ))?,
+                    Some(true) => {}
+                }
+            }
         }
         Ok(())
     }
@@ -152,13 +106,6 @@ impl Stated {
             if open.asker.rule == rule {
                 self.meet(open)?;
             }
-        }
-        Ok(())
-    }
-
-    fn meet_in_parts(&mut self, call: &Numbered<'_>, rule: usize) -> Result<(), AllocError> {
-        for part in 0..call.parts() {
-            self.meet_rule(call.questions(part), rule)?;
         }
         Ok(())
     }
@@ -178,10 +125,89 @@ impl<'a> Maker<'a> {
         }
     }
 
+    // What is known of the rules of a call.
+    fn rule_claims(&self, calls: Calls, stated: &mut Stated) -> Result<(), AllocError> {
+        let left = match calls.pending {
+            Pending::Left(list) => self.left.get(list),
+            _ => None,
+        };
+        for part in 0..self.parts(calls.call).len() {
+            let rules = self.questions(calls.call, part);
+            match (left, calls.pending) {
+                (Some(left), _) if part == left.part => stated.add_part(rules, &left.rules)?,
+                (Some(left), _) => stated.add_rules(rules, part < left.part)?,
+                (None, Pending::Met(rule)) => stated.meet_rule(rules, rule)?,
+                (None, _) => stated.add_rules(rules, true)?,
+            }
+        }
+        Ok(())
+    }
+
+    // What was learned, from the last to the first.
+    fn lessons(&self, learned: usize) -> Result<Vec<Lesson>, AllocError> {
+        let mut lessons = Vec::new(self.alloc);
+        let mut place = learned;
+        for _ in 0..self.learned.items().len() {
+            if place == NOTHING {
+                break;
+            }
+            if let Some(lesson) = self.learned.get(place) {
+                lessons.push(*lesson)?;
+                place = lesson.before;
+            }
+        }
+        Ok(lessons)
+    }
+
+    // What was learned of the words of the arguments.
+    fn learned_claims(&self, learned: usize, stated: &mut Stated) -> Result<(), AllocError> {
+        let lessons = self.lessons(learned)?;
+        let mut claims = Vec::new(self.alloc);
+        for lesson in lessons.iter().rev() {
+            self.tell_facts(lesson.subject, lesson.facts, &mut claims)?;
+        }
+        for claim in &claims {
+            stated.tell(*claim)?;
+        }
+        Ok(())
+    }
+
+    // What a node states of calls.
+    fn call_claims(&self, calls: Calls, at: At, stated: &mut Stated) -> Result<(), AllocError> {
+        let Some(call) = self.calls.get(calls.call) else {
+            return Ok(());
+        };
+        stated.call.push(is_number(TOKEN, call.token))?;
+        match calls.numbers {
+            Some(numbers) => {
+                self.tell_facts(NUMBER, numbers, &mut stated.call)?;
+                self.learned_claims(calls.learned, stated)?;
+            }
+            None => {
+                stated.call.push(is_number(NUMBER, call.number))?;
+                self.rule_claims(calls, stated)?;
+            }
+        }
+        self.asked_claims(calls, at, stated)
+    }
+
+    // What is known of the bits that are being asked for.
+    fn asked_claims(&self, calls: Calls, at: At, stated: &mut Stated) -> Result<(), AllocError> {
+        let (At::Block(_, facts) | At::Exit(_, facts)) = at else {
+            return Ok(());
+        };
+        if let Pending::Left(list) = calls.pending
+            && let Some(subject) = self.subject(list)
+        {
+            return self.tell_facts(subject, facts, &mut stated.others);
+        }
+        Ok(())
+    }
+
     // What a node states that tells machines apart.
     fn machine_claims(&self, others: u32, stated: &mut Stated) -> Result<(), AllocError> {
         for (place, machine) in self.machines.iter().enumerate() {
-            if is_among(others, place) {
+            if place < 32 && others >> place & 1 == 1 {
                 let literal = Lit::NotBits(word_of(TOKEN), u32::MAX, machine.token);
                 stated.call.push(Claim::Knows(literal))?;
             }
@@ -197,136 +223,30 @@ impl<'a> Maker<'a> {
         stated: &mut Stated,
     ) -> Result<(), AllocError> {
         if let Some(machine) = self.machines.get(machine) {
-            stated.call.push(Claim::Knows(is_of_token(machine.token)))?;
+            stated.call.push(is_number(TOKEN, machine.token))?;
         }
         self.tell_facts(NUMBER, facts, &mut stated.call)
     }
 
-    // What is known of the rules of a call where these questions of a part are left.
-    fn left_claims(
-        &self,
-        call: &Numbered<'_>,
-        list: usize,
-        stated: &mut Stated,
-    ) -> Result<(), AllocError> {
-        let Some(left) = self.left.get(list) else {
-            return Ok(());
-        };
-        stated.parts_out(call, left.part)?;
-        stated.tell_part(call.questions(left.part), &left.rules)
-    }
-
-    // What is known of the rules of a call.
-    fn rule_claims(
-        &self,
-        call: &Numbered<'_>,
-        pending: Pending,
-        stated: &mut Stated,
-    ) -> Result<(), AllocError> {
-        for part in 0..call.parts() {
-            stated.list(call.questions(part))?;
-        }
-        match pending {
-            Pending::Left(list) => self.left_claims(call, list, stated),
-            Pending::Met(rule) => stated.meet_in_parts(call, rule),
-            Pending::End => stated.parts_out(call, call.parts()),
-        }
-    }
-
-    // What was learned of the words of the arguments.
-    fn learned_claims(&self, learned: usize, stated: &mut Stated) -> Result<(), AllocError> {
-        let lessons = self.learned.lessons(self.alloc, learned)?;
-        for lesson in &lessons {
-            let mut claims = Vec::new(self.alloc);
-            self.tell_facts(lesson.subject, lesson.facts, &mut claims)?;
-            stated.tell_all(&claims)?;
-        }
-        Ok(())
-    }
-
-    // What a node states of several calls.
-    fn several_claims(&self, several: Several, stated: &mut Stated) -> Result<(), AllocError> {
-        self.tell_facts(NUMBER, several.numbers, &mut stated.call)?;
-        self.learned_claims(several.learned, stated)
-    }
-
-    // What a node states of one call.
-    fn single_claims(
-        &self,
-        call: &Numbered<'_>,
-        pending: Pending,
-        stated: &mut Stated,
-    ) -> Result<(), AllocError> {
-        let number = Lit::Bits(word_of(NUMBER), u32::MAX, call.number);
-        stated.call.push(Claim::Knows(number))?;
-        self.rule_claims(call, pending, stated)
-    }
-
-    // What is known of the bits that are asked for first of what is left.
-    fn asked_claims(
-        &self,
-        list: usize,
-        facts: usize,
-        stated: &mut Stated,
-    ) -> Result<(), AllocError> {
-        match self.subject(list) {
-            Some(subject) => self.tell_facts(subject, facts, &mut stated.others),
-            None => Ok(()),
-        }
-    }
-
-    // What a node states of calls.
-    fn call_claims(
-        &self,
-        calls: Calls,
-        pending: Pending,
-        at: At,
-        stated: &mut Stated,
-    ) -> Result<(), AllocError> {
-        let Some(call) = self.call(calls.call) else {
-            return Ok(());
-        };
-        stated.call.push(Claim::Knows(is_of_token(call.token)))?;
-        match calls.several {
-            Some(several) => self.several_claims(several, stated)?,
-            None => self.single_claims(&call, pending, stated)?,
-        }
-        if let At::Block(_, facts) | At::Exit(_, facts) = at
-            && let Pending::Left(list) = pending
-        {
-            return self.asked_claims(list, facts, stated);
-        }
-        Ok(())
-    }
-
-    // What is known where no record comes.
+    // What is stated where no record comes.
     fn dead_claims(&self, place: usize, stated: &mut Stated) -> Result<(), AllocError> {
-        if let Some(lits) = self.contradictions.get(place) {
-            for literal in lits {
+        if let Some(literals) = self.contradictions.get(place) {
+            for literal in literals {
                 stated.others.push(Claim::Knows(*literal))?;
             }
         }
         Ok(())
     }
 
-    fn stage_claims(&self, stage: Stage, stated: &mut Stated) -> Result<(), AllocError> {
-        match stage {
-            Stage::Machines(others) => self.machine_claims(others, stated),
-            Stage::Numbers(machine, facts) => self.number_claims(machine, facts, stated),
-            Stage::Call(calls, pending, at) => self.call_claims(calls, pending, at, stated),
-            Stage::Dead(place) => self.dead_claims(place, stated),
-        }
-    }
-
     /// What the node of a spot states.
     pub(crate) fn stated(&self, spot: &Spot) -> Result<Stated, AllocError> {
         let mut stated = Stated::new(self.alloc);
-        self.stage_claims(spot.stage, &mut stated)?;
+        match spot.stage {
+            Stage::Machines(others) => self.machine_claims(others, &mut stated)?,
+            Stage::Numbers(machine, facts) => self.number_claims(machine, facts, &mut stated)?,
+            Stage::Call(calls, at) => self.call_claims(calls, at, &mut stated)?,
+            Stage::Dead(place) => self.dead_claims(place, &mut stated)?,
+        }
         Ok(stated)
     }
-}
-
-/// Whether the machine at a place is among those of bits.
-pub(crate) fn is_among(bits: u32, place: usize) -> bool {
-    place < 32 && bits >> place & 1 == 1
 }

@@ -1,10 +1,11 @@
-//! For which numbers of the bits that are asked for the same is pending.
+//! What is pending of a call, and for which numbers of the bits that are asked for it stays the same.
 
+use crate::facts::Facts;
 use crate::fault::OutlineError;
 use crate::maker::Maker;
-use crate::spot::Pending;
-use rule_compile::{Open, Subject, starts_of, subject_of};
-use std::alloc::{AllocError, Global};
+use crate::spot::{Pending, Remaining};
+use rule_compile::{Leaf, Rest, Subject, left, starts_of, subject_of};
+use std::alloc::AllocError;
 
 /// Numbers for which the same is pending: those from one on, or of bits under a mask just this one, and then all others.
 #[derive(Clone, Copy)]
@@ -13,186 +14,90 @@ pub(crate) struct Group {
     pub(crate) pending: Pending,
 }
 
-// The numbers that are asked for under a mask, in order.
-fn asked_numbers(alloc: Global, rules: &[Open], subject: Subject) -> Result<Vec<u32>, AllocError> {
-    let mut numbers = Vec::new(alloc);
-    for open in rules {
-        if open.question.subject == subject {
-            numbers.push(open.question.number)?;
+impl<'a> Maker<'a> {
+    /// What is pending where a part of a call is asked.
+    pub(crate) fn asked(&mut self, call: usize, part: usize) -> Result<Pending, AllocError> {
+        let rules = self.questions(call, part);
+        if rules.is_empty() {
+            return Ok(Pending::End);
+        }
+        let rules = Vec::from_slice(self.alloc, rules)?;
+        Ok(Pending::Left(self.left.place(Remaining { part, rules })?))
+    }
+
+    /// What is pending at the beginning of a call.
+    pub(crate) fn beginning(&mut self, call: usize) -> Result<Pending, AllocError> {
+        if let Some(own) = self.calls.get(call)
+            && let Some(rule) = own.met
+        {
+            return Ok(Pending::Met(rule));
+        }
+        self.asked(call, 0)
+    }
+
+    /// What decides a call where no rule of a part holds.
+    pub(crate) fn other(&self, call: usize, part: usize) -> Leaf {
+        match self.part(call, part.saturating_add(1)) {
+            Some(part) => part.leaf,
+            None => self.default,
         }
     }
-    numbers.sort()?;
-    numbers.dedup();
-    Ok(numbers)
-}
 
-// Where the range ends that begins at a place of a list.
-fn end_of(starts: &[u32], place: usize) -> u32 {
-    match starts.get(place.saturating_add(1)) {
-        Some(next) => next.saturating_sub(1),
-        None => u32::MAX,
-    }
-}
-
-// Adds a group, where something else is pending than in the one before it.
-fn add_unlike(groups: &mut Vec<Group>, first: u32, pending: Pending) -> Result<(), AllocError> {
-    if groups.last().map(|group| group.pending) != Some(pending) {
-        groups.push(Group { first, pending })?;
-    }
-    Ok(())
-}
-
-// Bits that are asked for of a call, of which what stands at a place of the table is left.
-#[derive(Clone, Copy)]
-struct Asked {
-    call: usize,
-    list: usize,
-    subject: Subject,
-}
-
-impl<'a> Maker<'a> {
     /// The bits that are asked for first of what is left at a place of the table.
     pub(crate) fn subject(&self, list: usize) -> Option<Subject> {
         subject_of(&self.left.get(list)?.rules)
     }
 
-    // The part of the call's rules that is asked after that of which something is left.
-    fn part_after(&self, list: usize) -> usize {
-        match self.left.get(list) {
-            Some(left) => left.part.saturating_add(1),
-            None => 0,
-        }
-    }
-
-    // What is pending where the bits are a number.
-    fn after(&mut self, asked: Asked, number: u32) -> Result<Pending, OutlineError> {
-        let next = self
-            .left
-            .after(self.alloc, asked.list, asked.subject, number)?;
-        match next {
-            Some(pending) => Ok(pending),
-            None => {
-                let part = self.part_after(asked.list);
-                self.part(asked.call, part)
-            }
-        }
-    }
-
-    fn starts(&self, asked: Asked) -> Result<Vec<u32>, AllocError> {
-        match self.left.get(asked.list) {
-            Some(left) => starts_of(self.alloc, &left.rules, asked.subject),
-            None => Ok(Vec::new(self.alloc)),
-        }
-    }
-
-    fn numbers(&self, asked: Asked) -> Result<Vec<u32>, AllocError> {
-        match self.left.get(asked.list) {
-            Some(left) => asked_numbers(self.alloc, &left.rules, asked.subject),
-            None => Ok(Vec::new(self.alloc)),
-        }
-    }
-
-    fn first_within(&self, facts: usize, first: u32, last: u32) -> Option<u32> {
-        let (first, _) = self.facts.get(facts)?.within(first, last)?;
-        Some(first)
-    }
-
-    fn excludes(&self, facts: usize, number: u32) -> bool {
-        match self.facts.get(facts) {
-            Some(facts) => facts.excludes(number),
-            None => false,
-        }
-    }
-
-    fn only(&self, facts: usize) -> Option<u32> {
-        self.facts.get(facts)?.only()
-    }
-
-    // Adds the group of the numbers from one on, of which this is one.
-    fn add_group(
+    // What is pending of a call where bits are a number, and what stands at a place of the table was left.
+    fn answered(
         &mut self,
-        asked: Asked,
-        start: u32,
+        call: usize,
+        list: usize,
+        subject: Subject,
         number: u32,
-        groups: &mut Vec<Group>,
-    ) -> Result<(), OutlineError> {
-        let pending = self.after(asked, number)?;
-        add_unlike(groups, start, pending)?;
-        Ok(())
+    ) -> Result<Pending, OutlineError> {
+        let Some(asked) = self.left.get(list) else {
+            return Err(OutlineError::Unlike);
+        };
+        let part = asked.part;
+        match left(self.alloc, &asked.rules, subject, number)? {
+            Rest::Met(rule, _) => Ok(Pending::Met(rule)),
+            Rest::Open(rules) => {
+                if rules.is_empty() {
+                    return Ok(self.asked(call, part.saturating_add(1))?);
+                }
+                Ok(Pending::Left(self.left.place(Remaining { part, rules })?))
+            }
+        }
     }
 
-    // The groups by the numbers of a whole word.
-    fn groups_of_word(
-        &mut self,
-        asked: Asked,
+    // Numbers between which something else may be pending, each with the first one from it on that the facts leave.
+    fn turns(
+        &self,
+        list: usize,
+        subject: Subject,
         facts: usize,
-        most: usize,
-    ) -> Result<Vec<Group>, OutlineError> {
-        let starts = self.starts(asked)?;
-        let mut groups = Vec::new(self.alloc);
-        for (place, start) in starts.iter().enumerate() {
-            if groups.len() >= most {
-                break;
-            }
-            if let Some(first) = self.first_within(facts, *start, end_of(&starts, place)) {
-                self.add_group(asked, *start, first, &mut groups)?;
-            }
-        }
-        Ok(groups)
-    }
-
-    // Adds the groups of bits under a mask: those of numbers that are asked for, and that of all others. A number with
-    // other bits is none that is asked for.
-    fn add_groups(
-        &mut self,
-        asked: Asked,
-        facts: usize,
-        groups: &mut Vec<Group>,
-    ) -> Result<(), OutlineError> {
-        let other = u32::MAX ^ asked.subject.mask;
-        let rest = self.after(asked, other)?;
-        let numbers = self.numbers(asked)?;
-        for number in &numbers {
-            if !self.excludes(facts, *number) {
-                self.add_unless(asked, *number, rest, groups)?;
+    ) -> Result<Vec<(u32, u32)>, AllocError> {
+        let mut turns = Vec::new(self.alloc);
+        let (Some(asked), Some(facts)) = (self.left.get(list), self.facts.get(facts)) else {
+            return Ok(turns);
+        };
+        let starts = starts_of(self.alloc, &asked.rules, subject)?;
+        for place in 0..starts.len() {
+            if let Some(turn) = turn_at(&starts, place, subject.mask, facts) {
+                turns.push(turn)?;
             }
         }
-        groups.push(Group {
-            first: other,
-            pending: rest,
-        })?;
-        Ok(())
-    }
-
-    // Adds the group of a number, unless this is pending.
-    fn add_unless(
-        &mut self,
-        asked: Asked,
-        first: u32,
-        rest: Pending,
-        groups: &mut Vec<Group>,
-    ) -> Result<(), OutlineError> {
-        let pending = self.after(asked, first)?;
-        if pending != rest {
-            groups.push(Group { first, pending })?;
+        // A number with other bits than those of the mask is none that is asked for.
+        let others = u32::MAX ^ subject.mask;
+        if others != 0 && facts.within(others, others).is_some() {
+            turns.push((others, others))?;
         }
-        Ok(())
-    }
-
-    fn groups_of_bits(&mut self, asked: Asked, facts: usize) -> Result<Vec<Group>, OutlineError> {
-        let mut groups = Vec::new(self.alloc);
-        match self.only(facts) {
-            Some(first) => {
-                let pending = self.after(asked, first)?;
-                groups.push(Group { first, pending })?;
-            }
-            None => self.add_groups(asked, facts, &mut groups)?,
-        }
-        Ok(groups)
+        Ok(turns)
     }
 
     /// The numbers that the bits may be that are asked for first of what is left, by what is pending then: at most so many
-    /// groups of whole words.
+    /// groups.
     pub(crate) fn groups(
         &mut self,
         call: usize,
@@ -200,17 +105,52 @@ impl<'a> Maker<'a> {
         facts: usize,
         most: usize,
     ) -> Result<Vec<Group>, OutlineError> {
+        let mut groups: Vec<Group> = Vec::new(self.alloc);
         let Some(subject) = self.subject(list) else {
-            return Ok(Vec::new(self.alloc));
+            return Ok(groups);
         };
-        let asked = Asked {
-            call,
-            list,
-            subject,
-        };
-        if subject.mask == u32::MAX {
-            return self.groups_of_word(asked, facts, most);
+        let turns = self.turns(list, subject, facts)?;
+        for (first, number) in &turns {
+            let pending = self.answered(call, list, subject, *number)?;
+            if !ends_with(&groups, pending) {
+                groups.push(Group {
+                    first: *first,
+                    pending,
+                })?;
+            }
+            if groups.len() >= most {
+                break;
+            }
         }
-        self.groups_of_bits(asked, facts)
+        Ok(groups)
+    }
+}
+
+// Whether something is pending for the last numbers.
+fn ends_with(groups: &[Group], pending: Pending) -> bool {
+    match groups.last() {
+        Some(group) => group.pending == pending,
+        None => false,
+    }
+}
+
+// The number at a place of a list, with the first one from it on that the facts leave: up to the next of the list, or of bits
+// under a mask the number itself.
+fn turn_at(starts: &[u32], place: usize, mask: u32, facts: &Facts) -> Option<(u32, u32)> {
+    let start = *starts.get(place)?;
+    if mask == u32::MAX {
+        return Some((start, facts.within(start, end_of(starts, place))?));
+    }
+    if start & (u32::MAX ^ mask) != 0 {
+        return None;
+    }
+    Some((start, facts.within(start, start)?))
+}
+
+// Where the range ends that begins at a place of a list.
+fn end_of(starts: &[u32], place: usize) -> u32 {
+    match starts.get(place.saturating_add(1)) {
+        Some(next) => next.saturating_sub(1),
+        None => u32::MAX,
     }
 }

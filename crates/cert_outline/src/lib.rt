@@ -8,27 +8,19 @@
 //! The maker is not trusted, and promises nothing of what it writes: whoever relies on a certificate has it checked.
 #![tactic(auto)]
 
-mod alike;
 mod arriving;
-mod call_ways;
+mod calls;
 mod chains;
 mod claims;
-mod contradictions;
-mod cuts;
-mod exit;
 mod facts;
 mod fault;
 mod groups;
-mod index;
-mod learned;
+mod listing;
 mod maker;
-mod numbers;
-mod order;
-mod remaining;
-mod sizes;
+mod several;
 mod sorting;
 mod spot;
-mod spots;
+mod table;
 mod ways;
 
 pub use fault::OutlineError;

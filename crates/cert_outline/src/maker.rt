@@ -1,59 +1,59 @@
 //! The maker of the certificate.
 
-use crate::alike::Decided;
-use crate::exit::{Exit, Span, spans_of};
-use crate::facts::FactTable;
+use crate::calls::{Numbered, Numbers, all_calls, numbers_of_machine, parts_of};
+use crate::facts::{Facts, only_leaf};
 use crate::fault::OutlineError;
-use crate::learned::Learned;
-use crate::numbers::{Beginning, Numbered, Numbers, all_calls};
-use crate::order::{Ways, in_order};
-use crate::remaining::RemainingTable;
-use crate::spot::{Pending, Spot, Stage};
-use crate::spots::Spots;
+use crate::listing::{NOBODY, leading_to, listed};
+use crate::several::Decided;
+use crate::spot::{At, Lesson, NOTHING_LEARNED, Remaining, Spot, Stage};
+use crate::table::Table;
 use bpf_insn::{Insn, Operation, Program};
-use cert_form::MAX_NODES;
+use cert_form::{Kind, MAX_NODES};
 use cert_state::Lit;
 use profile::Profile;
-use rule_compile::{Block, Outline, Subject};
+use rule_compile::{Leaf, Open, Outline, Part, Subject};
 use std::alloc::{AllocError, Global};
+
+/// The words of a record that hold the call's number and the machine's token, as wholes.
+pub(crate) const NUMBER: Subject = Subject {
+    word: 0,
+    mask: u32::MAX,
+};
+
+pub(crate) const TOKEN: Subject = Subject {
+    word: 4,
+    mask: u32::MAX,
+};
 
 /// What is known of the profile and its filter, and of the certificate so far.
 #[derive(Drop)]
 pub(crate) struct Maker<'a> {
     pub(crate) alloc: Global,
     pub(crate) program: Program<'a>,
-    pub(crate) default: Exit,
-    pub(crate) blocks: &'a [Block],
-    /// For each block the exits by the numbers of its bits.
-    pub(crate) spans: Vec<Vec<Span>>,
+    pub(crate) outline: &'a Outline,
+    pub(crate) default: Leaf,
     pub(crate) machines: Vec<Numbers>,
-    calls: Vec<Numbered<'a>>,
-    pub(crate) facts: FactTable,
-    pub(crate) left: RemainingTable,
-    spots: Spots,
+    pub(crate) calls: Vec<Numbered>,
+    pub(crate) facts: Table<Facts>,
+    pub(crate) left: Table<Remaining>,
+    pub(crate) learned: Table<Lesson>,
+    pub(crate) spots: Table<Spot>,
     pub(crate) contradictions: Vec<Vec<Lit>>,
-    pub(crate) learned: Learned,
     pub(crate) decisions: Vec<Decided>,
 }
 
+// What decides the numbers of each machine.
 fn machines_of(
     alloc: Global,
     profile: &Profile,
-    calls: &[Numbered<'_>],
+    calls: &[Numbered],
 ) -> Result<Vec<Numbers>, AllocError> {
+    let default = Leaf::Word(profile.default_word());
     let mut machines = Vec::new(alloc);
     for machine in profile.machines() {
-        machines.push(Numbers::of(alloc, profile, calls, *machine)?)?;
+        machines.push(numbers_of_machine(alloc, calls, *machine, &default)?)?;
     }
     Ok(machines)
-}
-
-fn all_spans(alloc: Global, blocks: &[Block]) -> Result<Vec<Vec<Span>>, AllocError> {
-    let mut all = Vec::new(alloc);
-    for block in blocks {
-        all.push(spans_of(alloc, &block.ranges)?)?;
-    }
-    Ok(all)
 }
 
 impl<'a> Maker<'a> {
@@ -64,37 +64,45 @@ impl<'a> Maker<'a> {
         outline: &'a Outline,
     ) -> Result<Maker<'a>, AllocError> {
         let calls = all_calls(alloc, profile, outline)?;
+        let machines = machines_of(alloc, profile, &calls)?;
         Ok(Maker {
             alloc,
             program,
-            default: Exit::Word(profile.default_word().0),
-            blocks: &outline.blocks,
-            spans: all_spans(alloc, &outline.blocks)?,
-            machines: machines_of(alloc, profile, &calls)?,
+            outline,
+            default: Leaf::Word(profile.default_word()),
+            machines,
             calls,
-            facts: FactTable::new(alloc)?,
-            left: RemainingTable::new(alloc)?,
-            spots: Spots::new(alloc)?,
+            facts: Table::new(alloc),
+            left: Table::new(alloc),
+            learned: Table::new(alloc),
+            spots: Table::new(alloc),
             contradictions: Vec::new(alloc),
-            learned: Learned::new(alloc)?,
             decisions: Vec::new(alloc),
         })
     }
 
-    /// The instruction at a position.
-    pub(crate) fn insn(&self, pc: usize) -> Option<Insn> {
+    // What says nothing stands first, and so does the spot where the filter begins.
+    fn begin(&mut self) -> Result<(), OutlineError> {
+        self.facts.place(Facts::any(self.alloc))?;
+        self.learned.place(NOTHING_LEARNED)?;
+        self.place(0, None, Stage::Machines(0))?;
+        Ok(())
+    }
+
+    /// What an instruction is, and what it does.
+    pub(crate) fn operation(&self, pc: usize) -> Option<(Insn, Operation)> {
         if pc < self.program.len() {
-            return Some(self.program.get(pc));
+            let insn = self.program.get(pc);
+            return Some((insn, insn.operation()?));
         }
         None
     }
 
-    // The instruction to which jumps lead from a position.
+    // What the instruction does to which jumps lead from a position.
     fn landing(&self, pc: usize) -> Option<Operation> {
         let mut pc = pc;
         for _ in 0..self.program.len() {
-            let insn = self.insn(pc)?;
-            let operation = insn.operation()?;
+            let (insn, operation) = self.operation(pc)?;
             if operation != Operation::Jump {
                 return Some(operation);
             }
@@ -108,50 +116,34 @@ impl<'a> Maker<'a> {
         self.landing(pc) == Some(Operation::ReturnK)
     }
 
-    // Whether it matters at a position what is loaded.
-    fn uses_loaded(&self, pc: usize) -> bool {
-        match self.landing(pc) {
-            Some(Operation::ReturnK | Operation::LoadWord) => false,
-            _ => true,
+    /// The parts of a call's questions, the last of which is asked first.
+    pub(crate) fn parts(&self, call: usize) -> &'a [Part] {
+        match self.calls.get(call) {
+            Some(call) => parts_of(self.outline, call),
+            None => &[],
         }
     }
 
-    /// The place of the machine with a token.
-    pub(crate) fn machine_of(&self, token: u32) -> Option<usize> {
-        self.machines
-            .iter()
-            .position(|machine| machine.token == token)
+    /// The part of a call's questions that is asked after so many.
+    pub(crate) fn part(&self, call: usize, part: usize) -> Option<&'a Part> {
+        let parts = self.parts(call);
+        parts.get(parts.len().checked_sub(part)?.checked_sub(1)?)
     }
 
-    /// The call at a place.
-    pub(crate) fn call(&self, place: usize) -> Option<Numbered<'a>> {
-        self.calls.get(place).copied()
-    }
-
-    /// The place of the call of a number of a machine.
-    pub(crate) fn call_of(&self, token: u32, number: u32) -> Option<usize> {
-        self.calls
-            .iter()
-            .position(|call| call.number == number && call.token == token)
-    }
-
-    /// How many calls there are.
-    pub(crate) fn count_calls(&self) -> usize {
-        self.calls.len()
+    /// The questions of that part.
+    pub(crate) fn questions(&self, call: usize, part: usize) -> &'a [Open] {
+        match self.part(call, part) {
+            Some(part) => part.rules.as_slice(),
+            None => &[],
+        }
     }
 
     /// The places of the calls of a machine whose numbers the facts leave.
-    pub(crate) fn calls_within(
-        &self,
-        machine: usize,
-        facts: usize,
-    ) -> Result<Vec<usize>, AllocError> {
+    pub(crate) fn calls_within(&self, token: u32, facts: usize) -> Result<Vec<usize>, AllocError> {
         let mut places = Vec::new(self.alloc);
-        if let Some(facts) = self.facts.get(facts)
-            && let Some(machine) = self.machines.get(machine)
-        {
+        if let Some(facts) = self.facts.get(facts) {
             for (place, call) in self.calls.iter().enumerate() {
-                if call.token == machine.token && facts.within(call.number, call.number).is_some() {
+                if call.token == token && facts.within(call.number, call.number).is_some() {
                     places.push(place)?;
                 }
             }
@@ -159,88 +151,90 @@ impl<'a> Maker<'a> {
         Ok(places)
     }
 
-    /// The numbers of calls of a machine that the facts leave.
-    pub(crate) fn numbers_within(&self, token: u32, facts: usize) -> Result<Vec<u32>, AllocError> {
-        let mut numbers = Vec::new(self.alloc);
-        if let Some(facts) = self.facts.get(facts) {
-            for call in &self.calls {
-                if call.token == token && facts.within(call.number, call.number).is_some() {
-                    numbers.push(call.number)?;
-                }
-            }
-        }
-        Ok(numbers)
+    /// What decides all numbers of a machine that the facts leave, if that is one.
+    pub(crate) fn leaf_of_numbers(&self, machine: usize, facts: usize) -> Option<Leaf> {
+        only_leaf(&self.machines.get(machine)?.ranges, self.facts.get(facts)?)
     }
 
-    /// What is pending where a part of a call is asked.
-    pub(crate) fn part(&mut self, call: usize, part: usize) -> Result<Pending, OutlineError> {
-        let Some(call) = self.call(call) else {
-            return Ok(Pending::End);
+    /// What decides all that the facts leave of the bits of a block, if that is one.
+    pub(crate) fn leaf_within(&self, block: usize, facts: usize) -> Option<Leaf> {
+        only_leaf(
+            &self.outline.blocks.get(block)?.ranges,
+            self.facts.get(facts)?,
+        )
+    }
+
+    /// The place of facts where a literal holds too.
+    pub(crate) fn narrowed(&mut self, facts: usize, literal: Lit) -> Result<usize, OutlineError> {
+        let Some(known) = self.facts.get(facts) else {
+            return Err(OutlineError::Unlike);
         };
-        let rules = call.questions(part);
-        if rules.is_empty() {
-            return Ok(Pending::End);
-        }
-        let rules = Vec::from_slice(self.alloc, rules)?;
-        Ok(Pending::Left(self.left.place(part, rules)?))
+        let known = known.with(self.alloc, literal)?;
+        Ok(self.facts.place(known)?)
     }
 
-    /// What decides a call where no rule of a part holds.
-    pub(crate) fn other(&self, call: usize, part: usize) -> Exit {
-        let next = match self.call(call) {
-            Some(call) => call.part(part.saturating_add(1)),
-            None => None,
+    /// The spot at a position.
+    pub(crate) fn spot(&self, pc: usize, loaded: Option<Subject>, stage: Stage) -> Spot {
+        let loaded = match (self.landing(pc), stage) {
+            (Some(Operation::ReturnK | Operation::LoadWord), _) | (_, Stage::Dead(_)) => None,
+            _ => loaded,
         };
-        match next {
-            Some(part) => Exit::of(&part.leaf),
-            None => self.default,
-        }
+        Spot { pc, loaded, stage }
     }
 
-    /// What is pending at the beginning of a call.
-    pub(crate) fn beginning(&mut self, call: usize) -> Result<Pending, OutlineError> {
-        let Some(own) = self.call(call) else {
-            return Ok(Pending::End);
-        };
-        match own.beginning {
-            Beginning::Default => Ok(Pending::End),
-            Beginning::Met(rule) => Ok(Pending::Met(rule)),
-            Beginning::Parts(_) => self.part(call, 0),
-        }
-    }
-
-    /// The place of a spot.
-    pub(crate) fn spot(
+    /// The place of the spot with these parts.
+    pub(crate) fn place(
         &mut self,
         pc: usize,
         loaded: Option<Subject>,
         stage: Stage,
     ) -> Result<u32, OutlineError> {
-        let loaded = if self.uses_loaded(pc) { loaded } else { None };
-        self.spots.place(Spot { pc, loaded, stage })
+        let place = self.spots.place(Spot { pc, loaded, stage })?;
+        if place < MAX_NODES {
+            return Ok(place as u32);
+        }
+        Err(OutlineError::TooLarge)
     }
 
-    /// Takes other spots in the place of those that there are.
-    pub(crate) fn exchange(&mut self, spots: Spots) -> Spots {
-        std::mem::replace(&mut self.spots, spots)
+    /// The place of a spot that follows, if one does.
+    pub(crate) fn place_next(&mut self, next: Option<Spot>) -> Result<u32, OutlineError> {
+        match next {
+            Some(spot) => self.place(spot.pc, spot.loaded, spot.stage),
+            None => Ok(NOBODY),
+        }
     }
 
-    /// The spot at a place.
-    pub(crate) fn get(&self, place: usize) -> Option<Spot> {
-        self.spots.get(place)
+    // The same. Where numbers are told apart, it is decided how.
+    fn settle_next(&mut self, next: Option<Spot>) -> Result<u32, OutlineError> {
+        let mut next = next;
+        if let Some(own) = &mut next
+            && let Stage::Numbers(machine, facts) = own.stage
+        {
+            own.stage = self.among_numbers(own.pc, machine, facts)?;
+        }
+        self.place_next(next)
     }
 
-    // The ways on from each spot, beginning with the first.
-    fn all_ways(&mut self) -> Result<Vec<Ways>, OutlineError> {
-        let mut ways = Vec::new(self.alloc);
-        self.spot(0, None, Stage::Machines(0))?;
+    // What a spot does.
+    fn kind_of(&mut self, spot: &Spot) -> Result<Kind, OutlineError> {
+        // These name the types of what is held over the calls below: the prover is told of them in no other way.
+        let (_stage, _at) = (spot.stage, At::Return);
+        let ways = self.ways(spot)?;
+        let first = self.settle_next(ways.first)?;
+        let second = self.settle_next(ways.second)?;
+        Ok(leading_to(ways.kind, first, second))
+    }
+
+    // What each spot does, beginning with the first.
+    fn all_ways(&mut self) -> Result<Vec<Kind>, OutlineError> {
+        let mut kinds = Vec::new(self.alloc);
         for place in 0..MAX_NODES {
-            let Some(spot) = self.get(place) else {
+            let Some(spot) = self.spots.get(place).copied() else {
                 break;
             };
-            ways.push(self.ways(&spot)?)?;
+            kinds.push(self.kind_of(&spot)?)?;
         }
-        Ok(ways)
+        Ok(kinds)
     }
 }
 
@@ -257,6 +251,7 @@ pub fn outlined(
     outline: &Outline,
 ) -> Result<Vec<u8>, OutlineError> {
     let mut maker = Maker::new(alloc, profile, *program, outline)?;
+    maker.begin()?;
     let ways = maker.all_ways()?;
-    in_order(&maker, &ways)
+    listed(&maker, &ways)
 }

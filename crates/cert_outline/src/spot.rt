@@ -1,8 +1,33 @@
 //! Where a node stands, and what is asked there.
 
-use crate::exit::Exit;
-use crate::index::mixed;
-use rule_compile::Subject;
+use crate::table::{Item, bits, mixed};
+use rule_compile::{Leaf, Open, Subject};
+
+/// What is left to ask of a part of a call's rules.
+#[derive(PartialEq, Eq, Drop)]
+pub(crate) struct Remaining {
+    /// Which part it is, counted from the one that is asked first.
+    pub(crate) part: usize,
+    pub(crate) rules: Vec<Open>,
+}
+
+/// What was learned last of some bits, by the place of the facts, and the place of what was learned before.
+#[derive(Clone, Copy, PartialEq, Eq)]
+pub(crate) struct Lesson {
+    pub(crate) before: usize,
+    pub(crate) subject: Subject,
+    pub(crate) facts: usize,
+}
+
+/// The place of what is learned where nothing is.
+pub(crate) const NOTHING: usize = 0;
+
+/// What stands there.
+pub(crate) const NOTHING_LEARNED: Lesson = Lesson {
+    before: NOTHING,
+    subject: Subject { word: 0, mask: 0 },
+    facts: 0,
+};
 
 /// What is pending of a call.
 #[derive(Clone, Copy, PartialEq, Eq)]
@@ -11,8 +36,20 @@ pub(crate) enum Pending {
     End,
     /// The rule at this place of the profile's order holds.
     Met(usize),
-    /// The questions at this place of the table are left.
+    /// What stands at this place of the table is left.
     Left(usize),
+}
+
+/// Calls of which something is pending: one, or several that are asked alike.
+#[derive(Clone, Copy, PartialEq, Eq)]
+pub(crate) struct Calls {
+    /// The place of one of them.
+    pub(crate) call: usize,
+    pub(crate) pending: Pending,
+    /// Of several the place of what is known of their numbers.
+    pub(crate) numbers: Option<usize>,
+    /// Of several the place of what was learned of the words of their arguments.
+    pub(crate) learned: usize,
 }
 
 /// Where the code is that goes on.
@@ -23,24 +60,7 @@ pub(crate) enum At {
     /// Among the comparisons of a block, which asks what is pending, with what they told so far.
     Block(usize, usize),
     /// At the code of an exit, which asks less than what is pending, with what is known of the bits that are asked for first.
-    Exit(Exit, usize),
-}
-
-/// Calls of which something is pending: one, or several that are asked alike.
-#[derive(Clone, Copy, PartialEq, Eq)]
-pub(crate) struct Calls {
-    /// The place of one of them.
-    pub(crate) call: usize,
-    pub(crate) several: Option<Several>,
-}
-
-/// What is known of several calls.
-#[derive(Clone, Copy, PartialEq, Eq)]
-pub(crate) struct Several {
-    /// The place of what is known of their numbers.
-    pub(crate) numbers: usize,
-    /// The place of what was learned of the words of their arguments.
-    pub(crate) learned: usize,
+    Exit(Leaf, usize),
 }
 
 /// What is being told apart.
@@ -51,7 +71,7 @@ pub(crate) enum Stage {
     /// Numbers of the machine at a place, with what is known of them.
     Numbers(usize, usize),
     /// What is pending of calls, and where.
-    Call(Calls, Pending, At),
+    Call(Calls, At),
     /// Nothing: what is stated contradicts itself. The literals are at this place of a list.
     Dead(usize),
 }
@@ -65,60 +85,48 @@ pub(crate) struct Spot {
     pub(crate) stage: Stage,
 }
 
-// The last 32 bits of a number.
-fn bits(number: usize) -> u32 {
-    (number % 0x1_0000_0000) as u32
+impl Item for Remaining {
+    fn key(&self) -> u32 {
+        let mut key = mixed(bits(self.part), bits(self.rules.len()));
+        for open in &self.rules {
+            key = mixed(key, bits(open.asker.rule));
+            key = mixed(key, open.question.number ^ open.question.subject.word);
+        }
+        key
+    }
 }
 
-fn mixed_pending(pending: Pending) -> u32 {
-    match pending {
+impl Item for Lesson {
+    fn key(&self) -> u32 {
+        let key = mixed(bits(self.facts), bits(self.before));
+        mixed(key, self.subject.word ^ self.subject.mask)
+    }
+}
+
+fn key_of(calls: Calls, at: At) -> u32 {
+    let pending = match calls.pending {
         Pending::End => 1,
         Pending::Met(rule) => mixed(2, bits(rule)),
         Pending::Left(list) => mixed(3, bits(list)),
-    }
-}
-
-fn mixed_exit(exit: Exit) -> u32 {
-    match exit {
-        Exit::Word(word) => mixed(1, word),
-        Exit::Block(block) => mixed(2, bits(block)),
-    }
-}
-
-fn mixed_calls(calls: Calls) -> u32 {
-    match calls.several {
-        Some(several) => mixed(bits(several.numbers), bits(several.learned)),
-        None => mixed(3, bits(calls.call)),
-    }
-}
-
-fn mixed_at(at: At) -> u32 {
-    match at {
+    };
+    let known = mixed(bits(calls.call), bits(calls.learned));
+    let numbers = bits(calls.numbers.unwrap_or(0));
+    let facts = match at {
         At::Return => 1,
-        At::Block(block, facts) => mixed(mixed(2, bits(block)), bits(facts)),
-        At::Exit(exit, facts) => mixed(mixed(3, mixed_exit(exit)), bits(facts)),
-    }
+        At::Block(_, facts) => mixed(2, bits(facts)),
+        At::Exit(_, facts) => mixed(3, bits(facts)),
+    };
+    mixed(mixed(pending, facts), mixed(known, numbers))
 }
 
-impl Stage {
-    fn mixed(&self) -> u32 {
-        match *self {
+impl Item for Spot {
+    fn key(&self) -> u32 {
+        let stage = match self.stage {
             Stage::Machines(others) => mixed(1, others),
             Stage::Numbers(machine, facts) => mixed(mixed(2, bits(machine)), bits(facts)),
-            Stage::Call(call, pending, at) => {
-                mixed(
-                    mixed(mixed_calls(call), mixed_pending(pending)),
-                    mixed_at(at),
-                )
-            }
+            Stage::Call(calls, at) => key_of(calls, at),
             Stage::Dead(place) => mixed(4, bits(place)),
-        }
-    }
-}
-
-impl Spot {
-    /// A number that is mixed of its parts.
-    pub(crate) fn mixed(&self) -> u32 {
-        mixed(bits(self.pc), self.stage.mixed())
+        };
+        mixed(bits(self.pc), stage)
     }
 }

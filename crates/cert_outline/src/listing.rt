@@ -1,0 +1,181 @@
+//! The nodes of a certificate in their order, and its bytes.
+
+use crate::chains::Chains;
+use crate::facts::word_of;
+use crate::fault::OutlineError;
+use crate::maker::Maker;
+use crate::spot::Spot;
+use cert_form::{ChainNode, Kind};
+use cert_state::{AVal, Regs};
+use std::alloc::{AllocError, Global};
+
+/// Stands for no node.
+pub(crate) const NOBODY: u32 = u32::MAX;
+
+// The two that follow.
+fn followers(kind: Kind) -> (u32, u32) {
+    match kind {
+        Kind::Step(first, second) | Kind::Split(_, _, first, second) => (first, second),
+        Kind::Return | Kind::Dead => (NOBODY, NOBODY),
+    }
+}
+
+fn number_at(numbers: &[u32], place: u32) -> u32 {
+    match numbers.get(place as usize) {
+        Some(number) => *number,
+        None => NOBODY,
+    }
+}
+
+fn set(numbers: &mut [u32], place: u32, number: u32) {
+    if let Some(own) = numbers.get_mut(place as usize) {
+        *own = number;
+    }
+}
+
+// How many ways lead to each spot.
+fn ways_to(alloc: Global, ways: &[Kind]) -> Result<Vec<u32>, AllocError> {
+    let mut counts = vec![in alloc; 0u32; ways.len()]?;
+    for kind in ways {
+        let (first, second) = followers(*kind);
+        let count = number_at(&counts, first);
+        set(&mut counts, first, count.saturating_add(1));
+        let count = number_at(&counts, second);
+        set(&mut counts, second, count.saturating_add(1));
+    }
+    Ok(counts)
+}
+
+// Takes one from the count of a spot, which is ready where none is left.
+fn pass(ready: &mut Vec<u32>, counts: &mut [u32], place: u32) -> Result<(), AllocError> {
+    let count = number_at(counts, place);
+    set(counts, place, count.saturating_sub(1));
+    if count == 1 {
+        ready.push(place)?;
+    }
+    Ok(())
+}
+
+// The same of the two that follow.
+fn pass_all(ready: &mut Vec<u32>, counts: &mut [u32], kind: Kind) -> Result<(), AllocError> {
+    let (first, second) = followers(kind);
+    pass(ready, counts, second)?;
+    pass(ready, counts, first)
+}
+
+// The places of the spots in an order in which each stands before those to which it leads.
+fn sorted(alloc: Global, ways: &[Kind]) -> Result<Vec<u32>, AllocError> {
+    let mut counts = ways_to(alloc, ways)?;
+    let mut ready = Vec::new(alloc);
+    let mut order = Vec::new(alloc);
+    ready.push(0)?;
+    for _ in 0..ways.len() {
+        let Some(place) = ready.pop() else {
+            break;
+        };
+        order.push(place)?;
+        if let Some(kind) = ways.get(place as usize) {
+            pass_all(&mut ready, &mut counts, *kind)?;
+        }
+    }
+    Ok(order)
+}
+
+// For each spot the number of its node.
+fn numbers_of(alloc: Global, order: &[u32]) -> Result<Vec<u32>, AllocError> {
+    let mut numbers = vec![in alloc; NOBODY; order.len()]?;
+    let mut number = 0u32;
+    for place in order {
+        set(&mut numbers, *place, number);
+        number = number.saturating_add(1);
+    }
+    Ok(numbers)
+}
+
+/// The same, leading to others.
+pub(crate) fn leading_to(kind: Kind, first: u32, second: u32) -> Kind {
+    match kind {
+        Kind::Step(_, _) => Kind::Step(first, second),
+        Kind::Split(one, other, _, _) => Kind::Split(one, other, first, second),
+        Kind::Return | Kind::Dead => kind,
+    }
+}
+
+// What is known of the registers at a spot. As a filter begins, A and X are 0.
+fn regs_of(is_first: bool, spot: &Spot) -> Regs {
+    let mut regs = Regs {
+        a: AVal::Unknown,
+        x: AVal::Unknown,
+        scratch: [AVal::Unknown; 16],
+    };
+    if is_first {
+        regs.a = AVal::Const(0);
+        regs.x = AVal::Const(0);
+    } else if let Some(subject) = spot.loaded {
+        regs.a = AVal::Masked(word_of(subject), subject.mask);
+    }
+    regs
+}
+
+// The nodes so far, and the chains of what they state.
+#[derive(Drop)]
+struct Listing {
+    // For each spot the number of its node.
+    numbers: Vec<u32>,
+    // For each spot the chain of one before it.
+    before: Vec<u32>,
+    chains: Chains,
+    nodes: Vec<ChainNode>,
+}
+
+impl Listing {
+    // Adds the node of the spot at a place.
+    fn add(&mut self, maker: &Maker<'_>, ways: &[Kind], place: u32) -> Result<(), OutlineError> {
+        let (Some(spot), Some(kind)) = (maker.spots.get(place as usize), ways.get(place as usize))
+        else {
+            return Err(OutlineError::Unlike);
+        };
+        let is_first = self.nodes.is_empty();
+        let before = number_at(&self.before, place);
+        let chain = chain_of(maker, &mut self.chains, spot, before)?;
+        let (first, second) = followers(*kind);
+        set(&mut self.before, first, chain);
+        set(&mut self.before, second, chain);
+        let first = number_at(&self.numbers, first);
+        let second = number_at(&self.numbers, second);
+        self.nodes.push(ChainNode {
+            kind: leading_to(*kind, first, second),
+            pc: spot.pc.min(0xffff) as u16,
+            regs: regs_of(is_first, spot),
+            chain,
+        })?;
+        Ok(())
+    }
+}
+
+// The chain of what a spot's node states, where a node before it has another.
+fn chain_of(
+    maker: &Maker<'_>,
+    chains: &mut Chains,
+    spot: &Spot,
+    before: u32,
+) -> Result<u32, OutlineError> {
+    let stated = maker.stated(spot)?;
+    let claims = stated.sorted(maker.alloc, chains, before)?;
+    chains.of(&claims)
+}
+
+/// The certificate of all spots of a maker, with what they do.
+pub(crate) fn listed(maker: &Maker<'_>, ways: &[Kind]) -> Result<Vec<u8>, OutlineError> {
+    let order = sorted(maker.alloc, ways)?;
+    let mut listing = Listing {
+        numbers: numbers_of(maker.alloc, &order)?,
+        before: vec![in maker.alloc; 0u32; ways.len()]?,
+        chains: Chains::new(maker.alloc),
+        nodes: Vec::new(maker.alloc),
+    };
+    for place in &order {
+        listing.add(maker, ways, *place)?;
+    }
+    listing.chains.written(maker.alloc, &listing.nodes)
+}
