@@ -143,15 +143,26 @@ fn count_out(rules: &[(u32, bool)]) -> usize {
     count
 }
 
-// For each place of the profile's order whether its rule is listed.
+// For each place of the profile's order, up to the last that is listed, whether its rule is.
 fn marks_of(alloc: Global, rules: &[u32]) -> Result<Vec<bool>, AllocError> {
-    let mut marks = vec![in alloc; false; RULES]?;
+    let mut last = 0;
+    for rule in rules {
+        last = last.max(*rule);
+    }
+    let mut marks = vec![in alloc; false; (last as usize).min(RULES) + 1]?;
     for rule in rules {
         if let Some(mark) = marks.get_mut(*rule as usize) {
             *mark = true;
         }
     }
     Ok(marks)
+}
+
+fn is_marked(marks: &[bool], rule: u32) -> bool {
+    match marks.get(rule as usize) {
+        Some(mark) => *mark,
+        None => false,
+    }
 }
 
 // Adds the rules of a list that are marked, or those that are not.
@@ -162,7 +173,7 @@ fn add_marked(
     are_marked: bool,
 ) -> Result<(), AllocError> {
     for rule in rules {
-        if marks.get(*rule as usize) == Some(&are_marked) {
+        if is_marked(marks, *rule) == are_marked {
             sorted.push(*rule)?;
         }
     }

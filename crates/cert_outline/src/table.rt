@@ -69,7 +69,11 @@ impl<T: Item + PartialEq + Drop> Table<T> {
 
     /// The place of an item, if it is there.
     pub(crate) fn find(&self, item: &T) -> Option<usize> {
-        let mut place = at(&self.latest, list_of(item.key(), self.latest.len()));
+        self.find_by(item.key(), item)
+    }
+
+    fn find_by(&self, key: u32, item: &T) -> Option<usize> {
+        let mut place = at(&self.latest, list_of(key, self.latest.len()));
         for _ in 0..self.items.len() {
             if self.items.get(place)? == item {
                 return Some(place);
@@ -81,14 +85,15 @@ impl<T: Item + PartialEq + Drop> Table<T> {
 
     /// The place of an item, which is added where it is new.
     pub(crate) fn place(&mut self, item: T) -> Result<usize, AllocError> {
-        if let Some(place) = self.find(&item) {
+        let key = item.key();
+        if let Some(place) = self.find_by(key, &item) {
             return Ok(place);
         }
         if self.items.len() >= self.latest.len() {
             self.widen()?;
         }
         let place = self.items.len();
-        self.list(item.key())?;
+        self.list(key)?;
         self.items.push(item)?;
         Ok(place)
     }

@@ -134,11 +134,8 @@ impl<'a> Maker<'a> {
             return Ok(self.step(after(spot.pc, insn.k), spot.loaded, spot.stage));
         }
         if let Some((one, other)) = self.split(spot)? {
-            return Ok(Ways {
-                kind: Kind::Split(one, other, NOBODY, NOBODY),
-                first: Some(self.way(spot, spot.pc, one)?),
-                second: Some(self.way(spot, spot.pc, other)?),
-            });
+            let kind = Kind::Split(one, other, NOBODY, NOBODY);
+            return self.both(spot, kind, (spot.pc, one), (spot.pc, other));
         }
         self.carried_out(spot, insn, operation)
     }
@@ -176,10 +173,27 @@ impl<'a> Maker<'a> {
         let Some((holds, fails)) = spot.loaded.and_then(|loaded| told(loaded, test, insn.k)) else {
             return Err(OutlineError::Unlike);
         };
+        let kind = Kind::Step(NOBODY, NOBODY);
+        let first = (after(spot.pc, u32::from(insn.jt)), holds);
+        let second = (after(spot.pc, u32::from(insn.jf)), fails);
+        self.both(spot, kind, first, second)
+    }
+
+    // To two positions, where two literals of a word hold.
+    fn both(
+        &mut self,
+        spot: &Spot,
+        kind: Kind,
+        first: (usize, Lit),
+        second: (usize, Lit),
+    ) -> Result<Ways, OutlineError> {
+        let own = self.literals(spot, first.1.word())?;
+        let first = Some(self.way(spot, &own, first.0, first.1)?);
+        let second = Some(self.way(spot, &own, second.0, second.1)?);
         Ok(Ways {
-            kind: Kind::Step(NOBODY, NOBODY),
-            first: Some(self.way(spot, after(spot.pc, u32::from(insn.jt)), holds)?),
-            second: Some(self.way(spot, after(spot.pc, u32::from(insn.jf)), fails)?),
+            kind,
+            first,
+            second,
         })
     }
 
@@ -199,14 +213,20 @@ impl<'a> Maker<'a> {
         Ok(self.step(pc, Some(Subject { word, mask }), stage))
     }
 
-    // The spot at a position where a literal holds besides.
-    fn way(&mut self, spot: &Spot, pc: usize, told: Lit) -> Result<Spot, OutlineError> {
+    // The spot at a position where a literal holds besides those of its word.
+    fn way(
+        &mut self,
+        spot: &Spot,
+        own: &[Lit],
+        pc: usize,
+        told: Lit,
+    ) -> Result<Spot, OutlineError> {
         let stage = match spot.stage {
             Stage::Machines(others) => self.machine_told(others, told)?,
             Stage::Numbers(machine, facts) => {
                 Stage::Numbers(machine, self.narrowed(facts, told)?)
             }
-            Stage::Call(calls, at) => self.call_told(spot, pc, calls, at, told)?,
+            Stage::Call(calls, at) => self.call_told(own, pc, calls, at, told)?,
             Stage::Dead(_) => spot.stage,
         };
         Ok(self.spot(pc, spot.loaded, stage))
@@ -229,7 +249,7 @@ impl<'a> Maker<'a> {
 
     fn call_told(
         &mut self,
-        spot: &Spot,
+        own: &[Lit],
         pc: usize,
         calls: Calls,
         at: At,
@@ -244,7 +264,7 @@ impl<'a> Maker<'a> {
             return Err(OutlineError::Unlike);
         };
         let facts = self.narrowed(facts, told)?;
-        if let Some(place) = self.contradiction(spot, told, facts)? {
+        if let Some(place) = self.contradiction(own, told, facts)? {
             return Ok(Stage::Dead(place));
         }
         match at {
@@ -280,20 +300,20 @@ impl<'a> Maker<'a> {
         None
     }
 
-    // The place of literals that a spot states, with what contradicts them on a way.
+    // The place of literals of a word with what contradicts them on a way, if anything does.
     fn contradiction(
         &mut self,
-        spot: &Spot,
+        own: &[Lit],
         told: Lit,
         facts: usize,
     ) -> Result<Option<usize>, AllocError> {
-        let mut own = self.literals(spot, told.word())?;
-        let Some(literal) = self.contradicting(&own, told, facts) else {
+        let Some(literal) = self.contradicting(own, told, facts) else {
             return Ok(None);
         };
         let place = self.contradictions.len();
-        own.push(literal)?;
-        self.contradictions.push(own)?;
+        let mut all = Vec::from_slice(self.alloc, own)?;
+        all.push(literal)?;
+        self.contradictions.push(all)?;
         Ok(Some(place))
     }
 
