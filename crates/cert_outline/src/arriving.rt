@@ -1,5 +1,6 @@
 //! Where it is come to at the code of an exit, by what is pending.
 
+use crate::calls::Numbered;
 use crate::facts::ANY;
 use crate::fault::OutlineError;
 use crate::maker::Maker;
@@ -109,9 +110,8 @@ impl<'a> Maker<'a> {
             return Ok(stage);
         }
         if let Some(call) = self.only_call(machine, facts) {
-            let calls = self.single(call)?;
-            let exit = self.calls.get(call).map_or(self.default, |call| call.leaf);
-            return self.arrive(pc, calls, At::Exit(exit, ANY));
+            let calls = self.untouched(call, None)?;
+            return self.arrive(pc, calls, At::Exit(self.leaf_of(call), ANY));
         }
         Ok(Stage::Numbers(machine, facts))
     }
@@ -130,25 +130,46 @@ impl<'a> Maker<'a> {
         }
     }
 
-    /// One call, of which nothing is asked yet.
-    pub(crate) fn single(&mut self, call: usize) -> Result<Calls, AllocError> {
+    /// A call, or several of some numbers, of which nothing is asked yet.
+    pub(crate) fn untouched(
+        &mut self,
+        call: usize,
+        numbers: Option<usize>,
+    ) -> Result<Calls, AllocError> {
         Ok(Calls {
             call,
             pending: self.beginning(call)?,
-            numbers: None,
+            numbers,
             learned: NOTHING,
         })
     }
 
+    // What decides a call.
+    fn leaf_of(&self, call: usize) -> Leaf {
+        match self.calls.get(call) {
+            Some(call) => call.leaf,
+            None => self.default,
+        }
+    }
+
     // The only call that the facts leave.
     fn only_call(&self, machine: usize, facts: usize) -> Option<usize> {
-        let token = self.machines.get(machine)?.token;
-        let number = self.facts.get(facts)?.only()?;
-        for (place, call) in self.calls.iter().enumerate() {
-            if call.number == number && call.token == token {
-                return Some(place);
-            }
+        if let Some(machine) = self.machines.get(machine)
+            && let Some(facts) = self.facts.get(facts)
+            && let Some(number) = facts.only()
+        {
+            return place_of(&self.calls, machine.token, number);
         }
         None
     }
+}
+
+// The place of the call of a machine with a number.
+fn place_of(calls: &[Numbered], token: u32, number: u32) -> Option<usize> {
+    for place in 0..calls.len() {
+        if calls[place].number == number && calls[place].token == token {
+            return Some(place);
+        }
+    }
+    None
 }

@@ -112,11 +112,9 @@ impl<'a> Maker<'a> {
         let turns = self.turns(list, subject, facts)?;
         for (first, number) in &turns {
             let pending = self.answered(call, list, subject, *number)?;
+            let first = *first;
             if !ends_with(&groups, pending) {
-                groups.push(Group {
-                    first: *first,
-                    pending,
-                })?;
+                groups.push(Group { first, pending })?;
             }
             if groups.len() >= most {
                 break;

@@ -7,7 +7,7 @@
 use crate::facts::{ANY, Facts};
 use crate::fault::OutlineError;
 use crate::maker::Maker;
-use crate::spot::{At, Calls, NOTHING, Spot, Stage};
+use crate::spot::{At, Calls, Spot, Stage};
 use crate::table::Table;
 use cert_form::{MAX_LITERALS, MAX_NODES};
 use rule_compile::Leaf;
@@ -91,14 +91,32 @@ impl<'a> Maker<'a> {
 
     /// The place among calls of the first that is asked unlike the one before it, of several such places that in the
     /// middle.
-    pub(crate) fn first_unlike(&self, calls: &[usize]) -> Result<Option<usize>, AllocError> {
-        let mut places = Vec::new(self.alloc);
+    pub(crate) fn first_unlike(&self, calls: &[usize]) -> Option<usize> {
+        let mut count = 0usize;
         for place in 1..calls.len() {
-            if self.class(calls[place - 1]) != self.class(calls[place]) {
-                places.push(place)?;
+            if self.is_unlike(calls, place) {
+                count = count.saturating_add(1);
             }
         }
-        Ok(places.get(places.len() / 2).copied())
+        let middle = count / 2;
+        let mut seen = 0usize;
+        for place in 1..calls.len() {
+            if self.is_unlike(calls, place) {
+                if seen == middle {
+                    return Some(place);
+                }
+                seen = seen.saturating_add(1);
+            }
+        }
+        None
+    }
+
+    // Whether a call is asked unlike the one before it.
+    fn is_unlike(&self, calls: &[usize], place: usize) -> bool {
+        match (calls.get(place.wrapping_sub(1)), calls.get(place)) {
+            (Some(before), Some(call)) => self.class(*before) != self.class(*call),
+            _ => false,
+        }
     }
 
     // The numbers of all calls of a class, in order.
@@ -119,16 +137,6 @@ impl<'a> Maker<'a> {
             count = count.saturating_add(part.rules.len());
         }
         count > MAX_LITERALS
-    }
-
-    // Calls of which nothing is asked yet, of some numbers.
-    fn several(&mut self, call: usize, numbers: usize) -> Result<Calls, AllocError> {
-        Ok(Calls {
-            call,
-            pending: self.beginning(call)?,
-            numbers: Some(numbers),
-            learned: NOTHING,
-        })
     }
 
     // How large the certificate is from some calls on, if it is smaller than so much: that of a node, with the entry that
@@ -179,29 +187,28 @@ impl<'a> Maker<'a> {
     fn newly_excluded(&self, spot: &Spot, seen: &mut Vec<usize>) -> Result<usize, AllocError> {
         if let Stage::Call(calls, _) = spot.stage
             && let Some(numbers) = calls.numbers
+            && let Some(facts) = self.facts.get(numbers)
             && !seen.contains(&numbers)
         {
             seen.push(numbers)?;
-            return Ok(
-                self.facts
-                    .get(numbers)
-                    .map_or(0, |facts| facts.excluded.len()),
-            );
+            return Ok(facts.excluded.len());
         }
         Ok(0)
     }
 
     // The calls for which nodes are made at once: all that are asked alike, or those of which it is come from here, where
     // that is smaller than nodes of each for itself.
-    fn decide(&mut self, door: Door, own: &[usize]) -> Result<Option<Calls>, OutlineError> {
-        let Some(call) = own.first().copied() else {
-            return Ok(None);
-        };
+    fn decide(
+        &mut self,
+        door: Door,
+        call: usize,
+        own: usize,
+    ) -> Result<Option<Calls>, OutlineError> {
         let all = self.numbers_of_class(self.class(call))?;
         if all.len() == 1 && !self.is_wide(call) {
             return Ok(None);
         }
-        self.smallest(door, call, own.len(), &all)
+        self.smallest(door, call, own, &all)
     }
 
     // The same, of so many calls that are asked like one, and of all numbers of calls that are.
@@ -213,17 +220,31 @@ impl<'a> Maker<'a> {
         all: &[u32],
     ) -> Result<Option<Calls>, OutlineError> {
         let most = self.size_by_itself(door, call)?.saturating_mul(own);
-        let these = self.if_smaller(door, call, door.numbers, most)?;
-        if all.len() > own
-            && let Some(known) = just_these(self.alloc, all)?
-        {
-            let numbers = self.facts.place(known)?;
-            let most = size_of_runs(all, own, these.map_or(most, |(_, size)| size));
-            if let Some((calls, _)) = self.if_smaller(door, call, numbers, most)? {
-                return Ok(Some(calls));
-            }
+        let (these, size) = self.if_smaller(door, call, door.numbers, most)?;
+        if all.len() == own {
+            return Ok(these);
         }
-        Ok(these.map(|(calls, _)| calls))
+        let most = size_of_runs(all, own, size);
+        match self.if_all_smaller(door, call, all, most)? {
+            Some(calls) => Ok(Some(calls)),
+            None => Ok(these),
+        }
+    }
+
+    // All calls of a class, whose numbers are given, if their nodes are smaller than so much.
+    fn if_all_smaller(
+        &mut self,
+        door: Door,
+        call: usize,
+        all: &[u32],
+        most: usize,
+    ) -> Result<Option<Calls>, OutlineError> {
+        let Some(known) = just_these(self.alloc, all)? else {
+            return Ok(None);
+        };
+        let numbers = self.facts.place(known)?;
+        let (calls, _) = self.if_smaller(door, call, numbers, most)?;
+        Ok(calls)
     }
 
     // The size of nodes of a call by itself, with a comparison or a split before them.
@@ -231,39 +252,33 @@ impl<'a> Maker<'a> {
         if self.is_wide(call) {
             return Ok(LARGEST);
         }
-        let single = self.single(call)?;
+        let single = self.untouched(call, None)?;
         match self.size(door, single, LARGEST)? {
             Some(size) => Ok(size.saturating_add(NODE)),
             None => Ok(LARGEST),
         }
     }
 
-    // The calls of some numbers, with the size of their nodes, if that is smaller than so much.
+    // The calls of some numbers, if their nodes are smaller than so much, and the smaller size.
     fn if_smaller(
         &mut self,
         door: Door,
         call: usize,
         numbers: usize,
         most: usize,
-    ) -> Result<Option<(Calls, usize)>, OutlineError> {
-        let calls = self.several(call, numbers)?;
+    ) -> Result<(Option<Calls>, usize), OutlineError> {
+        let calls = self.untouched(call, Some(numbers))?;
         match self.size(door, calls, most)? {
-            Some(size) => Ok(Some((calls, size))),
-            None => Ok(None),
+            Some(size) => Ok((Some(calls), size)),
+            None => Ok((None, most)),
         }
     }
 
     // All calls of a class, where it was decided before to make nodes for them at once.
     fn decided_for(&self, call: usize) -> Option<Calls> {
-        let number = self.calls.get(call)?.number;
         for decided in &self.decisions {
             if let Some(calls) = decided.calls
-                && self.class(calls.call) == self.class(call)
-                && self
-                    .facts
-                    .get(calls.numbers?)?
-                    .within(number, number)
-                    .is_some()
+                && self.is_of(call, calls)
             {
                 return Some(calls);
             }
@@ -271,19 +286,38 @@ impl<'a> Maker<'a> {
         None
     }
 
+    // Whether a call is one of several.
+    fn is_of(&self, call: usize, calls: Calls) -> bool {
+        if let Some(own) = self.calls.get(call)
+            && let Some(numbers) = calls.numbers
+            && let Some(facts) = self.facts.get(numbers)
+        {
+            let is_there = facts.within(own.number, own.number).is_some();
+            return is_there && self.class(calls.call) == own.class;
+        }
+        false
+    }
+
     // The calls for which nodes are made at once, of those that are come to.
     fn decide_at(&mut self, door: Door) -> Result<Option<Calls>, OutlineError> {
-        let token = self
-            .machines
-            .get(door.machine)
-            .map_or(0, |machine| machine.token);
-        let own = self.calls_within(token, door.numbers)?;
-        if own.is_empty() || self.first_unlike(&own)?.is_some() {
+        let Some(machine) = self.machines.get(door.machine) else {
+            return Ok(None);
+        };
+        let own = self.calls_within(machine.token, door.numbers)?;
+        self.decide_for(door, &own)
+    }
+
+    // The same, of these.
+    fn decide_for(&mut self, door: Door, own: &[usize]) -> Result<Option<Calls>, OutlineError> {
+        if self.first_unlike(own).is_some() {
             return Ok(None);
         }
-        match self.decided_for(own[0]) {
+        let Some(call) = own.first().copied() else {
+            return Ok(None);
+        };
+        match self.decided_for(call) {
             Some(calls) => Ok(Some(calls)),
-            None => self.decide(door, &own),
+            None => self.decide(door, call, own.len()),
         }
     }
 

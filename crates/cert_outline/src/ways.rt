@@ -170,7 +170,10 @@ impl<'a> Maker<'a> {
 
     // Both ways of a comparison.
     fn compared(&mut self, spot: &Spot, insn: Insn, test: Test) -> Result<Ways, OutlineError> {
-        let Some((holds, fails)) = spot.loaded.and_then(|loaded| told(loaded, test, insn.k)) else {
+        let Some(loaded) = spot.loaded else {
+            return Err(OutlineError::Unlike);
+        };
+        let Some((holds, fails)) = told(loaded, test, insn.k) else {
             return Err(OutlineError::Unlike);
         };
         let kind = Kind::Step(NOBODY, NOBODY);
@@ -353,18 +356,22 @@ impl<'a> Maker<'a> {
     // The number of a call: of that which is asked unlike the one before it, or of that in the middle.
     fn number_to_cut_at(&self, token: u32, facts: usize) -> Result<Option<u32>, AllocError> {
         let calls = self.calls_within(token, facts)?;
-        let place = match self.first_unlike(&calls)? {
+        Ok(self.number_behind(&calls, facts))
+    }
+
+    // The number of one of these calls, or the next one behind the first that the facts leave.
+    fn number_behind(&self, calls: &[usize], facts: usize) -> Option<u32> {
+        let place = match self.first_unlike(calls) {
             Some(place) => place,
             None => calls.len() / 2,
         };
-        Ok(self.number_behind(&calls, place, facts))
-    }
-
-    // The number of a call at a place of a list, or the next one behind the first that the facts leave.
-    fn number_behind(&self, calls: &[usize], place: usize, facts: usize) -> Option<u32> {
-        let low = self.facts.get(facts)?.low;
-        let call = self.calls.get(*calls.get(place)?)?;
-        Some(call.number.max(low.saturating_add(1)))
+        if let Some(facts) = self.facts.get(facts)
+            && let Some(place) = calls.get(place)
+            && let Some(call) = self.calls.get(*place)
+        {
+            return Some(call.number.max(facts.low.saturating_add(1)));
+        }
+        None
     }
 
     // Where what is pending is cut in two: at the middle of a word, or at the first number of bits under a mask for which
