@@ -76,6 +76,13 @@ impl Stated {
         Ok(())
     }
 
+    fn tell_all(&mut self, claims: &[Claim]) -> Result<(), AllocError> {
+        for claim in claims {
+            self.tell(*claim)?;
+        }
+        Ok(())
+    }
+
     // What of a part's questions is answered, by those that are left.
     fn add_part(&mut self, rules: &[Open], left: &[Open]) -> Result<(), AllocError> {
         let mut left = left;
@@ -161,15 +168,14 @@ impl<'a> Maker<'a> {
 
     // What was learned of the words of the arguments.
     fn learned_claims(&self, learned: usize, stated: &mut Stated) -> Result<(), AllocError> {
-        let lessons = self.lessons(learned)?;
         let mut claims = Vec::new(self.alloc);
-        for lesson in lessons.iter().rev() {
-            self.tell_facts(lesson.subject, lesson.facts, &mut claims)?;
+        let mut lessons = self.lessons(learned)?;
+        for _ in 0..lessons.len() {
+            if let Some(lesson) = lessons.pop() {
+                self.tell_facts(lesson.subject, lesson.facts, &mut claims)?;
+            }
         }
-        for claim in &claims {
-            stated.tell(*claim)?;
-        }
-        Ok(())
+        stated.tell_all(&claims)
     }
 
     // What a node states of calls.

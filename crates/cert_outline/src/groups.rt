@@ -71,29 +71,25 @@ impl<'a> Maker<'a> {
         }
     }
 
-    // Numbers between which something else may be pending, each with the first one from it on that the facts leave.
-    fn turns(
-        &self,
-        list: usize,
-        subject: Subject,
-        facts: usize,
-    ) -> Result<Vec<(u32, u32)>, AllocError> {
-        let mut turns = Vec::new(self.alloc);
-        let (Some(asked), Some(facts)) = (self.left.get(list), self.facts.get(facts)) else {
-            return Ok(turns);
+    // Numbers between which something else may be pending. Of bits under a mask the last one has other bits than those of the
+    // mask, and is none that is asked for.
+    fn starts(&self, list: usize, subject: Subject) -> Result<Vec<u32>, AllocError> {
+        let Some(asked) = self.left.get(list) else {
+            return Ok(Vec::new(self.alloc));
         };
-        let starts = starts_of(self.alloc, &asked.rules, subject)?;
-        for place in 0..starts.len() {
-            if let Some(turn) = turn_at(&starts, place, subject.mask, facts) {
-                turns.push(turn)?;
-            }
+        let mut starts = starts_of(self.alloc, &asked.rules, subject)?;
+        if subject.mask != u32::MAX {
+            starts.push(u32::MAX ^ subject.mask)?;
         }
-        // A number with other bits than those of the mask is none that is asked for.
-        let others = u32::MAX ^ subject.mask;
-        if others != 0 && facts.within(others, others).is_some() {
-            turns.push((others, others))?;
+        Ok(starts)
+    }
+
+    // The number at a place of a list, with the first one from it on that the facts leave.
+    fn turn(&self, starts: &[u32], place: usize, mask: u32, facts: usize) -> Option<(u32, u32)> {
+        match self.facts.get(facts) {
+            Some(facts) => turn_at(starts, place, mask, facts),
+            None => None,
         }
-        Ok(turns)
     }
 
     /// The numbers that the bits may be that are asked for first of what is left, by what is pending then: at most so many
@@ -109,10 +105,12 @@ impl<'a> Maker<'a> {
         let Some(subject) = self.subject(list) else {
             return Ok(groups);
         };
-        let turns = self.turns(list, subject, facts)?;
-        for (first, number) in &turns {
-            let pending = self.answered(call, list, subject, *number)?;
-            let first = *first;
+        let starts = self.starts(list, subject)?;
+        for place in 0..starts.len() {
+            let Some((first, number)) = self.turn(&starts, place, subject.mask, facts) else {
+                continue;
+            };
+            let pending = self.answered(call, list, subject, number)?;
             if !ends_with(&groups, pending) {
                 groups.push(Group { first, pending })?;
             }
@@ -139,7 +137,7 @@ fn turn_at(starts: &[u32], place: usize, mask: u32, facts: &Facts) -> Option<(u3
     if mask == u32::MAX {
         return Some((start, facts.within(start, end_of(starts, place))?));
     }
-    if start & (u32::MAX ^ mask) != 0 {
+    if start & (u32::MAX ^ mask) != 0 && place.saturating_add(1) < starts.len() {
         return None;
     }
     Some((start, facts.within(start, start)?))

@@ -129,6 +129,31 @@ struct Listing {
 }
 
 impl Listing {
+    // No nodes, of spots in an order.
+    fn new(alloc: Global, order: &[u32]) -> Result<Listing, AllocError> {
+        let numbers = numbers_of(alloc, order)?;
+        let before = vec![in alloc; 0u32; order.len()]?;
+        Ok(Listing {
+            numbers,
+            before,
+            chains: Chains::new(alloc),
+            nodes: Vec::new(alloc),
+        })
+    }
+
+    // Adds the nodes of all spots.
+    fn add_all(
+        &mut self,
+        maker: &Maker<'_>,
+        ways: &[Kind],
+        order: &[u32],
+    ) -> Result<(), OutlineError> {
+        for place in order {
+            self.add(maker, ways, *place)?;
+        }
+        Ok(())
+    }
+
     // Adds the node of the spot at a place.
     fn add(&mut self, maker: &Maker<'_>, ways: &[Kind], place: u32) -> Result<(), OutlineError> {
         let (Some(spot), Some(kind)) = (maker.spots.get(place as usize), ways.get(place as usize))
@@ -168,14 +193,7 @@ fn chain_of(
 /// The certificate of all spots of a maker, with what they do.
 pub(crate) fn listed(maker: &Maker<'_>, ways: &[Kind]) -> Result<Vec<u8>, OutlineError> {
     let order = sorted(maker.alloc, ways)?;
-    let mut listing = Listing {
-        numbers: numbers_of(maker.alloc, &order)?,
-        before: vec![in maker.alloc; 0u32; ways.len()]?,
-        chains: Chains::new(maker.alloc),
-        nodes: Vec::new(maker.alloc),
-    };
-    for place in &order {
-        listing.add(maker, ways, *place)?;
-    }
+    let mut listing = Listing::new(maker.alloc, &order)?;
+    listing.add_all(maker, ways, &order)?;
     listing.chains.written(maker.alloc, &listing.nodes)
 }

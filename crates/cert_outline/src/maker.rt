@@ -236,6 +236,13 @@ impl<'a> Maker<'a> {
         }
         Ok(kinds)
     }
+
+    // The certificate of all spots, one after the other from where the filter begins.
+    fn certificate(&mut self) -> Result<Vec<u8>, OutlineError> {
+        self.begin()?;
+        let ways = self.all_ways()?;
+        listed(self, &ways)
+    }
 }
 
 /// The position that a jump leads to.
@@ -251,7 +258,5 @@ pub fn outlined(
     outline: &Outline,
 ) -> Result<Vec<u8>, OutlineError> {
     let mut maker = Maker::new(alloc, profile, *program, outline)?;
-    maker.begin()?;
-    let ways = maker.all_ways()?;
-    listed(&maker, &ways)
+    maker.certificate()
 }
