@@ -1,9 +1,10 @@
 //! What a node states.
 
 use crate::facts::word_of;
+use crate::fault::OutlineError;
 use crate::maker::{Maker, NUMBER, TOKEN};
-use crate::sorting::Stated;
 use crate::spot::{At, Calls, Lesson, NOTHING, Pending, Spot, Stage};
+use crate::stating::{Claims, Stated};
 use crate::table::bits;
 use cert_form::Claim;
 use cert_state::Lit;
@@ -50,90 +51,71 @@ fn is_left(left: &[Open], open: &Open) -> Option<bool> {
 
 impl Stated {
     // Whether each rule of a part is out or not.
-    fn add_rules(&mut self, rules: &[Open], are_out: bool) -> Result<(), AllocError> {
+    fn add_rules(&mut self, rules: &[Open], are_out: bool) {
         for open in rules {
             if open.begins {
-                self.rules.push((bits(open.asker.rule), are_out))?;
+                self.add_rule(bits(open.asker.rule), are_out);
             }
         }
-        Ok(())
     }
 
     // A condition is met.
-    fn meet(&mut self, open: &Open) -> Result<(), AllocError> {
+    fn meet(&mut self, open: &Open) {
         let claim = Claim::Met(bits(open.asker.rule), bits(open.asker.condition));
-        if self.others.last() != Some(&claim) {
-            self.others.push(claim)?;
+        if self.others.items.last() != Some(&claim) {
+            self.others.add(claim);
         }
-        Ok(())
     }
 
-    // States something besides.
-    fn tell(&mut self, claim: Claim) -> Result<(), AllocError> {
-        if !self.others.contains(&claim) {
-            self.others.push(claim)?;
+    // What is known of a question of a rule that is not out, by what is left from its condition on.
+    fn add_question(&mut self, open: &Open, left: &[Open]) {
+        match is_left(left, open) {
+            None => self.meet(open),
+            Some(false) => {
+                let question = open.question;
+                self.others
+                    .add_new(is_number(question.subject, question.number));
+            }
+            Some(true) => {}
         }
-        Ok(())
-    }
-
-    fn tell_all(&mut self, claims: &[Claim]) -> Result<(), AllocError> {
-        for claim in claims {
-            self.tell(*claim)?;
-        }
-        Ok(())
     }
 
     // What of a part's questions is answered, by those that are left.
-    fn add_part(&mut self, rules: &[Open], left: &[Open]) -> Result<(), AllocError> {
+    fn add_part(&mut self, rules: &[Open], left: &[Open]) {
         let mut left = left;
         let mut is_out = true;
         for open in rules {
             left = left_from(left, open.asker);
             if open.begins {
                 is_out = !begins_with(left, open.asker.rule);
-                self.rules.push((bits(open.asker.rule), is_out))?;
+                self.add_rule(bits(open.asker.rule), is_out);
             }
             if !is_out {
-                match is_left(left, open) {
-                    None => self.meet(open)?,
-                    Some(false) => self.tell(is_number(
-                        open.question.subject,
-                        open.question.number,
-                    ))?,
-                    Some(true) => {}
-                }
+                self.add_question(open, left);
             }
         }
-        Ok(())
     }
 
     // The conditions of a rule that ask anything are met.
-    fn meet_rule(&mut self, rules: &[Open], rule: usize) -> Result<(), AllocError> {
+    fn meet_rule(&mut self, rules: &[Open], rule: usize) {
         for open in rules {
             if open.asker.rule == rule {
-                self.meet(open)?;
+                self.meet(open);
             }
         }
-        Ok(())
     }
 }
 
 impl<'a> Maker<'a> {
     // What is known of bits.
-    fn tell_facts(
-        &self,
-        subject: Subject,
-        facts: usize,
-        claims: &mut Vec<Claim>,
-    ) -> Result<(), AllocError> {
-        match self.facts.get(facts) {
-            Some(facts) => facts.tell(subject, claims),
-            None => Ok(()),
+    fn tell_facts(&self, subject: Subject, facts: usize, claims: &mut Claims) {
+        if let Some(facts) = self.facts.get(facts) {
+            facts.tell(subject, claims);
         }
     }
 
     // What is known of the rules of a call.
-    fn rule_claims(&self, calls: Calls, stated: &mut Stated) -> Result<(), AllocError> {
+    fn rule_claims(&self, calls: Calls, stated: &mut Stated) {
         let left = match calls.pending {
             Pending::Left(list) => self.left.get(list),
             _ => None,
@@ -141,13 +123,12 @@ impl<'a> Maker<'a> {
         for part in 0..self.parts(calls.call).len() {
             let rules = self.questions(calls.call, part);
             match (left, calls.pending) {
-                (Some(left), _) if part == left.part => stated.add_part(rules, &left.rules)?,
-                (Some(left), _) => stated.add_rules(rules, part < left.part)?,
-                (None, Pending::Met(rule)) => stated.meet_rule(rules, rule)?,
-                (None, _) => stated.add_rules(rules, true)?,
+                (Some(left), _) if part == left.part => stated.add_part(rules, &left.rules),
+                (Some(left), _) => stated.add_rules(rules, part < left.part),
+                (None, Pending::Met(rule)) => stated.meet_rule(rules, rule),
+                (None, _) => stated.add_rules(rules, true),
             }
         }
-        Ok(())
     }
 
     // What was learned, from the last to the first.
@@ -167,15 +148,15 @@ impl<'a> Maker<'a> {
     }
 
     // What was learned of the words of the arguments.
-    fn learned_claims(&self, learned: usize, stated: &mut Stated) -> Result<(), AllocError> {
-        let mut claims = Vec::new(self.alloc);
+    fn learned_claims(&self, learned: usize) -> Result<Claims, AllocError> {
+        let mut claims = Claims::new(self.alloc);
         let mut lessons = self.lessons(learned)?;
         for _ in 0..lessons.len() {
             if let Some(lesson) = lessons.pop() {
-                self.tell_facts(lesson.subject, lesson.facts, &mut claims)?;
+                self.tell_facts(lesson.subject, lesson.facts, &mut claims);
             }
         }
-        stated.tell_all(&claims)
+        Ok(claims)
     }
 
     // What a node states of calls.
@@ -183,75 +164,70 @@ impl<'a> Maker<'a> {
         let Some(call) = self.calls.get(calls.call) else {
             return Ok(());
         };
-        stated.call.push(is_number(TOKEN, call.token))?;
+        stated.call.add(is_number(TOKEN, call.token));
         match calls.numbers {
             Some(numbers) => {
-                self.tell_facts(NUMBER, numbers, &mut stated.call)?;
-                self.learned_claims(calls.learned, stated)?;
+                self.tell_facts(NUMBER, numbers, &mut stated.call);
+                let learned = self.learned_claims(calls.learned)?;
+                stated.others.add_all_new(&learned);
             }
             None => {
-                stated.call.push(is_number(NUMBER, call.number))?;
-                self.rule_claims(calls, stated)?;
+                stated.call.add(is_number(NUMBER, call.number));
+                self.rule_claims(calls, stated);
             }
         }
-        self.asked_claims(calls, at, stated)
+        self.asked_claims(calls, at, stated);
+        Ok(())
     }
 
     // What is known of the bits that are being asked for.
-    fn asked_claims(&self, calls: Calls, at: At, stated: &mut Stated) -> Result<(), AllocError> {
-        let (At::Block(_, facts) | At::Exit(_, facts)) = at else {
-            return Ok(());
-        };
-        if let Pending::Left(list) = calls.pending
+    fn asked_claims(&self, calls: Calls, at: At, stated: &mut Stated) {
+        if let At::Block(_, facts) | At::Exit(_, facts) = at
+            && let Pending::Left(list) = calls.pending
             && let Some(subject) = self.subject(list)
         {
-            return self.tell_facts(subject, facts, &mut stated.others);
+            self.tell_facts(subject, facts, &mut stated.others);
         }
-        Ok(())
     }
 
     // What a node states that tells machines apart.
-    fn machine_claims(&self, others: u32, stated: &mut Stated) -> Result<(), AllocError> {
+    fn machine_claims(&self, others: u32, stated: &mut Stated) {
         for (place, machine) in self.machines.iter().enumerate() {
             if place < 32 && others >> place & 1 == 1 {
                 let literal = Lit::NotBits(word_of(TOKEN), u32::MAX, machine.token);
-                stated.call.push(Claim::Knows(literal))?;
+                stated.call.add(Claim::Knows(literal));
             }
         }
-        Ok(())
     }
 
     // What a node states that tells numbers apart.
-    fn number_claims(
-        &self,
-        machine: usize,
-        facts: usize,
-        stated: &mut Stated,
-    ) -> Result<(), AllocError> {
+    fn number_claims(&self, machine: usize, facts: usize, stated: &mut Stated) {
         if let Some(machine) = self.machines.get(machine) {
-            stated.call.push(is_number(TOKEN, machine.token))?;
+            stated.call.add(is_number(TOKEN, machine.token));
         }
-        self.tell_facts(NUMBER, facts, &mut stated.call)
+        self.tell_facts(NUMBER, facts, &mut stated.call);
     }
 
     // What is stated where no record comes.
-    fn dead_claims(&self, place: usize, stated: &mut Stated) -> Result<(), AllocError> {
+    fn dead_claims(&self, place: usize, stated: &mut Stated) {
         if let Some(literals) = self.contradictions.get(place) {
             for literal in literals {
-                stated.others.push(Claim::Knows(*literal))?;
+                stated.others.add(Claim::Knows(*literal));
             }
         }
-        Ok(())
     }
 
     /// What the node of a spot states.
-    pub(crate) fn stated(&self, spot: &Spot) -> Result<Stated, AllocError> {
+    pub(crate) fn stated(&self, spot: &Spot) -> Result<Stated, OutlineError> {
         let mut stated = Stated::new(self.alloc);
         match spot.stage {
-            Stage::Machines(others) => self.machine_claims(others, &mut stated)?,
-            Stage::Numbers(machine, facts) => self.number_claims(machine, facts, &mut stated)?,
+            Stage::Machines(others) => self.machine_claims(others, &mut stated),
+            Stage::Numbers(machine, facts) => self.number_claims(machine, facts, &mut stated),
             Stage::Call(calls, at) => self.call_claims(calls, at, &mut stated)?,
-            Stage::Dead(place) => self.dead_claims(place, &mut stated)?,
+            Stage::Dead(place) => self.dead_claims(place, &mut stated),
+        }
+        if stated.is_refused() {
+            return Err(OutlineError::OutOfMemory);
         }
         Ok(stated)
     }

@@ -1,5 +1,6 @@
 //! What is known of the bits of a word.
 
+use crate::stating::Claims;
 use crate::table::{Item, mixed};
 use cert_form::Claim;
 use cert_state::Lit;
@@ -101,19 +102,18 @@ impl Facts {
     }
 
     /// Adds the claims that say this of a word.
-    pub(crate) fn tell(&self, subject: Subject, claims: &mut Vec<Claim>) -> Result<(), AllocError> {
+    pub(crate) fn tell(&self, subject: Subject, claims: &mut Claims) {
         let word = word_of(subject);
         if self.low == self.high {
-            claims.push(Claim::Knows(Lit::Bits(word, subject.mask, self.low)))?;
-            return Ok(());
+            claims.add(Claim::Knows(Lit::Bits(word, subject.mask, self.low)));
+            return;
         }
         if self.low != 0 || self.high != u32::MAX {
-            claims.push(Claim::Knows(Lit::In(word, self.low, self.high)))?;
+            claims.add(Claim::Knows(Lit::In(word, self.low, self.high)));
         }
         for number in &self.excluded {
-            claims.push(Claim::Knows(Lit::NotBits(word, subject.mask, *number)))?;
+            claims.add(Claim::Knows(Lit::NotBits(word, subject.mask, *number)));
         }
-        Ok(())
     }
 }
 

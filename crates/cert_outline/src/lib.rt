@@ -20,6 +20,7 @@ mod maker;
 mod several;
 mod sorting;
 mod spot;
+mod stating;
 mod table;
 mod ways;
 

@@ -4,30 +4,14 @@
 //! node before, as far as it says the same; and that of the rules' halves which are out as wholes, the greatest first.
 
 use crate::chains::Chains;
+use crate::stating::Stated;
 use cert_form::Claim;
 use std::alloc::{AllocError, Global};
 
 // More rules than a profile has.
 const RULES: usize = 8192;
 
-/// What a node states: of its call, which rules are out, and all else.
-#[derive(Drop)]
-pub(crate) struct Stated {
-    pub(crate) call: Vec<Claim>,
-    /// The places of the rules that may be out, each with whether it is.
-    pub(crate) rules: Vec<(u32, bool)>,
-    pub(crate) others: Vec<Claim>,
-}
-
 impl Stated {
-    pub(crate) fn new(alloc: Global) -> Stated {
-        Stated {
-            call: Vec::new(alloc),
-            rules: Vec::new(alloc),
-            others: Vec::new(alloc),
-        }
-    }
-
     // The rules that are out.
     fn outs(&self, alloc: Global) -> Result<Vec<u32>, AllocError> {
         let mut outs = Vec::new(alloc);
@@ -41,11 +25,11 @@ impl Stated {
 
     // All claims, with the rules that are out in an order.
     fn with(&self, alloc: Global, outs: &[u32]) -> Result<Vec<Claim>, AllocError> {
-        let mut claims = Vec::from_slice(alloc, &self.call)?;
+        let mut claims = Vec::from_slice(alloc, &self.call.items)?;
         for rule in outs {
             claims.push(Claim::Out(*rule))?;
         }
-        claims.extend_from_slice(&self.others)?;
+        claims.extend_from_slice(&self.others.items)?;
         Ok(claims)
     }
 

@@ -278,11 +278,11 @@ impl<'a> Maker<'a> {
     }
 
     // The literals of a word that a spot states.
-    fn literals(&self, spot: &Spot, word: u8) -> Result<Vec<Lit>, AllocError> {
+    fn literals(&self, spot: &Spot, word: u8) -> Result<Vec<Lit>, OutlineError> {
         let stated = self.stated(spot)?;
         let mut own = Vec::new(self.alloc);
-        add_of_word(&mut own, &stated.call, word)?;
-        add_of_word(&mut own, &stated.others, word)?;
+        add_of_word(&mut own, &stated.call.items, word)?;
+        add_of_word(&mut own, &stated.others.items, word)?;
         Ok(own)
     }
 
