@@ -48,6 +48,19 @@ impl Facts {
         Some(first)
     }
 
+    /// Whether they may be a number.
+    pub(crate) fn may_be(&self, number: u32) -> bool {
+        if number < self.low || self.high < number {
+            return false;
+        }
+        !self.excluded.contains(&number)
+    }
+
+    // Whether a range lies below or above all that they may be.
+    fn is_beside(&self, range: &Range) -> bool {
+        range.last < self.low || self.high < range.first
+    }
+
     // The same, of the numbers from one to another, where the ends are no excluded ones.
     fn between(&self, alloc: Global, low: u32, high: u32) -> Result<Facts, AllocError> {
         let (mut low, mut high) = (low, high);
@@ -136,7 +149,7 @@ pub(crate) fn word_of(subject: Subject) -> u8 {
 pub(crate) fn only_leaf(ranges: &[Range], facts: &Facts) -> Option<Leaf> {
     let mut found = None;
     for range in ranges {
-        if facts.within(range.first, range.last).is_some() {
+        if !facts.is_beside(range) && facts.within(range.first, range.last).is_some() {
             let leaf = Some(range.leaf);
             if found.is_some() && found != leaf {
                 return None;

@@ -143,7 +143,7 @@ impl<'a> Maker<'a> {
         let mut places = Vec::new(self.alloc);
         if let Some(facts) = self.facts.get(facts) {
             for (place, call) in self.calls.iter().enumerate() {
-                if call.token == token && facts.within(call.number, call.number).is_some() {
+                if call.token == token && facts.may_be(call.number) {
                     places.push(place)?;
                 }
             }

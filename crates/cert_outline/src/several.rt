@@ -292,8 +292,7 @@ impl<'a> Maker<'a> {
             && let Some(numbers) = calls.numbers
             && let Some(facts) = self.facts.get(numbers)
         {
-            let is_there = facts.within(own.number, own.number).is_some();
-            return is_there && self.class(calls.call) == own.class;
+            return facts.may_be(own.number) && self.class(calls.call) == own.class;
         }
         false
     }
