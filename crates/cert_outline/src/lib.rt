@@ -19,6 +19,7 @@ mod listing;
 mod maker;
 mod several;
 mod sorting;
+mod splits;
 mod spot;
 mod stating;
 mod table;
