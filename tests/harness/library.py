@@ -3,7 +3,6 @@ import re
 import struct
 import tempfile
 from collections import Counter
-from functools import partial
 
 from harness import asked
 from harness.ask import side_by_side
@@ -204,7 +203,7 @@ def fixed(line, rest):
 
 def nodes(data):
     """How many nodes a certificate has, or its fault."""
-    ((said,),) = yield [f"cert nodes {data.hex()}"]
+    ((said,),) = yield [f"cert {data.hex()}"]
     return [read_told(said)]
 
 
@@ -221,12 +220,6 @@ def long_chain(text):
     # (the table of nodes has its one offset behind the entries)
     data = head[:16] + entries + head[16:] + struct.pack("<BxH12xI", 2, 0, count)
     return (yield from nodes(data))
-
-
-def rewritten(word, data, other):
-    """Whether the nodes of a certificate, written again, are these bytes."""
-    ((again,),) = yield [f"cert {word} {data.hex()}"]
-    return ["the same bytes" if again == other.hex() else "other bytes"]
 
 
 def flips(data):
@@ -248,7 +241,7 @@ def counted(answers):
 
 def nodes_flipped(data):
     """How often a certificate with one bit flipped is read, and which faults it has."""
-    told = yield [f"cert nodes {flipped.hex()}" for flipped in flips(data)]
+    told = yield [f"cert {flipped.hex()}" for flipped in flips(data)]
     return counted(read_told(said).partition(",")[0] for (said,) in told)
 
 
@@ -289,13 +282,7 @@ def codes(_rest):
 
 
 # Questions whose words are files, and others on what stands in the row alone.
-ON_FILES = {
-    "nodes": nodes,
-    "nodes-flipped": nodes_flipped,
-    "written": partial(rewritten, "written"),
-    "chained": partial(rewritten, "chained"),
-    "claimed": partial(rewritten, "claimed"),
-}
+ON_FILES = {"nodes": nodes, "nodes-flipped": nodes_flipped}
 ON_TEXTS = {
     "build": build,
     "condition": condition,

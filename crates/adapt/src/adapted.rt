@@ -12,7 +12,6 @@ use explain::{Told, refused_profile};
 use profile_json::{ProfileError, read_bundle, rules_by_entry};
 use serde_json::{Error, Value};
 use std::alloc::{AllocError, Global};
-use std::fmt::Write;
 
 /// What an adapted configuration gives: the bundle, or why there is none, and what was changed, a line each.
 #[derive(Drop)]
@@ -65,15 +64,14 @@ fn put_sides(
     bundle: &Bundle,
     (top, name): (&'static str, &str),
     sides: [usize; 2],
-) -> Result<(), AllocError> {
+) {
     let Ok(all) = rules_by_entry(alloc, bundle.text.as_bytes(), native) else {
-        return Ok(());
+        return;
     };
     for side in sides {
         let place = Place::top(top).entry(bundle.place_of(side));
-        put_side(&mut changes.lines, &all, side, place, name)?;
+        put_side(&mut changes.lines, &all, side, place, name);
     }
-    Ok(())
 }
 
 // Why a bundle is refused, by the places that entries had in the configuration.
@@ -84,28 +82,22 @@ fn refusal_of(
     bundle: &Bundle,
     top: &'static str,
     error: ProfileError,
-) -> Result<ProfileError, AllocError> {
+) -> ProfileError {
     match error {
         ProfileError::Overlap {
             name,
             first,
             second,
         } => {
-            put_sides(
-                changes,
-                alloc,
-                native,
-                bundle,
-                (top, name.as_str()),
-                [first, second],
-            )?;
-            Ok(ProfileError::Overlap {
+            let told = (top, name.as_str());
+            put_sides(changes, alloc, native, bundle, told, [first, second]);
+            ProfileError::Overlap {
                 name,
                 first: bundle.place_of(first),
                 second: bundle.place_of(second),
-            })
+            }
         }
-        _ => Ok(error),
+        _ => error,
     }
 }
 
@@ -125,7 +117,7 @@ fn read_over(
             done: true,
         }),
         Err(error) => {
-            let error = refusal_of(alloc, changes, native, &bundle, top, error)?;
+            let error = refusal_of(alloc, changes, native, &bundle, top, error);
             refused_profile(alloc, error)
         }
     }
@@ -146,7 +138,7 @@ fn made(
         return Ok(nothing(alloc));
     }
     if changes.widening > 0 && !may_widen {
-        changes.tell_nothing_written()?;
+        changes.tell_nothing_written();
         return Ok(nothing(alloc));
     }
     read_over(alloc, changes, native, bundle, top)
@@ -174,6 +166,6 @@ pub fn adapt(
     let told = made(alloc, &mut changes, native, bundle, section.top, may_widen)?;
     Ok(Adapted {
         told,
-        changes: changes.lines,
+        changes: changes.lines.whole()?,
     })
 }

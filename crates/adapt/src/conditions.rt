@@ -1,51 +1,43 @@
 //! The conditions of an entry.
 use crate::changes::Changes;
-use crate::keys::{put_comma, put_member, tell_keys};
+use crate::keys::{put_member, tell_keys};
 use crate::place::Place;
+use crate::text::Text;
 use serde_json::Value;
-use std::alloc::{AllocError, Global};
-use std::fmt::Write;
 
-// The members of a condition.
-fn members_of(alloc: Global, condition: &Value) -> Result<String, AllocError> {
-    let mut members = String::new(alloc);
-    put_member(&mut members, condition, "index")?;
-    put_member(&mut members, condition, "value")?;
-    put_member(&mut members, condition, "valueTwo")?;
-    put_member(&mut members, condition, "op")?;
-    Ok(members)
+// Adds the members of a condition.
+fn put_members(text: &mut Text, condition: &Value) {
+    put_member(text, condition, "index");
+    put_member(text, condition, "value");
+    put_member(text, condition, "valueTwo");
+    put_member(text, condition, "op");
 }
 
-// Adds a condition behind those that the text holds.
-fn put_condition(
-    text: &mut String,
-    alloc: Global,
-    changes: &mut Changes,
-    place: Place<'_>,
-    condition: &Value,
-) -> Result<(), AllocError> {
-    tell_keys(changes, place, condition)?;
-    put_comma(text)?;
+// Adds a condition behind those that the list has.
+fn put_condition(text: &mut Text, changes: &mut Changes, place: Place<'_>, condition: &Value) {
+    tell_keys(changes, place, condition);
+    text.separate(", ");
     if !condition.is_object() {
-        return write!(text, "{condition}");
+        return text.put(format_args!("{condition}"));
     }
-    let members = members_of(alloc, condition)?;
-    write!(text, "{{{members}}}")
+    text.begin("{");
+    put_members(text, condition);
+    text.end("}");
 }
 
-/// The list of an entry's conditions. What is no list stays what it is.
-pub(crate) fn conditions_of(
-    alloc: Global,
+/// Adds the list of an entry's conditions. What is no list stays what it is.
+pub(crate) fn put_conditions(
+    text: &mut Text,
     changes: &mut Changes,
     place: Place<'_>,
     args: &Value,
-) -> Result<String, AllocError> {
+) {
     let Some(conditions) = args.as_array() else {
-        return format!(in alloc; "{args}");
+        return text.put(format_args!("{args}"));
     };
-    let mut text = String::new(alloc);
+    text.begin("[");
     for (at, condition) in conditions.iter().enumerate() {
-        put_condition(&mut text, alloc, changes, place.condition(at), condition)?;
+        put_condition(text, changes, place.condition(at), condition);
     }
-    format!(in alloc; "[{text}]")
+    text.end("]");
 }

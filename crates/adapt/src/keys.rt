@@ -1,9 +1,8 @@
 //! The keys of objects: those that engines would read in another way, and members that say nothing.
 use crate::changes::Changes;
 use crate::place::Place;
+use crate::text::Text;
 use serde_json::Value;
-use std::alloc::AllocError;
-use std::fmt::Write;
 
 // The keys that engines or `ccell` read.
 const KEYS: &[&str] = &[
@@ -69,12 +68,7 @@ fn is_void(value: &Value) -> bool {
 }
 
 // Tells what is to be told of a key and its member.
-fn tell_key(
-    changes: &mut Changes,
-    place: Place<'_>,
-    key: &str,
-    member: &Value,
-) -> Result<(), AllocError> {
+fn tell_key(changes: &mut Changes, place: Place<'_>, key: &str, member: &Value) {
     if let Some(meant) = meant_by(key) {
         return changes.refuse_key(place, meant);
     }
@@ -85,24 +79,17 @@ fn tell_key(
         );
     }
     if is_one_of(KEYS, key) && member.is_null() {
-        return changes.tell(place, "null, and left out", false);
+        changes.tell(place, "null, and left out", false);
     }
-    Ok(())
 }
 
 /// Tells the keys of an object that engines would read in another way, and the members that are null.
-pub(crate) fn tell_keys(
-    changes: &mut Changes,
-    place: Place<'_>,
-    object: &Value,
-) -> Result<(), AllocError> {
-    let Some(members) = object.as_object() else {
-        return Ok(());
-    };
-    for (key, member) in members.iter() {
-        tell_key(changes, place.key(key.as_str()), key.as_str(), member)?;
+pub(crate) fn tell_keys(changes: &mut Changes, place: Place<'_>, object: &Value) {
+    if let Some(members) = object.as_object() {
+        for (key, member) in members.iter() {
+            tell_key(changes, place.key(key.as_str()), key.as_str(), member);
+        }
     }
-    Ok(())
 }
 
 /// The member under a key that says something.
@@ -111,19 +98,10 @@ pub(crate) fn member_at<'a>(object: &'a Value, key: &str) -> Option<&'a Value> {
     if member.is_null() { None } else { Some(member) }
 }
 
-/// Adds what stands before a part of a list or an object, of which the text holds the parts before it.
-pub(crate) fn put_comma(text: &mut String) -> Result<(), AllocError> {
-    if text.is_empty() {
-        return Ok(());
+/// Adds a key with its member, if it says something, behind the members that the object has.
+pub(crate) fn put_member(text: &mut Text, object: &Value, key: &str) {
+    if let Some(member) = member_at(object, key) {
+        text.separate(", ");
+        text.put(format_args!("\"{key}\": {member}"));
     }
-    text.push_str(", ")
-}
-
-/// Adds a key with its member, if it says something, behind those that the text holds.
-pub(crate) fn put_member(text: &mut String, object: &Value, key: &str) -> Result<(), AllocError> {
-    let Some(member) = member_at(object, key) else {
-        return Ok(());
-    };
-    put_comma(text)?;
-    write!(text, "\"{key}\": {member}")
 }

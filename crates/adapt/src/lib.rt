@@ -13,5 +13,6 @@ mod machines;
 mod overlapping;
 mod place;
 mod section;
+mod text;
 
 pub use adapted::{Adapted, adapt};

@@ -1,10 +1,9 @@
 //! Two entries that give unlike verdicts to one call.
 use crate::place::Place;
+use crate::text::Text;
 use explain::{ActionText, ConditionText};
 use profile::{Cond, Rule};
 use profile_json::EntryRules;
-use std::alloc::AllocError;
-use std::fmt::Write;
 
 // Whether a rule is for a call of this name.
 fn is_of(rule: &Rule, name: &str) -> bool {
@@ -23,29 +22,27 @@ fn rule_of<'a>(all: &'a EntryRules, entry: usize, name: &str) -> Option<&'a Rule
 }
 
 // Adds conditions.
-fn put_conditions(text: &mut String, conds: &[Cond]) -> Result<(), AllocError> {
+fn put_conditions(text: &mut Text, conds: &[Cond]) {
     let mut word = "if";
     for cond in conds {
         let condition = ConditionText(cond);
-        write!(text, " {word} {condition}")?;
+        text.put(format_args!(" {word} {condition}"));
         word = "and";
     }
-    Ok(())
 }
 
 /// Adds the line of what an entry says of a call by its name, at the place where it stood in the configuration.
 pub(crate) fn put_side(
-    text: &mut String,
+    text: &mut Text,
     all: &EntryRules,
     entry: usize,
     place: Place<'_>,
     name: &str,
-) -> Result<(), AllocError> {
-    let Some(rule) = rule_of(all, entry, name) else {
-        return Ok(());
-    };
-    let action = ActionText(rule.word);
-    write!(text, "{place}: {name} gets {action}")?;
-    put_conditions(text, rule.conds.as_slice())?;
-    text.push_str("\n")
+) {
+    if let Some(rule) = rule_of(all, entry, name) {
+        let action = ActionText(rule.word);
+        text.put(format_args!("{place}: {name} gets {action}"));
+        put_conditions(text, rule.conds.as_slice());
+        text.put("\n");
+    }
 }

@@ -2,8 +2,8 @@
 use crate::changes::Changes;
 use crate::keys::{member_at, tell_keys};
 use crate::place::Place;
+use crate::text::Text;
 use serde_json::Value;
-use std::alloc::{AllocError, Global};
 
 /// A section, and what stands before it in a place.
 #[derive(Clone, Copy)]
@@ -33,19 +33,15 @@ pub(crate) fn section_of(config: &Value) -> Option<Section<'_>> {
 }
 
 /// Tells the keys of what stands above a section, and its own.
-pub(crate) fn tell_section_keys(
-    changes: &mut Changes,
-    config: &Value,
-    section: Section<'_>,
-) -> Result<(), AllocError> {
-    tell_keys(changes, Place::top(""), config)?;
+pub(crate) fn tell_section_keys(changes: &mut Changes, config: &Value, section: Section<'_>) {
+    tell_keys(changes, Place::top(""), config);
     if section.top == "" {
-        return Ok(());
+        return;
     }
     if let Some(linux) = config.get("linux") {
-        tell_keys(changes, Place::top("linux."), linux)?;
+        tell_keys(changes, Place::top("linux."), linux);
     }
-    tell_keys(changes, Place::top(section.top), section.value)
+    tell_keys(changes, Place::top(section.top), section.value);
 }
 
 const EDITION: &str = "\"1.0.2\"";
@@ -54,26 +50,18 @@ fn is_read(edition: &str) -> bool {
     edition == "1.0.2" || edition == "1.1.0"
 }
 
-/// The edition of a configuration: one of the first that is not read is written as one that is.
-pub(crate) fn edition_of(
-    alloc: Global,
-    changes: &mut Changes,
-    config: &Value,
-) -> Result<String, AllocError> {
+/// Adds the edition of a configuration: one of the first that is not read is written as one that is.
+pub(crate) fn put_edition(text: &mut Text, changes: &mut Changes, config: &Value) {
     let place = Place::top("").key("ociVersion");
     let Some(member) = member_at(config, "ociVersion") else {
-        changes.tell(place, "missing, and written as 1.0.2", false)?;
-        return String::from_str(alloc, EDITION);
+        changes.tell(place, "missing, and written as 1.0.2", false);
+        return text.put(EDITION);
     };
     let edition = member.as_str().unwrap_or("");
     if is_read(edition) || !edition.starts_with("1.") {
-        return format!(in alloc; "{member}");
+        return text.put(format_args!("{member}"));
     }
-    changes.tell_text(
-        place,
-        edition,
-        "is not read, and is written as 1.0.2",
-        false,
-    )?;
-    String::from_str(alloc, EDITION)
+    let what = "is not read, and is written as 1.0.2";
+    changes.tell_text(place, edition, what, false);
+    text.put(EDITION);
 }

@@ -60,12 +60,7 @@ impl Desk {
 
     // Takes a profile, and tells its parts.
     fn take(&mut self, profile: Profile) {
-        self.out.tell(format_args!("{:?}", profile.native()));
-        self.out.tell(format_args!("{:?}", profile.machines()));
-        self.out.tell(profile.default_word());
-        for rule in profile.rules() {
-            self.out.tell(format_args!("{rule:?}"));
-        }
+        tell_parts(&mut self.out, &profile);
         self.profile = Some(profile);
     }
 
@@ -104,6 +99,15 @@ impl Desk {
             "check" => tell_check(&mut self.out, profile, &self.filter, question.word()),
             _ => tell_agreement(&mut self.out, profile, &self.filter, &self.grid),
         }
+    }
+}
+
+fn tell_parts(out: &mut Answers, profile: &Profile) {
+    out.tell(format_args!("{:?}", profile.native()));
+    out.tell(format_args!("{:?}", profile.machines()));
+    out.tell(profile.default_word());
+    for rule in profile.rules() {
+        out.tell(format_args!("{rule:?}"));
     }
 }
 

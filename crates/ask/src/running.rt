@@ -26,18 +26,26 @@ fn carry_out<'a>(
 ) {
     let word = question.word();
     let id = question.word();
-    let replied = match word {
+    match word {
         "create" => create(runtime, kept, out, id, question.place()),
-        "start" => runtime.start(id),
-        "kill" => Ok(runtime.kill(id, question.number())),
-        "delete" => Ok(runtime.delete(id)),
-        "state" => Ok(runtime.state(id)),
+        "start" => tell_made(out, runtime.start(id)),
+        "kill" => tell(out, runtime.kill(id, question.number())),
+        "delete" => tell(out, runtime.delete(id)),
+        "state" => tell(out, runtime.state(id)),
         "call" => call(runtime, out, id, question),
-        _ => return tell_id(runtime, out, question.place()),
-    };
+        _ => tell_id(runtime, out, question.place()),
+    }
+}
+
+fn tell(out: &mut Answers, reply: Reply) {
+    out.tell(format_args!("{reply:?}"));
+}
+
+// Tells the reply to a command for which there was memory.
+fn tell_made(out: &mut Answers, replied: Result<Reply, AllocError>) {
     match replied {
-        Ok(reply) => out.tell(format_args!("{reply:?}")),
-        Err(_) => out.keep(false),
+        Ok(reply) => tell(out, reply),
+        Err(_) => out.fail(),
     }
 }
 
@@ -48,14 +56,14 @@ fn create<'a>(
     out: &mut Answers,
     id: &str,
     place: usize,
-) -> Result<Reply, AllocError> {
+) {
     let Some(made) = kept.get(place) else {
-        return Err(AllocError);
+        return out.fail();
     };
-    let Ok(checked) = made.checked(out.alloc) else {
-        return Err(AllocError);
-    };
-    runtime.create(id, checked)
+    match made.checked(out.alloc) {
+        Ok(checked) => tell_made(out, runtime.create(id, checked)),
+        Err(_) => out.fail(),
+    }
 }
 
 // Makes a call.
@@ -64,7 +72,7 @@ fn call(
     out: &mut Answers,
     id: &str,
     mut question: Question<'_>,
-) -> Result<Reply, AllocError> {
+) {
     let task = question.number();
     let record = question.record();
     let program = out.bytes(question.word());
@@ -73,7 +81,7 @@ fn call(
     } else {
         Some(program.as_slice())
     };
-    runtime.call(id, task, &record, attached)
+    tell_made(out, runtime.call(id, task, &record, attached));
 }
 
 fn tell_id(runtime: &Runtime<'_, TaskTable>, out: &mut Answers, place: usize) {

@@ -88,10 +88,15 @@ const PAGES: &[Page] = &[
     },
 ];
 
+// All pages: the one function that the table is spelt out in.
+fn pages() -> &'static [Page] {
+    PAGES
+}
+
 // The line of each command.
 fn overview(alloc: Global) -> Result<String, AllocError> {
     let mut text = String::new(alloc);
-    for page in PAGES {
+    for page in pages() {
         let name = page.name;
         let purpose = page.purpose;
         writeln!(text, "{name:<10}{purpose}")?;
@@ -104,7 +109,7 @@ pub fn manual(alloc: Global, command: Option<&str>) -> Result<Option<Told>, Allo
     let text = match command {
         None => overview(alloc)?,
         Some(name) => {
-            let Some(page) = PAGES.iter().find(|page| page.name == name) else {
+            let Some(page) = pages().iter().find(|page| page.name == name) else {
                 return Ok(None);
             };
             String::from_str(alloc, page.text)?
