@@ -27,7 +27,8 @@ use Rattle.rule_compile.specs.declared.ranges.Range.{Range}
 use Rattle.rule_compile.specs.Shape.{IsPlain, IsPlainRule, call}
 use Rattle.rule_compile.specs.inner.Numbers.{AreFew, AreOwn, AreUnconditional, Between, IsExtended, IsFor, IsListed, IsNext, IsWorded, behind}
 use Rattle.rule_compile.specs.inner.Numbers.{LeafFor, NoneFor, Reached, Tiles, more, nothing, ruled, said_of, unruled, wider}
-use Rattle.rule_compile.specs.inner.Ranges.{AreInOrder, IsWithin}
+use Rattle.rule_compile.specs.Decides.{IsWithin}
+use Rattle.rule_compile.specs.inner.Ranges.{AreInOrder}
 use Rattle.rule_compile.proofs.FindLaws.{all_left, all_right}
 
 -- what is left where the last one is taken off

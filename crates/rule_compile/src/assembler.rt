@@ -31,12 +31,13 @@ impl Model for Assembler {
     ghost use Rattle.std.specs.Prelude.{◌≤◌, List, reverse, vec_len};
     ghost use Rattle.bpf_insn.specs.declared.instruction.Insn.{Insn};
     ghost use Rattle.bpf_insn.specs.declared.view.TheConstants.{MAX_INSNS};
+    ghost use Rattle.rule_compile.specs.inner.Emitted.{AreFine};
 
     ghost Value = { List Insn };
 
     ghost view = { λ code. reverse code.backwards.items };
 
-    ghost invariant = { λ code. vec_len code.backwards ≤ MAX_INSNS };
+    ghost invariant = { λ code. (vec_len code.backwards ≤ MAX_INSNS) × AreFine (reverse code.backwards.items) };
 }
 
 // An instruction that is no conditional jump.

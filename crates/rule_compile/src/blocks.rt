@@ -4,14 +4,20 @@
 //! has the number of these bits. So what is known of a word is used by all rules, and what a failed
 //! half leaves of them is a block as well. Where the same is left to ask, it is the same block,
 //! whichever calls and machines come to it.
-ghost use Rattle.std.specs.Prelude.{◌≡◌, ◌≤◌, ◌<◌, ◌^◌, length, vec_len, IfSome};
+ghost use Rattle.std.specs.Prelude.{◌≡◌, ◌≤◌, ◌<◌, ◌^◌, None, true, drop, length, vec_len, IfOk, IfSome, IsSome, IsTrue, OnOk};
+ghost use Rattle.rule_compile.specs.Rules.{begins_here};
+ghost use Rattle.rule_compile.specs.inner.Left.{AreRules, weight};
+ghost use Rattle.rule_compile.specs.inner.Runs.{IsBefore};
+ghost use Rattle.rule_compile.specs.inner.Stands.{AreSound, DecidesRules, HasMore, IsFound};
 
+use crate::asked::{Open, Placed, Rest, are_alike, questions_of};
 use crate::index::{Index, key_of};
 use crate::known::{Known, Span};
-use crate::open::{Open, Placed, Rest, are_alike, left, questions_of};
 use crate::outline::{Asked, Block, Call, Outline, Part};
 use crate::question::Subject;
 use crate::ranges::{Leaf, Ranges};
+use crate::remaining::left;
+use crate::starts::{end_of, starts_of, subject_of};
 use call_record::Word;
 use std::alloc::{AllocError, Global};
 
@@ -25,12 +31,9 @@ pub(crate) struct Blocks {
     known: Vec<Known>,
     // The parts of the questions that are looked at, the last one first.
     spans: Vec<Span>,
-    /// How many ranges may be looked at, until the rules are no more asked all at once.
-    room: usize,
+    /// How many ranges may be looked at, until the rules are no more asked all at once; none: as many as there are.
+    room: Option<usize>,
 }
-
-/// How many words are asked for on a path at most: two of each argument, and each under some masks.
-const STEPS: usize = 4096;
 
 /// How many ranges may be looked at for each question, before neighbours that go on alike are one.
 const RANGES: usize = 6;
@@ -38,7 +41,8 @@ const RANGES: usize = 6;
 impl Blocks {
     /// No blocks.
     pub(crate) fn new(alloc: Global) -> Blocks
-        ensures { vec_len result.blocks ≡ 0 }
+        ensures none { vec_len result.blocks ≡ 0 }
+        ensures sound { AreSound result }
     {
         Blocks {
             blocks: Vec::new(alloc),
@@ -46,7 +50,7 @@ impl Blocks {
             calls: Vec::new(alloc),
             known: Vec::new(alloc),
             spans: Vec::new(alloc),
-            room: 0,
+            room: None,
         }
     }
 
@@ -71,7 +75,13 @@ impl Blocks {
         number: u32,
         rules: &[Placed<'_>],
         default: Word,
-    ) -> Result<Leaf, AllocError> {
+    ) -> Result<Leaf, AllocError>
+        requires sound { AreSound self.old }
+        ensures sound { OnOk result (AreSound self.new) }
+        ensures more { OnOk result (HasMore self.old.blocks.items self.new.blocks.items) }
+        ensures before { IfOk result (IsBefore (vec_len self.new.blocks)) }
+        ensures decides { IfOk result (DecidesRules self.new.blocks.items rules.now default) }
+    {
         match questions_of(alloc, rules, default)? {
             Rest::Met(rule, word) => {
                 let leaf = Leaf::Word(word);
@@ -90,23 +100,36 @@ impl Blocks {
     fn asked(
         &mut self,
         alloc: Global,
-        open: &[Open],
+        rules: &[Open],
         other: &Leaf,
-    ) -> Result<(Leaf, Vec<Part>), AllocError> {
-        let key = key_of(open, other);
-        if let Some(known) = self.known.iter().find(|known| known.is_of(key, open)) {
-            return Ok((known.leaf, known.parts_of(alloc, open)?));
+    ) -> Result<(Leaf, Vec<Part>), AllocError>
+        requires sound { AreSound self.old }
+        requires rules { AreRules rules.now }
+        requires other { IsBefore (vec_len self.old.blocks) other.now }
+        ensures sound { OnOk result (AreSound self.new) }
+        ensures more { OnOk result (HasMore self.old.blocks.items self.new.blocks.items) }
+        ensures found { IfOk result (λ found. IsFound self.new.blocks.items rules.now other.now found.0) }
+    {
+        let key = key_of(rules, other);
+        if let Some(known) = self
+            .known
+            .iter()
+            .find(|known| known.is_of(key, rules, other))
+        {
+            return Ok((known.leaf, known.parts_of(alloc, rules)?));
         }
-        let leaf = self.add(alloc, open, 0, other)?;
+        let leaf = self.add(alloc, rules, 0, other)?;
         let spans = std::mem::replace(&mut self.spans, Vec::new(alloc));
-        let open = Vec::from_slice(alloc, open)?;
+        let asked = Vec::from_slice(alloc, rules)?;
+        let other = *other;
         let known = Known {
             key,
-            open,
+            asked,
+            other,
             leaf,
             spans,
         };
-        let parts = known.parts_of(alloc, &known.open)?;
+        let parts = known.parts_of(alloc, &known.asked)?;
         self.known.push(known)?;
         Ok((leaf, parts))
     }
@@ -138,7 +161,15 @@ impl Blocks {
         rules: &[Open],
         start: usize,
         other: &Leaf,
-    ) -> Result<Leaf, AllocError> {
+    ) -> Result<Leaf, AllocError>
+        requires sound { AreSound self.old }
+        requires rules { AreRules rules.now }
+        requires other { IsBefore (vec_len self.old.blocks) other.now }
+        ensures sound { OnOk result (AreSound self.new) }
+        ensures more { OnOk result (HasMore self.old.blocks.items self.new.blocks.items) }
+        ensures known { OnOk result (self.new.known ≡ self.old.known) }
+        ensures found { IfOk result (IsFound self.new.blocks.items rules.now other.now) }
+    {
         if rules
             .iter()
             .all(|open| other.is_like(&Leaf::Word(open.answer)))
@@ -157,8 +188,8 @@ impl Blocks {
         let parted = self.add(alloc, first, start, &next)?;
         let fewest = self.ranges_from(before);
         let aside = self.set_aside(alloc, before)?;
-        self.room = room_for(rules, fewest);
-        if let Some(whole) = self.decide(alloc, rules, other, STEPS)?
+        self.room = Some(room_for(rules, fewest));
+        if let Some(whole) = self.decide(alloc, rules, other, weight_of(rules))?
             && self.ranges_from(before) <= fewest
         {
             self.spans.truncate(spans);
@@ -178,16 +209,19 @@ impl Blocks {
     }
 
     // The block of one rule.
-    fn add_rule(
-        &mut self,
-        alloc: Global,
-        rules: &[Open],
-        other: &Leaf,
-    ) -> Result<Leaf, AllocError> {
-        self.room = usize::MAX;
-        match self.decide(alloc, rules, other, STEPS)? {
+    fn add_rule(&mut self, alloc: Global, rules: &[Open], other: &Leaf) -> Result<Leaf, AllocError>
+        requires sound { AreSound self.old }
+        requires rules { AreRules rules.now }
+        requires other { IsBefore (vec_len self.old.blocks) other.now }
+        ensures sound { OnOk result (AreSound self.new) }
+        ensures more { OnOk result (HasMore self.old.blocks.items self.new.blocks.items) }
+        ensures known { OnOk result (self.new.known ≡ self.old.known) }
+        ensures found { IfOk result (IsFound self.new.blocks.items rules.now other.now) }
+    {
+        self.room = None;
+        match self.decide(alloc, rules, other, weight_of(rules))? {
             Some(leaf) => Ok(leaf),
-            None => Ok(Leaf::Word(Word::KILL_THREAD)),
+            None => unreachable!(),
         }
     }
 
@@ -241,7 +275,17 @@ impl Blocks {
         rules: &[Open],
         other: &Leaf,
         steps: usize,
-    ) -> Result<Option<Leaf>, AllocError> {
+    ) -> Result<Option<Leaf>, AllocError>
+        requires steps { weight rules.now ≤ steps }
+        requires sound { AreSound self.old }
+        requires rules { AreRules rules.now }
+        requires other { IsBefore (vec_len self.old.blocks) other.now }
+        ensures sound { OnOk result (AreSound self.new) }
+        ensures more { OnOk result (HasMore self.old.blocks.items self.new.blocks.items) }
+        ensures known { OnOk result (self.new.known ≡ self.old.known) }
+        ensures found { IfOk result (λ leaf. IfSome leaf (IsFound self.new.blocks.items rules.now other.now)) }
+        ensures always { self.old.room ≡ None → IfOk result IsSome }
+    {
         let Some(subject) = subject_of(rules) else {
             return Ok(Some(*other));
         };
@@ -249,10 +293,9 @@ impl Blocks {
             return Ok(Some(Leaf::Block(block)));
         }
         let starts = starts_of(alloc, rules, subject)?;
-        if steps == 0 || starts.len() > self.room {
+        if !self.has_room(starts.len()) {
             return Ok(None);
         }
-        self.room -= starts.len();
         let mut ranges = Ranges::new(alloc);
         for (place, start) in starts.iter().enumerate() {
             let leaf = match left(alloc, rules, subject, *start)? {
@@ -270,6 +313,22 @@ impl Blocks {
             }
         }
         self.push(alloc, subject, ranges, rules, other)
+    }
+
+    // Whether so many ranges more may be looked at: then they count as looked at.
+    fn has_room(&mut self, count: usize) -> bool
+        ensures blocks { self.new.blocks ≡ self.old.blocks }
+        ensures known { self.new.known ≡ self.old.known }
+        ensures none { self.old.room ≡ None → (IsTrue result × (self.new.room ≡ None)) }
+    {
+        let Some(room) = self.room else {
+            return true;
+        };
+        if count > room {
+            return false;
+        }
+        self.room = Some(room - count);
+        true
     }
 
     // Adds a block, unless it always goes on alike.
@@ -330,54 +389,27 @@ impl Blocks {
     }
 }
 
+// How much is left to ask: a question that goes on with the low word counts twice.
+fn weight_of(rules: &[Open]) -> usize
+    ensures { result ≡ weight rules.now }
+{
+    let mut sum = 0usize;
+    for open in rules {
+        sum += if open.question.low.is_some() { 2 } else { 1 };
+    }
+    sum
+}
+
 // How many ranges may be looked at where rules are asked all at once, that are to be no more than these.
 fn room_for(rules: &[Open], fewest: usize) -> usize {
     let looked_at = RANGES.saturating_mul(rules.len().saturating_add(1));
     looked_at.max(fewest.saturating_mul(2))
 }
 
-/// The bits that are asked for first: a low word where the high one is known, or those of the first
-/// question.
-pub fn subject_of(rules: &[Open]) -> Option<Subject> {
-    let last = rules.iter().find(|open| open.question.is_last());
-    let open = match last {
-        Some(open) => open,
-        None => rules.first()?,
-    };
-    Some(open.question.subject)
-}
-
-/// The numbers of the bits from which on something else may be left to ask, in order, from 0 on.
-pub fn starts_of(alloc: Global, rules: &[Open], subject: Subject) -> Result<Vec<u32>, AllocError> {
-    let mut starts = Vec::new(alloc);
-    starts.push(0)?;
-    for open in rules {
-        if open.question.subject == subject {
-            for turn in open.question.turns() {
-                if let Some(start) = turn {
-                    starts.push(start)?;
-                }
-            }
-        }
-    }
-    starts.sort()?;
-    starts.dedup();
-    Ok(starts)
-}
-
-// Where the range ends that begins at a start: it is the next one's beginning.
-fn end_of(starts: &[u32], place: usize) -> u64
-    ensures { result ≤ 2 ^ 32 }
-{
-    match starts.get(place.saturating_add(1)) {
-        Some(next) => u64::from(*next),
-        None => 1 << 32,
-    }
-}
-
 // The place of the rule that begins nearest behind the middle, or else of the last one.
 fn middle(rules: &[Open]) -> Option<usize>
-    ensures { IfSome result (λ place. (1 ≤ place) × (place < length rules.now)) }
+    ensures within { IfSome result (λ place. (1 ≤ place) × (place < length rules.now)) }
+    ensures begins { IfSome result (λ place. begins_here (drop place rules.now) ≡ true) }
 {
     let mut found = None;
     for place in 1..rules.len() {

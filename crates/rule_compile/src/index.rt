@@ -1,6 +1,6 @@
 //! Blocks by a key of what they stand for, so that few are looked at where one is looked for.
 
-use crate::open::Open;
+use crate::asked::Open;
 use crate::ranges::Leaf;
 use std::alloc::{AllocError, Global};
 

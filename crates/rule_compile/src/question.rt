@@ -2,6 +2,9 @@
 //!
 //! A filter sees an argument of 64 bits as two words. Two numbers compare as their high words do
 //! where these differ, and else as their low words do.
+ghost use Rattle.std.specs.Prelude.{◌≡◌, ◌↔◌, ℕ, List, Some, IsTrue};
+ghost use Rattle.rule_compile.specs.Questions.{bits};
+ghost use Rattle.rule_compile.specs.inner.Replies.{AreAlike, IsReply, reply_of};
 
 /// How a word compares with a number.
 #[derive(Clone, Copy, PartialEq, Eq)]
@@ -40,14 +43,18 @@ pub(crate) enum Reply {
 }
 
 impl Reply {
-    fn of(met: bool) -> Reply {
+    fn of(met: bool) -> Reply
+        ensures { result ≡ reply_of met }
+    {
         if met { Reply::Met } else { Reply::NotMet }
     }
 }
 
 impl Question {
     /// What is left to ask where these bits are this number.
-    pub(crate) fn reply(&self, subject: Subject, number: u32) -> Reply {
+    pub(crate) fn reply(&self, subject: Subject, number: u32) -> Reply
+        ensures { (r : List ℕ) → (self.now.subject ≡ subject → AreAlike self.now number (bits subject r)) → IsReply self.now r result }
+    {
         if self.subject != subject {
             return Reply::Open(*self);
         }
@@ -64,7 +71,10 @@ impl Question {
     }
 
     // What is asked of the low word, which stands in front of the high one. It is at least 0.
-    fn reply_of_low(&self, low: u32) -> Reply {
+    fn reply_of_low(&self, low: u32) -> Reply
+        requires { self.now.low ≡ Some low }
+        ensures { (r : List ℕ) → bits self.now.subject r ≡ self.now.number → IsReply self.now r result }
+    {
         if low == 0 && self.comparison == Comparison::AtLeast {
             return Reply::of(self.wanted);
         }

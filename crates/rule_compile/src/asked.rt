@@ -1,4 +1,10 @@
 //! What is left to ask of rules.
+ghost use Rattle.std.specs.Prelude.{◌≡◌, ◌↔◌, ◌==◌, ◌+◌, ◌*◌, ◌≤◌, ◌<◌, ◌^◌, ◌%◌, ◌/◌, ℕ, List, [], ◌∷◌, ◌++◌, true, false, bit_and, length, take, slice_index, IsTrue, IfOk, OnOk, ⊤};
+ghost use Rattle.call_record.specs.Words.{IsRecord, argument};
+ghost use Rattle.profile.specs.Condition.{Meets};
+ghost use Rattle.rule_compile.specs.Questions.{IsMet, compares};
+ghost use Rattle.rule_compile.specs.inner.Left.{AreLeft, AreSame, IsSame, SaysHeld};
+ghost use Rattle.rule_compile.specs.inner.Asked.{Asks, IsAsked, IsSound, argument_at};
 
 use crate::index::mixed;
 use crate::question::{Comparison, Question, Reply, Subject};
@@ -36,7 +42,9 @@ pub struct Open {
 
 impl Open {
     // Whether both ask the same, for the same word, whoever asks it.
-    fn is_like(&self, other: &Open) -> bool {
+    fn is_like(&self, other: &Open) -> bool
+        ensures { IsTrue result → IsSame self.now other.now }
+    {
         self.begins == other.begins
             && self.answer == other.answer
             && self.question == other.question
@@ -56,7 +64,9 @@ impl Open {
 }
 
 /// Whether both are the same questions, whoever asks them.
-pub fn are_alike(these: &[Open], others: &[Open]) -> bool {
+pub fn are_alike(these: &[Open], others: &[Open]) -> bool
+    ensures { IsTrue result → AreSame these.now others.now }
+{
     these.len() == others.len()
         && these
             .iter()
@@ -73,47 +83,71 @@ pub enum Rest {
     Open(Vec<Open>),
 }
 
-// The questions of some rules, the last of which is being asked.
+/// The questions of some rules, the last of which is being asked.
 #[derive(Drop)]
-struct Questions {
-    open: Vec<Open>,
+pub(crate) struct Questions {
+    pub(crate) asked: Vec<Open>,
     /// Where the last rule begins.
     start: usize,
-    /// Whether the last rule does not hold.
+    /// Whether the last rule does not hold, or there is none.
     failed: bool,
 }
 
 impl Questions {
-    fn new(alloc: Global) -> Questions {
+    pub(crate) fn new(alloc: Global) -> Questions
+        ensures asked { result.asked.items ≡ [] }
+        ensures start { result.start ≡ 0 }
+        ensures failed { result.failed ≡ true }
+    {
         Questions {
-            open: Vec::new(alloc),
+            asked: Vec::new(alloc),
             start: 0,
-            failed: false,
+            failed: true,
         }
     }
 
-    // Begins with the next rule.
-    fn begin(&mut self) {
-        self.start = self.open.len();
+    /// Begins with the next rule.
+    pub(crate) fn begin(&mut self)
+        ensures asked { self.new.asked ≡ self.old.asked }
+        ensures start { self.new.start ≡ length self.old.asked.items }
+        ensures failed { self.new.failed ≡ false }
+    {
+        self.start = self.asked.len();
         self.failed = false;
     }
 
-    // The rule does not hold.
-    fn fail(&mut self) {
-        self.open.truncate(self.start);
+    /// The rule does not hold.
+    pub(crate) fn fail(&mut self)
+        ensures asked { self.new.asked.items ≡ take self.old.start self.old.asked.items }
+        ensures start { self.new.start ≡ self.old.start }
+        ensures failed { self.new.failed ≡ true }
+    {
+        self.asked.truncate(self.start);
         self.failed = true;
     }
 
-    // Whether the rule holds.
-    fn is_met(&self) -> bool {
-        !self.failed && self.open.len() == self.start
+    /// Whether the rule holds.
+    pub(crate) fn is_met(&self) -> bool
+        ensures { IsTrue result ↔ ((self.now.failed ≡ false) × (length self.now.asked.items ≡ self.now.start)) }
+    {
+        !self.failed && self.asked.len() == self.start
     }
 
-    // Asks a question for a condition of the rule with this word.
-    fn ask(&mut self, asker: Asker, answer: Word, question: Question) -> Result<(), AllocError> {
+    /// Asks a question for a condition of the rule with this word, unless the rule does not hold.
+    pub(crate) fn ask(
+        &mut self,
+        asker: Asker,
+        answer: Word,
+        question: Question,
+    ) -> Result<(), AllocError>
+        ensures start { OnOk result (self.new.start ≡ self.old.start) }
+        ensures failed { OnOk result (self.new.failed ≡ self.old.failed) }
+        ensures asked { OnOk result (IsAsked self.old self.new asker answer question) }
+        ensures asks { OnOk result (Asks self.old self.new asker.rule answer (λ _. ⊤) (IsMet question)) }
+    {
         if !self.failed {
-            let begins = self.open.len() == self.start;
-            self.open.push(Open {
+            let begins = self.asked.len() == self.start;
+            self.asked.push(Open {
                 begins,
                 answer,
                 question,
@@ -124,7 +158,9 @@ impl Questions {
     }
 
     // Asks what a condition asks.
-    fn ask_condition(&mut self, asker: Asker, answer: Word, cond: &Cond) -> Result<(), AllocError> {
+    fn ask_condition(&mut self, asker: Asker, answer: Word, cond: &Cond) -> Result<(), AllocError>
+        ensures { OnOk result (Asks self.old self.new asker.rule answer IsRecord (λ r. Meets cond.now (argument r cond.now.index))) }
+    {
         let low = ARGUMENTS + 8 * u32::from(cond.index);
         let above = cond.value.checked_add(1);
         match (cond.op, above) {
@@ -159,7 +195,10 @@ impl Questions {
         low: u32,
         least: u64,
         wanted: bool,
-    ) -> Result<(), AllocError> {
+    ) -> Result<(), AllocError>
+        requires low { (low % 4 ≡ 0) × (low < 64) }
+        ensures { OnOk result (Asks self.old self.new asker.rule answer IsRecord (λ r. compares Comparison.AtLeast least (argument_at low r) ≡ wanted)) }
+    {
         if least > 0 {
             let question = argument(low, Comparison::AtLeast, least, wanted);
             return self.ask(asker, answer, question);
@@ -170,38 +209,60 @@ impl Questions {
         Ok(())
     }
 
-    // Asks for the bits of both words under a mask. A mask of 0 asks for nothing.
+    // Asks for the bits of both words under a mask.
     fn ask_bits(
         &mut self,
         asker: Asker,
         answer: Word,
         low: u32,
         cond: &Cond,
-    ) -> Result<(), AllocError> {
+    ) -> Result<(), AllocError>
+        requires low { (low % 4 ≡ 0) × (low < 64) }
+        ensures { OnOk result (Asks self.old self.new asker.rule answer IsRecord (λ r. bit_and (argument_at low r) cond.now.value ≡ cond.now.datum)) }
+    {
         let (mask, mask_above) = halves(cond.value);
         let (datum, datum_above) = halves(cond.datum);
-        let words = [
-            (low.saturating_add(4), mask_above, datum_above),
-            (low, mask, datum),
-        ];
-        for (word, mask, number) in words {
-            if mask != 0 {
-                let question = Question {
-                    subject: Subject { word, mask },
-                    comparison: Comparison::Equal,
-                    number,
-                    low: None,
-                    wanted: true,
-                };
-                self.ask(asker, answer, question)?;
-            }
+        self.ask_word(
+            asker,
+            answer,
+            low.saturating_add(4),
+            mask_above,
+            datum_above,
+        )?;
+        self.ask_word(asker, answer, low, mask, datum)
+    }
+
+    // Asks for the bits of a word under a mask. A mask of 0 asks for nothing.
+    fn ask_word(
+        &mut self,
+        asker: Asker,
+        answer: Word,
+        word: u32,
+        mask: u32,
+        number: u32,
+    ) -> Result<(), AllocError>
+        requires number { bit_and number mask ≡ number }
+        ensures { OnOk result (Asks self.old self.new asker.rule answer (λ _. ⊤) (λ r. bit_and (slice_index r (word / 4)) mask ≡ number)) }
+    {
+        if mask == 0 {
+            return Ok(());
         }
-        Ok(())
+        let question = Question {
+            subject: Subject { word, mask },
+            comparison: Comparison::Equal,
+            number,
+            low: None,
+            wanted: true,
+        };
+        self.ask(asker, answer, question)
     }
 }
 
 // How an argument compares with a number, from its high word on.
-fn argument(low: u32, comparison: Comparison, number: u64, wanted: bool) -> Question {
+fn argument(low: u32, comparison: Comparison, number: u64, wanted: bool) -> Question
+    requires low { (low % 4 ≡ 0) × (low < 64) }
+    ensures { (r : List ℕ) → IsRecord r → IsMet result r ↔ (compares comparison number (argument_at low r) ≡ wanted) }
+{
     let subject = Subject {
         word: low.saturating_add(4),
         mask: u32::MAX,
@@ -221,7 +282,10 @@ pub(crate) fn questions_of(
     alloc: Global,
     rules: &[Placed<'_>],
     default: Word,
-) -> Result<Rest, AllocError> {
+) -> Result<Rest, AllocError>
+    ensures left { IfOk result AreLeft }
+    ensures says { IfOk result (λ rest. (r : List ℕ) → IsRecord r → SaysHeld rules.now default r rest) }
+{
     let mut questions = Questions::new(alloc);
     for placed in rules {
         let word = placed.rule.word;
@@ -233,7 +297,7 @@ pub(crate) fn questions_of(
             }
         }
     }
-    Ok(Rest::Open(questions.open))
+    Ok(Rest::Open(questions.asked))
 }
 
 fn ask_rule(questions: &mut Questions, placed: Placed<'_>) -> Result<(), AllocError> {
@@ -245,36 +309,4 @@ fn ask_rule(questions: &mut Questions, placed: Placed<'_>) -> Result<(), AllocEr
         questions.ask_condition(asker, placed.rule.word, cond)?;
     }
     Ok(())
-}
-
-/// What is left to ask of rules where these bits are this number.
-pub fn left(
-    alloc: Global,
-    rules: &[Open],
-    subject: Subject,
-    number: u32,
-) -> Result<Rest, AllocError> {
-    let mut questions = Questions::new(alloc);
-    for (place, open) in rules.iter().enumerate() {
-        if open.begins {
-            questions.begin();
-        }
-        match open.question.reply(subject, number) {
-            Reply::Met => {}
-            Reply::NotMet => questions.fail(),
-            Reply::Open(question) => questions.ask(open.asker, open.answer, question)?,
-        }
-        if ends(rules, place) && questions.is_met() {
-            return Ok(Rest::Met(open.asker.rule, open.answer));
-        }
-    }
-    Ok(Rest::Open(questions.open))
-}
-
-// Whether the question is the last one of its rule.
-fn ends(rules: &[Open], place: usize) -> bool {
-    match rules.get(place.saturating_add(1)) {
-        Some(next) => next.begins,
-        None => true,
-    }
 }
