@@ -5,3 +5,6 @@ pub mod FindLaws
 pub mod RangeLaws
 pub mod CallLaws
 pub mod FullLaws
+pub mod RulesLaws
+pub mod DecidesLaws
+pub mod BlocksLaws

@@ -1,4 +1,5 @@
 pub mod Asked
+pub mod Built
 pub mod Calls
 pub mod Code
 pub mod Emitted

@@ -4,11 +4,13 @@
 //! has the number of these bits. So what is known of a word is used by all rules, and what a failed
 //! half leaves of them is a block as well. Where the same is left to ask, it is the same block,
 //! whichever calls and machines come to it.
-ghost use Rattle.std.specs.Prelude.{◌≡◌, ◌≤◌, ◌<◌, ◌^◌, None, true, drop, length, vec_len, IfOk, IfSome, IsSome, IsTrue, OnOk};
+ghost use Rattle.std.specs.Prelude.{◌≡◌, ◌≤◌, ◌<◌, ◌^◌, ◌++◌, ◌∷◌, [], None, true, take, drop, length, vec_len, All, IfOk, IfSome, IsSome, IsTrue, OnOk};
 ghost use Rattle.rule_compile.specs.Rules.{begins_here};
-ghost use Rattle.rule_compile.specs.inner.Left.{AreRules, weight};
+ghost use Rattle.rule_compile.specs.inner.Built.{IsFoundAt, IsKept};
+ghost use Rattle.rule_compile.specs.inner.Left.{AreRules, AsksFor, weight};
+ghost use Rattle.rule_compile.specs.inner.Left.{weight_of as question_weight};
 ghost use Rattle.rule_compile.specs.inner.Runs.{IsBefore};
-ghost use Rattle.rule_compile.specs.inner.Stands.{AreSound, DecidesRules, HasMore, IsFound};
+ghost use Rattle.rule_compile.specs.inner.Stands.{AreRanged, AreSound, DecidesRules, HasMore, IsFound};
 
 use crate::asked::{Open, Placed, Rest, are_alike, questions_of};
 use crate::index::{Index, key_of};
@@ -141,7 +143,10 @@ impl Blocks {
         number: u32,
         leaf: &Leaf,
         asked: Asked,
-    ) -> Result<(), AllocError> {
+    ) -> Result<(), AllocError>
+        ensures blocks { OnOk result (self.new.blocks.items ≡ self.old.blocks.items) }
+        ensures known { OnOk result (self.new.known.items ≡ self.old.known.items) }
+    {
         let leaf = *leaf;
         self.calls.push(Call {
             token,
@@ -167,13 +172,10 @@ impl Blocks {
         requires other { IsBefore (vec_len self.old.blocks) other.now }
         ensures sound { OnOk result (AreSound self.new) }
         ensures more { OnOk result (HasMore self.old.blocks.items self.new.blocks.items) }
-        ensures known { OnOk result (self.new.known ≡ self.old.known) }
+        ensures known { OnOk result (self.new.known.items ≡ self.old.known.items) }
         ensures found { IfOk result (IsFound self.new.blocks.items rules.now other.now) }
     {
-        if rules
-            .iter()
-            .all(|open| other.is_like(&Leaf::Word(open.answer)))
-        {
+        if all_have(rules, other) {
             return Ok(*other);
         }
         let Some(place) = middle(rules) else {
@@ -187,7 +189,7 @@ impl Blocks {
         let next = self.add(alloc, second, start.saturating_add(place), other)?;
         let parted = self.add(alloc, first, start, &next)?;
         let fewest = self.ranges_from(before);
-        let aside = self.set_aside(alloc, before)?;
+        let aside = self.set_aside(before)?;
         self.room = Some(room_for(rules, fewest));
         if let Some(whole) = self.decide(alloc, rules, other, weight_of(rules))?
             && self.ranges_from(before) <= fewest
@@ -202,7 +204,10 @@ impl Blocks {
     }
 
     // Notes that so many questions from a place on are asked at once.
-    fn add_span(&mut self, start: usize, count: usize, leaf: &Leaf) -> Result<(), AllocError> {
+    fn add_span(&mut self, start: usize, count: usize, leaf: &Leaf) -> Result<(), AllocError>
+        ensures blocks { OnOk result (self.new.blocks.items ≡ self.old.blocks.items) }
+        ensures known { OnOk result (self.new.known.items ≡ self.old.known.items) }
+    {
         let leaf = *leaf;
         self.spans.push(Span { start, count, leaf })?;
         Ok(())
@@ -215,7 +220,7 @@ impl Blocks {
         requires other { IsBefore (vec_len self.old.blocks) other.now }
         ensures sound { OnOk result (AreSound self.new) }
         ensures more { OnOk result (HasMore self.old.blocks.items self.new.blocks.items) }
-        ensures known { OnOk result (self.new.known ≡ self.old.known) }
+        ensures known { OnOk result (self.new.known.items ≡ self.old.known.items) }
         ensures found { IfOk result (IsFound self.new.blocks.items rules.now other.now) }
     {
         self.room = None;
@@ -234,41 +239,39 @@ impl Blocks {
         count
     }
 
-    // Takes the blocks out from a place on, from the last to the first.
-    fn set_aside(&mut self, alloc: Global, place: usize) -> Result<Vec<Block>, AllocError> {
-        let mut aside = Vec::new(alloc);
-        for _ in place..self.blocks.len() {
-            if let Some(block) = self.pop() {
-                aside.push(block)?;
-            }
-        }
+    // Takes the blocks out from a place on.
+    fn set_aside(&mut self, place: usize) -> Result<Vec<Block>, AllocError>
+        requires { place ≤ vec_len self.old.blocks }
+        ensures kept { OnOk result (self.new.blocks.items ≡ take place self.old.blocks.items) }
+        ensures aside { IfOk result (λ aside. aside.items ≡ drop place self.old.blocks.items) }
+        ensures known { OnOk result (self.new.known.items ≡ self.old.known.items) }
+    {
+        let aside = self.blocks.split_off(place)?;
+        self.index.forget(aside.len());
         Ok(aside)
     }
 
     // Drops the blocks from a place on.
-    fn drop_from(&mut self, place: usize) {
-        for _ in place..self.blocks.len() {
-            self.pop();
-        }
-    }
-
-    // Takes the last block out.
-    fn pop(&mut self) -> Option<Block> {
-        self.index.pop();
-        self.blocks.pop()
+    fn drop_from(&mut self, place: usize)
+        ensures kept { self.new.blocks.items ≡ take place self.old.blocks.items }
+        ensures known { self.new.known.items ≡ self.old.known.items }
+    {
+        self.index.forget(self.blocks.len().saturating_sub(place));
+        self.blocks.truncate(place);
     }
 
     // Puts blocks back that were taken out.
-    fn put_back(&mut self, alloc: Global, mut aside: Vec<Block>) -> Result<(), AllocError> {
-        for _ in 0..aside.len() {
-            if let Some(block) = aside.pop() {
-                self.put(alloc, block)?;
-            }
-        }
+    fn put_back(&mut self, alloc: Global, mut aside: Vec<Block>) -> Result<(), AllocError>
+        ensures blocks { OnOk result (self.new.blocks.items ≡ self.old.blocks.items ++ aside.items) }
+        ensures known { OnOk result (self.new.known.items ≡ self.old.known.items) }
+    {
+        self.index.push_all(alloc, &aside)?;
+        self.blocks.append(&mut aside)?;
         Ok(())
     }
 
     // The block that looks at all questions for the same bits at once, unless it is too long.
+    #[cycle(decide)]
     fn decide(
         &mut self,
         alloc: Global,
@@ -282,9 +285,10 @@ impl Blocks {
         requires other { IsBefore (vec_len self.old.blocks) other.now }
         ensures sound { OnOk result (AreSound self.new) }
         ensures more { OnOk result (HasMore self.old.blocks.items self.new.blocks.items) }
-        ensures known { OnOk result (self.new.known ≡ self.old.known) }
+        ensures known { OnOk result (self.new.known.items ≡ self.old.known.items) }
         ensures found { IfOk result (λ leaf. IfSome leaf (IsFound self.new.blocks.items rules.now other.now)) }
         ensures always { self.old.room ≡ None → IfOk result IsSome }
+        ensures room { self.old.room ≡ None → OnOk result (self.new.room ≡ None) }
     {
         let Some(subject) = subject_of(rules) else {
             return Ok(Some(*other));
@@ -298,27 +302,47 @@ impl Blocks {
         }
         let mut ranges = Ranges::new(alloc);
         for (place, start) in starts.iter().enumerate() {
-            let leaf = match left(alloc, rules, subject, *start)? {
-                Rest::Met(_, word) => Some(Leaf::Word(word)),
-                Rest::Open(open) => self.decide(alloc, &open, other, steps - 1)?,
-            };
-            let Some(leaf) = leaf else {
+            let Some(leaf) = self.leaf_at(alloc, rules, other, steps, subject, *start)? else {
                 return Ok(None);
             };
-            let end = end_of(&starts, place);
-            if subject.mask == u32::MAX {
-                ranges.extend(end, leaf)?;
-            } else {
-                ranges.push(end, leaf)?;
-            }
+            ranges.add(subject, end_of(&starts, place), leaf)?;
         }
-        self.push(alloc, subject, ranges, rules, other)
+        Ok(Some(self.push(alloc, subject, ranges, rules, other)?))
+    }
+
+    // What decides where these bits are this number.
+    #[cycle(decide)]
+    fn leaf_at(
+        &mut self,
+        alloc: Global,
+        rules: &[Open],
+        other: &Leaf,
+        steps: usize,
+        subject: Subject,
+        start: u32,
+    ) -> Result<Option<Leaf>, AllocError>
+        requires steps { weight rules.now ≤ steps }
+        requires asks { AsksFor rules.now subject }
+        requires sound { AreSound self.old }
+        requires rules { AreRules rules.now }
+        requires other { IsBefore (vec_len self.old.blocks) other.now }
+        ensures sound { OnOk result (AreSound self.new) }
+        ensures more { OnOk result (HasMore self.old.blocks.items self.new.blocks.items) }
+        ensures known { OnOk result (self.new.known.items ≡ self.old.known.items) }
+        ensures found { IfOk result (λ leaf. IfSome leaf (IsFoundAt self.new.blocks.items rules.now other.now subject start)) }
+        ensures always { self.old.room ≡ None → IfOk result IsSome }
+        ensures room { self.old.room ≡ None → OnOk result (self.new.room ≡ None) }
+    {
+        match left(alloc, rules, subject, start)? {
+            Rest::Met(_, word) => Ok(Some(Leaf::Word(word))),
+            Rest::Open(open) => self.decide(alloc, &open, other, steps - 1),
+        }
     }
 
     // Whether so many ranges more may be looked at: then they count as looked at.
     fn has_room(&mut self, count: usize) -> bool
-        ensures blocks { self.new.blocks ≡ self.old.blocks }
-        ensures known { self.new.known ≡ self.old.known }
+        ensures blocks { self.new.blocks.items ≡ self.old.blocks.items }
+        ensures known { self.new.known.items ≡ self.old.known.items }
         ensures none { self.old.room ≡ None → (IsTrue result × (self.new.room ≡ None)) }
     {
         let Some(room) = self.room else {
@@ -339,10 +363,21 @@ impl Blocks {
         ranges: Ranges,
         rules: &[Open],
         other: &Leaf,
-    ) -> Result<Option<Leaf>, AllocError> {
+    ) -> Result<Leaf, AllocError>
+        requires sound { AreSound self.old }
+        requires other { IsBefore (vec_len self.old.blocks) other.now }
+        requires rules { AreRules rules.now }
+        requires asks { AsksFor rules.now subject }
+        requires ranged { AreRanged self.old.blocks.items rules.now other.now subject ranges.ranges.items (2 ^ 32) }
+        ensures sound { OnOk result (AreSound self.new) }
+        ensures more { OnOk result (HasMore self.old.blocks.items self.new.blocks.items) }
+        ensures known { OnOk result (self.new.known.items ≡ self.old.known.items) }
+        ensures found { IfOk result (IsFound self.new.blocks.items rules.now other.now) }
+        ensures room { OnOk result (self.new.room ≡ self.old.room) }
+    {
         let ranges = ranges.into_vec();
         if let [only] = ranges.as_slice() {
-            return Ok(Some(only.leaf));
+            return Ok(only.leaf);
         }
         let block = self.blocks.len();
         let rules = Vec::from_slice(alloc, rules)?;
@@ -356,31 +391,45 @@ impl Blocks {
                 other,
             },
         )?;
-        Ok(Some(Leaf::Block(block)))
+        Ok(Leaf::Block(block))
     }
 
     // Adds a block.
-    fn put(&mut self, alloc: Global, block: Block) -> Result<(), AllocError> {
+    fn put(&mut self, alloc: Global, block: Block) -> Result<(), AllocError>
+        ensures blocks { OnOk result (self.new.blocks.items ≡ self.old.blocks.items ++ block ∷ []) }
+        ensures known { OnOk result (self.new.known.items ≡ self.old.known.items) }
+        ensures room { OnOk result (self.new.room ≡ self.old.room) }
+    {
         self.index.push(alloc, key_of(&block.rules, &block.other))?;
         self.blocks.push(block)?;
         Ok(())
     }
 
-    // Whether the block stands for this.
-    fn stands_for(&self, block: usize, rules: &[Open], other: &Leaf) -> bool {
-        match self.blocks.get(block) {
-            Some(block) => block.other.is_like(other) && are_alike(&block.rules, rules),
-            None => false,
+    // Whether the block stands for this, which has this key.
+    fn stands_for(&self, place: usize, key: u32, rules: &[Open], other: &Leaf) -> bool
+        ensures { IsTrue result → IsKept self.now.blocks.items rules.now other.now place }
+    {
+        if !self.index.has_key(place, key) {
+            return false;
         }
+        let Some(block) = self.blocks.get(place) else {
+            return false;
+        };
+        if !block.other.is_like(other) {
+            return false;
+        }
+        are_alike(&block.rules, rules)
     }
 
     // The block that stands for this.
-    fn find(&self, rules: &[Open], other: &Leaf) -> Option<usize> {
+    fn find(&self, rules: &[Open], other: &Leaf) -> Option<usize>
+        ensures { IfSome result (IsKept self.now.blocks.items rules.now other.now) }
+    {
         let key = key_of(rules, other);
         let mut place = self.index.last(key);
         for _ in 0..self.blocks.len() {
             let found = place?;
-            if self.index.has_key(found, key) && self.stands_for(found, rules, other) {
+            if self.stands_for(found, key, rules, other) {
                 return Some(found);
             }
             place = self.index.before(found);
@@ -389,15 +438,35 @@ impl Blocks {
     }
 }
 
-// How much is left to ask: a question that goes on with the low word counts twice.
+// Whether each rule has the word of what is gone on at without them.
+fn all_have(rules: &[Open], other: &Leaf) -> bool
+    ensures { IsTrue result → All (λ o. other.now ≡ Leaf.Word o.answer) rules.now }
+{
+    rules
+        .iter()
+        .all(|open| other.is_like(&Leaf::Word(open.answer)))
+}
+
+// How much is left to ask.
 fn weight_of(rules: &[Open]) -> usize
     ensures { result ≡ weight rules.now }
 {
     let mut sum = 0usize;
     for open in rules {
-        sum += if open.question.low.is_some() { 2 } else { 1 };
+        sum += weight_of_one(open);
     }
     sum
+}
+
+// A question that goes on with the low word counts twice.
+fn weight_of_one(open: &Open) -> usize
+    ensures weight { result ≡ question_weight open.now.question.low }
+    ensures most { result ≤ 2 }
+{
+    match open.question.low {
+        Some(_) => 2,
+        None => 1,
+    }
 }
 
 // How many ranges may be looked at where rules are asked all at once, that are to be no more than these.

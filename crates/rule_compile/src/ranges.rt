@@ -10,6 +10,7 @@ ghost use Rattle.rule_compile.specs.inner.Stands.{AreSound, AreThose, DecidesCal
 
 use crate::asked::Placed;
 use crate::blocks::Blocks;
+use crate::question::Subject;
 use call_record::Word;
 use call_tables::Arch;
 use profile::{Profile, Rule};
@@ -164,9 +165,23 @@ impl Ranges {
         Ok(())
     }
 
-    /// Adds the numbers up to an end, where any of them are missing, as a range of their own.
-    pub(crate) fn push(&mut self, end: u64, leaf: Leaf) -> Result<(), AllocError>
+    /// Adds the numbers of some bits up to an end, where any of them are missing. Of bits under a mask each range is one of its own.
+    pub(crate) fn add(&mut self, subject: Subject, end: u64, leaf: Leaf) -> Result<(), AllocError>
         requires { end ≤ 2 ^ 32 }
+        ensures end { OnOk result (self.new.end ≡ max self.old.end end) }
+        ensures extended { OnOk result (IsExtended self.old.ranges.items self.old.end end leaf self.new.ranges.items) }
+    {
+        if subject.mask == u32::MAX {
+            return self.extend(end, leaf);
+        }
+        self.push(end, leaf)
+    }
+
+    // Adds the numbers up to an end, where any of them are missing, as a range of their own.
+    fn push(&mut self, end: u64, leaf: Leaf) -> Result<(), AllocError>
+        requires { end ≤ 2 ^ 32 }
+        ensures end { OnOk result (self.new.end ≡ max self.old.end end) }
+        ensures extended { OnOk result (IsExtended self.old.ranges.items self.old.end end leaf self.new.ranges.items) }
     {
         if end > self.end {
             let first = self.end as u32;
@@ -178,7 +193,9 @@ impl Ranges {
     }
 
     /// The ranges in order.
-    pub(crate) fn into_vec(self) -> Vec<Range> {
+    pub(crate) fn into_vec(self) -> Vec<Range>
+        ensures { result.items ≡ self.ranges.items }
+    {
         let Ranges { ranges, end: _ } = self;
         ranges
     }

@@ -39,6 +39,7 @@ pub record IsBlock (place : ℕ) (block : Block) : Type 0 where
   pub offset : IsOffset block.subject.word
   pub tiles : Tiles 0 block.ranges.items (2 ^ 32)
   pub before : AreBefore place block.ranges.items
+  pub goes_on : IsBefore place block.other
   pub picked : (block.subject.mask ≡ 0xffffffff) ⊎ ((last : Range) → IsLast block.ranges.items last → All (IsPicked last) block.ranges.items)
 
 abbrev pub AreBlocks : List Block → Type 0
@@ -53,6 +54,7 @@ BlocksStand blocks =
 -- the same of what is known of questions
 pub record KnownStands (blocks : List Block) (known : Known) : Type 0 where
   pub before : IsBefore (length blocks) known.leaf
+  pub goes_on : IsBefore (length blocks) known.other
   pub stands : StandsFor blocks known.leaf known.asked.items known.other
 
 pub record AreSound (blocks : Blocks) : Type 0 where
