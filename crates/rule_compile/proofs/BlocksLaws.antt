@@ -1,11 +1,11 @@
 -- Blocks, as they are built: what a block that is added stands for, and what its ranges decide.
 use Rattle.std.proofs.Common.{◌≡◌, ℕ, zero, suc, ◌+◌, ◌-◌, ◌/◌, ◌⊎◌, ◌↔◌, ◌<◌, ◌≤◌, ◌^◌, List, [], ◌∷◌, ◌++◌, length, refl, ap, sym, ◌∙◌, subst}
-use Rattle.std.proofs.Common.{arith, max, inl, inr, length-append, take, drop, append_assoc}
-use Rattle.std.specs.Prelude.{Some, None, true, false, slice_get, slice_index, slice_index_or, bit_and}
+use Rattle.std.proofs.Common.{arith, max, inl, inr, length-append, get_or, take, drop, append_assoc}
+use Rattle.std.specs.Prelude.{Bool, Option, Some, None, Result, Ok, Err, IfOk, IfSome, true, false, slice_get, slice_index, slice_index_or, bit_and}
 use Rattle.std.specs.List.{All, Contains}
 use Rattle.std.proofs.lemmas.Bool.{cases_lt}
 use Rattle.std.proofs.lemmas.Nat.{and_le_l}
-use Rattle.std.proofs.lemmas.List.Elements.{All-append, All-cons, All-head, All-nil, All-weaker, All-contains}
+use Rattle.std.proofs.lemmas.List.Elements.{All-append, All-cons, All-head, All-nil, All-tail, All-weaker, All-contains}
 use Rattle.std.proofs.lemmas.Option.{same_Some, slice_get_within, slice_get_past, slice_get-get_or, get_or_from_slice_get}
 use Rattle.profile.proofs.KeptLaws.{slice_get_last}
 use Rattle.call_record.specs.Words.{IsRecord}
@@ -19,9 +19,9 @@ use Rattle.rule_compile.specs.declared.ranges.Leaf.TheVariants as leaf
 use Rattle.rule_compile.specs.declared.ranges.Range.{Range}
 use Rattle.rule_compile.specs.Decides.{Comes, Decides, IsWithin, StandsFor, by_block, by_word}
 use Rattle.rule_compile.specs.Questions.{bits}
-use Rattle.rule_compile.specs.Rules.{IsClearAt, SomeMet, begins_here}
+use Rattle.rule_compile.specs.Rules.{IsClearAt, SomeMet, begins_here, put_first, rules_of, word_of}
 use Rattle.rule_compile.specs.inner.Built.{IsFoundAt, IsKept, IsReached}
-use Rattle.rule_compile.specs.inner.Left.{AreAlikeAt, AreSame, AreStarts, IsFrom, IsOffset, weight, weight_of}
+use Rattle.rule_compile.specs.inner.Left.{AreAlikeAt, AreRules, AreSame, AreStarts, AsksFor, IsFrom, IsOffset, IsQuestion, IsRule, weight, weight_of}
 use Rattle.rule_compile.specs.inner.Numbers.{IsExtended, Tiles, more, nothing, wider}
 use Rattle.rule_compile.specs.inner.Ranges.{IsPicked}
 use Rattle.rule_compile.specs.inner.Runs.{AreBefore, IsBefore}
@@ -135,7 +135,7 @@ module _ (old new : List Block) (block : Block) (is : new ≡ old ++ block ∷ [
     | inr after ↦
         let here : place ≡ length old = omega
         (arith, after, slice_get_within new place b at, ap length is, length-append old (block ∷ [])) in
-        inr (here, same_Some (sym at ∙ ap (slice_get new) here ∙ at_end))
+        inr (here, same_Some b block (sym at ∙ ap (slice_get new) here ∙ at_end))
   ]
 
   pub pushed_blocks : AreBlocks new
@@ -186,7 +186,7 @@ pushed_sound a b block is known sound goes_on own ranged =
 -- ---- ranges
 
 module _ (blocks : List Block) (os : List Open) (other : Leaf) (subject : Subject) where
-  Told : Range → Type 0
+  abbrev Told : Range → Type 0
   Told x = (r : List ℕ) → IsRecord r → IsClearAt os r → IsWithin x (bits subject r) → (v : ℕ) → Comes blocks os other r v
       → Decides blocks r v x.leaf
 
@@ -208,7 +208,7 @@ module _ (blocks : List Block) (os : List Open) (other : Leaf) (subject : Subjec
       (before : IsBefore (length blocks) to)
       (told : (r : List ℕ) → IsRecord r → IsClearAt os r → from ≤ bits subject r → bits subject r < end → (v : ℕ)
       → Comes blocks os other r v → Decides blocks r v to) where
-    Early : Range → Type 0
+    abbrev Early : Range → Type 0
     Early x = IsBefore (length blocks) x.leaf
 
     extended_before : IsExtended old from end to new → AreBefore (length blocks) new
@@ -266,18 +266,18 @@ module _ (os : List Open) (subject : Subject) (starts : List ℕ) (place from en
 
   pub start_before : from < end
   start_before = elim (cases_lt (place + 1) (length starts)) [
-    | inl more ↦
+    | inl later ↦
         let n = slice_index_or starts (place + 1) 0 in
-        let is : slice_get starts (place + 1) ≡ Some n = slice_get-get_or starts (place + 1) 0 more in
+        let is : slice_get starts (place + 1) ≡ Some n = slice_get-get_or starts (place + 1) 0 later in
         omega (arith, next n is, are.ascend place from n at is)
     | inr past ↦ omega (arith, last (slice_get_past starts (place + 1) past), start_small)
   ]
 
   pub reached_next : IsReached starts (place + 1) (max from end)
   reached_next = record {
-    start = λ more.
+    start = λ later.
         let n = slice_index_or starts (place + 1) 0 in
-        let is : slice_get starts (place + 1) ≡ Some n = slice_get-get_or starts (place + 1) 0 more in
+        let is : slice_get starts (place + 1) ≡ Some n = slice_get-get_or starts (place + 1) 0 later in
         let e : n ≡ max from end = omega (arith, next n is, start_before) in
         is ∙ ap Some e;
     all = λ past. omega (arith, last (slice_get_past starts (place + 1) past), start_before);
@@ -314,8 +314,85 @@ begins_at [] k d inside begins = absurd (omega (arith, inside))
 begins_at (o ∷ os) zero d inside begins = begins
 begins_at (o ∷ os) (suc k) d inside begins = begins_at os k d (omega (arith, inside)) begins
 
+weight_next : (os : List Open) (k : ℕ) (d : Open) → k < length os
+    → weight (take (suc k) os) ≡ weight (take k os) + weight_of (slice_index_or os k d).question.low
+weight_next [] k d inside = absurd (omega (arith, inside))
+weight_next (o ∷ os) zero d inside = omega arith
+weight_next (o ∷ os) (suc k) d inside = omega (arith, weight_next os k d (omega (arith, inside)))
+
 pub weight_more : (os : List Open) (k : ℕ) (d : Open) → k < length os
     → weight (take (k + 1) os) ≡ weight (take k os) + weight_of (slice_index_or os k d).question.low
-weight_more [] k d inside = absurd (omega (arith, inside))
-weight_more (o ∷ os) zero d inside = omega arith
-weight_more (o ∷ os) (suc k) d inside = omega (arith, weight_more os k d (omega (arith, inside)))
+weight_more os k d inside =
+    let e : suc k ≡ k + 1 = omega arith in
+    subst (λ n. weight (take n os) ≡ weight (take k os) + weight_of (slice_index_or os k d).question.low) e (weight_next os k d inside)
+
+-- ---- ranges of a block
+
+pub single : (xs : List Range) (x : Range) → 1 ≤ length xs → length xs < 2 → x ≡ get_or xs 0 x → xs ≡ x ∷ []
+single [] x some few is = absurd (omega (arith, some))
+single (y ∷ []) x some few is = ap (λ z. z ∷ []) (sym is)
+single (y ∷ z ∷ zs) x some few is = absurd (omega (arith, few))
+
+pub last_is : (ranges : List Range) (rest last : Range) → slice_get ranges (length ranges - 1) ≡ Some rest → IsLast ranges last → rest ≡ last
+last_is ranges rest last at one =
+    let n : length ranges - 1 ≡ length one.front = omega (arith, ap length one.is, length-append one.front (last ∷ [])) in
+    same_Some rest last
+    (sym at ∙ ap (slice_get ranges) n ∙ ap (λ xs. slice_get xs (length one.front)) one.is ∙ slice_get_last one.front last)
+
+-- ---- each question of rules
+
+module _ (P : Open → Type 0) where
+  put_all : (t : Bool) (o : Open) (rules : List (List Open)) → All (All P) (put_first t o rules) → P o × All (All P) rules
+  put_all true o rules h = (All-head P o [] (All-head (All P) (o ∷ []) rules h), All-tail (All P) (o ∷ []) rules h)
+  put_all false o [] h = (All-head P o [] (All-head (All P) (o ∷ []) [] h), All-nil (All P))
+  put_all false o (rule ∷ rules) h =
+      let first = All-head (All P) (o ∷ rule) rules h in (
+        All-head P o rule first,
+        All-cons (All P) rule rules (All-tail P o rule first) (All-tail (All P) (o ∷ rule) rules h),
+      )
+
+  pub all_asked : (os : List Open) → All (All P) (rules_of os) → All P os
+  all_asked [] h = All-nil P
+  all_asked (o ∷ os) h =
+      let parts = put_all (begins_here os) o (rules_of os) h in
+      All-cons P o os parts.0 (all_asked os parts.1)
+
+pub asked_offset : (os : List Open) (subject : Subject) → AreRules os → AsksFor os subject → IsOffset subject.word
+asked_offset os subject rules asks =
+    let P : Open → Type 0 = λ o. IsQuestion o.question in
+    let all : All P os = all_asked P os
+    (All-weaker IsRule (All P)
+    (λ rule is. All-weaker (λ o. (o.answer ≡ word_of rule) × IsQuestion o.question) P (λ o both. both.1) rule is) (rules_of os) rules.1) in
+    let one : P asks.1 = subst P asks.3 (all asks.0 asks.1 asks.2) in
+    subst (λ (s : Subject). IsOffset s.word) asks.4 one.offset
+
+-- ---- what is found where the bits are a number
+
+module _ (blocks : List Block) (os : List Open) (other : Leaf) (subject : Subject) (number : ℕ) where
+  pub found_met : (word : ℕ) → ((r : List ℕ) → AreAlikeAt os subject number (bits subject r) → SomeMet os r word)
+      → IsFoundAt blocks os other subject number (leaf.Word word)
+  found_met word says = record {
+    before = tt;
+    come = λ r rec clear alike v come.
+        let met : SomeMet os r word = says r alike in
+        let is : v ≡ word = elim come [ inl some ↦ clear v word some met | inr none ↦ absurd (none.0 word met) ] in
+        subst (λ w. Decides blocks r v (leaf.Word w)) is by_word;
+  }
+
+  pub found_open : (others : List Open) (to : Leaf)
+      → ((r : List ℕ) → AreAlikeAt os subject number (bits subject r) → (w : ℕ) → SomeMet others r w ↔ SomeMet os r w)
+      → IsFound blocks others other to → IsFoundAt blocks os other subject number to
+  found_open others to says found = record {
+    before = found.before;
+    come = λ r rec clear alike v come.
+        let same : (w : ℕ) → SomeMet others r w ↔ SomeMet os r w = says r alike in
+        found.stands r rec (λ a b one two. clear a b ((same a).0 one) ((same b).0 two)) v
+        (elim come [ inl some ↦ inl ((same v).1 some) | inr none ↦ inr (λ w met. none.0 w ((same w).0 met), none.1) ]);
+  }
+
+-- what holds of what is found
+pub if_found : {A E : Type 0} (P Q : A → Type 0) → ((x : A) → P x → Q x) → (found : Result (Option A) E) → IfOk found (λ o. IfSome o P)
+    → IfOk found (λ o. IfSome o Q)
+if_found P Q f (Ok None) h = tt
+if_found P Q f (Ok (Some x)) h = f x h
+if_found P Q f (Err e) h = tt

@@ -4,20 +4,21 @@
 //! has the number of these bits. So what is known of a word is used by all rules, and what a failed
 //! half leaves of them is a block as well. Where the same is left to ask, it is the same block,
 //! whichever calls and machines come to it.
-ghost use Rattle.std.specs.Prelude.{◌≡◌, ◌≤◌, ◌<◌, ◌^◌, ◌++◌, ◌∷◌, [], None, true, take, drop, length, vec_len, All, IfOk, IfSome, IsSome, IsTrue, OnOk};
+ghost use Rattle.std.specs.Prelude.{◌≡◌, ◌≤◌, ◌<◌, ◌^◌, ◌++◌, ◌∷◌, ◌⊎◌, [], None, true, take, drop, length, vec_len, All, IfOk, IfSome, IsSome, IsTrue, OnOk};
 ghost use Rattle.rule_compile.specs.Rules.{begins_here};
 ghost use Rattle.rule_compile.specs.inner.Built.{IsFoundAt, IsKept};
 ghost use Rattle.rule_compile.specs.inner.Left.{AreRules, AsksFor, weight};
 ghost use Rattle.rule_compile.specs.inner.Left.{weight_of as question_weight};
+ghost use Rattle.rule_compile.specs.inner.Ranges.{IsPicked};
 ghost use Rattle.rule_compile.specs.inner.Runs.{IsBefore};
-ghost use Rattle.rule_compile.specs.inner.Stands.{AreRanged, AreSound, DecidesRules, HasMore, IsFound};
+ghost use Rattle.rule_compile.specs.inner.Stands.{AreRanged, AreSound, DecidesRules, HasMore, IsFound, IsLast};
 
 use crate::asked::{Open, Placed, Rest, are_alike, questions_of};
 use crate::index::{Index, key_of};
 use crate::known::{Known, Span};
 use crate::outline::{Asked, Block, Call, Outline, Part};
 use crate::question::Subject;
-use crate::ranges::{Leaf, Ranges};
+use crate::ranges::{Leaf, Range, Ranges};
 use crate::remaining::left;
 use crate::starts::{end_of, starts_of, subject_of};
 use call_record::Word;
@@ -379,6 +380,9 @@ impl Blocks {
         if let [only] = ranges.as_slice() {
             return Ok(only.leaf);
         }
+        if !are_picked(subject, &ranges) {
+            return Err(AllocError);
+        }
         let block = self.blocks.len();
         let rules = Vec::from_slice(alloc, rules)?;
         let other = *other;
@@ -445,6 +449,28 @@ fn all_have(rules: &[Open], other: &Leaf) -> bool
     rules
         .iter()
         .all(|open| other.is_like(&Leaf::Word(open.answer)))
+}
+
+// Whether of bits under a mask each range is one number or has the leaf of the last range.
+fn are_picked(subject: Subject, ranges: &[Range]) -> bool
+    ensures { IsTrue result → (subject.mask ≡ 0xffffffff) ⊎ ((last : Range) → IsLast ranges.now last → All (IsPicked last) ranges.now) }
+{
+    if subject.mask == u32::MAX {
+        return true;
+    }
+    let Some(rest) = ranges.last() else {
+        return true;
+    };
+    all_picked(ranges, rest)
+}
+
+// Whether each range is one number or has the leaf of the rest.
+fn all_picked(ranges: &[Range], rest: &Range) -> bool
+    ensures { IsTrue result → All (IsPicked rest.now) ranges.now }
+{
+    ranges
+        .iter()
+        .all(|range| range.is_like(rest) || range.is_single())
 }
 
 // How much is left to ask.
