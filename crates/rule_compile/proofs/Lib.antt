@@ -4,4 +4,10 @@ pub mod GoesLaws
 pub mod FindLaws
 pub mod RangeLaws
 pub mod CallLaws
+pub mod RulesLaws
+pub mod AskedLaws
+pub mod HalvesLaws
+pub mod ReplyLaws
+pub mod LeftLaws
+pub mod StartLaws
 pub mod FullLaws
