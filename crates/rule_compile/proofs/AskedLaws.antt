@@ -1,7 +1,7 @@
 -- What more is asked for a rule, and what a rule more says.
-use Rattle.std.proofs.Common.{◌≡◌, ◌≢◌, ◌↔◌, ℕ, ◌-◌, ◌≤◌, ◌<◌, ◌⊎◌, ◌==◌, Bool, true, false, List, [], ◌∷◌, ◌++◌, length, take, drop}
+use Rattle.std.proofs.Common.{◌≡◌, ◌≢◌, ◌↔◌, ℕ, ◌-◌, ◌≤◌, ◌⊎◌, ◌==◌, true, false, List, [], ◌∷◌, ◌++◌, length, take, drop}
 use Rattle.std.proofs.Common.{refl, ap, sym, ◌∙◌, subst, arith, inl, inr, length-append, length-drop}
-use Rattle.std.specs.Prelude.{⊤, Result, Ok, Err, OnOk}
+use Rattle.std.specs.Prelude.{Result, Ok, Err, OnOk}
 use Rattle.std.specs.List.{All}
 use Rattle.std.proofs.lemmas.Bool.{cases_Bool, cases_eq, eq-eqb, ne_eqb, true≢false}
 use Rattle.std.proofs.lemmas.List.{drop-append-le, drop_all, length-take-le, take-append-drop, take-append-le, take-take, take_all}
@@ -9,10 +9,10 @@ use Rattle.std.proofs.lemmas.List.Elements.{All-cons, All-head, All-nil, All-pus
 use Rattle.rule_compile.specs.declared.asked.Open.{Open}
 use Rattle.rule_compile.specs.declared.asked.Questions.{Questions}
 use Rattle.rule_compile.specs.Questions.{IsMet}
-use Rattle.rule_compile.specs.Rules.{IsRuleMet, SomeMet, begins_here}
+use Rattle.rule_compile.specs.Rules.{IsRuleMet, SomeMet}
 use Rattle.rule_compile.specs.inner.Left.{AreRules, IsQuestion}
 use Rattle.rule_compile.specs.inner.Asked.{AreOf, Asks, IsLast, IsOf, MeetsLast, before_of, last_of}
-use Rattle.rule_compile.proofs.RulesLaws.{GoesOn, any_nil, are_rules_append, are_rules_one, met_either, met_left, met_one, met_right}
+use Rattle.rule_compile.proofs.RulesLaws.{GoesOn, are_rules_append, are_rules_one, met_either, met_left, met_one, met_right}
 
 pub on_ok : {T E : Type 0} (res : Result T E) (P Q : Type 0) → (P → Q) → OnOk res P → OnOk res Q
 on_ok (Ok x) P Q f h = f h
@@ -92,9 +92,11 @@ module _ (word : ℕ) (looked : List ℕ → Type 0) where
         };
         says = λ r seen. (
           λ met. (let parts = all_parts (λ p. IsMet p.question r) (last_of old) o (subst (IsRuleMet r) more met.1) in
-          ((goes, parts.0), parts.1)),
-          λ both. (failed ∙ goes,
-          subst (IsRuleMet r) (sym more) (All-push (λ p. IsMet p.question r) (last_of old) o both.0.1 both.1))
+              ((goes, parts.0), parts.1)),
+          λ both. (
+            failed ∙ goes,
+            subst (IsRuleMet r) (sym more) (All-push (λ p. IsMet p.question r) (last_of old) o both.0.1 both.1),
+          ),
         );
       }
 
@@ -106,9 +108,9 @@ module _ (word : ℕ) (looked : List ℕ → Type 0) where
     last = next.last;
     says = λ r seen. (
       λ met. (let later = (next.says r seen).0 met in
-      let front = (first.says r seen).0 later.0 in
-      (front.0, (front.1, later.1))),
-      λ both. (next.says r seen).1 ((first.says r seen).1 (both.0, both.1.0), both.1.1)
+          let front = (first.says r seen).0 later.0 in
+          (front.0, (front.1, later.1))),
+      λ both. (next.says r seen).1 ((first.says r seen).1 (both.0, both.1.0), both.1.1),
     );
   }
 
@@ -121,7 +123,7 @@ asks_like old new word looked seen P Q all like asks = record {
   last = asks.last;
   says = λ r at. (
     λ met. (let both = (asks.says r (all r at)).0 met in (both.0, (like r at).0 both.1)),
-    λ both. (asks.says r (all r at)).1 (both.0, (like r at).1 both.1)
+    λ both. (asks.says r (all r at)).1 (both.0, (like r at).1 both.1),
   );
 }
 
@@ -171,7 +173,7 @@ module _ (old begun new : Questions) (word : ℕ) (P : List ℕ → Type 0) (sam
     meets : (r : List ℕ) → looked r → MeetsLast new r ↔ P r
     meets r seen = (
       λ met. ((asks.says r seen).0 met).1,
-      λ p. (asks.says r seen).1 ((fresh, subst (IsRuleMet r) (sym none) (All-nil (λ o. IsMet o.question r))), p)
+      λ p. (asks.says r seen).1 ((fresh, subst (IsRuleMet r) (sym none) (All-nil (λ o. IsMet o.question r))), p),
     )
 
     -- where nothing is asked each record has the property
@@ -204,12 +206,12 @@ module _ (old begun new : Questions) (word : ℕ) (P : List ℕ → Type 0) (sam
         λ met. elim (met_either old.asked.items (last_of new) r w last_rules.0 (subst (λ os. SomeMet os r w) whole met)) [
           | inl front ↦ inl front
           | inr back ↦ (let parts = met_last word (last_of new) r w asks.last.rule back in
-          inr ((meets r seen).0 (goes_on parts.0, parts.1), parts.2))
+              inr ((meets r seen).0 (goes_on parts.0, parts.1), parts.2))
         ],
         λ either. subst (λ os. SomeMet os r w) (sym whole) (elim either [
           | inl front ↦ met_left old.asked.items (last_of new) r w last_rules.0 front
           | inr has ↦ (let met = (meets r seen).1 has.0 in
-          met_right old.asked.items (last_of new) r w last_rules.0
-          (met_rule word (last_of new) r w asks.last.rule (some_left met.0) met.1 has.1))
-        ])
+              met_right old.asked.items (last_of new) r w last_rules.0
+              (met_rule word (last_of new) r w asks.last.rule (some_left met.0) met.1 has.1))
+        ]),
       )

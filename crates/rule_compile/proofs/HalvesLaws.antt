@@ -1,13 +1,12 @@
 -- Numbers of 64 bits by their halves.
-use Rattle.std.proofs.Common.{◌≡◌, ◌↔◌, ℕ, ◌+◌, ◌-◌, ◌*◌, ◌/◌, ◌%◌, ◌^◌, ◌<◌, ◌≤◌, ◌⊎◌, ◌==◌, Bool, true, false, List, refl, ap, sym, ◌∙◌, subst}
+use Rattle.std.proofs.Common.{◌≡◌, ◌↔◌, ℕ, ◌+◌, ◌-◌, ◌*◌, ◌/◌, ◌%◌, ◌^◌, ◌<◌, ◌==◌, Bool, true, List, ap, sym, ◌∙◌}
 use Rattle.std.proofs.Common.{arith, inl, inr}
-use Rattle.std.specs.Prelude.{nat_le, Option, Some, None, bit_and, slice_index, if◌then◌else◌}
-use Rattle.std.proofs.lemmas.Bool.{cases_eq, cases_lt, eq-eqb, ne_eqb, eqb-true, le-leb, lt-leb}
+use Rattle.std.specs.Prelude.{Some, None, bit_and, slice_index, if◌then◌else◌}
+use Rattle.std.proofs.lemmas.Bool.{cases_eq, cases_lt, eq-eqb, ne_eqb, le-leb, lt-leb}
 use Rattle.std.proofs.lemmas.Nat.{and_block, and_le_r, and_mask}
 use Rattle.call_record.specs.Words.{IsRecord, argument, word}
 use Rattle.rule_compile.specs.declared.question.Comparison.{Comparison}
 use Rattle.rule_compile.specs.declared.question.Comparison.TheVariants.{Equal, AtLeast}
-use Rattle.rule_compile.specs.declared.question.Question.{Question}
 use Rattle.rule_compile.specs.Questions.{compares, outcome}
 use Rattle.rule_compile.specs.inner.Left.{IsOffset, IsQuestion}
 use Rattle.rule_compile.specs.inner.Asked.{argument_at}
@@ -36,7 +35,7 @@ module _ (l h n : ℕ) (small : l < 2 ^ 32) where
       elim (cases_lt h (n / 2 ^ 32)) [
         | inl below ↦ lt-leb n (l + 2 ^ 32 * h) (omega (arith, below)) ∙ sym (lt-leb (n / 2 ^ 32) h below)
         | inr least ↦ (let above : n / 2 ^ 32 < h = omega (arith, least, ne) in
-        le-leb n (l + 2 ^ 32 * h) (omega (arith, above)) ∙ sym (le-leb (n / 2 ^ 32) h least))
+            le-leb n (l + 2 ^ 32 * h) (omega (arith, above)) ∙ sym (le-leb (n / 2 ^ 32) h least))
       ]
 
   -- two numbers compare as their high halves do where these differ, and else as the low ones
@@ -45,9 +44,9 @@ module _ (l h n : ℕ) (small : l < 2 ^ 32) where
   by_halves c =
       elim (cases_eq h (n / 2 ^ 32)) [
         | inl e ↦ ap (λ t. if t then compares c (n % 2 ^ 32) l else compares c (n / 2 ^ 32) h) (eq-eqb h (n / 2 ^ 32) e)
-        ∙ sym (same_high e c)
+            ∙ sym (same_high e c)
         | inr ne ↦ ap (λ t. if t then compares c (n % 2 ^ 32) l else compares c (n / 2 ^ 32) h) (ne_eqb h (n / 2 ^ 32) ne)
-        ∙ sym (other_high ne c)
+            ∙ sym (other_high ne c)
       ]
 
 -- ---- words of a record
@@ -79,7 +78,7 @@ module _ (l h m d : ℕ) (small : l < 2 ^ 32) where
   bits_by_halves = (
     λ both. masked_halves l h m small ∙ (let e : bit_and h (m / 2 ^ 32) * 2 ^ 32 + bit_and l (m % 2 ^ 32) ≡ d = omega (arith, both) in e),
     λ is. (let e : bit_and h (m / 2 ^ 32) * 2 ^ 32 + bit_and l (m % 2 ^ 32) ≡ d = sym (masked_halves l h m small) ∙ is in
-    (omega (arith, e, low_small), omega (arith, e, low_small)))
+        (omega (arith, e, low_small), omega (arith, e, low_small))),
   )
 
 -- a number with no stray bit has none in its halves
@@ -127,10 +126,9 @@ module _ (low above m d m0 m1 d0 d1 : ℕ) (next : above ≡ low + 4) (m0_is : m
       let high : bit_and (slice_index r (above / 4)) m1 ≡ bit_and (slice_index r (low / 4 + 1)) (m / 2 ^ 32) =
       ap (λ n. bit_and (slice_index r n) m1) e ∙ ap (bit_and (slice_index r (low / 4 + 1))) m1_is in
       let low_bits : bit_and (slice_index r (low / 4)) m0 ≡ bit_and (slice_index r (low / 4)) (m % 2 ^ 32) =
-      ap (bit_and (slice_index r (low / 4))) m0_is in
-      (
+      ap (bit_and (slice_index r (low / 4))) m0_is in (
         λ both. halves.0 (sym high ∙ both.0 ∙ d1_is, sym low_bits ∙ both.1 ∙ d0_is),
-        λ is. (let parts = halves.1 is in (high ∙ parts.0 ∙ sym d1_is, low_bits ∙ parts.1 ∙ sym d0_is))
+        λ is. (let parts = halves.1 is in (high ∙ parts.0 ∙ sym d1_is, low_bits ∙ parts.1 ∙ sym d0_is)),
       )
 
 pub word_question : (at mask number : ℕ) → IsOffset at → bit_and number mask ≡ number

@@ -7,7 +7,8 @@ pub mod CallLaws
 pub mod RulesLaws
 pub mod AskedLaws
 pub mod HalvesLaws
-pub mod ReplyLaws
+pub mod ConditionLaws
+pub mod HeldLaws
 pub mod LeftLaws
 pub mod StartLaws
 pub mod FullLaws

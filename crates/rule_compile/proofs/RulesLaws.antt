@@ -3,7 +3,7 @@ use Rattle.std.proofs.Common.{◌≡◌, ◌↔◌, ℕ, zero, suc, ◌+◌, ◌
 use Rattle.std.proofs.Common.{arith, inl, inr}
 use Rattle.std.specs.Prelude.{slice_index_or}
 use Rattle.std.specs.List.{All, AllZip, Any}
-use Rattle.std.proofs.lemmas.List.Elements.{All-append, All-cons, All-head, All-nil, All-tail, All-weaker}
+use Rattle.std.proofs.lemmas.List.Elements.{All-append, All-cons, All-head, All-nil, All-tail}
 use Rattle.rule_compile.specs.declared.asked.Open.{Open}
 use Rattle.rule_compile.specs.Questions.{IsMet}
 use Rattle.rule_compile.specs.Rules.{IsClearAt, IsRuleMet, SomeMet, begins_here, put_first, rules_of, word_of}

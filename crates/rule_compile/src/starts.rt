@@ -1,5 +1,5 @@
 //! The bits that are asked for, and the numbers of them from which on something else may be left to ask.
-ghost use Rattle.std.specs.Prelude.{◌≡◌, ◌≤◌, ◌+◌, ◌^◌, ℕ, [], None, Some, slice_get, All, Contains, IfOk, IfSome, OnOk};
+ghost use Rattle.std.specs.Prelude.{◌≡◌, ◌<◌, ◌≤◌, ◌+◌, ◌^◌, ℕ, [], None, Some, slice_get, All, Contains, IfOk, IfSome, OnOk};
 ghost use Rattle.rule_compile.specs.inner.Left.{AreStarts, AsksFor, HasTurns};
 
 use crate::asked::Open;
@@ -33,6 +33,7 @@ pub fn starts_of(alloc: Global, rules: &[Open], subject: Subject) -> Result<Vec<
 
 // 0 and the numbers from which on the reply to a question of these bits may be another.
 fn turns_of(alloc: Global, rules: &[Open], subject: Subject) -> Result<Vec<u32>, AllocError>
+    ensures words { IfOk result (λ turns. All (λ number. number < 2 ^ 32) turns.items) }
     ensures zero { IfOk result (λ turns. Contains turns.items 0) }
     ensures turns { IfOk result (λ turns. All (λ o. o.question.subject ≡ subject → HasTurns turns.items o.question) rules.now) }
 {
@@ -50,6 +51,7 @@ fn add_turns(
     question: &Question,
     subject: Subject,
 ) -> Result<(), AllocError>
+    ensures words { All (λ number. number < 2 ^ 32) turns.old.items → OnOk result (All (λ number. number < 2 ^ 32) turns.new.items) }
     ensures kept { OnOk result ((n : ℕ) → Contains turns.old.items n → Contains turns.new.items n) }
     ensures turns { OnOk result (question.now.subject ≡ subject → HasTurns turns.new.items question.now) }
 {

@@ -56,11 +56,13 @@ abbrev pub IsAsked : Questions → Questions → Asker → ℕ → Question → 
 IsAsked old new asker answer question =
     new.asked.items
     ≡ (if old.failed then old.asked.items
-    else old.asked.items ++ record { begins = length old.asked.items == old.start; answer = answer; question = question; asker = asker } ∷ [])
+    else old.asked.items
+    ++ record { begins = length old.asked.items == old.start; answer = answer; question = question; asker = asker } ∷ [])
 
 -- a rule was added, or passed over where it has the default word; or it holds of each record
 abbrev pub IsAdded : Questions → Questions → Placed → ℕ → Bool → Type 0
 IsAdded old new placed default true = (r : List ℕ) → IsRecord r → AreHeld placed r
 IsAdded old new placed default false =
     (r : List ℕ) → IsRecord r → (w : ℕ)
-    → SomeMet new.asked.items r w ↔ (SomeMet old.asked.items r w ⊎ (AreHeld placed r × (placed.rule.now.word ≡ w) × (w ≢ default)))
+    → SomeMet new.asked.items r w
+    ↔ (SomeMet old.asked.items r w ⊎ (AreHeld placed r × (placed.rule.now.word ≡ w) × (w ≢ default)))

@@ -1,4 +1,4 @@
-use Rattle.std.proofs.Common.{◌≡◌, ◌==◌, List, ℕ, ap, length, refl, rules}
+use Rattle.std.proofs.Common.{◌≡◌, ◌==◌, ap, length, refl, rules}
 use Rattle.std.specs.Prelude.{⊤}
 use Rattle.rule_compile.proofs.AskedLaws.{asks_one}
 use Rattle.rule_compile.proofs.asked.Questions.ask.Goals as goal

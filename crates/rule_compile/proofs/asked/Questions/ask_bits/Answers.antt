@@ -1,4 +1,4 @@
-use Rattle.std.proofs.Common.{◌≡◌, ◌+◌, ℕ, List, arith}
+use Rattle.std.proofs.Common.{◌≡◌, ◌+◌, arith}
 use Rattle.std.specs.Prelude.{⊤}
 use Rattle.call_record.specs.Words.{IsRecord}
 use Rattle.rule_compile.proofs.AskedLaws.{asks_like, asks_then, on_ok}
