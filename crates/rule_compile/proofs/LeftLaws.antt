@@ -1,11 +1,12 @@
 -- What is left of rules, question by question and rule by rule.
-use Rattle.std.proofs.Common.{◌≡◌, ◌↔◌, ℕ, ◌+◌, ◌<◌, ◌≤◌, ◌⊎◌, Bool, true, false, List, [], ◌∷◌, ◌++◌, length, Option, None, Some, take}
+use Rattle.std.proofs.Common.{◌≡◌, ◌↔◌, ℕ, zero, suc, ◌+◌, ◌<◌, ◌≤◌, ◌⊎◌, ◌==◌, Bool, true, false, List, [], ◌∷◌, ◌++◌, length, Option, None, Some, take}
 use Rattle.std.proofs.Common.{refl, ap, sym, ◌∙◌, subst, arith, inl, inr, add-one}
 use Rattle.std.proofs.Math.Seq.{take-suc}
 use Rattle.std.specs.Prelude.{IsTrue, if◌then◌else◌, slice_index_or}
 use Rattle.std.specs.List.{All, Any}
 use Rattle.std.proofs.lemmas.Bool.{true≢false}
 use Rattle.std.proofs.lemmas.List.Elements.{All-cons, All-head, All-nil, All-tail}
+use Rattle.rule_compile.specs.declared.asked.Asker.{Asker}
 use Rattle.rule_compile.specs.declared.asked.Open.{Open}
 use Rattle.rule_compile.specs.declared.asked.Questions.{Questions}
 use Rattle.rule_compile.specs.declared.question.Question.{Question}
@@ -13,9 +14,9 @@ use Rattle.rule_compile.specs.declared.question.Subject.{Subject}
 use Rattle.rule_compile.specs.declared.question.Reply.TheVariants as reply
 use Rattle.rule_compile.specs.Questions.{IsMet, bits}
 use Rattle.rule_compile.specs.Rules.{IsRuleMet, SomeMet, begins_here, rules_of, word_of}
-use Rattle.rule_compile.specs.inner.Asked.{AreOf, Asks, IsLast, IsOf}
+use Rattle.rule_compile.specs.inner.Asked.{AreOf, Asks, IsAsked, IsLast, IsOf}
 use Rattle.rule_compile.specs.inner.Left.{AreAlikeAt, AreRules, AsksFor, GoesOn, IsAddedLeft, IsAlikeAt, IsQuestion, IsRule, Weighs, WeighsLess, weight, weight_of}
-use Rattle.rule_compile.proofs.AskedLaws.{added_met, added_rules, added_sure, asks_like, asks_then}
+use Rattle.rule_compile.proofs.AskedLaws.{added_met, added_rules, added_sure, asks_like, asks_nothing, asks_then, begun_last}
 use Rattle.rule_compile.proofs.FindLaws.{all_left, all_right}
 use Rattle.rule_compile.proofs.HeldLaws.{held_more}
 use Rattle.rule_compile.proofs.RulesLaws.{any_cases, any_either, any_left, any_nil, any_right, met_either, met_left, met_one, met_right, rules_append, rules_one, weight_append}
@@ -53,12 +54,18 @@ own_subject o subject asks =
       | inr later ↦ absurd (any_nil (λ p. p.question.subject ≡ subject) later)
     ]
 
-pub weighs_asked : (old new : List Open) (failed : Bool) (o p : Open) (subject : Subject)
+weighs_asked : (old new : List Open) (failed : Bool) (o p : Open) (subject : Subject)
     → new ≡ (if failed then old else old ++ p ∷ []) → WeighsLess o.question subject (reply.Open p.question)
     → Weighs old new (o ∷ []) subject
 weighs_asked old new failed o p subject is less =
     let most : weight new ≤ weight old + weight_of p.question.low = asked_weight failed old new p is in
     (omega (arith, most, less.0), λ asks. omega (arith, most, less.1 (own_subject o subject asks)))
+
+pub weighs_is_asked : (old new : Questions) (asker : Asker) (o : Open) (q : Question) (subject : Subject)
+    → WeighsLess o.question subject (reply.Open q) → IsAsked old new asker o.answer q → Weighs old.asked.items new.asked.items (o ∷ []) subject
+weighs_is_asked old new asker o q subject less is =
+    let p : Open = record { begins = length old.asked.items == old.start; answer = o.answer; question = q; asker = asker } in
+    weighs_asked old.asked.items new.asked.items old.failed o p subject is less
 
 weighs_then : (a b c xs ys : List Open) (subject : Subject) → Weighs a b xs subject → Weighs b c ys subject → Weighs a c (xs ++ ys) subject
 weighs_then a b c xs ys subject first next = (
@@ -91,6 +98,10 @@ module _ (subject : Subject) (number : ℕ) where
 
   abbrev pub LookedOne : Open → List ℕ → Type 0
   LookedOne o r = IsAlikeAt subject number (bits subject r) o
+
+  pub none_asked : (q : Questions) (os : List Open) (word : ℕ) → IsLast word q → Asks q q word (Looked os) (λ r. IsRuleMet r [])
+  none_asked q os word last =
+      asks_nothing word (Looked os) q (λ r. IsRuleMet r []) last (λ r at. All-nil (λ o. IsMet o.question r))
 
   pub one_more : (a b c : Questions) (os : List Open) (k : ℕ) (o : Open) (word : ℕ) → k < length os → o ≡ slice_index_or os k o
       → All (IsOf word) os
@@ -142,17 +153,30 @@ both_same os r w P like old = (
   ],
 )
 
-module _ (old begun new : Questions) (first : Open) (more : List Open) (looked : List ℕ → Type 0)
-    (of : AreOf first.answer (first ∷ more)) (same : begun.asked ≡ old.asked) (start : begun.start ≡ length old.asked.items)
-    (fresh : begun.failed ≡ false) (asks : Asks begun new first.answer looked (λ r. IsRuleMet r (first ∷ more))) where
+module _ (subject : Subject) (number : ℕ) (old begun asked new : Questions) (first : Open) (more : List Open)
+    (same : begun.asked ≡ old.asked) (start : begun.start ≡ length old.asked.items) (fresh : begun.failed ≡ false)
+    (one : IsLast first.answer begun → IsQuestion first.question
+        → Asks begun asked first.answer (LookedOne subject number first) (IsMet first.question))
+    (every : (word : ℕ) → IsLast word asked → All (IsOf word) more → Asks asked new word (Looked subject number more) (λ r. IsRuleMet r more))
+    (of : AreOf first.answer (first ∷ more)) where
+  abbrev looked : List ℕ → Type 0
+  looked r = Looked subject number (first ∷ more) r
+
+  abbrev met_whole : List ℕ → Type 0
+  met_whole r = IsRuleMet r (first ∷ more)
+
+  asks : Asks begun new first.answer looked met_whole
+  asks = rule_asked subject number begun asked new first more of one every (begun_last old begun new first.answer met_whole same start fresh)
+
+  pub rule_rules : AreRules old.asked.items → AreRules new.asked.items
+  rule_rules = added_rules old begun new first.answer met_whole same start fresh looked asks
+
   pub rule_added : (sure : Bool) → (IsTrue sure ↔ ((new.failed ≡ false) × (length new.asked.items ≡ new.start)))
-      → IsAddedLeft old.asked.items new.asked.items (first ∷ more) looked sure
-  rule_added true is =
-      added_sure old begun new first.answer (λ r. IsRuleMet r (first ∷ more)) same start fresh looked asks (is.0 refl)
+      → IsAddedLeft old.asked.items new.asked.items (first ∷ more) (Looked subject number (first ∷ more)) sure
+  rule_added true is = added_sure old begun new first.answer met_whole same start fresh looked asks (is.0 refl)
   rule_added false is = λ r seen w.
       let P : Type 0 = IsRuleMet r (first ∷ more) × (first.answer ≡ w) in
-      let met = added_met old begun new first.answer (λ s. IsRuleMet s (first ∷ more)) same start fresh looked asks
-          (λ h. true≢false (sym (is.1 h))) r seen w in
+      let met = added_met old begun new first.answer met_whole same start fresh looked asks (λ h. true≢false (sym (is.1 h))) r seen w in
       let like = both_same (first ∷ more) r w P (met_one first more r w of.1) (SomeMet old.asked.items r w) in
       (λ h. like.0 (met.0 h), λ h. met.1 (like.1 h))
 
@@ -160,8 +184,8 @@ module _ (old begun new : Questions) (first : Open) (more : List Open) (looked :
 
 -- some rules are behind: what is left of them, and what is still to come
 pub record IsPart (rules coming asked : List Open) (subject : Subject) (number : ℕ) : Type 0 where
-  pub coming : AreRules coming
-  pub asked : AreRules asked
+  pub come : AreRules coming
+  pub are_asked : AreRules asked
   pub alike : (r : List ℕ) → Looked subject number rules r → Looked subject number coming r
   pub says : (r : List ℕ) → Looked subject number rules r → (w : ℕ) → SomeMet rules r w ↔ (SomeMet asked r w ⊎ SomeMet coming r w)
   pub most : weight asked + weight coming ≤ weight rules
@@ -176,8 +200,8 @@ no_rules = (refl, All-nil IsRule)
 module _ (subject : Subject) (number : ℕ) where
   pub part_first : (rules : List Open) → AreRules rules → IsPart rules rules [] subject number
   part_first rules are = record {
-    coming = are;
-    asked = no_rules;
+    come = are;
+    are_asked = no_rules;
     alike = λ r at. at;
     says = λ r at w. (
       λ met. inr met,
@@ -196,11 +220,11 @@ module _ (subject : Subject) (number : ℕ) where
     parts = ap rules_of is ∙ rules_append (first ∷ more) next begins ∙ ap (λ rs. rs ++ rules_of next) (rules_one first more goes_on)
 
     all : All IsRule ((first ∷ more) ∷ rules_of next)
-    all = let are = part.coming in subst (All IsRule) parts are.1
+    all = let are = part.come in subst (All IsRule) parts are.1
 
     pub first_rule : AreOf first.answer (first ∷ more)
     first_rule =
-        let are = part.coming in
+        let are = part.come in
         (ap begins_here (sym is) ∙ are.0, goes_on, All-head IsRule (first ∷ more) (rules_of next) all)
 
     alike_both : (r : List ℕ) → Looked subject number rules r → Looked subject number ((first ∷ more) ++ next) r
@@ -260,8 +284,8 @@ module _ (subject : Subject) (number : ℕ) where
       part_next =
           let most = part.most in
           record {
-            coming = (begins, All-tail IsRule (first ∷ more) (rules_of next) all);
-            asked = are;
+            come = (begins, All-tail IsRule (first ∷ more) (rules_of next) all);
+            are_asked = are;
             alike = λ r at. all_right (IsAlikeAt subject number (bits subject r)) (first ∷ more) next (alike_both r at);
             says = says_next;
             most = omega (arith, most, weighs.0, split);
@@ -281,7 +305,7 @@ module _ (subject : Subject) (number : ℕ) where
 
     pub part_less : AreRules asked × (AsksFor rules subject → weight asked < weight rules)
     part_less = (
-      part.asked,
+      part.are_asked,
       λ asks. elim (part.less asks) [
         | inl none ↦ absurd (any_nil (λ o. o.question.subject ≡ subject) none)
         | inr fewer ↦ omega (arith, fewer)
