@@ -1,10 +1,11 @@
 -- What is left of rules, question by question and rule by rule.
-use Rattle.std.proofs.Common.{◌≡◌, ◌↔◌, ℕ, zero, suc, ◌+◌, ◌<◌, ◌≤◌, ◌⊎◌, ◌==◌, Bool, true, false, List, [], ◌∷◌, ◌++◌, length, Option, None, Some, take}
-use Rattle.std.proofs.Common.{refl, ap, sym, ◌∙◌, subst, arith, inl, inr, add-one}
+use Rattle.std.proofs.Common.{◌≡◌, ◌↔◌, ℕ, zero, suc, ◌+◌, ◌-◌, ◌<◌, ◌≤◌, ◌⊎◌, ◌==◌, Bool, true, false, List, [], ◌∷◌, ◌++◌, length, Option, None, Some, drop, take}
+use Rattle.std.proofs.Common.{refl, ap, sym, ◌∙◌, subst, arith, inl, inr, add-one, length-drop}
 use Rattle.std.proofs.Math.Seq.{take-suc}
 use Rattle.std.specs.Prelude.{IsTrue, if◌then◌else◌, slice_index_or}
 use Rattle.std.specs.List.{All, Any}
 use Rattle.std.proofs.lemmas.Bool.{true≢false}
+use Rattle.std.proofs.lemmas.List.{take-append-drop, take_all}
 use Rattle.std.proofs.lemmas.List.Elements.{All-cons, All-head, All-nil, All-tail}
 use Rattle.rule_compile.specs.declared.asked.Asker.{Asker}
 use Rattle.rule_compile.specs.declared.asked.Open.{Open}
@@ -311,3 +312,22 @@ module _ (subject : Subject) (number : ℕ) where
         | inr fewer ↦ omega (arith, fewer)
       ],
     )
+
+-- ---- the list, split behind its first rule
+
+pub split_first : (coming others more next : List Open) (first : Open) (k : ℕ) → 1 ≤ length coming → first ≡ slice_index_or coming 0 first
+    → others ≡ drop 1 coming → more ≡ take k others → next ≡ drop k others → coming ≡ (first ∷ more) ++ next
+split_first [] others more next first k some is rest front back = absurd (omega (arith, some))
+split_first (o ∷ os) others more next first k some is rest front back =
+    let front_is : more ≡ take k os = front ∙ ap (take k) rest in
+    let back_is : next ≡ drop k os = back ∙ ap (drop k) rest in
+    let whole : os ≡ more ++ next =
+    sym (take-append-drop k os) ∙ ap (λ xs. xs ++ drop k os) (sym front_is) ∙ ap (λ xs. more ++ xs) (sym back_is) in
+    ap (λ x. x ∷ os) (sym is) ∙ ap (λ xs. first ∷ xs) whole
+
+pub rest_is : (os : List Open) → take (length os - 1) (drop 1 os) ≡ drop 1 os
+rest_is os = take_all (length os - 1) (drop 1 os) (omega (arith, length-drop 1 os))
+
+pub none_come : (os : List Open) → length os < 1 → os ≡ []
+none_come [] below = refl
+none_come (o ∷ os) below = absurd (omega (arith, below))
