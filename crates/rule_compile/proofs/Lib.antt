@@ -4,7 +4,15 @@ pub mod GoesLaws
 pub mod FindLaws
 pub mod RangeLaws
 pub mod CallLaws
+pub mod RulesLaws
+pub mod AskedLaws
+pub mod HalvesLaws
+pub mod ConditionLaws
+pub mod HeldLaws
+pub mod LeftLaws
+pub mod StartLaws
 pub mod FullLaws
 pub mod RulesLaws
 pub mod DecidesLaws
 pub mod BlocksLaws
+pub mod StandsLaws

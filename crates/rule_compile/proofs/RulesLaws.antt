@@ -3,7 +3,7 @@ use Rattle.std.proofs.Common.{◌≡◌, ◌↔◌, ℕ, zero, suc, ◌+◌, ◌
 use Rattle.std.proofs.Common.{arith, inl, inr}
 use Rattle.std.specs.Prelude.{slice_index_or}
 use Rattle.std.specs.List.{All, AllZip, Any}
-use Rattle.std.proofs.lemmas.List.Elements.{All-append, All-cons, All-head, All-nil, All-tail, All-weaker}
+use Rattle.std.proofs.lemmas.List.Elements.{All-append, All-cons, All-head, All-nil, All-tail}
 use Rattle.rule_compile.specs.declared.asked.Open.{Open}
 use Rattle.rule_compile.specs.Questions.{IsMet}
 use Rattle.rule_compile.specs.Rules.{IsClearAt, IsRuleMet, SomeMet, begins_here, put_first, rules_of, word_of}
@@ -171,6 +171,15 @@ are_same_back [] [] same = tt
 are_same_back [] (p ∷ ps) same = absurd same
 are_same_back (o ∷ os) [] same = absurd same
 are_same_back (o ∷ os) (p ∷ ps) same = (same_back o p same.0, are_same_back os ps same.1)
+
+-- lists as long, with the same at each place
+pub same_at : (os ps : List Open) → length os ≡ length ps
+    → ((k : ℕ) (d e : Open) → k < length os → IsSame (slice_index_or os k d) (slice_index_or ps k e)) → AreSame os ps
+same_at [] [] long each = tt
+same_at [] (p ∷ ps) long each = absurd (omega (arith, long))
+same_at (o ∷ os) [] long each = absurd (omega (arith, long))
+same_at (o ∷ os) (p ∷ ps) long each =
+    (each 0 o p (omega arith), same_at os ps (omega (arith, long)) (λ k d e lt. each (suc k) d e (omega (arith, lt))))
 
 same_begins : (os ps : List Open) → AreSame os ps → begins_here os ≡ begins_here ps
 same_begins [] [] same = refl

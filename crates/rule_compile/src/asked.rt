@@ -3,8 +3,8 @@ ghost use Rattle.std.specs.Prelude.{◌≡◌, ◌↔◌, ◌==◌, ◌+◌, ◌
 ghost use Rattle.call_record.specs.Words.{IsRecord, argument};
 ghost use Rattle.profile.specs.Condition.{Meets};
 ghost use Rattle.rule_compile.specs.Questions.{IsMet, compares};
-ghost use Rattle.rule_compile.specs.inner.Left.{AreLeft, AreSame, IsSame, SaysHeld};
-ghost use Rattle.rule_compile.specs.inner.Asked.{Asks, IsAsked, IsSound, argument_at};
+ghost use Rattle.rule_compile.specs.inner.Left.{AreHeld, AreLeft, AreRules, AreSame, IsOffset, IsQuestion, IsSame, SaysHeld};
+ghost use Rattle.rule_compile.specs.inner.Asked.{Asks, IsAdded, IsAsked, IsLast, argument_at};
 
 use crate::index::mixed;
 use crate::question::{Comparison, Question, Reply, Subject};
@@ -67,11 +67,15 @@ impl Open {
 pub fn are_alike(these: &[Open], others: &[Open]) -> bool
     ensures { IsTrue result → AreSame these.now others.now }
 {
-    these.len() == others.len()
-        && these
-            .iter()
-            .zip(others)
-            .all(|(this, other)| this.is_like(other))
+    if these.len() != others.len() {
+        return false;
+    }
+    for (this, other) in these.iter().zip(others) {
+        if !this.is_like(other) {
+            return false;
+        }
+    }
+    true
 }
 
 /// What rules come to.
@@ -143,23 +147,53 @@ impl Questions {
         ensures start { OnOk result (self.new.start ≡ self.old.start) }
         ensures failed { OnOk result (self.new.failed ≡ self.old.failed) }
         ensures asked { OnOk result (IsAsked self.old self.new asker answer question) }
-        ensures asks { OnOk result (Asks self.old self.new asker.rule answer (λ _. ⊤) (IsMet question)) }
+        ensures asks { IsLast answer self.old → IsQuestion question → OnOk result (Asks self.old self.new answer (λ _. ⊤) (IsMet question)) }
     {
-        if !self.failed {
-            let begins = self.asked.len() == self.start;
-            self.asked.push(Open {
-                begins,
-                answer,
-                question,
-                asker,
-            })?;
+        if self.failed {
+            return Ok(());
+        }
+        let begins = self.asked.len() == self.start;
+        self.asked.push(Open {
+            begins,
+            answer,
+            question,
+            asker,
+        })?;
+        Ok(())
+    }
+
+    /// Asks for a rule, unless it has the default word. Gives whether it holds for sure.
+    fn add(&mut self, placed: Placed<'_>, default: Word) -> Result<bool, AllocError>
+        ensures rules { OnOk result (AreRules self.old.asked.items → AreRules self.new.asked.items) }
+        ensures says { IfOk result (IsAdded self.old self.new placed.entry default) }
+    {
+        if placed.rule.word == default {
+            return Ok(false);
+        }
+        self.begin();
+        self.ask_rule(placed)?;
+        Ok(self.is_met())
+    }
+
+    // Asks what the conditions of a rule ask.
+    fn ask_rule(&mut self, placed: Placed<'_>) -> Result<(), AllocError>
+        requires last { IsLast placed.rule.now.word self.now }
+        ensures { OnOk result (Asks self.old self.new placed.entry.rule.now.word IsRecord (AreHeld placed.entry)) }
+    {
+        for (condition, cond) in placed.rule.conds.iter().enumerate() {
+            let asker = Asker {
+                rule: placed.place,
+                condition,
+            };
+            self.ask_condition(asker, placed.rule.word, cond)?;
         }
         Ok(())
     }
 
     // Asks what a condition asks.
     fn ask_condition(&mut self, asker: Asker, answer: Word, cond: &Cond) -> Result<(), AllocError>
-        ensures { OnOk result (Asks self.old self.new asker.rule answer IsRecord (λ r. Meets cond.now (argument r cond.now.index))) }
+        requires last { IsLast answer self.now }
+        ensures { OnOk result (Asks self.old self.new answer IsRecord (λ r. Meets cond.now (argument r cond.now.index))) }
     {
         let low = ARGUMENTS + 8 * u32::from(cond.index);
         let above = cond.value.checked_add(1);
@@ -196,8 +230,9 @@ impl Questions {
         least: u64,
         wanted: bool,
     ) -> Result<(), AllocError>
-        requires low { (low % 4 ≡ 0) × (low < 64) }
-        ensures { OnOk result (Asks self.old self.new asker.rule answer IsRecord (λ r. compares Comparison.AtLeast least (argument_at low r) ≡ wanted)) }
+        requires low { (low % 4 ≡ 0) × (low + 4 < 64) }
+        requires last { IsLast answer self.now }
+        ensures { OnOk result (Asks self.old self.new answer IsRecord (λ r. compares Comparison.AtLeast least (argument_at low r) ≡ wanted)) }
     {
         if least > 0 {
             let question = argument(low, Comparison::AtLeast, least, wanted);
@@ -217,8 +252,10 @@ impl Questions {
         low: u32,
         cond: &Cond,
     ) -> Result<(), AllocError>
-        requires low { (low % 4 ≡ 0) × (low < 64) }
-        ensures { OnOk result (Asks self.old self.new asker.rule answer IsRecord (λ r. bit_and (argument_at low r) cond.now.value ≡ cond.now.datum)) }
+        requires low { (low % 4 ≡ 0) × (low + 4 < 64) }
+        requires no_stray { bit_and cond.now.datum cond.now.value ≡ cond.now.datum }
+        requires last { IsLast answer self.now }
+        ensures { OnOk result (Asks self.old self.new answer IsRecord (λ r. bit_and (argument_at low r) cond.now.value ≡ cond.now.datum)) }
     {
         let (mask, mask_above) = halves(cond.value);
         let (datum, datum_above) = halves(cond.datum);
@@ -241,8 +278,10 @@ impl Questions {
         mask: u32,
         number: u32,
     ) -> Result<(), AllocError>
+        requires offset { IsOffset word }
         requires number { bit_and number mask ≡ number }
-        ensures { OnOk result (Asks self.old self.new asker.rule answer (λ _. ⊤) (λ r. bit_and (slice_index r (word / 4)) mask ≡ number)) }
+        requires last { IsLast answer self.now }
+        ensures { OnOk result (Asks self.old self.new answer (λ _. ⊤) (λ r. bit_and (slice_index r (word / 4)) mask ≡ number)) }
     {
         if mask == 0 {
             return Ok(());
@@ -260,8 +299,9 @@ impl Questions {
 
 // How an argument compares with a number, from its high word on.
 fn argument(low: u32, comparison: Comparison, number: u64, wanted: bool) -> Question
-    requires low { (low % 4 ≡ 0) × (low < 64) }
-    ensures { (r : List ℕ) → IsRecord r → IsMet result r ↔ (compares comparison number (argument_at low r) ≡ wanted) }
+    requires low { (low % 4 ≡ 0) × (low + 4 < 64) }
+    ensures met { (r : List ℕ) → IsRecord r → IsMet result r ↔ (compares comparison number (argument_at low r) ≡ wanted) }
+    ensures is { IsQuestion result }
 {
     let subject = Subject {
         word: low.saturating_add(4),
@@ -288,25 +328,9 @@ pub(crate) fn questions_of(
 {
     let mut questions = Questions::new(alloc);
     for placed in rules {
-        let word = placed.rule.word;
-        if word != default {
-            questions.begin();
-            ask_rule(&mut questions, *placed)?;
-            if questions.is_met() {
-                return Ok(Rest::Met(placed.place, word));
-            }
+        if questions.add(*placed, default)? {
+            return Ok(Rest::Met(placed.place, placed.rule.word));
         }
     }
     Ok(Rest::Open(questions.asked))
-}
-
-fn ask_rule(questions: &mut Questions, placed: Placed<'_>) -> Result<(), AllocError> {
-    for (condition, cond) in placed.rule.conds.iter().enumerate() {
-        let asker = Asker {
-            rule: placed.place,
-            condition,
-        };
-        questions.ask_condition(asker, placed.rule.word, cond)?;
-    }
-    Ok(())
 }

@@ -114,12 +114,10 @@ impl Blocks {
         ensures found { IfOk result (λ found. IsFound self.new.blocks.items rules.now other.now found.0) }
     {
         let key = key_of(rules, other);
-        if let Some(known) = self
-            .known
-            .iter()
-            .find(|known| known.is_of(key, rules, other))
-        {
-            return Ok((known.leaf, known.parts_of(alloc, rules)?));
+        for known in &self.known {
+            if known.is_of(key, rules, other) {
+                return Ok((known.leaf, known.parts_of(alloc, rules)?));
+            }
         }
         let leaf = self.add(alloc, rules, 0, other)?;
         let spans = std::mem::replace(&mut self.spans, Vec::new(alloc));
