@@ -4,4 +4,8 @@ pub mod GoesLaws
 pub mod FindLaws
 pub mod RangeLaws
 pub mod CallLaws
+pub mod DecidesLaws
 pub mod FullLaws
+pub mod SaysLaws
+pub mod ThoseLaws
+pub mod ToldLaws

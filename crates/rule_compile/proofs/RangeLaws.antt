@@ -44,7 +44,7 @@ tiles_push : (xs : List Range) (a b e : ℕ) (x : Range) → Tiles a xs b → x.
 tiles_push [] a b e x t first within last = (first ∙ sym t, omega (arith, t, within), last)
 tiles_push (y ∷ ys) a b e x t first within last = (t.0, t.1, tiles_push ys (y.last + 1) b e x t.2 first within last)
 
-tiles_back : (front : List Range) (a b : ℕ) (x : Range) → Tiles a (front ++ x ∷ []) b
+pub tiles_back : (front : List Range) (a b : ℕ) (x : Range) → Tiles a (front ++ x ∷ []) b
     → Tiles a front x.first × (x.first ≤ x.last) × (x.last + 1 ≡ b)
 tiles_back [] a b x t = (sym t.0, omega (arith, t.0, t.1), t.2)
 tiles_back (y ∷ ys) a b x t =

@@ -10,3 +10,4 @@ pub mod Ranges
 pub mod Replies
 pub mod Runs
 pub mod Stands
+pub mod Told

@@ -6,7 +6,8 @@ ghost use Rattle.rule_compile.specs.Shape.{IsPlain};
 ghost use Rattle.rule_compile.specs.inner.Numbers.{AreOwn, AreUnconditional, IsExtended, IsFor, IsLastAlike, IsListed, IsNext, IsWorded, LeafFor, Reached, Tiles, said_of};
 ghost use Rattle.rule_compile.specs.inner.Ranges.{IsLike};
 ghost use Rattle.rule_compile.specs.inner.Runs.{AreBefore, IsBefore};
-ghost use Rattle.rule_compile.specs.inner.Stands.{AreSound, AreThose, DecidesCalls, DecidesNumber, HasMore, SaysNumber, TellsSoFar};
+ghost use Rattle.rule_compile.specs.inner.Stands.{AreSound, AreThose, DecidesCalls, DecidesNumber, HasMore, SaysNumber};
+ghost use Rattle.rule_compile.specs.inner.Told.{ToldSoFar};
 
 use crate::asked::Placed;
 use crate::blocks::Blocks;
@@ -198,8 +199,7 @@ impl Ranges {
         requires sound { AreSound blocks.old }
         ensures sound { OnOk result (AreSound blocks.new) }
         ensures more { OnOk result (HasMore blocks.old.blocks.items blocks.new.blocks.items) }
-        ensures told { IsListed profile.now machine → TellsSoFar profile.now machine blocks.old.blocks.items self.old.ranges.items → OnOk result (TellsSoFar profile.now machine blocks.new.blocks.items self.new.ranges.items) }
-        ensures before { AreBefore (vec_len blocks.old.blocks) self.old.ranges.items → OnOk result (AreBefore (vec_len blocks.new.blocks) self.new.ranges.items) }
+        ensures told { ToldSoFar profile.now machine blocks.old.blocks.items self.old.end self.old.ranges.items → OnOk result (ToldSoFar profile.now machine blocks.new.blocks.items self.new.end self.new.ranges.items) }
         ensures end { OnOk result (self.new.end ≡ end) }
         ensures no_block { IsPlain profile.now → OnOk result (blocks.new ≡ blocks.old) }
         ensures reached { (most : ℕ) → 513 ≤ most → Reached profile.now machine most end self.old.end self.old.ranges.items → OnOk result (Reached profile.now machine most end end self.new.ranges.items) }
@@ -225,8 +225,7 @@ impl Ranges {
         requires sound { AreSound blocks.old }
         ensures sound { OnOk result (AreSound blocks.new) }
         ensures more { OnOk result (HasMore blocks.old.blocks.items blocks.new.blocks.items) }
-        ensures told { IsListed profile.now machine → TellsSoFar profile.now machine blocks.old.blocks.items self.old.ranges.items → OnOk result (TellsSoFar profile.now machine blocks.new.blocks.items self.new.ranges.items) }
-        ensures before { AreBefore (vec_len blocks.old.blocks) self.old.ranges.items → OnOk result (AreBefore (vec_len blocks.new.blocks) self.new.ranges.items) }
+        ensures told { ToldSoFar profile.now machine blocks.old.blocks.items self.old.end self.old.ranges.items → OnOk result (ToldSoFar profile.now machine blocks.new.blocks.items self.new.end self.new.ranges.items) }
         ensures further { OnOk result ((self.old.end < self.new.end) × (self.new.end ≤ end)) }
         ensures no_block { IsPlain profile.now → OnOk result (blocks.new ≡ blocks.old) }
         ensures reached { (most : ℕ) → 513 ≤ most → Reached profile.now machine most end self.old.end self.old.ranges.items → OnOk result (Reached profile.now machine most end self.new.end self.new.ranges.items) }
