@@ -1,5 +1,5 @@
 -- What blocks decide, where there are more behind them.
-use Rattle.std.proofs.Common.{◌≡◌, ℕ, ◌+◌, ◌<◌, ◌≤◌, List, [], ◌++◌, length, refl, ap, sym, ◌∙◌, arith, append_assoc, length-append}
+use Rattle.std.proofs.Common.{◌≡◌, ℕ, ◌+◌, ◌<◌, ◌≤◌, List, [], ◌++◌, length, refl, ap, sym, ◌∙◌, arith, append_assoc, append-nil, length-append}
 use Rattle.std.specs.Prelude.{Some, slice_get}
 use Rattle.std.specs.List.{All, Contains}
 use Rattle.std.proofs.lemmas.List.Elements.{All-contains}
@@ -14,7 +14,7 @@ use Rattle.rule_compile.specs.inner.Runs.{IsBefore}
 use Rattle.rule_compile.specs.inner.Stands.{AreBlocks, HasMore}
 
 pub more_same : (blocks : List Block) → HasMore blocks blocks
-more_same blocks = record { more = []; is = grind arith }
+more_same blocks = record { more = []; is = sym (append-nil blocks) }
 
 pub more_on : {a b c : List Block} → HasMore a b → HasMore b c → HasMore a c
 more_on {a} {b} {c} first next = record {

@@ -2,6 +2,7 @@
 ghost use Rattle.std.specs.Prelude.{◌≡◌, ◌↔◌, ◌≤◌, ◌<◌, ◌^◌, [], length, max, vec_len, All, IfOk, IfSome, IsSome, IsTrue, OnOk};
 ghost use Rattle.std.specs.Prelude.{ℕ};
 ghost use Rattle.call_tables.specs.Arch.{token_of};
+ghost use Rattle.profile.specs.Policy.{IsClear};
 ghost use Rattle.rule_compile.specs.Shape.{IsPlain};
 ghost use Rattle.rule_compile.specs.inner.Numbers.{AreOwn, AreUnconditional, IsExtended, IsFor, IsLastAlike, IsListed, IsNext, IsWorded, LeafFor, Reached, Tiles, said_of};
 ghost use Rattle.rule_compile.specs.inner.Ranges.{IsLike};
@@ -297,6 +298,7 @@ pub(crate) fn ranges_of(
     machine: Arch,
     blocks: &mut Blocks,
 ) -> Result<Vec<Range>, AllocError>
+    requires clear { IsClear profile.now.rules }
     requires sound { AreSound blocks.old }
     ensures sound { OnOk result (AreSound blocks.new) }
     ensures more { OnOk result (HasMore blocks.old.blocks.items blocks.new.blocks.items) }
