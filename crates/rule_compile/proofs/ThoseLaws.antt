@@ -1,6 +1,6 @@
 -- The rules for a number, as they are gathered, and what they decide.
 use Rattle.std.proofs.Common.{◌≡◌, ℕ, zero, suc, ◌+◌, ◌<◌, ◌⊎◌, List, [], ◌∷◌, ◌++◌, length, inl, inr, refl, ap, sym, ◌∙◌, subst, arith, length-append}
-use Rattle.std.specs.Prelude.{slice_index, slice_index_or}
+use Rattle.std.specs.Prelude.{Err, IfOk, Ok, Result, slice_index, slice_index_or}
 use Rattle.std.specs.List.{All, Any, Contains}
 use Rattle.std.proofs.lemmas.Bool.{cases_lt}
 use Rattle.std.proofs.lemmas.List.{get_or_append_left, get_or_default}
@@ -134,3 +134,7 @@ pub decides_word : (rules : List Rule) (token nr default word : ℕ) (blocks : L
 decides_word rules token nr default word blocks says r is_r at number clear v said =
     let e : v ≡ word = said_one rules default v word r clear said (says r is_r at number clear) in
     subst (λ w. Decides blocks r w (Word word)) (sym e) by_word
+
+pub if_ok : {T E : Type 0} (r : Result T E) (P Q : T → Type 0) → IfOk r P → ((x : T) → P x → Q x) → IfOk r Q
+if_ok (Ok x) P Q is f = f x is
+if_ok (Err e) P Q is f = tt
