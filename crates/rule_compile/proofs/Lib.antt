@@ -6,6 +6,8 @@ pub mod RangeLaws
 pub mod CallLaws
 pub mod DecidesLaws
 pub mod FullLaws
+pub mod RunsLaws
 pub mod SaysLaws
+pub mod TellsLaws
 pub mod ThoseLaws
 pub mod ToldLaws

@@ -2,8 +2,10 @@
 //!
 //! The jumps of a filter go forward. So where a jump goes to is there already when the jump is
 //! written, and how many instructions it skips is known.
-ghost use Rattle.std.specs.Prelude.{◌≡◌, ◌+◌, ◌≤◌, ◌<◌, ◌↔◌, [], ◌∷◌, None, Some, length, slice_get, IfOk, IfSome, IsErrOf, OnOk};
+ghost use Rattle.std.specs.Prelude.{◌≡◌, ℕ, List, ◌+◌, ◌≤◌, ◌<◌, ◌↔◌, [], ◌∷◌, None, Some, length, slice_get, IfOk, IfSome, IsErrOf, OnOk};
 ghost use Rattle.bpf_insn.specs.Bytes.{insns_of, view_fault};
+ghost use Rattle.kernel_check.specs.Accepted.{IsAccepted};
+ghost use Rattle.rule_compile.specs.inner.Runs.{gives_from};
 ghost use Rattle.bpf_insn.specs.declared.code.Operation.TheVariants.{Compute, LoadWord};
 ghost use Rattle.bpf_insn.specs.declared.code.Arithmetic.TheVariants.{And};
 ghost use Rattle.bpf_insn.specs.declared.code.Operand.TheVariants.{K};
@@ -172,7 +174,10 @@ impl Assembler {
     /// Has the code begin at the place: by a jump to it, where something else stands in front of it.
     pub(crate) fn begin_at(&mut self, to: Label) -> Result<(), CompileError>
         requires { IsIn self.old to }
-        ensures { OnOk result (Grows self.old self.new) }
+        ensures grows { OnOk result (Grows self.old self.new) }
+        ensures runs { OnOk result ((a : ℕ) (r : List ℕ) → gives_from self.new 0 a r ≡ gives_from self.old (position self.old to) a r) }
+        ensures same { to.to_end ≡ length self.old → OnOk result (self.new ≡ self.old) }
+        ensures full { IsErrOf result CompileError.TooLong → to.to_end ≡ length self.old → ⊥ }
     {
         let skipped = self.distance(to);
         if skipped == 0 {
@@ -247,6 +252,7 @@ impl Assembler {
         requires { 1 ≤ length self }
         ensures program { IfOk result (λ bytes. view_fault bytes.items ≡ None) }
         ensures read { IfOk result (λ bytes. insns_of bytes.items ≡ self) }
+        ensures accepted { IfOk result (λ bytes. IsAccepted (insns_of bytes.items)) }
     {
         let Assembler {
             backwards: mut insns,

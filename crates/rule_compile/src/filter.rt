@@ -84,13 +84,14 @@ fn filter(
     let machines = profile.machines();
     let mut written = Vec::new(alloc);
     match tell_machines_apart(code, alloc, profile, machines, blocks, &mut written)? {
-        Target::Place(_) => {
+        Target::Place(place) => {
+            code.begin_at(place)?;
             code.load(MACHINE)?;
             Ok(())
         }
         Target::Return(word) => {
-            code.near_return(word)?;
-            Ok(())
+            let place = code.near_return(word)?;
+            code.begin_at(place)
         }
     }
 }

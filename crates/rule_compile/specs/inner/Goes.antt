@@ -13,6 +13,7 @@ use Rattle.rule_compile.specs.declared.label.Exits.{Exits}
 use Rattle.rule_compile.specs.Shape.{answer, weight, depth}
 use Rattle.rule_compile.specs.inner.Code.{Grows, IsIn, position}
 use Rattle.rule_compile.specs.inner.Emitted.{AreFine}
+use Rattle.rule_compile.specs.inner.Runs.{gives_from, runs}
 
 -- the answer from a target on
 abbrev pub goes : List Insn → Target → Option ℕ → List ℕ → Option ℕ
@@ -50,6 +51,7 @@ pub record JumpsTo (code : List Insn) (to place : Label) : Type 0 where
 -- the new code begins by a comparison of the word that is loaded, and goes on by how it comes out
 pub record Branches (old new : List Insn) (test : Test) (k : ℕ) (exits : Exits) : Type 0 where
   pub grows : Grows old new
+  pub runs : (a : ℕ) (r : List ℕ) → gives_from new 0 a r ≡ runs old (if holds test a k then exits.yes else exits.no) a r
   pub answers : (test ≡ Equal) ⊎ (test ≡ AtLeast) → (w : ℕ) (r : List ℕ)
       → answer new 0 (Some w) r ≡ goes old (if holds test (slice_index r w) k then exits.yes else exits.no) (Some w) r
   pub weighs : weight new 0 ≤ 1 + (cost old exits.yes + cost old exits.no)
