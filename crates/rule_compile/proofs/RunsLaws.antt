@@ -1,5 +1,5 @@
 -- What code gives from a place on, as more of it is written, and by its first instruction.
-use Rattle.std.proofs.Common.{◌≡◌, ℕ, zero, suc, ◌+◌, ◌-◌, ◌/◌, ◌%◌, ◌==◌, ◌<◌, ◌^◌, Bool, true, false, List, [], ◌∷◌, ◌++◌, length, refl, ap, sym}
+use Rattle.std.proofs.Common.{◌≡◌, ℕ, zero, suc, ◌+◌, ◌-◌, ◌/◌, ◌%◌, ◌==◌, ◌<◌, ◌≤◌, ◌^◌, Bool, true, false, List, [], ◌∷◌, ◌++◌, length, refl, ap, sym}
 use Rattle.std.proofs.Common.{◌∙◌, subst, arith, length-append, bit_and}
 use Rattle.std.specs.Prelude.{Option, Some, None, slice_get, slice_index, if◌then◌else◌}
 use Rattle.std.specs.Option.{option_map}
@@ -14,9 +14,10 @@ use Rattle.bpf_insn.specs.declared.instruction.Insn.{Insn}
 use Rattle.bpf_insn.specs.Code.{operation_of}
 use Rattle.bpf_insn.specs.Machine.{Ending, Ends, Goes, Registers, after_one, ending, holds, loaded, perform_if, step, word_at}
 use Rattle.bpf_insn.proofs.RunLaws.{ending_ends, ending_goes}
+use Rattle.rule_compile.specs.declared.label.Label.{Label}
 use Rattle.rule_compile.specs.declared.label.Target.{Target}
 use Rattle.rule_compile.specs.declared.label.Target.TheVariants.{Place, Return}
-use Rattle.rule_compile.specs.inner.Code.{Grows, IsTarget, insn_of, position}
+use Rattle.rule_compile.specs.inner.Code.{Grows, IsIn, IsTarget, insn_of, position}
 use Rattle.rule_compile.specs.inner.Left.{IsOffset}
 use Rattle.rule_compile.specs.inner.Runs.{gives_from, holding, runs}
 
@@ -57,7 +58,7 @@ runs_kept old new g (Place l) at a r =
 
 -- ---- a load
 
-load_code : operation_of 0x20 ≡ Some LoadWord
+pub load_code : operation_of 0x20 ≡ Some LoadWord
 unfolding operation_of
 load_code = refl
 
@@ -77,3 +78,39 @@ pub load_runs : (offset : ℕ) → IsOffset offset → (code : List Insn) (a : �
 load_runs offset is code a r is_r =
     gives_goes (insn_of LoadWord offset ∷ code) 0 (insn_of LoadWord offset) a r 0 (slice_index r (offset / 4)) 1 refl
     (load_step offset is r is_r a) refl
+
+-- ---- a mask
+
+pub and_code : operation_of 0x54 ≡ Some (Compute And K)
+unfolding operation_of
+and_code = refl
+
+pub mask_runs : (mask : ℕ) (code : List Insn) (a : ℕ) (r : List ℕ)
+    → gives_from (insn_of (Compute And K) mask ∷ code) 0 a r ≡ gives_from code 0 (bit_and a mask) r
+mask_runs mask code a r =
+    gives_goes (insn_of (Compute And K) mask ∷ code) 0 (insn_of (Compute And K) mask) a r 0 (bit_and a mask) 1 refl
+    (ap (λ o. perform_if o r (insn_of (Compute And K) mask) (holding a)) and_code) refl
+
+-- ---- behind a load of what A holds
+
+pub past_runs : (code : List Insn) (offset : ℕ) (place after : Label) → IsOffset offset → IsIn code place → 1 ≤ after.to_end
+    → after.to_end + 1 ≡ place.to_end → slice_get code (position code place) ≡ Some (insn_of LoadWord offset)
+    → (a : ℕ) (r : List ℕ) → IsRecord r → a ≡ slice_index r (offset / 4) → runs code (Place after) a r ≡ runs code (Place place) a r
+past_runs code offset place after is at some next stands a r is_r holds_it =
+    let there : position code after ≡ position code place + 1 + 0 = omega (arith, at.1, next, some) in
+    ap (λ b. gives_from code (position code after) b r) holds_it
+    ∙ sym (gives_goes code (position code place) (insn_of LoadWord offset) a r 0 (slice_index r (offset / 4)) (position code after) stands
+    (load_step offset is r is_r a) there)
+
+-- ---- a jump in front
+
+jump_code : operation_of 0x05 ≡ Some Jump
+unfolding operation_of
+jump_code = refl
+
+pub jump_runs : (code : List Insn) (to : Label) (k : ℕ) → IsIn code to → k + to.to_end ≡ length code → (a : ℕ) (r : List ℕ)
+    → gives_from (insn_of Jump k ∷ code) 0 a r ≡ gives_from code (position code to) a r
+jump_runs code to k at leads a r =
+    gives_goes (insn_of Jump k ∷ code) 0 (insn_of Jump k) a r k a (suc k) refl
+    (ap (λ o. perform_if o r (insn_of Jump k) (holding a)) jump_code) (omega arith)
+    ∙ (let e : k ≡ position code to = omega (arith, leads, at.1) in ap (λ n. gives_from code n a r) e)

@@ -113,21 +113,21 @@ module _ (p : Policy) (arch : Arch) (archs : List Arch) (mid top : List Insn) (g
     foreign = λ r is_r not. other_foreign r is_r (λ other. not (inr other));
   }
 
-  pub tells_branch : (new : List Insn) (yes : Target) (place : Label) → yes ≡ calls
-      → Branches top new Equal (token_of arch) (record { yes = yes; no = no }) → IsStart new place
+  pub tells_branch : (new : List Insn) (won : Target) (place : Label) → won ≡ calls
+      → Branches top new Equal (token_of arch) (record { yes = won; no = no }) → IsStart new place
       → TellsThese p (arch ∷ archs) new (Place place)
-  tells_branch new yes place is b start =
-      let exits : Exits = record { yes = yes; no = no } in
+  tells_branch new won place is b start =
+      let exits : Exits = record { yes = won; no = no } in
       let first : position new place ≡ 0 = omega (arith, start.1) in
       let begins : (a : ℕ) (r : List ℕ) → runs new (Place place) a r ≡ gives_from new 0 a r = λ a r. ap (λ n. gives_from new n a r) first in
-      let own_way : (r : List ℕ) → slice_index r 1 ≡ token_of arch → runs new (Place place) (slice_index r 1) r ≡ runs top yes (slice_index r 1) r =
+      let own_way : (r : List ℕ) → slice_index r 1 ≡ token_of arch → runs new (Place place) (slice_index r 1) r ≡ runs top won (slice_index r 1) r =
       λ r same.
       begins (slice_index r 1) r ∙ b.runs (slice_index r 1) r
-      ∙ ap (λ came. runs top (if came then yes else no) (slice_index r 1) r) (eq-eqb (slice_index r 1) (token_of arch) same) in
+      ∙ ap (λ came. runs top (if came then won else no) (slice_index r 1) r) (eq-eqb (slice_index r 1) (token_of arch) same) in
       let other_way : (r : List ℕ) → (slice_index r 1 ≡ token_of arch → ⊥) → runs new (Place place) (slice_index r 1) r ≡ runs top no (slice_index r 1) r =
       λ r differ.
       begins (slice_index r 1) r ∙ b.runs (slice_index r 1) r
-      ∙ ap (λ came. runs top (if came then yes else no) (slice_index r 1) r) (ne_eqb (slice_index r 1) (token_of arch) differ) in
+      ∙ ap (λ came. runs top (if came then won else no) (slice_index r 1) r) (ne_eqb (slice_index r 1) (token_of arch) differ) in
       record {
         listed = λ r is_r is. elim (cases_eq (slice_index r 1) (token_of arch)) [
           | inl same ↦ own_way r same ∙ ap (λ to. runs top to (slice_index r 1) r) is ∙ own (slice_index r 1) r is_r same

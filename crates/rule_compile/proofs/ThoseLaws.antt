@@ -29,7 +29,7 @@ any_last P xs x p = (length xs, x, omega (arith, length-append xs (x ∷ [])), g
 
 module _ (rules : List Rule) (token nr n : ℕ) (own : List Placed) (x : Rule) (inside : n < length rules) (is : x ≡ slice_index_or rules n x)
     (all : (k : ℕ) (d : Rule) → k < n → IsFor token nr (slice_index_or rules k d)
-        → Any (λ (placed : Placed). placed.rule.now ≡ slice_index_or rules k d) own) where
+    → Any (λ (placed : Placed). placed.rule.now ≡ slice_index_or rules k d) own) where
   which : (k : ℕ) (d : Rule) → k < n + 1 → (k < n) ⊎ (slice_index_or rules k d ≡ x)
   which k d below = elim (cases_lt k n) [
     | inl less ↦ inl less
@@ -66,7 +66,7 @@ module _ (rules : List Rule) (token nr n : ℕ) (own : List Placed) (x : Rule) (
 pub those_all : (rules : List Rule) (token nr : ℕ) (own : List Placed)
     → All (λ (placed : Placed). Contains rules placed.rule.now × IsFor token nr placed.rule.now) own
     → ((k : ℕ) (d : Rule) → k < length rules → IsFor token nr (slice_index_or rules k d)
-        → Any (λ (placed : Placed). placed.rule.now ≡ slice_index_or rules k d) own)
+    → Any (λ (placed : Placed). placed.rule.now ≡ slice_index_or rules k d) own)
     → AreThose rules token nr own
 those_all rules token nr own those all = record {
   those = those;
@@ -83,8 +83,7 @@ module _ (rules : List Rule) (token nr default : ℕ) (own : List Placed) (those
   held_matches : (w : ℕ) → SomeHeld own r w → (rule : Rule) × Contains rules rule × Matches rule r × (rule.word ≡ w)
   held_matches w (k, placed, inside, is, (held, word)) =
       let of_those = All-contains (λ (placed : Placed). Contains rules placed.rule.now × IsFor token nr placed.rule.now) own placed those.those
-      (k, inside, is) in
-      (
+      (k, inside, is) in (
         placed.rule.now,
         of_those.0,
         record { machine = at ∙ sym of_those.1.0; number = number ∙ sym of_those.1.1; conditions = held },
@@ -94,8 +93,7 @@ module _ (rules : List Rule) (token nr default : ℕ) (own : List Placed) (those
   matches_held : (rule : Rule) → Contains rules rule → Matches rule r → SomeHeld own r rule.word
   matches_held rule has m =
       let one = those.all rule has (sym m.machine ∙ at, sym m.number ∙ number) in
-      let e : one.1.rule.now ≡ rule = one.4 in
-      (
+      let e : one.1.rule.now ≡ rule = one.4 in (
         one.0,
         one.1,
         one.2,

@@ -36,6 +36,7 @@ pub record Reaches (old new : List Insn) (to : Target) (place : Label) : Type 0 
   pub placed : IsIn new place
   pub near : length new < place.to_end + 255
   pub one : length new ≤ length old + 1
+  pub runs : (a : ℕ) (r : List ℕ) → gives_from new (position new place) a r ≡ runs old to a r
   pub answers : (held : Option ℕ) (r : List ℕ) → answer new (position new place) held r ≡ goes old to held r
   pub weighs : weight new (position new place) ≤ cost old to
   pub shallow : depth new (position new place) ≤ deep old to
