@@ -6,6 +6,7 @@ pub mod RangeLaws
 pub mod CallLaws
 pub mod DecidesLaws
 pub mod FullLaws
+pub mod LeadsLaws
 pub mod RunsLaws
 pub mod SaysLaws
 pub mod TellsLaws

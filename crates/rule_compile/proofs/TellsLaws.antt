@@ -27,6 +27,7 @@ use Rattle.rule_compile.specs.inner.Goes.{Branches}
 use Rattle.rule_compile.specs.inner.Numbers.{IsListed, Tiles}
 use Rattle.rule_compile.specs.inner.Runs.{AreIn, AreWritten, LeadsByWord, gives_from, runs}
 use Rattle.rule_compile.specs.inner.Stands.{AreBlocks, DecidesCalls, HasMore, TellsCalls, TellsThese}
+use Rattle.rule_compile.proofs.CallLaws.{one_of_or_not}
 use Rattle.rule_compile.proofs.DecidesLaws.{decides_less, more_length}
 use Rattle.rule_compile.proofs.GoesLaws.{target_kept}
 use Rattle.rule_compile.proofs.RangeLaws.{tiles_cover}
@@ -76,16 +77,6 @@ calls_tell p t blocks code ranges to tiles decides leads a r is_r token =
 
 -- ---- several machines
 
-one_or_not : (machines : List Arch) (token : ℕ) → IsOneOf machines token ⊎ (IsOneOf machines token → ⊥)
-one_or_not [] token = inr (λ is. is)
-one_or_not (arch ∷ archs) token = elim (cases_eq (token_of arch) token) [
-  | inl same ↦ inl (inl same)
-  | inr differ ↦ elim (one_or_not archs token) [
-    | inl other ↦ inl (inr other)
-    | inr none ↦ inr (λ is. elim is [ inl same ↦ differ same | inr other ↦ none other ])
-  ]
-]
-
 pub tells_none : (p : Policy) (code : List Insn) → TellsThese p [] code (Return 0)
 tells_none p code = record { listed = λ r is_r is. absurd is; foreign = λ r is_r not. refl }
 
@@ -100,7 +91,7 @@ module _ (p : Policy) (arch : Arch) (archs : List Arch) (mid top : List Insn) (g
   -- a machine whose calls all get the word of a foreign record is none
   pub tells_skip : calls ≡ Return 0 → TellsThese p (arch ∷ archs) top no
   tells_skip none = record {
-    listed = λ r is_r is. elim (one_or_not archs (slice_index r 1)) [
+    listed = λ r is_r is. elim (one_of_or_not archs (slice_index r 1)) [
       | inl other ↦ other_listed r is_r other
       | inr not ↦ elim is [
         | inl same ↦
@@ -116,7 +107,7 @@ module _ (p : Policy) (arch : Arch) (archs : List Arch) (mid top : List Insn) (g
   pub tells_branch : (new : List Insn) (won : Target) (place : Label) → won ≡ calls
       → Branches top new Equal (token_of arch) (record { yes = won; no = no }) → IsStart new place
       → TellsThese p (arch ∷ archs) new (Place place)
-  tells_branch new won place is b start =
+  tells_branch new won place won_is b start =
       let exits : Exits = record { yes = won; no = no } in
       let first : position new place ≡ 0 = omega (arith, start.1) in
       let begins : (a : ℕ) (r : List ℕ) → runs new (Place place) a r ≡ gives_from new 0 a r = λ a r. ap (λ n. gives_from new n a r) first in
@@ -130,7 +121,7 @@ module _ (p : Policy) (arch : Arch) (archs : List Arch) (mid top : List Insn) (g
       ∙ ap (λ came. runs top (if came then won else no) (slice_index r 1) r) (ne_eqb (slice_index r 1) (token_of arch) differ) in
       record {
         listed = λ r is_r is. elim (cases_eq (slice_index r 1) (token_of arch)) [
-          | inl same ↦ own_way r same ∙ ap (λ to. runs top to (slice_index r 1) r) is ∙ own (slice_index r 1) r is_r same
+          | inl same ↦ own_way r same ∙ ap (λ to. runs top to (slice_index r 1) r) won_is ∙ own (slice_index r 1) r is_r same
           | inr differ ↦ elim is [
             | inl same ↦ absurd (differ (sym same))
             | inr other ↦ other_way r differ ∙ other_listed r is_r other
@@ -153,7 +144,7 @@ native_is_one p r (k, arch, inside, at, has) = one_at p.machines k arch (slice_i
 
 pub whole_tells : (p : Policy) (clear : IsClear p.rules) (code : List Insn) (to : Target) → TellsThese p p.machines code to → (r : List ℕ)
     → IsRecord r → runs code to (slice_index r 1) r ≡ Some (said p r)
-whole_tells p clear code to tells r is_r = elim (one_or_not p.machines (slice_index r 1)) [
+whole_tells p clear code to tells r is_r = elim (one_of_or_not p.machines (slice_index r 1)) [
   | inl is ↦ tells.listed r is_r is
   | inr not ↦
       tells.foreign r is_r not

@@ -260,7 +260,7 @@ impl Assembler {
         requires { 1 ≤ length self }
         ensures program { IfOk result (λ bytes. view_fault bytes.items ≡ None) }
         ensures read { IfOk result (λ bytes. insns_of bytes.items ≡ self) }
-        ensures accepted { IfOk result (λ bytes. IsAccepted (insns_of bytes.items)) }
+        ensures accepted { IsAccepted self }
     {
         let Assembler {
             backwards: mut insns,
