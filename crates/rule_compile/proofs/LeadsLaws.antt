@@ -237,3 +237,11 @@ last_is (y ∷ (z ∷ zs)) x some is =
     let at : length (y ∷ (z ∷ zs)) - 1 ≡ suc (length (z ∷ zs) - 1) = omega arith in
     let rest = last_is (z ∷ zs) x (omega arith) (is ∙ ap (λ n. get_or (y ∷ (z ∷ zs)) n x) at) in
     record { front = y ∷ rest.front; is = ap (λ ws. y ∷ ws) rest.is }
+
+-- both of two
+pub two_parts : (ranges : List Range) (x y : Range) → 2 ≤ length ranges → length ranges ≤ 2 → x ≡ get_or ranges 0 x → y ≡ get_or ranges 1 y
+    → ranges ≡ x ∷ y ∷ []
+two_parts [] x y some few first second = absurd (omega (arith, some))
+two_parts (z ∷ []) x y some few first second = absurd (omega (arith, some))
+two_parts (z ∷ (u ∷ [])) x y some few first second = ap (λ a. a ∷ u ∷ []) (sym first) ∙ ap (λ b. x ∷ b ∷ []) (sym second)
+two_parts (z ∷ (u ∷ (t ∷ ts))) x y some few first second = absurd (omega (arith, few))

@@ -1,10 +1,11 @@
 -- Code that gives each call its word, for every profile.
-use Rattle.std.proofs.Common.{◌≡◌, ℕ, zero, suc, ◌+◌, ◌/◌, ◌<◌, ◌≤◌, ◌^◌, ◌⊎◌, true, false, List, [], ◌∷◌, length, inl, inr, refl, ap, sym, ◌∙◌, subst, arith}
+use Rattle.std.proofs.Common.{◌≡◌, ℕ, zero, suc, ◌+◌, ◌/◌, ◌<◌, ◌≤◌, ◌^◌, ◌⊎◌, true, false, List, [], ◌∷◌, ◌++◌, length, length-append, inl, inr, refl, ap, sym, ◌∙◌, subst, arith}
 use Rattle.std.specs.Prelude.{Option, Some, None, slice_get, slice_index, slice_index_or, if◌then◌else◌}
 use Rattle.std.specs.List.{All, Contains}
-use Rattle.std.proofs.lemmas.Bool.{cases_eq, eq-eqb, ne_eqb}
-use Rattle.std.proofs.lemmas.List.Elements.{All-nil, All-weaker}
+use Rattle.std.proofs.lemmas.Bool.{cases_eq, cases_lt, eq-eqb, ne_eqb}
+use Rattle.std.proofs.lemmas.List.Elements.{All-append, All-cons, All-nil, All-weaker}
 use Rattle.std.proofs.lemmas.Option.{get_or_from_slice_get, same_Some, slice_get_within}
+use Rattle.profile.proofs.KeptLaws.{slice_get_last, slice_get_left}
 use Rattle.call_record.specs.Words.{IsRecord}
 use Rattle.bpf_insn.specs.declared.code.Test.TheVariants.{Equal}
 use Rattle.bpf_insn.specs.declared.code.Operation.TheVariants.{LoadWord}
@@ -18,14 +19,14 @@ use Rattle.rule_compile.specs.declared.label.Label.{Label}
 use Rattle.rule_compile.specs.declared.label.Target.{Target}
 use Rattle.rule_compile.specs.declared.label.Target.TheVariants.{Place, Return}
 use Rattle.rule_compile.specs.declared.outline.Block.{Block}
-use Rattle.rule_compile.specs.declared.ranges.Leaf.TheVariants.{Word}
+use Rattle.rule_compile.specs.declared.ranges.Leaf.TheVariants as leaf
 use Rattle.rule_compile.specs.declared.ranges.Range.{Range}
 use Rattle.rule_compile.specs.declared.written.Written.{Written}
 use Rattle.rule_compile.specs.inner.Calls.{IsOneOf}
 use Rattle.rule_compile.specs.inner.Code.{Grows, IsIn, IsStart, IsTarget, insn_of, position}
 use Rattle.rule_compile.specs.inner.Goes.{Branches}
 use Rattle.rule_compile.specs.inner.Numbers.{IsListed, Tiles}
-use Rattle.rule_compile.specs.inner.Runs.{AreIn, AreWritten, LeadsByWord, gives_from, runs}
+use Rattle.rule_compile.specs.inner.Runs.{AreIn, AreWritten, Leads, LeadsByWord, gives_from, runs}
 use Rattle.rule_compile.specs.inner.Stands.{AreBlocks, DecidesCalls, HasMore, TellsCalls, TellsThese}
 use Rattle.rule_compile.proofs.CallLaws.{one_of_or_not}
 use Rattle.rule_compile.proofs.DecidesLaws.{decides_less, more_length}
@@ -72,7 +73,7 @@ pub calls_tell : (p : Policy) (t : ℕ) (blocks : List Block) (code : List Insn)
     → All (DecidesCalls p t blocks) ranges → LeadsByWord blocks code 0 ranges to → TellsCalls p t code to
 calls_tell p t blocks code ranges to tiles decides leads a r is_r token =
     let at = tiles_cover ranges 0 (2 ^ 32) (slice_index r 0) tiles (omega arith) (is_r.words 0) in
-    let none : Range = record { first = 0; last = 0; leaf = Word 0 } in
+    let none : Range = record { first = 0; last = 0; leaf = leaf.Word 0 } in
     leads at.0 none at.1 a r (said p r) is_r (at.2 none) (decides at.0 none at.1 r is_r token (at.2 none))
 
 -- ---- several machines
@@ -159,3 +160,22 @@ whole_loaded p clear old mid place tells begins new written r is_r =
     ∙ load_runs 4 (refl, omega arith) mid 0 r is_r
     ∙ begins (slice_index r 1) r
     ∙ whole_tells p clear old (Place place) tells r is_r
+
+-- one block more is written
+pub written_push : (blocks : List Block) (code : List Insn) (written : List Written) (w : Written) → AreWritten blocks code written
+    → IsTarget code w.target → length written < length blocks → Leads blocks code None w.target (leaf.Block (length written))
+    → AreWritten blocks code (written ++ w ∷ [])
+written_push blocks code written w wr at room leads = record {
+  placed = All-append (λ (x : Written). IsTarget code x.target) written (w ∷ []) wr.placed
+      (All-cons (λ (x : Written). IsTarget code x.target) w [] at (All-nil (λ (x : Written). IsTarget code x.target)));
+  few = omega (arith, room, length-append written (w ∷ []));
+  leads = λ place x there. elim (cases_lt place (length written)) [
+    | inl less ↦ wr.leads place x (sym (slice_get_left written (w ∷ []) place less) ∙ there)
+    | inr not ↦
+        let inside = slice_get_within (written ++ w ∷ []) place x there in
+        let e : place ≡ length written = omega (arith, not, inside, length-append written (w ∷ [])) in
+        let same : w ≡ x = same_Some w x (sym (slice_get_last written w) ∙ ap (slice_get (written ++ w ∷ [])) (sym e) ∙ there) in
+        subst (λ n. Leads blocks code None x.target (leaf.Block n)) (sym e)
+        (subst (λ (y : Written). Leads blocks code None y.target (leaf.Block (length written))) same leads)
+  ];
+}
