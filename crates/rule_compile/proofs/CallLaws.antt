@@ -328,3 +328,13 @@ module _ (p : Policy) (plain : IsPlain p) (mid : List Insn) (to : Target) (apart
 
   pub whole_full : length mid ≡ 4096 → ⊥
   whole_full full = omega (arith, full, these.short, few)
+
+  -- it begins with what it begins with, and a return is alone
+  pub whole_front : (first : Label) → to ≡ Place first → first.to_end ≡ length mid
+  whole_front first is = let front : IsStart mid first = subst (IsAtFront [] mid) is these.front in front.1
+
+  pub whole_one : (word : ℕ) (place : Label) (new : List Insn) → to ≡ Return word → Reaches mid new (Return word) place
+      → place.to_end ≡ length new
+  whole_one word place new is r =
+      let none : mid ≡ [] = subst (IsAtFront [] mid) is these.front in
+      omega (arith, r.one, ap length none, r.placed.0, r.placed.1)

@@ -1,6 +1,6 @@
 -- Code that gives each call its word, for every profile.
 use Rattle.std.proofs.Common.{◌≡◌, ℕ, zero, suc, ◌+◌, ◌/◌, ◌<◌, ◌≤◌, ◌^◌, ◌⊎◌, true, false, List, [], ◌∷◌, ◌++◌, length, length-append, inl, inr, refl, ap, sym, ◌∙◌, subst, arith}
-use Rattle.std.specs.Prelude.{Option, Some, None, slice_get, slice_index, slice_index_or, if◌then◌else◌}
+use Rattle.std.specs.Prelude.{Err, Ok, OnOk, Option, Result, Some, None, slice_get, slice_index, slice_index_or, if◌then◌else◌}
 use Rattle.std.specs.List.{All, Contains}
 use Rattle.std.proofs.lemmas.Bool.{cases_eq, cases_lt, eq-eqb, ne_eqb}
 use Rattle.std.proofs.lemmas.List.Elements.{All-append, All-cons, All-nil, All-weaker}
@@ -24,7 +24,7 @@ use Rattle.rule_compile.specs.declared.ranges.Range.{Range}
 use Rattle.rule_compile.specs.declared.written.Written.{Written}
 use Rattle.rule_compile.specs.inner.Calls.{IsOneOf}
 use Rattle.rule_compile.specs.inner.Code.{Grows, IsIn, IsStart, IsTarget, insn_of, position}
-use Rattle.rule_compile.specs.inner.Goes.{Branches}
+use Rattle.rule_compile.specs.inner.Goes.{Branches, Reaches}
 use Rattle.rule_compile.specs.inner.Numbers.{IsListed, Tiles}
 use Rattle.rule_compile.specs.inner.Runs.{AreIn, AreWritten, Leads, LeadsByWord, gives_from, runs}
 use Rattle.rule_compile.specs.inner.Stands.{AreBlocks, DecidesCalls, HasMore, TellsCalls, TellsThese}
@@ -179,3 +179,22 @@ written_push blocks code written w wr at room leads = record {
         (subst (λ (y : Written). Leads blocks code None y.target (leaf.Block (length written))) same leads)
   ];
 }
+
+pub written_none : (blocks : List Block) (code : List Insn) (written : List Written) → written ≡ [] → AreWritten blocks code written
+written_none blocks code written none = subst (AreWritten blocks code) (sym none) (record {
+  placed = All-nil (λ (w : Written). IsTarget code w.target);
+  few = omega arith;
+  leads = λ place w at. absurd (let inside = slice_get_within [] place w at in omega (arith, inside));
+})
+
+-- where one return is all
+pub whole_returns : (p : Policy) (clear : IsClear p.rules) (mid new begun : List Insn) (word : ℕ) (place : Label)
+    → TellsThese p p.machines mid (Return word) → Reaches mid new (Return word) place
+    → ((a : ℕ) (r : List ℕ) → gives_from begun 0 a r ≡ gives_from new (position new place) a r) → (r : List ℕ) → IsRecord r
+    → gives_from begun 0 0 r ≡ Some (said p r)
+whole_returns p clear mid new begun word place tells reached begins r is_r =
+    begins 0 r ∙ reached.runs 0 r ∙ whole_tells p clear mid (Return word) tells r is_r
+
+pub on_ok : {T E : Type 0} (r : Result T E) (P Q : Type 0) → OnOk r P → (P → Q) → OnOk r Q
+on_ok (Ok x) P Q is f = f is
+on_ok (Err e) P Q is f = tt
