@@ -336,6 +336,9 @@ module _ (p : Policy) (m : Arch) (k upto : ℕ) (foreign d : Numbers) (old : Lis
   pub last_small : foreign.last + 1 ≤ 2 ^ 32
   last_small = let e = which.ends in omega (arith, e.1)
 
+  pub others_between : (u : ℕ) → foreign.first ≤ u → u ≤ foreign.last → IsOther m u
+  others_between = which.others
+
   pub own_before : AreOwn m upto foreign.first
   own_before u low high = low_is_own m u (omega (arith, high, which.begins))
 

@@ -11,3 +11,4 @@ pub mod Ranges
 pub mod Replies
 pub mod Runs
 pub mod Stands
+pub mod Told

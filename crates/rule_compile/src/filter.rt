@@ -3,6 +3,7 @@ ghost use Rattle.std.specs.Prelude.{◌≡◌, ◌≤◌, ◌<◌, ◌+◌, ◌*
 ghost use Rattle.bpf_insn.specs.Bytes.{insns_of, view_fault};
 ghost use Rattle.call_record.specs.Words.{IsRecord};
 ghost use Rattle.call_tables.specs.Arch.{token_of};
+ghost use Rattle.profile.specs.Policy.{IsClear};
 ghost use Rattle.profile.specs.Said.{said};
 ghost use Rattle.rule_compile.specs.Right.{IsRightFilter};
 ghost use Rattle.rule_compile.specs.Shape.{IsCallFilter, IsPlain};
@@ -83,13 +84,14 @@ fn filter(
     let machines = profile.machines();
     let mut written = Vec::new(alloc);
     match tell_machines_apart(code, alloc, profile, machines, blocks, &mut written)? {
-        Target::Place(_) => {
+        Target::Place(place) => {
+            code.begin_at(place)?;
             code.load(MACHINE)?;
             Ok(())
         }
         Target::Return(word) => {
-            code.near_return(word)?;
-            Ok(())
+            let place = code.near_return(word)?;
+            code.begin_at(place)
         }
     }
 }
@@ -103,6 +105,7 @@ fn tell_machines_apart(
     blocks: &mut Blocks,
     written: &mut Vec<Written>,
 ) -> Result<Target, CompileError>
+    requires clear { IsClear profile.now.rules }
     requires sound { AreSound blocks.old }
     requires placed { AreIn code.old written.old.items }
     ensures sound { OnOk result (AreSound blocks.new) }
@@ -151,6 +154,7 @@ fn calls_of(
     blocks: &mut Blocks,
     written: &mut Vec<Written>,
 ) -> Result<Target, CompileError>
+    requires clear { IsClear profile.now.rules }
     requires sound { AreSound blocks.old }
     requires placed { AreIn code.old written.old.items }
     ensures sound { OnOk result (AreSound blocks.new) }

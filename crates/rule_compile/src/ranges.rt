@@ -2,11 +2,13 @@
 ghost use Rattle.std.specs.Prelude.{◌≡◌, ◌↔◌, ◌≤◌, ◌<◌, ◌^◌, [], length, max, vec_len, All, IfOk, IfSome, IsSome, IsTrue, OnOk};
 ghost use Rattle.std.specs.Prelude.{ℕ};
 ghost use Rattle.call_tables.specs.Arch.{token_of};
+ghost use Rattle.profile.specs.Policy.{IsClear};
 ghost use Rattle.rule_compile.specs.Shape.{IsPlain};
 ghost use Rattle.rule_compile.specs.inner.Numbers.{AreOwn, AreUnconditional, IsExtended, IsFor, IsLastAlike, IsListed, IsNext, IsWorded, LeafFor, Reached, Tiles, said_of};
 ghost use Rattle.rule_compile.specs.inner.Ranges.{IsLike};
 ghost use Rattle.rule_compile.specs.inner.Runs.{AreBefore, IsBefore};
-ghost use Rattle.rule_compile.specs.inner.Stands.{AreSound, AreThose, DecidesCalls, DecidesNumber, HasMore, SaysNumber, TellsSoFar};
+ghost use Rattle.rule_compile.specs.inner.Stands.{AreSound, AreThose, DecidesCalls, DecidesNumber, HasMore, SaysNumber};
+ghost use Rattle.rule_compile.specs.inner.Told.{ToldSoFar};
 
 use crate::asked::Placed;
 use crate::blocks::Blocks;
@@ -215,8 +217,7 @@ impl Ranges {
         requires sound { AreSound blocks.old }
         ensures sound { OnOk result (AreSound blocks.new) }
         ensures more { OnOk result (HasMore blocks.old.blocks.items blocks.new.blocks.items) }
-        ensures told { IsListed profile.now machine → TellsSoFar profile.now machine blocks.old.blocks.items self.old.ranges.items → OnOk result (TellsSoFar profile.now machine blocks.new.blocks.items self.new.ranges.items) }
-        ensures before { AreBefore (vec_len blocks.old.blocks) self.old.ranges.items → OnOk result (AreBefore (vec_len blocks.new.blocks) self.new.ranges.items) }
+        ensures told { ToldSoFar profile.now machine blocks.old.blocks.items self.old.end self.old.ranges.items → OnOk result (ToldSoFar profile.now machine blocks.new.blocks.items self.new.end self.new.ranges.items) }
         ensures end { OnOk result (self.new.end ≡ end) }
         ensures no_block { IsPlain profile.now → OnOk result (blocks.new ≡ blocks.old) }
         ensures reached { (most : ℕ) → 513 ≤ most → Reached profile.now machine most end self.old.end self.old.ranges.items → OnOk result (Reached profile.now machine most end end self.new.ranges.items) }
@@ -242,8 +243,7 @@ impl Ranges {
         requires sound { AreSound blocks.old }
         ensures sound { OnOk result (AreSound blocks.new) }
         ensures more { OnOk result (HasMore blocks.old.blocks.items blocks.new.blocks.items) }
-        ensures told { IsListed profile.now machine → TellsSoFar profile.now machine blocks.old.blocks.items self.old.ranges.items → OnOk result (TellsSoFar profile.now machine blocks.new.blocks.items self.new.ranges.items) }
-        ensures before { AreBefore (vec_len blocks.old.blocks) self.old.ranges.items → OnOk result (AreBefore (vec_len blocks.new.blocks) self.new.ranges.items) }
+        ensures told { ToldSoFar profile.now machine blocks.old.blocks.items self.old.end self.old.ranges.items → OnOk result (ToldSoFar profile.now machine blocks.new.blocks.items self.new.end self.new.ranges.items) }
         ensures further { OnOk result ((self.old.end < self.new.end) × (self.new.end ≤ end)) }
         ensures no_block { IsPlain profile.now → OnOk result (blocks.new ≡ blocks.old) }
         ensures reached { (most : ℕ) → 513 ≤ most → Reached profile.now machine most end self.old.end self.old.ranges.items → OnOk result (Reached profile.now machine most end self.new.end self.new.ranges.items) }
@@ -315,6 +315,7 @@ pub(crate) fn ranges_of(
     machine: Arch,
     blocks: &mut Blocks,
 ) -> Result<Vec<Range>, AllocError>
+    requires clear { IsClear profile.now.rules }
     requires sound { AreSound blocks.old }
     ensures sound { OnOk result (AreSound blocks.new) }
     ensures more { OnOk result (HasMore blocks.old.blocks.items blocks.new.blocks.items) }

@@ -8,11 +8,13 @@ use Rattle.bpf_insn.specs.Machine.{Registers, ending, start}
 use Rattle.rule_compile.specs.declared.label.Target.{Target}
 use Rattle.rule_compile.specs.declared.label.Target.TheVariants.{Place, Return}
 use Rattle.rule_compile.specs.declared.outline.Block.{Block}
+use Rattle.rule_compile.specs.declared.question.Subject.{Subject}
 use Rattle.rule_compile.specs.declared.ranges.Leaf.{Leaf}
 use Rattle.rule_compile.specs.declared.ranges.Leaf.TheVariants as leaf
 use Rattle.rule_compile.specs.declared.ranges.Range.{Range}
 use Rattle.rule_compile.specs.declared.written.Written.{Written}
 use Rattle.rule_compile.specs.Decides.{Decides, IsWithin}
+use Rattle.rule_compile.specs.Questions.{bits}
 use Rattle.rule_compile.specs.inner.Code.{IsTarget, position}
 use Rattle.rule_compile.specs.inner.Left.{IsOffset}
 
@@ -64,6 +66,18 @@ abbrev pub LeadsByWord : List Block → List Insn → ℕ → List Range → Tar
 LeadsByWord blocks code offset ranges to =
     All (λ x. (a : ℕ) (r : List ℕ) (v : ℕ) → IsRecord r → IsWithin x (slice_index r (offset / 4)) → Decides blocks r v x.leaf
     → runs code to a r ≡ Some v) ranges
+
+-- the same by bits of a word
+abbrev pub LeadsByBits : List Block → List Insn → Subject → List Range → Target → Type 0
+LeadsByBits blocks code subject ranges to =
+    All (λ x. (a : ℕ) (r : List ℕ) (v : ℕ) → IsRecord r → IsWithin x (bits subject r) → Decides blocks r v x.leaf
+    → runs code to a r ≡ Some v) ranges
+
+-- single numbers are picked out of ranges: from the target on, each record gets what its range decides, and where A holds a number of none
+-- of them what the rest decides
+pub record PicksOut (blocks : List Block) (code : List Insn) (loaded : Option ℕ) (ranges : List Range) (rest : Range) (to : Target) : Type 0 where
+  pub led : AreLed blocks code loaded ranges to
+  pub others : LeadsElse blocks code loaded ranges to rest.leaf
 
 -- a word, or one of the first so many blocks
 abbrev pub IsBefore : ℕ → Leaf → Type 0
