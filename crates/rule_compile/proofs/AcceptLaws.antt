@@ -1,10 +1,11 @@
--- Code of four kinds of instruction is accepted.
+-- Code of five kinds of instruction is accepted.
 use Rattle.std.proofs.Common.{◌≡◌, ℕ, zero, suc, ◌+◌, ◌≤◌, List, [], ◌∷◌, length, sym, ◌∙◌, subst, arith, inl, inr}
 use Rattle.std.specs.Prelude.{Option, Some, slice_get}
 use Rattle.std.proofs.lemmas.Option.{same_Some, none-some}
 use Rattle.bpf_insn.specs.declared.code.Operand.TheVariants.{K}
 use Rattle.bpf_insn.specs.declared.code.Operation.{Operation}
-use Rattle.bpf_insn.specs.declared.code.Operation.TheVariants.{LoadWord, ReturnK, Jump, Branch}
+use Rattle.bpf_insn.specs.declared.code.Arithmetic.TheVariants.{And}
+use Rattle.bpf_insn.specs.declared.code.Operation.TheVariants.{Compute, LoadWord, ReturnK, Jump, Branch}
 use Rattle.bpf_insn.specs.declared.instruction.Insn.{Insn}
 use Rattle.bpf_insn.specs.Code.{operation_of}
 use Rattle.bpf_insn.specs.Bytes.{max_insns}
@@ -12,7 +13,7 @@ use Rattle.bpf_insn.specs.Causes.{NamesNoWord}
 use Rattle.kernel_check.specs.declared.fault.Cause.{Cause}
 use Rattle.kernel_check.specs.declared.fault.Cause.TheVariants as cause
 use Rattle.kernel_check.specs.Accepted.{CauseAt, HasCause, IsAccepted, LeadsOut}
-use Rattle.rule_compile.specs.inner.Emitted.{AreFine, IsFine, forks, jumps, loads, returns}
+use Rattle.rule_compile.specs.inner.Emitted.{AreFine, IsFine, forks, jumps, loads, masks, returns}
 
 -- the instruction at a position, and how many stand after it
 fine_at : (p : List Insn) (i : ℕ) (insn : Insn) → AreFine p → slice_get p i ≡ Some insn → (n : ℕ) × (i + 1 + n ≡ length p) × IsFine insn n
@@ -39,10 +40,12 @@ module _ (p : List Insn) (i n : ℕ) (insn : Insn) (place : i + 1 + n ≡ length
   none cause.Code (returns e) is = none-some _ (sym is ∙ e)
   none cause.Code (jumps e a) is = none-some _ (sym is ∙ e)
   none cause.Code (forks test e a b) is = none-some _ (sym is ∙ e)
+  none cause.Code (masks e a) is = none-some _ (sym is ∙ e)
   none cause.Code (loads e a b c) is = none-some _ (sym is ∙ e)
   none cause.Load (returns e) is = no_load (Some ReturnK) e (λ bad. bad) is
   none cause.Load (jumps e a) is = no_load (Some Jump) e (λ bad. bad) is
   none cause.Load (forks test e a b) is = no_load (Some (Branch test K)) e (λ bad. bad) is
+  none cause.Load (masks e a) is = no_load (Some (Compute And K)) e (λ bad. bad) is
   none cause.Load (loads e a b c) is = no_load (Some LoadWord) e (λ bad. elim bad [
     | inl high ↦ omega
         (arith, high, a)
@@ -51,6 +54,7 @@ module _ (p : List Insn) (i n : ℕ) (insn : Insn) (place : i + 1 + n ≡ length
   none cause.Shift (returns e) is = elim is.0 [ inl f ↦ cc | inr f ↦ cc ]
   none cause.Shift (jumps e a) is = elim is.0 [ inl f ↦ cc | inr f ↦ cc ]
   none cause.Shift (forks test e a b) is = elim is.0 [ inl f ↦ cc | inr f ↦ cc ]
+  none cause.Shift (masks e a) is = elim is.0 [ inl f ↦ cc | inr f ↦ cc ]
   none cause.Shift (loads e a b c) is = elim is.0 [ inl f ↦ cc | inr f ↦ cc ]
   none cause.Target (returns e) is = no_way (Some ReturnK) e (λ bad. bad) is
   none cause.Target (jumps e a) is = no_way (Some Jump) e (λ bad. omega (arith, bad, a, place)) is
@@ -59,14 +63,17 @@ module _ (p : List Insn) (i n : ℕ) (insn : Insn) (place : i + 1 + n ≡ length
         (arith, t, a, place)
     | inr f ↦ omega (arith, f, b, place)
   ]) is
+  none cause.Target (masks e a) is = no_way (Some (Compute And K)) e (λ bad. bad) is
   none cause.Target (loads e a b c) is = no_way (Some LoadWord) e (λ bad. bad) is
   none cause.End (returns e) is = is.1 (inl e)
   none cause.End (jumps e a) is = omega (arith, is.0, a, place)
   none cause.End (forks test e a b) is = omega (arith, is.0, a, place)
+  none cause.End (masks e a) is = omega (arith, is.0, a, place)
   none cause.End (loads e a b c) is = omega (arith, is.0, c, place)
   none cause.Scratch (returns e) is = elim is.0 [ inl f ↦ cc | inr f ↦ cc ]
   none cause.Scratch (jumps e a) is = elim is.0 [ inl f ↦ cc | inr f ↦ cc ]
   none cause.Scratch (forks test e a b) is = elim is.0 [ inl f ↦ cc | inr f ↦ cc ]
+  none cause.Scratch (masks e a) is = elim is.0 [ inl f ↦ cc | inr f ↦ cc ]
   none cause.Scratch (loads e a b c) is = elim is.0 [ inl f ↦ cc | inr f ↦ cc ]
 
 pub fine_is_accepted : (p : List Insn) → 1 ≤ length p → length p ≤ max_insns → AreFine p → IsAccepted p

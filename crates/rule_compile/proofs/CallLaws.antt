@@ -121,16 +121,18 @@ pub calls_searched : (p : Policy) (t : ℕ) (old mid new : List Insn) (ranges : 
 calls_searched p t old mid new ranges target (returns word found is) same tiles few worded =
     subst (λ code. AnswersMachine p t code new target) same
     (subst (AnswersMachine p t mid new) (sym is) (calls_return p t mid new ranges (Return word) found tiles few worded word refl))
-calls_searched p t old mid new ranges target (loads_word code first place found written start is) same tiles few worded =
+calls_searched p t old mid new ranges target (loads_word code begun first place found grown begins written start is) same tiles few worded =
+    let front : IsStart code first = (found.costs (of_words p t mid code ranges (Place first) found tiles few worded)).frugal.front in
+    let loaded : new ≡ insn_of LoadWord 0 ∷ code = written ∙ ap (λ code. insn_of LoadWord 0 ∷ code) (begins front) in
     subst (λ code. AnswersMachine p t code new target) same
     (subst (AnswersMachine p t mid new) (sym is)
-    (calls_load p t mid code ranges (Place first) found tiles few worded first place new refl written start))
+    (calls_load p t mid code ranges (Place first) found tiles few worded first place new refl loaded start))
 
 pub searched_grows : (old new : List Insn) (ranges : List Range) (word : ℕ) (target : Target) → Searched old new ranges word target
     → Grows old new
 searched_grows old new ranges word target (returns answer found is) = found.grows
-searched_grows old new ranges word target (loads_word mid first place found written start is) = grows_on found.grows
-    (grows_written mid new _ written)
+searched_grows old new ranges word target (loads_word mid begun first place found grown begins written start is) = grows_on found.grows
+    (grows_on grown (grows_written begun new _ written))
 
 pub on_searched : (r : Result Written CompileError) (old new : List Insn) (ranges : List Range) (word : ℕ)
     → IfOk r (λ found. Searched old new ranges word found.target) → OnOk r (Grows old new)
@@ -149,7 +151,7 @@ calls_count p m before after old new to calls same = record {
 pub searched_placed : (old new : List Insn) (ranges : List Range) (word : ℕ) (target : Target) → Searched old new ranges word target
     → IsTarget new target
 searched_placed old new ranges word target (returns answer found is) = subst (IsTarget new) (sym is) tt
-searched_placed old new ranges word target (loads_word mid first place found written start is) =
+searched_placed old new ranges word target (loads_word mid begun first place found grown begins written start is) =
     subst (IsTarget new) (sym is) (start.0, omega (arith, start.1))
 
 -- ---- several machines
@@ -326,3 +328,13 @@ module _ (p : Policy) (plain : IsPlain p) (mid : List Insn) (to : Target) (apart
 
   pub whole_full : length mid ≡ 4096 → ⊥
   whole_full full = omega (arith, full, these.short, few)
+
+  -- it begins with what it begins with, and a return is alone
+  pub whole_front : (first : Label) → to ≡ Place first → first.to_end ≡ length mid
+  whole_front first is = let front : IsStart mid first = subst (IsAtFront [] mid) is these.front in front.1
+
+  pub whole_one : (word : ℕ) (place : Label) (new : List Insn) → to ≡ Return word → Reaches mid new (Return word) place
+      → place.to_end ≡ length new
+  whole_one word place new is r =
+      let none : mid ≡ [] = subst (IsAtFront [] mid) is these.front in
+      omega (arith, r.one, ap length none, r.placed.0, r.placed.1)

@@ -1,5 +1,5 @@
 -- Where code goes on, as more of it is written.
-use Rattle.std.proofs.Common.{◌≡◌, ℕ, ◌+◌, ◌<◌, ◌⊎◌, Bool, true, false, List, [], ◌∷◌, ◌++◌, length, refl, ap, sym, ◌∙◌, subst}
+use Rattle.std.proofs.Common.{◌≡◌, ℕ, suc, ◌+◌, ◌<◌, ◌⊎◌, Bool, true, false, List, [], ◌∷◌, ◌++◌, length, refl, ap, sym, ◌∙◌, subst}
 use Rattle.std.proofs.Common.{arith, max, append_assoc, length-append, inl, inr}
 use Rattle.std.specs.Prelude.{Option, Some, slice_get, slice_index, if◌then◌else◌, Result, Ok, Err, IfOk, OnOk}
 use Rattle.bpf_insn.specs.declared.code.Operand.TheVariants.{K}
@@ -8,7 +8,7 @@ use Rattle.bpf_insn.specs.declared.code.Test.TheVariants.{Equal, AtLeast}
 use Rattle.bpf_insn.specs.declared.code.Operation.TheVariants.{ReturnK, Jump, Branch}
 use Rattle.bpf_insn.specs.declared.instruction.Insn.{Insn}
 use Rattle.bpf_insn.specs.Code.{operation_of}
-use Rattle.bpf_insn.specs.Machine.{holds}
+use Rattle.bpf_insn.specs.Machine.{holds, perform_if}
 use Rattle.rule_compile.specs.declared.fault.CompileError.{CompileError}
 use Rattle.rule_compile.specs.declared.label.Label.{Label}
 use Rattle.rule_compile.specs.declared.label.Target.{Target}
@@ -19,6 +19,8 @@ use Rattle.rule_compile.specs.Shape.{answer, answer_by, weight, weight_by, depth
 use Rattle.rule_compile.specs.inner.Code.{Grows, HasExits, IsIn, IsStart, IsTarget, insn_of, position}
 use Rattle.rule_compile.specs.inner.Emitted.{forks, jumps, returns}
 use Rattle.rule_compile.specs.inner.Goes.{Branches, JumpsTo, Reaches, cost, deep, goes}
+use Rattle.rule_compile.specs.inner.Runs.{gives_from, holding, runs}
+use Rattle.rule_compile.proofs.RunsLaws.{gives_ends, gives_goes, runs_kept}
 use Rattle.rule_compile.proofs.MachineLaws.{answer_is, answer_more, depth_is, depth_more, weight_is, weight_more}
 
 -- ---- growing
@@ -87,6 +89,7 @@ reach_place code to at near = record {
   placed = at;
   near = near;
   one = omega arith;
+  runs = λ a r. refl;
   answers = λ held r. refl;
   weighs = omega arith;
   shallow = omega arith;
@@ -109,6 +112,9 @@ reach_jump code to place at placed near j =
       placed = placed;
       near = near;
       one = omega arith;
+      runs = λ a r.
+          gives_goes code (position code place) j.jump a r j.jump.k a (position code to) j.stands
+          (ap (λ o. perform_if o r j.jump (holding a)) j.is_jump) (sym on);
       answers = λ held r. answer_is code (position code place) j.jump held r (answer code (position code to) held r) j.stands
           (λ rest same. ap (λ o. answer_by (move_at o j.jump.k held) j.jump r rest) j.is_jump
           ∙ (same j.jump.k held ∙ ap (λ n. answer code n held r) on));
@@ -138,6 +144,7 @@ reach_new_jump old jump to place at start is_jump leads =
       placed = (omega (arith, start), omega (arith, start));
       near = near;
       one = omega arith;
+      runs = λ a r. there.runs a r ∙ runs_kept old new g (Place to) at a r;
       answers = λ held r. there.answers held r ∙ goes_kept old new g (Place to) at held r;
       weighs = omega (arith, there.weighs, cost_kept old new g (Place to) at);
       shallow = omega (arith, there.shallow, deep_kept old new g (Place to) at);
@@ -151,11 +158,12 @@ jump_code = refl
 -- ---- a return
 
 pub record Returns (code : List Insn) (word : ℕ) (place : Label) : Type 0 where
+  pub runs : (a : ℕ) (r : List ℕ) → gives_from code (position code place) a r ≡ Some word
   pub answers : (held : Option ℕ) (r : List ℕ) → answer code (position code place) held r ≡ Some word
   pub weighs : weight code (position code place) ≡ 5
   pub shallow : depth code (position code place) ≡ 0
 
-return_code : operation_of 0x06 ≡ Some ReturnK
+pub return_code : operation_of 0x06 ≡ Some ReturnK
 unfolding operation_of
 return_code = refl
 
@@ -164,6 +172,7 @@ pub returns_at : (code : List Insn) (word : ℕ) (place : Label) → slice_get c
 returns_at code word place stands =
     let i : Insn = insn_of ReturnK word in
     record {
+      runs = λ a r. gives_ends code (position code place) i a r word stands (ap (λ o. perform_if o r i (holding a)) return_code);
       answers = λ held r. answer_is code (position code place) i held r (Some word) stands
           (λ rest same. ap (λ o. answer_by (move_at o word held) i r rest) return_code);
       weighs = weight_is code (position code place) i 5 stands (λ rest same. ap (λ o. weight_by o i rest) return_code);
@@ -180,6 +189,7 @@ reach_return old new word found place stands there =
       placed = there.placed;
       near = there.near;
       one = there.one;
+      runs = λ a r. there.runs a r ∙ at.runs a r;
       answers = λ held r. there.answers held r ∙ at.answers held r;
       weighs = omega (arith, there.weighs, at.weighs);
       shallow = omega (arith, there.shallow, at.shallow);
@@ -198,6 +208,7 @@ reach_new_return old word place start =
       placed = (omega (arith, start), omega (arith, start));
       near = omega (arith, start);
       one = omega arith;
+      runs = at.runs;
       answers = at.answers;
       weighs = omega (arith, at.weighs);
       shallow = omega (arith, at.shallow);
@@ -249,6 +260,18 @@ module _ (old mid top : List Insn) (test : Test) (k : ℕ) (exits : Exits) (jump
   goes_by true held r = yes_answers held r
   goes_by false held r = no_answers held r
 
+  runs_by : (came : Bool) (a : ℕ) (r : List ℕ)
+      → gives_from top (if came then jump.jt else jump.jf) a r ≡ runs old (if came then exits.yes else exits.no) a r
+  runs_by true a r =
+      ap (λ n. gives_from top n a r) yes_at ∙ to_yes.runs a r ∙ runs_kept old mid to_no.grows exits.yes exist.yes a r
+  runs_by false a r =
+      ap (λ n. gives_from top n a r) no_at ∙ runs_kept mid top to_yes.grows (Place no) to_no.placed a r ∙ to_no.runs a r
+
+  branch_goes_on : (a : ℕ) (r : List ℕ) → gives_from (jump ∷ top) 0 a r ≡ gives_from top (if holds test a jump.k then jump.jt else jump.jf) a r
+  branch_goes_on a r =
+      let skip : ℕ = if holds test a jump.k then jump.jt else jump.jf in
+      gives_goes (jump ∷ top) 0 jump a r skip a (suc skip) refl (ap (λ o. perform_if o r jump (holding a)) is_branch) (omega arith)
+
   by_test : (t : Test) → ((t ≡ Equal) ⊎ (t ≡ AtLeast)) → (w : ℕ) (r : List ℕ)
       → answer_by (move_at (Some (Branch t K)) jump.k (Some w)) jump r (λ skip now. answer top skip now r)
       ≡ answer top (if holds t (slice_index r w) jump.k then jump.jt else jump.jf) (Some w) r
@@ -258,6 +281,9 @@ module _ (old mid top : List Insn) (test : Test) (k : ℕ) (exits : Exits) (jump
   pub branches : Branches old (jump ∷ top) test k exits
   branches = record {
     grows = grows_on to_no.grows (grows_on to_yes.grows (grows_front jump top));
+    runs = λ a r.
+        branch_goes_on a r ∙ runs_by (holds test a jump.k) a r
+        ∙ ap (λ n. runs old (if holds test a n then exits.yes else exits.no) a r) k_is;
     answers = λ told w r.
         ap (λ o. answer_by (move_at o jump.k (Some w)) jump r (λ skip now. answer top skip now r)) is_branch
         ∙ by_test test told w r

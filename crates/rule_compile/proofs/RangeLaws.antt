@@ -27,7 +27,8 @@ use Rattle.rule_compile.specs.declared.ranges.Range.{Range}
 use Rattle.rule_compile.specs.Shape.{IsPlain, IsPlainRule, call}
 use Rattle.rule_compile.specs.inner.Numbers.{AreFew, AreOwn, AreUnconditional, Between, IsExtended, IsFor, IsListed, IsNext, IsWorded, behind}
 use Rattle.rule_compile.specs.inner.Numbers.{LeafFor, NoneFor, Reached, Tiles, more, nothing, ruled, said_of, unruled, wider}
-use Rattle.rule_compile.specs.inner.Ranges.{AreInOrder, IsWithin}
+use Rattle.rule_compile.specs.Decides.{IsWithin}
+use Rattle.rule_compile.specs.inner.Ranges.{AreInOrder}
 use Rattle.rule_compile.proofs.FindLaws.{all_left, all_right}
 
 -- what is left where the last one is taken off
@@ -43,7 +44,7 @@ tiles_push : (xs : List Range) (a b e : ℕ) (x : Range) → Tiles a xs b → x.
 tiles_push [] a b e x t first within last = (first ∙ sym t, omega (arith, t, within), last)
 tiles_push (y ∷ ys) a b e x t first within last = (t.0, t.1, tiles_push ys (y.last + 1) b e x t.2 first within last)
 
-tiles_back : (front : List Range) (a b : ℕ) (x : Range) → Tiles a (front ++ x ∷ []) b
+pub tiles_back : (front : List Range) (a b : ℕ) (x : Range) → Tiles a (front ++ x ∷ []) b
     → Tiles a front x.first × (x.first ≤ x.last) × (x.last + 1 ≡ b)
 tiles_back [] a b x t = (sym t.0, omega (arith, t.0, t.1), t.2)
 tiles_back (y ∷ ys) a b x t =
@@ -334,6 +335,9 @@ module _ (p : Policy) (m : Arch) (k upto : ℕ) (foreign d : Numbers) (old : Lis
 
   pub last_small : foreign.last + 1 ≤ 2 ^ 32
   last_small = let e = which.ends in omega (arith, e.1)
+
+  pub others_between : (u : ℕ) → foreign.first ≤ u → u ≤ foreign.last → IsOther m u
+  others_between = which.others
 
   pub own_before : AreOwn m upto foreign.first
   own_before u low high = low_is_own m u (omega (arith, high, which.begins))

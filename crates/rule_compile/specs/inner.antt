@@ -1,7 +1,14 @@
+pub mod Asked
+pub mod Built
 pub mod Calls
 pub mod Code
 pub mod Emitted
 pub mod Goes
+pub mod Left
 pub mod Numbers
 pub mod Plan
 pub mod Ranges
+pub mod Replies
+pub mod Runs
+pub mod Stands
+pub mod Told

@@ -2,8 +2,13 @@
 //!
 //! The jumps of a filter go forward. So where a jump goes to is there already when the jump is
 //! written, and how many instructions it skips is known.
-ghost use Rattle.std.specs.Prelude.{◌≡◌, ◌+◌, ◌≤◌, ◌<◌, ◌↔◌, [], ◌∷◌, None, Some, length, slice_get, IfOk, IfSome, IsErrOf, OnOk};
+ghost use Rattle.std.specs.Prelude.{◌≡◌, ℕ, List, ◌+◌, ◌≤◌, ◌<◌, ◌↔◌, [], ◌∷◌, None, Some, length, slice_get, slice_index, ◌/◌, IfOk, IfSome, IsErrOf, IsTrue, OnOk};
 ghost use Rattle.bpf_insn.specs.Bytes.{insns_of, view_fault};
+ghost use Rattle.kernel_check.specs.Accepted.{IsAccepted};
+ghost use Rattle.call_record.specs.Words.{IsRecord};
+ghost use Rattle.rule_compile.specs.inner.Emitted.{IsFine};
+ghost use Rattle.rule_compile.specs.inner.Left.{IsOffset};
+ghost use Rattle.rule_compile.specs.inner.Runs.{gives_from, runs};
 ghost use Rattle.bpf_insn.specs.declared.code.Operation.TheVariants.{Compute, LoadWord};
 ghost use Rattle.bpf_insn.specs.declared.code.Arithmetic.TheVariants.{And};
 ghost use Rattle.bpf_insn.specs.declared.code.Operand.TheVariants.{K};
@@ -31,12 +36,13 @@ impl Model for Assembler {
     ghost use Rattle.std.specs.Prelude.{◌≤◌, List, reverse, vec_len};
     ghost use Rattle.bpf_insn.specs.declared.instruction.Insn.{Insn};
     ghost use Rattle.bpf_insn.specs.declared.view.TheConstants.{MAX_INSNS};
+    ghost use Rattle.rule_compile.specs.inner.Emitted.{AreFine};
 
     ghost Value = { List Insn };
 
     ghost view = { λ code. reverse code.backwards.items };
 
-    ghost invariant = { λ code. vec_len code.backwards ≤ MAX_INSNS };
+    ghost invariant = { λ code. (vec_len code.backwards ≤ MAX_INSNS) × AreFine (reverse code.backwards.items) };
 }
 
 // An instruction that is no conditional jump.
@@ -63,6 +69,7 @@ impl Assembler {
 
     // Writes an instruction in front of the code.
     fn write(&mut self, insn: Insn) -> Result<Label, CompileError>
+        requires { IsFine insn (length self.old) }
         ensures written { OnOk result (self.new ≡ insn ∷ self.old) }
         ensures start { IfOk result (IsStart self.new) }
         ensures full { IsErrOf result CompileError.TooLong ↔ (length self.old ≡ MAX_INSNS) }
@@ -78,6 +85,8 @@ impl Assembler {
 
     /// Loads the word at an offset of the record, and goes on at the code so far.
     pub(crate) fn load(&mut self, offset: u32) -> Result<Label, CompileError>
+        requires some { 1 ≤ length self.old }
+        requires offset { IsOffset offset }
         ensures written { OnOk result (self.new ≡ insn_of LoadWord offset ∷ self.old) }
         ensures start { IfOk result (IsStart self.new) }
         ensures full { IsErrOf result CompileError.TooLong ↔ (length self.old ≡ MAX_INSNS) }
@@ -87,6 +96,7 @@ impl Assembler {
 
     /// Keeps the bits of a mask in the word that is loaded.
     pub(crate) fn mask(&mut self, mask: u32) -> Result<Label, CompileError>
+        requires { 1 ≤ length self.old }
         ensures written { OnOk result (self.new ≡ insn_of (Compute And K) mask ∷ self.old) }
         ensures start { IfOk result (IsStart self.new) }
     {
@@ -171,7 +181,10 @@ impl Assembler {
     /// Has the code begin at the place: by a jump to it, where something else stands in front of it.
     pub(crate) fn begin_at(&mut self, to: Label) -> Result<(), CompileError>
         requires { IsIn self.old to }
-        ensures { OnOk result (Grows self.old self.new) }
+        ensures grows { OnOk result (Grows self.old self.new) }
+        ensures runs { OnOk result ((a : ℕ) (r : List ℕ) → gives_from self.new 0 a r ≡ gives_from self.old (position self.old to) a r) }
+        ensures same { to.to_end ≡ length self.old → OnOk result (self.new ≡ self.old) }
+        ensures full { IsErrOf result CompileError.TooLong → to.to_end ≡ length self.old → ⊥ }
     {
         let skipped = self.distance(to);
         if skipped == 0 {
@@ -211,33 +224,34 @@ impl Assembler {
         self.write(jump)
     }
 
+    // Whether the instruction at a place loads this word, and is not the last.
+    fn is_load(&self, place: Label, loaded: u32) -> bool
+        requires { IsIn self.now place }
+        ensures { IsTrue result → (2 ≤ place.to_end) × (slice_get self.now (position self.now place) ≡ Some (insn_of LoadWord loaded)) }
+    {
+        if place.to_end < 2 {
+            return false;
+        }
+        self.backwards[place.to_end - 1] == insn(Operation::LoadWord, loaded)
+    }
+
     /// The target, or the place behind its first instruction where this loads a word that is loaded
     /// already.
     pub(crate) fn past_load(&self, to: Target, loaded: u32) -> Target
         requires { IsTarget self.now to }
-        ensures { IsTarget self.now result }
-    {
-        if let Target::Place(place) = to {
-            let after = place.to_end.saturating_sub(1);
-            if 0 < after && self.backwards.get(after) == Some(&insn(Operation::LoadWord, loaded)) {
-                return Target::Place(Label { to_end: after });
-            }
-        }
-        to
-    }
-
-    /// The target, if it is in the code.
-    pub(crate) fn placed(&self, to: Target) -> Target
-        ensures { IsTarget self.now result }
+        ensures placed { IsTarget self.now result }
+        ensures runs { (a : ℕ) (r : List ℕ) → IsRecord r → IsOffset loaded → a ≡ slice_index r (loaded / 4) → runs self.now result a r ≡ runs self.now to a r }
     {
         match to {
             Target::Place(place) => {
-                if place.to_end == 0 || place.to_end > self.backwards.len() {
-                    return Target::Return(Word::KILL_THREAD);
+                if self.is_load(place, loaded) {
+                    return Target::Place(Label {
+                        to_end: place.to_end - 1,
+                    });
                 }
-                Target::Place(place)
+                to
             }
-            Target::Return(word) => Target::Return(word),
+            Target::Return(_) => to,
         }
     }
 
@@ -246,6 +260,7 @@ impl Assembler {
         requires { 1 ≤ length self }
         ensures program { IfOk result (λ bytes. view_fault bytes.items ≡ None) }
         ensures read { IfOk result (λ bytes. insns_of bytes.items ≡ self) }
+        ensures accepted { IsAccepted self }
     {
         let Assembler {
             backwards: mut insns,

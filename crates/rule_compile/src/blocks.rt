@@ -4,14 +4,23 @@
 //! has the number of these bits. So what is known of a word is used by all rules, and what a failed
 //! half leaves of them is a block as well. Where the same is left to ask, it is the same block,
 //! whichever calls and machines come to it.
-ghost use Rattle.std.specs.Prelude.{◌≡◌, ◌≤◌, ◌<◌, ◌^◌, length, vec_len, IfSome};
+ghost use Rattle.std.specs.Prelude.{◌≡◌, ◌≤◌, ◌<◌, ◌^◌, ◌++◌, ◌∷◌, ◌⊎◌, [], None, true, take, drop, length, vec_len, All, IfOk, IfSome, IsSome, IsTrue, OnOk};
+ghost use Rattle.rule_compile.specs.Rules.{begins_here};
+ghost use Rattle.rule_compile.specs.inner.Built.{IsFoundAt, IsKept};
+ghost use Rattle.rule_compile.specs.inner.Left.{AreRules, AsksFor, weight};
+ghost use Rattle.rule_compile.specs.inner.Left.{weight_of as question_weight};
+ghost use Rattle.rule_compile.specs.inner.Ranges.{IsPicked};
+ghost use Rattle.rule_compile.specs.inner.Runs.{IsBefore};
+ghost use Rattle.rule_compile.specs.inner.Stands.{AreRanged, AreSound, DecidesRules, HasMore, IsFound, IsLast};
 
+use crate::asked::{Open, Placed, Rest, are_alike, questions_of};
 use crate::index::{Index, key_of};
 use crate::known::{Known, Span};
-use crate::open::{Open, Placed, Rest, are_alike, left, questions_of};
 use crate::outline::{Asked, Block, Call, Outline, Part};
 use crate::question::Subject;
-use crate::ranges::{Leaf, Ranges};
+use crate::ranges::{Leaf, Range, Ranges};
+use crate::remaining::left;
+use crate::starts::{end_of, starts_of, subject_of};
 use call_record::Word;
 use std::alloc::{AllocError, Global};
 
@@ -25,12 +34,9 @@ pub(crate) struct Blocks {
     known: Vec<Known>,
     // The parts of the questions that are looked at, the last one first.
     spans: Vec<Span>,
-    /// How many ranges may be looked at, until the rules are no more asked all at once.
-    room: usize,
+    /// How many ranges may be looked at, until the rules are no more asked all at once; none: as many as there are.
+    room: Option<usize>,
 }
-
-/// How many words are asked for on a path at most: two of each argument, and each under some masks.
-const STEPS: usize = 4096;
 
 /// How many ranges may be looked at for each question, before neighbours that go on alike are one.
 const RANGES: usize = 6;
@@ -38,7 +44,8 @@ const RANGES: usize = 6;
 impl Blocks {
     /// No blocks.
     pub(crate) fn new(alloc: Global) -> Blocks
-        ensures { vec_len result.blocks ≡ 0 }
+        ensures none { vec_len result.blocks ≡ 0 }
+        ensures sound { AreSound result }
     {
         Blocks {
             blocks: Vec::new(alloc),
@@ -46,7 +53,7 @@ impl Blocks {
             calls: Vec::new(alloc),
             known: Vec::new(alloc),
             spans: Vec::new(alloc),
-            room: 0,
+            room: None,
         }
     }
 
@@ -71,7 +78,13 @@ impl Blocks {
         number: u32,
         rules: &[Placed<'_>],
         default: Word,
-    ) -> Result<Leaf, AllocError> {
+    ) -> Result<Leaf, AllocError>
+        requires sound { AreSound self.old }
+        ensures sound { OnOk result (AreSound self.new) }
+        ensures more { OnOk result (HasMore self.old.blocks.items self.new.blocks.items) }
+        ensures before { IfOk result (IsBefore (vec_len self.new.blocks)) }
+        ensures decides { IfOk result (DecidesRules self.new.blocks.items rules.now default) }
+    {
         match questions_of(alloc, rules, default)? {
             Rest::Met(rule, word) => {
                 let leaf = Leaf::Word(word);
@@ -90,23 +103,34 @@ impl Blocks {
     fn asked(
         &mut self,
         alloc: Global,
-        open: &[Open],
+        rules: &[Open],
         other: &Leaf,
-    ) -> Result<(Leaf, Vec<Part>), AllocError> {
-        let key = key_of(open, other);
-        if let Some(known) = self.known.iter().find(|known| known.is_of(key, open)) {
-            return Ok((known.leaf, known.parts_of(alloc, open)?));
+    ) -> Result<(Leaf, Vec<Part>), AllocError>
+        requires sound { AreSound self.old }
+        requires rules { AreRules rules.now }
+        requires other { IsBefore (vec_len self.old.blocks) other.now }
+        ensures sound { OnOk result (AreSound self.new) }
+        ensures more { OnOk result (HasMore self.old.blocks.items self.new.blocks.items) }
+        ensures found { IfOk result (λ found. IsFound self.new.blocks.items rules.now other.now found.0) }
+    {
+        let key = key_of(rules, other);
+        for known in &self.known {
+            if known.is_of(key, rules, other) {
+                return Ok((known.leaf, known.parts_of(alloc, rules)?));
+            }
         }
-        let leaf = self.add(alloc, open, 0, other)?;
+        let leaf = self.add(alloc, rules, 0, other)?;
         let spans = std::mem::replace(&mut self.spans, Vec::new(alloc));
-        let open = Vec::from_slice(alloc, open)?;
+        let asked = Vec::from_slice(alloc, rules)?;
+        let other = *other;
         let known = Known {
             key,
-            open,
+            asked,
+            other,
             leaf,
             spans,
         };
-        let parts = known.parts_of(alloc, &known.open)?;
+        let parts = known.parts_of(alloc, &known.asked)?;
         self.known.push(known)?;
         Ok((leaf, parts))
     }
@@ -118,7 +142,10 @@ impl Blocks {
         number: u32,
         leaf: &Leaf,
         asked: Asked,
-    ) -> Result<(), AllocError> {
+    ) -> Result<(), AllocError>
+        ensures blocks { OnOk result (self.new.blocks.items ≡ self.old.blocks.items) }
+        ensures known { OnOk result (self.new.known.items ≡ self.old.known.items) }
+    {
         let leaf = *leaf;
         self.calls.push(Call {
             token,
@@ -138,11 +165,16 @@ impl Blocks {
         rules: &[Open],
         start: usize,
         other: &Leaf,
-    ) -> Result<Leaf, AllocError> {
-        if rules
-            .iter()
-            .all(|open| other.is_like(&Leaf::Word(open.answer)))
-        {
+    ) -> Result<Leaf, AllocError>
+        requires sound { AreSound self.old }
+        requires rules { AreRules rules.now }
+        requires other { IsBefore (vec_len self.old.blocks) other.now }
+        ensures sound { OnOk result (AreSound self.new) }
+        ensures more { OnOk result (HasMore self.old.blocks.items self.new.blocks.items) }
+        ensures known { OnOk result (self.new.known.items ≡ self.old.known.items) }
+        ensures found { IfOk result (IsFound self.new.blocks.items rules.now other.now) }
+    {
+        if all_have(rules, other) {
             return Ok(*other);
         }
         let Some(place) = middle(rules) else {
@@ -156,9 +188,9 @@ impl Blocks {
         let next = self.add(alloc, second, start.saturating_add(place), other)?;
         let parted = self.add(alloc, first, start, &next)?;
         let fewest = self.ranges_from(before);
-        let aside = self.set_aside(alloc, before)?;
-        self.room = room_for(rules, fewest);
-        if let Some(whole) = self.decide(alloc, rules, other, STEPS)?
+        let aside = self.set_aside(before)?;
+        self.room = Some(room_for(rules, fewest));
+        if let Some(whole) = self.decide(alloc, rules, other, weight_of(rules))?
             && self.ranges_from(before) <= fewest
         {
             self.spans.truncate(spans);
@@ -171,23 +203,29 @@ impl Blocks {
     }
 
     // Notes that so many questions from a place on are asked at once.
-    fn add_span(&mut self, start: usize, count: usize, leaf: &Leaf) -> Result<(), AllocError> {
+    fn add_span(&mut self, start: usize, count: usize, leaf: &Leaf) -> Result<(), AllocError>
+        ensures blocks { OnOk result (self.new.blocks.items ≡ self.old.blocks.items) }
+        ensures known { OnOk result (self.new.known.items ≡ self.old.known.items) }
+    {
         let leaf = *leaf;
         self.spans.push(Span { start, count, leaf })?;
         Ok(())
     }
 
     // The block of one rule.
-    fn add_rule(
-        &mut self,
-        alloc: Global,
-        rules: &[Open],
-        other: &Leaf,
-    ) -> Result<Leaf, AllocError> {
-        self.room = usize::MAX;
-        match self.decide(alloc, rules, other, STEPS)? {
+    fn add_rule(&mut self, alloc: Global, rules: &[Open], other: &Leaf) -> Result<Leaf, AllocError>
+        requires sound { AreSound self.old }
+        requires rules { AreRules rules.now }
+        requires other { IsBefore (vec_len self.old.blocks) other.now }
+        ensures sound { OnOk result (AreSound self.new) }
+        ensures more { OnOk result (HasMore self.old.blocks.items self.new.blocks.items) }
+        ensures known { OnOk result (self.new.known.items ≡ self.old.known.items) }
+        ensures found { IfOk result (IsFound self.new.blocks.items rules.now other.now) }
+    {
+        self.room = None;
+        match self.decide(alloc, rules, other, weight_of(rules))? {
             Some(leaf) => Ok(leaf),
-            None => Ok(Leaf::Word(Word::KILL_THREAD)),
+            None => unreachable!(),
         }
     }
 
@@ -200,48 +238,57 @@ impl Blocks {
         count
     }
 
-    // Takes the blocks out from a place on, from the last to the first.
-    fn set_aside(&mut self, alloc: Global, place: usize) -> Result<Vec<Block>, AllocError> {
-        let mut aside = Vec::new(alloc);
-        for _ in place..self.blocks.len() {
-            if let Some(block) = self.pop() {
-                aside.push(block)?;
-            }
-        }
+    // Takes the blocks out from a place on.
+    fn set_aside(&mut self, place: usize) -> Result<Vec<Block>, AllocError>
+        requires { place ≤ vec_len self.old.blocks }
+        ensures kept { OnOk result (self.new.blocks.items ≡ take place self.old.blocks.items) }
+        ensures aside { IfOk result (λ aside. aside.items ≡ drop place self.old.blocks.items) }
+        ensures known { OnOk result (self.new.known.items ≡ self.old.known.items) }
+    {
+        let aside = self.blocks.split_off(place)?;
+        self.index.forget(aside.len());
         Ok(aside)
     }
 
     // Drops the blocks from a place on.
-    fn drop_from(&mut self, place: usize) {
-        for _ in place..self.blocks.len() {
-            self.pop();
-        }
-    }
-
-    // Takes the last block out.
-    fn pop(&mut self) -> Option<Block> {
-        self.index.pop();
-        self.blocks.pop()
+    fn drop_from(&mut self, place: usize)
+        ensures kept { self.new.blocks.items ≡ take place self.old.blocks.items }
+        ensures known { self.new.known.items ≡ self.old.known.items }
+    {
+        self.index.forget(self.blocks.len().saturating_sub(place));
+        self.blocks.truncate(place);
     }
 
     // Puts blocks back that were taken out.
-    fn put_back(&mut self, alloc: Global, mut aside: Vec<Block>) -> Result<(), AllocError> {
-        for _ in 0..aside.len() {
-            if let Some(block) = aside.pop() {
-                self.put(alloc, block)?;
-            }
-        }
+    fn put_back(&mut self, alloc: Global, mut aside: Vec<Block>) -> Result<(), AllocError>
+        ensures blocks { OnOk result (self.new.blocks.items ≡ self.old.blocks.items ++ aside.items) }
+        ensures known { OnOk result (self.new.known.items ≡ self.old.known.items) }
+    {
+        self.index.push_all(alloc, &aside)?;
+        self.blocks.append(&mut aside)?;
         Ok(())
     }
 
     // The block that looks at all questions for the same bits at once, unless it is too long.
+    #[cycle(decide)]
     fn decide(
         &mut self,
         alloc: Global,
         rules: &[Open],
         other: &Leaf,
         steps: usize,
-    ) -> Result<Option<Leaf>, AllocError> {
+    ) -> Result<Option<Leaf>, AllocError>
+        requires steps { weight rules.now ≤ steps }
+        requires sound { AreSound self.old }
+        requires rules { AreRules rules.now }
+        requires other { IsBefore (vec_len self.old.blocks) other.now }
+        ensures sound { OnOk result (AreSound self.new) }
+        ensures more { OnOk result (HasMore self.old.blocks.items self.new.blocks.items) }
+        ensures known { OnOk result (self.new.known.items ≡ self.old.known.items) }
+        ensures found { IfOk result (λ leaf. IfSome leaf (IsFound self.new.blocks.items rules.now other.now)) }
+        ensures always { self.old.room ≡ None → IfOk result IsSome }
+        ensures room { self.old.room ≡ None → OnOk result (self.new.room ≡ None) }
+    {
         let Some(subject) = subject_of(rules) else {
             return Ok(Some(*other));
         };
@@ -249,27 +296,62 @@ impl Blocks {
             return Ok(Some(Leaf::Block(block)));
         }
         let starts = starts_of(alloc, rules, subject)?;
-        if steps == 0 || starts.len() > self.room {
+        if !self.has_room(starts.len()) {
             return Ok(None);
         }
-        self.room -= starts.len();
         let mut ranges = Ranges::new(alloc);
         for (place, start) in starts.iter().enumerate() {
-            let leaf = match left(alloc, rules, subject, *start)? {
-                Rest::Met(_, word) => Some(Leaf::Word(word)),
-                Rest::Open(open) => self.decide(alloc, &open, other, steps - 1)?,
-            };
-            let Some(leaf) = leaf else {
+            let Some(leaf) = self.leaf_at(alloc, rules, other, steps, subject, *start)? else {
                 return Ok(None);
             };
-            let end = end_of(&starts, place);
-            if subject.mask == u32::MAX {
-                ranges.extend(end, leaf)?;
-            } else {
-                ranges.push(end, leaf)?;
-            }
+            ranges.add(subject, end_of(&starts, place), leaf)?;
         }
-        self.push(alloc, subject, ranges, rules, other)
+        Ok(Some(self.push(alloc, subject, ranges, rules, other)?))
+    }
+
+    // What decides where these bits are this number.
+    #[cycle(decide)]
+    fn leaf_at(
+        &mut self,
+        alloc: Global,
+        rules: &[Open],
+        other: &Leaf,
+        steps: usize,
+        subject: Subject,
+        start: u32,
+    ) -> Result<Option<Leaf>, AllocError>
+        requires steps { weight rules.now ≤ steps }
+        requires asks { AsksFor rules.now subject }
+        requires sound { AreSound self.old }
+        requires rules { AreRules rules.now }
+        requires other { IsBefore (vec_len self.old.blocks) other.now }
+        ensures sound { OnOk result (AreSound self.new) }
+        ensures more { OnOk result (HasMore self.old.blocks.items self.new.blocks.items) }
+        ensures known { OnOk result (self.new.known.items ≡ self.old.known.items) }
+        ensures found { IfOk result (λ leaf. IfSome leaf (IsFoundAt self.new.blocks.items rules.now other.now subject start)) }
+        ensures always { self.old.room ≡ None → IfOk result IsSome }
+        ensures room { self.old.room ≡ None → OnOk result (self.new.room ≡ None) }
+    {
+        match left(alloc, rules, subject, start)? {
+            Rest::Met(_, word) => Ok(Some(Leaf::Word(word))),
+            Rest::Open(open) => self.decide(alloc, &open, other, steps - 1),
+        }
+    }
+
+    // Whether so many ranges more may be looked at: then they count as looked at.
+    fn has_room(&mut self, count: usize) -> bool
+        ensures blocks { self.new.blocks.items ≡ self.old.blocks.items }
+        ensures known { self.new.known.items ≡ self.old.known.items }
+        ensures none { self.old.room ≡ None → (IsTrue result × (self.new.room ≡ None)) }
+    {
+        let Some(room) = self.room else {
+            return true;
+        };
+        if count > room {
+            return false;
+        }
+        self.room = Some(room - count);
+        true
     }
 
     // Adds a block, unless it always goes on alike.
@@ -280,10 +362,24 @@ impl Blocks {
         ranges: Ranges,
         rules: &[Open],
         other: &Leaf,
-    ) -> Result<Option<Leaf>, AllocError> {
+    ) -> Result<Leaf, AllocError>
+        requires sound { AreSound self.old }
+        requires other { IsBefore (vec_len self.old.blocks) other.now }
+        requires rules { AreRules rules.now }
+        requires asks { AsksFor rules.now subject }
+        requires ranged { AreRanged self.old.blocks.items rules.now other.now subject ranges.ranges.items (2 ^ 32) }
+        ensures sound { OnOk result (AreSound self.new) }
+        ensures more { OnOk result (HasMore self.old.blocks.items self.new.blocks.items) }
+        ensures known { OnOk result (self.new.known.items ≡ self.old.known.items) }
+        ensures found { IfOk result (IsFound self.new.blocks.items rules.now other.now) }
+        ensures room { OnOk result (self.new.room ≡ self.old.room) }
+    {
         let ranges = ranges.into_vec();
         if let [only] = ranges.as_slice() {
-            return Ok(Some(only.leaf));
+            return Ok(only.leaf);
+        }
+        if !are_picked(subject, &ranges) {
+            return Err(AllocError);
         }
         let block = self.blocks.len();
         let rules = Vec::from_slice(alloc, rules)?;
@@ -297,36 +393,103 @@ impl Blocks {
                 other,
             },
         )?;
-        Ok(Some(Leaf::Block(block)))
+        Ok(Leaf::Block(block))
     }
 
     // Adds a block.
-    fn put(&mut self, alloc: Global, block: Block) -> Result<(), AllocError> {
+    fn put(&mut self, alloc: Global, block: Block) -> Result<(), AllocError>
+        ensures blocks { OnOk result (self.new.blocks.items ≡ self.old.blocks.items ++ block ∷ []) }
+        ensures known { OnOk result (self.new.known.items ≡ self.old.known.items) }
+        ensures room { OnOk result (self.new.room ≡ self.old.room) }
+    {
         self.index.push(alloc, key_of(&block.rules, &block.other))?;
         self.blocks.push(block)?;
         Ok(())
     }
 
-    // Whether the block stands for this.
-    fn stands_for(&self, block: usize, rules: &[Open], other: &Leaf) -> bool {
-        match self.blocks.get(block) {
-            Some(block) => block.other.is_like(other) && are_alike(&block.rules, rules),
-            None => false,
+    // Whether the block stands for this, which has this key.
+    fn stands_for(&self, place: usize, key: u32, rules: &[Open], other: &Leaf) -> bool
+        ensures { IsTrue result → IsKept self.now.blocks.items rules.now other.now place }
+    {
+        if !self.index.has_key(place, key) {
+            return false;
         }
+        let Some(block) = self.blocks.get(place) else {
+            return false;
+        };
+        if !block.other.is_like(other) {
+            return false;
+        }
+        are_alike(&block.rules, rules)
     }
 
     // The block that stands for this.
-    fn find(&self, rules: &[Open], other: &Leaf) -> Option<usize> {
+    fn find(&self, rules: &[Open], other: &Leaf) -> Option<usize>
+        ensures { IfSome result (IsKept self.now.blocks.items rules.now other.now) }
+    {
         let key = key_of(rules, other);
         let mut place = self.index.last(key);
         for _ in 0..self.blocks.len() {
             let found = place?;
-            if self.index.has_key(found, key) && self.stands_for(found, rules, other) {
+            if self.stands_for(found, key, rules, other) {
                 return Some(found);
             }
             place = self.index.before(found);
         }
         None
+    }
+}
+
+// Whether each rule has the word of what is gone on at without them.
+fn all_have(rules: &[Open], other: &Leaf) -> bool
+    ensures { IsTrue result → All (λ o. other.now ≡ Leaf.Word o.answer) rules.now }
+{
+    rules
+        .iter()
+        .all(|open| other.is_like(&Leaf::Word(open.answer)))
+}
+
+// Whether of bits under a mask each range is one number or has the leaf of the last range.
+fn are_picked(subject: Subject, ranges: &[Range]) -> bool
+    ensures { IsTrue result → (subject.mask ≡ 0xffffffff) ⊎ ((last : Range) → IsLast ranges.now last → All (IsPicked last) ranges.now) }
+{
+    if subject.mask == u32::MAX {
+        return true;
+    }
+    let Some(rest) = ranges.last() else {
+        return true;
+    };
+    all_picked(ranges, rest)
+}
+
+// Whether each range is one number or has the leaf of the rest.
+fn all_picked(ranges: &[Range], rest: &Range) -> bool
+    ensures { IsTrue result → All (IsPicked rest.now) ranges.now }
+{
+    ranges
+        .iter()
+        .all(|range| range.is_like(rest) || range.is_single())
+}
+
+// How much is left to ask.
+fn weight_of(rules: &[Open]) -> usize
+    ensures { result ≡ weight rules.now }
+{
+    let mut sum = 0usize;
+    for open in rules {
+        sum += weight_of_one(open);
+    }
+    sum
+}
+
+// A question that goes on with the low word counts twice.
+fn weight_of_one(open: &Open) -> usize
+    ensures weight { result ≡ question_weight open.now.question.low }
+    ensures most { result ≤ 2 }
+{
+    match open.question.low {
+        Some(_) => 2,
+        None => 1,
     }
 }
 
@@ -336,48 +499,10 @@ fn room_for(rules: &[Open], fewest: usize) -> usize {
     looked_at.max(fewest.saturating_mul(2))
 }
 
-/// The bits that are asked for first: a low word where the high one is known, or those of the first
-/// question.
-pub fn subject_of(rules: &[Open]) -> Option<Subject> {
-    let last = rules.iter().find(|open| open.question.is_last());
-    let open = match last {
-        Some(open) => open,
-        None => rules.first()?,
-    };
-    Some(open.question.subject)
-}
-
-/// The numbers of the bits from which on something else may be left to ask, in order, from 0 on.
-pub fn starts_of(alloc: Global, rules: &[Open], subject: Subject) -> Result<Vec<u32>, AllocError> {
-    let mut starts = Vec::new(alloc);
-    starts.push(0)?;
-    for open in rules {
-        if open.question.subject == subject {
-            for turn in open.question.turns() {
-                if let Some(start) = turn {
-                    starts.push(start)?;
-                }
-            }
-        }
-    }
-    starts.sort()?;
-    starts.dedup();
-    Ok(starts)
-}
-
-// Where the range ends that begins at a start: it is the next one's beginning.
-fn end_of(starts: &[u32], place: usize) -> u64
-    ensures { result ≤ 2 ^ 32 }
-{
-    match starts.get(place.saturating_add(1)) {
-        Some(next) => u64::from(*next),
-        None => 1 << 32,
-    }
-}
-
 // The place of the rule that begins nearest behind the middle, or else of the last one.
 fn middle(rules: &[Open]) -> Option<usize>
-    ensures { IfSome result (λ place. (1 ≤ place) × (place < length rules.now)) }
+    ensures within { IfSome result (λ place. (1 ≤ place) × (place < length rules.now)) }
+    ensures begins { IfSome result (λ place. begins_here (drop place rules.now) ≡ true) }
 {
     let mut found = None;
     for place in 1..rules.len() {

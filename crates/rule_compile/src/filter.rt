@@ -1,9 +1,16 @@
 //! The filter of a profile.
-ghost use Rattle.std.specs.Prelude.{◌≡◌, ◌≤◌, ◌<◌, ◌+◌, ◌*◌, [], None, length, vec_len, All, OnOk, IfErr, IfOk, IsErrOf, MatchOption};
+ghost use Rattle.std.specs.Prelude.{◌≡◌, ◌≤◌, ◌<◌, ◌+◌, ◌*◌, ℕ, List, [], None, Some, length, vec_len, All, OnOk, IfErr, IfOk, IsErrOf, MatchOption};
 ghost use Rattle.bpf_insn.specs.Bytes.{insns_of, view_fault};
+ghost use Rattle.call_record.specs.Words.{IsRecord};
+ghost use Rattle.call_tables.specs.Arch.{token_of};
+ghost use Rattle.profile.specs.Policy.{IsClear};
+ghost use Rattle.profile.specs.Said.{said};
+ghost use Rattle.rule_compile.specs.Right.{IsRightFilter};
 ghost use Rattle.rule_compile.specs.Shape.{IsCallFilter, IsPlain};
 ghost use Rattle.rule_compile.specs.inner.Calls.{Apart, CallsOf};
 ghost use Rattle.rule_compile.specs.inner.Numbers.{IsListed};
+ghost use Rattle.rule_compile.specs.inner.Runs.{AreIn, AreWritten, gives_from};
+ghost use Rattle.rule_compile.specs.inner.Stands.{AreSound, TellsCalls, TellsThese};
 
 use crate::assembler::Assembler;
 use crate::blocks::Blocks;
@@ -27,6 +34,7 @@ use std::alloc::Global;
 /// relies on the verdicts has the filter checked against the profile.
 pub fn compile(alloc: Global, profile: &Profile) -> Result<Vec<u8>, CompileError>
     ensures program { IfOk result (λ bytes. view_fault bytes.items ≡ None) }
+    ensures right { IfOk result (λ bytes. IsRightFilter profile.now (insns_of bytes.items)) }
     ensures shape { IsPlain profile.now → IfOk result (λ bytes. IsCallFilter profile.now (insns_of bytes.items)) }
     ensures never { IsPlain profile.now → IfErr result (λ error. error ≡ CompileError.OutOfMemory) }
 {
@@ -46,6 +54,7 @@ pub struct Made {
 /// The filter that `compile` gives, with its outline.
 pub fn make(alloc: Global, profile: &Profile) -> Result<Made, CompileError>
     ensures program { IfOk result (λ made. view_fault made.bytes.items ≡ None) }
+    ensures right { IfOk result (λ made. IsRightFilter profile.now (insns_of made.bytes.items)) }
     ensures shape { IsPlain profile.now → IfOk result (λ made. IsCallFilter profile.now (insns_of made.bytes.items)) }
     ensures never { IsPlain profile.now → IfErr result (λ error. error ≡ CompileError.OutOfMemory) }
 {
@@ -66,6 +75,8 @@ fn filter(
 ) -> Result<(), CompileError>
     requires empty { code.old ≡ [] }
     requires no_block { vec_len blocks.old.blocks ≡ 0 }
+    requires sound { AreSound blocks.old }
+    ensures gives { OnOk result ((r : List ℕ) → IsRecord r → gives_from code.new 0 0 r ≡ Some (said profile.now r)) }
     ensures some { OnOk result (1 ≤ length code.new) }
     ensures shape { IsPlain profile.now → OnOk result (IsCallFilter profile.now code.new) }
     ensures never { IsPlain profile.now → IsErrOf result CompileError.TooLong → ⊥ }
@@ -73,13 +84,14 @@ fn filter(
     let machines = profile.machines();
     let mut written = Vec::new(alloc);
     match tell_machines_apart(code, alloc, profile, machines, blocks, &mut written)? {
-        Target::Place(_) => {
+        Target::Place(place) => {
+            code.begin_at(place)?;
             code.load(MACHINE)?;
             Ok(())
         }
         Target::Return(word) => {
-            code.near_return(word)?;
-            Ok(())
+            let place = code.near_return(word)?;
+            code.begin_at(place)
         }
     }
 }
@@ -93,6 +105,13 @@ fn tell_machines_apart(
     blocks: &mut Blocks,
     written: &mut Vec<Written>,
 ) -> Result<Target, CompileError>
+    requires clear { IsClear profile.now.rules }
+    requires sound { AreSound blocks.old }
+    requires placed { AreIn code.old written.old.items }
+    ensures sound { OnOk result (AreSound blocks.new) }
+    ensures placed { OnOk result (AreIn code.new written.new.items) }
+    ensures written { AreWritten blocks.old.blocks.items code.old written.old.items → OnOk result (AreWritten blocks.new.blocks.items code.new written.new.items) }
+    ensures tells { All (IsListed profile.now) machines.now → AreWritten blocks.old.blocks.items code.old written.old.items → IfOk result (TellsThese profile.now machines.now code.new) }
     ensures apart { IfOk result (Apart profile.now machines.now (vec_len blocks.old.blocks) code.old code.new) }
     ensures no_block { IsPlain profile.now → OnOk result (blocks.new ≡ blocks.old) }
     ensures full { IsErrOf result CompileError.TooLong → IsPlain profile.now → vec_len blocks.old.blocks ≡ 0 → All (IsListed profile.now) machines.now → 4096 < length code.old + 1546 * length machines.now }
@@ -135,6 +154,13 @@ fn calls_of(
     blocks: &mut Blocks,
     written: &mut Vec<Written>,
 ) -> Result<Target, CompileError>
+    requires clear { IsClear profile.now.rules }
+    requires sound { AreSound blocks.old }
+    requires placed { AreIn code.old written.old.items }
+    ensures sound { OnOk result (AreSound blocks.new) }
+    ensures placed { OnOk result (AreIn code.new written.new.items) }
+    ensures written { AreWritten blocks.old.blocks.items code.old written.old.items → OnOk result (AreWritten blocks.new.blocks.items code.new written.new.items) }
+    ensures tells { IsListed profile.now machine → AreWritten blocks.old.blocks.items code.old written.old.items → IfOk result (TellsCalls profile.now (token_of machine) code.new) }
     ensures calls { IfOk result (CallsOf profile.now machine (vec_len blocks.old.blocks) code.old code.new) }
     ensures no_block { IsPlain profile.now → OnOk result (blocks.new ≡ blocks.old) }
     ensures full { IsErrOf result CompileError.TooLong → IsPlain profile.now → vec_len blocks.old.blocks ≡ 0 → IsListed profile.now machine → 4096 < length code.old + 1543 }

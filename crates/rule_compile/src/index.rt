@@ -1,6 +1,7 @@
 //! Blocks by a key of what they stand for, so that few are looked at where one is looked for.
 
-use crate::open::Open;
+use crate::asked::Open;
+use crate::outline::Block;
 use crate::ranges::Leaf;
 use std::alloc::{AllocError, Global};
 
@@ -43,6 +44,14 @@ impl Index {
         self.grow(alloc)
     }
 
+    /// The next blocks are these.
+    pub(crate) fn push_all(&mut self, alloc: Global, blocks: &[Block]) -> Result<(), AllocError> {
+        for block in blocks {
+            self.push(alloc, key_of(&block.rules, &block.other))?;
+        }
+        Ok(())
+    }
+
     // Twice as many shelves, on which all blocks are put anew.
     fn grow(&mut self, alloc: Global) -> Result<(), AllocError> {
         let count = self.shelves.len().saturating_mul(2).max(SHELVES);
@@ -70,8 +79,15 @@ impl Index {
         self.set_last(key, Some(block));
     }
 
-    /// The last block is taken out.
-    pub(crate) fn pop(&mut self) {
+    /// So many blocks are taken out, the last one first.
+    pub(crate) fn forget(&mut self, count: usize) {
+        for _ in 0..count {
+            self.pop();
+        }
+    }
+
+    // The last block is taken out.
+    fn pop(&mut self) {
         if let Some(block) = self.blocks.pop() {
             self.set_last(block.key, block.before);
         }

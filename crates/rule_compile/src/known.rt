@@ -1,6 +1,8 @@
 //! Questions of which it is known what decides them.
+ghost use Rattle.std.specs.Prelude.{◌≡◌, IsTrue};
+ghost use Rattle.rule_compile.specs.inner.Left.{AreSame};
 
-use crate::open::{Open, are_alike};
+use crate::asked::{Open, are_alike};
 use crate::outline::Part;
 use crate::ranges::Leaf;
 use std::alloc::{AllocError, Global};
@@ -19,16 +21,26 @@ pub(crate) struct Span {
 #[derive(Drop)]
 pub(crate) struct Known {
     pub(crate) key: u32,
-    pub(crate) open: Vec<Open>,
+    pub(crate) asked: Vec<Open>,
+    /// What is gone on at where none of their rules holds.
+    pub(crate) other: Leaf,
     pub(crate) leaf: Leaf,
     /// The parts in which they are asked, the last one first.
     pub(crate) spans: Vec<Span>,
 }
 
 impl Known {
-    /// Whether these questions, which have this key, are the same, whoever asks them.
-    pub(crate) fn is_of(&self, key: u32, open: &[Open]) -> bool {
-        self.key == key && are_alike(&self.open, open)
+    /// Whether these questions, which have this key, are the same, whoever asks them, and go on at the same.
+    pub(crate) fn is_of(&self, key: u32, rules: &[Open], other: &Leaf) -> bool
+        ensures { IsTrue result → AreSame self.now.asked.items rules.now × (self.now.other ≡ other.now) }
+    {
+        if self.key != key {
+            return false;
+        }
+        if !self.other.is_like(other) {
+            return false;
+        }
+        are_alike(&self.asked, rules)
     }
 
     /// The parts in which questions that are the same are asked.

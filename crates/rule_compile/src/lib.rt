@@ -4,6 +4,7 @@
 //! program are those of the profile is left to a check of the filter.
 #![tactic(auto)]
 
+mod asked;
 mod assembler;
 mod blocks;
 mod fault;
@@ -13,18 +14,20 @@ mod groups;
 mod index;
 mod known;
 mod label;
-mod open;
 mod outline;
 mod plan;
 mod question;
 mod ranges;
+mod remaining;
 mod search;
+mod starts;
 mod written;
 
-pub use blocks::{starts_of, subject_of};
+pub use asked::{Asker, Open, Rest, are_alike};
 pub use fault::CompileError;
 pub use filter::{Made, compile, make};
-pub use open::{Asker, Open, Rest, are_alike, left};
 pub use outline::{Asked, Block, Call, Outline, Part};
 pub use question::{Comparison, Question, Subject};
 pub use ranges::{Leaf, Range};
+pub use remaining::left;
+pub use starts::{starts_of, subject_of};

@@ -1,6 +1,6 @@
 //! What the compiler knows of a filter: what is asked where, and for which rules.
 
-use crate::open::Open;
+use crate::asked::Open;
 use crate::question::Subject;
 use crate::ranges::{Leaf, Range};
 

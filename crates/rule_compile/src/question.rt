@@ -2,12 +2,28 @@
 //!
 //! A filter sees an argument of 64 bits as two words. Two numbers compare as their high words do
 //! where these differ, and else as their low words do.
+ghost use Rattle.std.specs.Prelude.{◌≡◌, ◌↔◌, ◌+◌, ℕ, List, None, Some, IfSome, IsTrue};
+ghost use Rattle.rule_compile.specs.Questions.{bits, compares};
+ghost use Rattle.rule_compile.specs.inner.Left.{HasNoNext, IsAlone, IsQuestion, IsQuestionLeft, WeighsLess};
+ghost use Rattle.rule_compile.specs.inner.Replies.{AreAlike, IsReply, reply_of};
 
 /// How a word compares with a number.
 #[derive(Clone, Copy, PartialEq, Eq)]
 pub enum Comparison {
     Equal,
     AtLeast,
+}
+
+impl Comparison {
+    // Whether a number compares so with the one that is asked for.
+    fn holds(self, asked: u32, number: u32) -> bool
+        ensures { result ≡ compares self asked number }
+    {
+        match self {
+            Comparison::Equal => number == asked,
+            Comparison::AtLeast => number >= asked,
+        }
+    }
 }
 
 /// The bits of a word that are asked for.
@@ -40,31 +56,36 @@ pub(crate) enum Reply {
 }
 
 impl Reply {
-    fn of(met: bool) -> Reply {
+    fn of(met: bool) -> Reply
+        ensures { result ≡ reply_of met }
+    {
         if met { Reply::Met } else { Reply::NotMet }
     }
 }
 
 impl Question {
     /// What is left to ask where these bits are this number.
-    pub(crate) fn reply(&self, subject: Subject, number: u32) -> Reply {
+    pub(crate) fn reply(&self, subject: Subject, number: u32) -> Reply
+        ensures says { (r : List ℕ) → (self.now.subject ≡ subject → AreAlike self.now number (bits subject r)) → IsReply self.now r result }
+        ensures question { IsQuestion self.now → IsQuestionLeft result }
+        ensures less { WeighsLess self.now subject result }
+    {
         if self.subject != subject {
             return Reply::Open(*self);
         }
-        if number == self.number
-            && let Some(low) = self.low
-        {
-            return self.reply_of_low(low);
+        match self.low {
+            Some(low) if number == self.number => self.reply_of_low(low),
+            _ => Reply::of(self.comparison.holds(self.number, number) == self.wanted),
         }
-        let holds = match self.comparison {
-            Comparison::Equal => number == self.number,
-            Comparison::AtLeast => number >= self.number,
-        };
-        Reply::of(holds == self.wanted)
     }
 
     // What is asked of the low word, which stands in front of the high one. It is at least 0.
-    fn reply_of_low(&self, low: u32) -> Reply {
+    fn reply_of_low(&self, low: u32) -> Reply
+        requires { self.now.low ≡ Some low }
+        ensures says { (r : List ℕ) → bits self.now.subject r ≡ self.now.number → IsReply self.now r result }
+        ensures question { IsQuestion self.now → IsQuestionLeft result }
+        ensures less { IsAlone result }
+    {
         if low == 0 && self.comparison == Comparison::AtLeast {
             return Reply::of(self.wanted);
         }
@@ -86,12 +107,14 @@ impl Question {
         self.subject.mask == u32::MAX && self.low.is_none()
     }
 
-    /// The numbers from which on the reply may be another.
-    pub(crate) fn turns(&self) -> [Option<u32>; 2] {
-        let next = match (self.comparison, self.low) {
+    /// The number behind the one that is asked for, where the reply may be another from it on.
+    pub(crate) fn next_turn(&self) -> Option<u32>
+        ensures some { IfSome result (λ next. next ≡ self.now.number + 1) }
+        ensures none { (result ≡ None) → HasNoNext self.now }
+    {
+        match (self.comparison, self.low) {
             (Comparison::AtLeast, None) => None,
             _ => self.number.checked_add(1),
-        };
-        [Some(self.number), next]
+        }
     }
 }

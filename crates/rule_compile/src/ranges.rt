@@ -1,13 +1,18 @@
 //! What decides the calls of one machine, as ranges of call numbers.
-ghost use Rattle.std.specs.Prelude.{◌≡◌, ◌↔◌, ◌≤◌, ◌<◌, ◌^◌, [], length, max, All, IfOk, IfSome, IsSome, IsTrue, OnOk};
+ghost use Rattle.std.specs.Prelude.{◌≡◌, ◌↔◌, ◌≤◌, ◌<◌, ◌^◌, [], length, max, vec_len, All, IfOk, IfSome, IsSome, IsTrue, OnOk};
 ghost use Rattle.std.specs.Prelude.{ℕ};
 ghost use Rattle.call_tables.specs.Arch.{token_of};
+ghost use Rattle.profile.specs.Policy.{IsClear};
 ghost use Rattle.rule_compile.specs.Shape.{IsPlain};
 ghost use Rattle.rule_compile.specs.inner.Numbers.{AreOwn, AreUnconditional, IsExtended, IsFor, IsLastAlike, IsListed, IsNext, IsWorded, LeafFor, Reached, Tiles, said_of};
 ghost use Rattle.rule_compile.specs.inner.Ranges.{IsLike};
+ghost use Rattle.rule_compile.specs.inner.Runs.{AreBefore, IsBefore};
+ghost use Rattle.rule_compile.specs.inner.Stands.{AreSound, AreThose, DecidesCalls, DecidesNumber, HasMore, SaysNumber};
+ghost use Rattle.rule_compile.specs.inner.Told.{ToldSoFar};
 
+use crate::asked::Placed;
 use crate::blocks::Blocks;
-use crate::open::Placed;
+use crate::question::Subject;
 use call_record::Word;
 use call_tables::Arch;
 use profile::{Profile, Rule};
@@ -27,6 +32,7 @@ impl Leaf {
     // rule for it has no conditions, the others that match have its word, since no record matches two
     // rules with unlike words.
     fn of(rules: &[Rule], token: u32, number: u32, default: Word) -> Option<Leaf>
+        ensures told { IfSome result (λ leaf. (word : ℕ) × (leaf ≡ Leaf.Word word) × SaysNumber rules.now token number default word) }
         ensures some { AreUnconditional rules.now → IsSome result }
         ensures word { AreUnconditional rules.now → IfSome result (LeafFor rules.now token number default) }
     {
@@ -161,9 +167,23 @@ impl Ranges {
         Ok(())
     }
 
-    /// Adds the numbers up to an end, where any of them are missing, as a range of their own.
-    pub(crate) fn push(&mut self, end: u64, leaf: Leaf) -> Result<(), AllocError>
+    /// Adds the numbers of some bits up to an end, where any of them are missing. Of bits under a mask each range is one of its own.
+    pub(crate) fn add(&mut self, subject: Subject, end: u64, leaf: Leaf) -> Result<(), AllocError>
         requires { end ≤ 2 ^ 32 }
+        ensures end { OnOk result (self.new.end ≡ max self.old.end end) }
+        ensures extended { OnOk result (IsExtended self.old.ranges.items self.old.end end leaf self.new.ranges.items) }
+    {
+        if subject.mask == u32::MAX {
+            return self.extend(end, leaf);
+        }
+        self.push(end, leaf)
+    }
+
+    // Adds the numbers up to an end, where any of them are missing, as a range of their own.
+    fn push(&mut self, end: u64, leaf: Leaf) -> Result<(), AllocError>
+        requires { end ≤ 2 ^ 32 }
+        ensures end { OnOk result (self.new.end ≡ max self.old.end end) }
+        ensures extended { OnOk result (IsExtended self.old.ranges.items self.old.end end leaf self.new.ranges.items) }
     {
         if end > self.end {
             let first = self.end as u32;
@@ -175,7 +195,9 @@ impl Ranges {
     }
 
     /// The ranges in order.
-    pub(crate) fn into_vec(self) -> Vec<Range> {
+    pub(crate) fn into_vec(self) -> Vec<Range>
+        ensures { result.items ≡ self.ranges.items }
+    {
         let Ranges { ranges, end: _ } = self;
         ranges
     }
@@ -192,6 +214,10 @@ impl Ranges {
         requires upto { self.old.end ≤ end }
         requires small { end ≤ 2 ^ 32 }
         requires own { AreOwn machine self.old.end end }
+        requires sound { AreSound blocks.old }
+        ensures sound { OnOk result (AreSound blocks.new) }
+        ensures more { OnOk result (HasMore blocks.old.blocks.items blocks.new.blocks.items) }
+        ensures told { ToldSoFar profile.now machine blocks.old.blocks.items self.old.end self.old.ranges.items → OnOk result (ToldSoFar profile.now machine blocks.new.blocks.items self.new.end self.new.ranges.items) }
         ensures end { OnOk result (self.new.end ≡ end) }
         ensures no_block { IsPlain profile.now → OnOk result (blocks.new ≡ blocks.old) }
         ensures reached { (most : ℕ) → 513 ≤ most → Reached profile.now machine most end self.old.end self.old.ranges.items → OnOk result (Reached profile.now machine most end end self.new.ranges.items) }
@@ -214,6 +240,10 @@ impl Ranges {
         requires before { self.old.end < end }
         requires small { end ≤ 2 ^ 32 }
         requires own { AreOwn machine self.old.end end }
+        requires sound { AreSound blocks.old }
+        ensures sound { OnOk result (AreSound blocks.new) }
+        ensures more { OnOk result (HasMore blocks.old.blocks.items blocks.new.blocks.items) }
+        ensures told { ToldSoFar profile.now machine blocks.old.blocks.items self.old.end self.old.ranges.items → OnOk result (ToldSoFar profile.now machine blocks.new.blocks.items self.new.end self.new.ranges.items) }
         ensures further { OnOk result ((self.old.end < self.new.end) × (self.new.end ≤ end)) }
         ensures no_block { IsPlain profile.now → OnOk result (blocks.new ≡ blocks.old) }
         ensures reached { (most : ℕ) → 513 ≤ most → Reached profile.now machine most end self.old.end self.old.ranges.items → OnOk result (Reached profile.now machine most end self.new.end self.new.ranges.items) }
@@ -242,6 +272,11 @@ fn leaf_of(
     default: Word,
     blocks: &mut Blocks,
 ) -> Result<Leaf, AllocError>
+    requires sound { AreSound blocks.old }
+    ensures sound { OnOk result (AreSound blocks.new) }
+    ensures more { OnOk result (HasMore blocks.old.blocks.items blocks.new.blocks.items) }
+    ensures before { IfOk result (IsBefore (vec_len blocks.new.blocks)) }
+    ensures decides { IfOk result (DecidesNumber rules.now token number default blocks.new.blocks.items) }
     ensures no_block { AreUnconditional rules.now → OnOk result (blocks.new ≡ blocks.old) }
     ensures word { AreUnconditional rules.now → IfOk result (LeafFor rules.now token number default) }
 {
@@ -260,7 +295,9 @@ fn rules_for(
     rules: &[Rule],
     token: u32,
     number: u32,
-) -> Result<Vec<Placed<'_>>, AllocError> {
+) -> Result<Vec<Placed<'_>>, AllocError>
+    ensures { IfOk result (λ own. AreThose rules.now token number own.items) }
+{
     let mut own = Vec::new(alloc);
     for (place, rule) in rules.iter().enumerate() {
         if is_for(rule, token, number) {
@@ -278,6 +315,12 @@ pub(crate) fn ranges_of(
     machine: Arch,
     blocks: &mut Blocks,
 ) -> Result<Vec<Range>, AllocError>
+    requires clear { IsClear profile.now.rules }
+    requires sound { AreSound blocks.old }
+    ensures sound { OnOk result (AreSound blocks.new) }
+    ensures more { OnOk result (HasMore blocks.old.blocks.items blocks.new.blocks.items) }
+    ensures before { IfOk result (λ ranges. AreBefore (vec_len blocks.new.blocks) ranges.items) }
+    ensures decides { IsListed profile.now machine → IfOk result (λ ranges. All (DecidesCalls profile.now (token_of machine) blocks.new.blocks.items) ranges.items) }
     ensures no_block { IsPlain profile.now → OnOk result (blocks.new ≡ blocks.old) }
     ensures tiled { IfOk result (λ ranges. Tiles 0 ranges.items (2 ^ 32)) }
     ensures some { IfOk result (λ ranges. 1 ≤ length ranges.items) }

@@ -13,6 +13,7 @@ use Rattle.rule_compile.specs.declared.label.Exits.{Exits}
 use Rattle.rule_compile.specs.Shape.{answer, weight, depth}
 use Rattle.rule_compile.specs.inner.Code.{Grows, IsIn, position}
 use Rattle.rule_compile.specs.inner.Emitted.{AreFine}
+use Rattle.rule_compile.specs.inner.Runs.{gives_from, runs}
 
 -- the answer from a target on
 abbrev pub goes : List Insn → Target → Option ℕ → List ℕ → Option ℕ
@@ -35,6 +36,7 @@ pub record Reaches (old new : List Insn) (to : Target) (place : Label) : Type 0 
   pub placed : IsIn new place
   pub near : length new < place.to_end + 255
   pub one : length new ≤ length old + 1
+  pub runs : (a : ℕ) (r : List ℕ) → gives_from new (position new place) a r ≡ runs old to a r
   pub answers : (held : Option ℕ) (r : List ℕ) → answer new (position new place) held r ≡ goes old to held r
   pub weighs : weight new (position new place) ≤ cost old to
   pub shallow : depth new (position new place) ≤ deep old to
@@ -50,6 +52,7 @@ pub record JumpsTo (code : List Insn) (to place : Label) : Type 0 where
 -- the new code begins by a comparison of the word that is loaded, and goes on by how it comes out
 pub record Branches (old new : List Insn) (test : Test) (k : ℕ) (exits : Exits) : Type 0 where
   pub grows : Grows old new
+  pub runs : (a : ℕ) (r : List ℕ) → gives_from new 0 a r ≡ runs old (if holds test a k then exits.yes else exits.no) a r
   pub answers : (test ≡ Equal) ⊎ (test ≡ AtLeast) → (w : ℕ) (r : List ℕ)
       → answer new 0 (Some w) r ≡ goes old (if holds test (slice_index r w) k then exits.yes else exits.no) (Some w) r
   pub weighs : weight new 0 ≤ 1 + (cost old exits.yes + cost old exits.no)

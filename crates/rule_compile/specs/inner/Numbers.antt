@@ -12,7 +12,7 @@ use Rattle.rule_compile.specs.declared.ranges.Leaf.{Leaf}
 use Rattle.rule_compile.specs.declared.ranges.Leaf.TheVariants.{Word}
 use Rattle.rule_compile.specs.declared.ranges.Range.{Range}
 use Rattle.rule_compile.specs.Shape.{IsPlain, call}
-use Rattle.rule_compile.specs.inner.Ranges.{IsWithin}
+use Rattle.rule_compile.specs.Decides.{IsWithin}
 
 -- ---- rules
 

@@ -15,6 +15,11 @@ use Rattle.rule_compile.specs.inner.Calls.{Apart, CallsOf}
 use Rattle.rule_compile.specs.inner.Goes.{Branches}
 use Rattle.rule_compile.proofs.CallLaws.{apart_branch, apart_skip, calls_count}
 use Rattle.rule_compile.proofs.FullLaws.{full_in_branch, full_in_calls, full_in_rest, head_parts, listed_first}
+use Rattle.std.specs.List.{All}
+use Rattle.std.proofs.lemmas.List.Elements.{All-head, All-tail}
+use Rattle.rule_compile.specs.inner.Numbers.{IsListed}
+use Rattle.rule_compile.specs.inner.Stands.{TellsThese}
+use Rattle.rule_compile.proofs.TellsLaws.{tells_branch, tells_skip, written_grows}
 use Rattle.rule_compile.proofs.filter.+tell_machines_apart.Goals as goal
 
 pub returns-in_err-no-clause-full : goal.returns-in_err-no-clause-full
@@ -93,3 +98,42 @@ returns-in_ok-start-in-Some-clause-apart t c =
     (calls_count p _ count _ mid top c.in_ok-calls_of.field-0 c.in_ok-calls_of.ensures.calls same))
     (subst (λ k. Branches top new Equal k exits) c.token.ensures c.in_ok-start-in-Some.ensures.written)
     c.in_ok-start-in-Some.ensures.start)
+
+pub returns-in-None-clause-tells : goal.returns-in-None-clause-tells
+returns-in-None-clause-tells t c all wr =
+    let p = c.args.profile.now in
+    let ms = c.args.machines.now in
+    let archs : List Arch = take (length ms - 1) (drop 1 ms) in
+    let mid = c.tell_machines_apart.new.code in
+    let top = c.calls_of.new.code in
+    let parts = head_parts ms _ c.in-len1-up.len_at_least in
+    let listed = subst (All (IsListed p)) parts all in
+    let others = c.in_ok-no.ensures.tells (All-tail (IsListed p) _ archs listed) wr in
+    let own = c.in_ok-calls_of.ensures.tells (All-head (IsListed p) _ archs listed) (c.in_ok-no.ensures.written wr) in
+    subst (λ all. TellsThese p all top c.in_ok-no.no) (sym parts)
+    (tells_skip p _ archs mid top c.in_ok-calls_of.ensures.calls.grows c.in_ok-no.no c.in_ok-calls_of.field-0 c.in_ok-no.ensures.apart.placed
+    others own c.in-None.ensures)
+
+pub returns-in_ok-start-in-Some-clause-tells : goal.returns-in_ok-start-in-Some-clause-tells
+returns-in_ok-start-in-Some-clause-tells t c all wr =
+    let p = c.args.profile.now in
+    let ms = c.args.machines.now in
+    let archs : List Arch = take (length ms - 1) (drop 1 ms) in
+    let mid = c.tell_machines_apart.new.code in
+    let top = c.calls_of.new.code in
+    let new = c.branch-code.new.self in
+    let exits : Exits = record { yes = c.in-Some.yes; no = c.in_ok-no.no } in
+    let parts = head_parts ms _ c.in-len1-up.len_at_least in
+    let listed = subst (All (IsListed p)) parts all in
+    let others = c.in_ok-no.ensures.tells (All-tail (IsListed p) _ archs listed) wr in
+    let own = c.in_ok-calls_of.ensures.tells (All-head (IsListed p) _ archs listed) (c.in_ok-no.ensures.written wr) in
+    subst (λ all. TellsThese p all new (Place c.in_ok-start-in-Some.start)) (sym parts)
+    (tells_branch p _ archs mid top c.in_ok-calls_of.ensures.calls.grows c.in_ok-no.no c.in_ok-calls_of.field-0
+    c.in_ok-no.ensures.apart.placed others own new c.in-Some.yes c.in_ok-start-in-Some.start c.in-Some.ensures
+    (subst (λ k. Branches top new Equal k exits) c.token.ensures c.in_ok-start-in-Some.ensures.written)
+    c.in_ok-start-in-Some.ensures.start)
+
+pub returns-in_ok-start-in-Some-clause-written : goal.returns-in_ok-start-in-Some-clause-written
+returns-in_ok-start-in-Some-clause-written t c wr =
+    written_grows c.calls_of.new.blocks.blocks.items c.calls_of.new.code c.branch-code.new.self c.calls_of.new.written.items
+    c.in_ok-start-in-Some.ensures.written.grows (c.in_ok-calls_of.ensures.written (c.in_ok-no.ensures.written wr))

@@ -1,4 +1,4 @@
-use Rattle.std.proofs.Common.{◌≡◌, ◌∙◌, ◌+◌, ◌*◌, ◌<◌, ap, length, rules, subst, vec_len}
+use Rattle.std.proofs.Common.{◌≡◌, ◌∙◌, ◌+◌, ◌*◌, ◌^◌, ◌<◌, ap, arith, length, refl, rules, subst, sym, vec_len}
 use Rattle.std.specs.Prelude.{Err, IsErrOf}
 use Rattle.call_tables.specs.Arch.{token_of}
 use Rattle.rule_compile.specs.declared.blocks.Blocks.{Blocks}
@@ -6,10 +6,13 @@ use Rattle.rule_compile.specs.declared.fault.CompileError.{CompileError}
 use Rattle.rule_compile.specs.declared.fault.CompileError.TheVariants.{TooLong}
 use Rattle.rule_compile.specs.declared.written.Written.{Written}
 use Rattle.rule_compile.specs.Shape.{IsPlain}
+use Rattle.rule_compile.specs.inner.Numbers.{Tiles}
 use Rattle.rule_compile.specs.inner.Ranges.{AreOfWords, Searched}
+use Rattle.rule_compile.specs.inner.Runs.{AreWritten, LeadsByWord}
 use Rattle.rule_compile.proofs.CallLaws.{calls_searched, searched_grows, searched_placed}
 use Rattle.rule_compile.proofs.FullLaws.{search_full}
 use Rattle.rule_compile.proofs.GoesLaws.{grows_on}
+use Rattle.rule_compile.proofs.TellsLaws.{calls_tell, written_grows, written_more}
 use Rattle.rule_compile.proofs.filter.calls_of.Goals as goal
 
 pub returns-in_err-write_blocks-clause-full : goal.returns-in_err-write_blocks-clause-full
@@ -59,3 +62,35 @@ returns-clause-calls c =
           (same plain none)) c.in_ok-ranges.ensures.tiled
           (c.in_ok-ranges.ensures.few plain) (c.in_ok-ranges.ensures.worded plain listed);
     }
+
+pub returns-clause-written : goal.returns-clause-written
+returns-clause-written c wr =
+    let blocks = c.ranges_of.new.blocks.blocks.items in
+    let mid = c.write_blocks.new.code in
+    let new = c.search_word.new.code in
+    let written = c.write_blocks.new.written.items in
+    let target = c.in_ok-found.found.target in
+    let searched : Searched mid new c.in_ok-ranges.ranges.items 0 target =
+    subst (λ rs. Searched mid new rs 0 target) c.deref.ensures.value c.in_ok-found.ensures.searched in
+    let more = written_more c.args.blocks.now.blocks.items blocks c.args.code.now c.args.written.now.items c.in_ok-ranges.ensures.more
+    c.in_ok-ranges.ensures.sound.blocks_are wr in
+    written_grows blocks mid new written (searched_grows mid new c.in_ok-ranges.ranges.items 0 target searched)
+    (c.in_ok-write_blocks.ensures.written more)
+
+pub returns-clause-tells : goal.returns-clause-tells
+returns-clause-tells c listed wr =
+    let p = c.args.profile.now in
+    let t = token_of c.args.machine in
+    let blocks = c.ranges_of.new.blocks.blocks.items in
+    let mid = c.write_blocks.new.code in
+    let new = c.search_word.new.code in
+    let ranges = c.in_ok-ranges.ranges.items in
+    let target = c.in_ok-found.found.target in
+    let more = written_more c.args.blocks.now.blocks.items blocks c.args.code.now c.args.written.now.items c.in_ok-ranges.ensures.more
+    c.in_ok-ranges.ensures.sound.blocks_are wr in
+    let tiles : Tiles 0 c.deref.result.now (2 ^ 32) = subst (λ rs. Tiles 0 rs (2 ^ 32)) (sym c.deref.ensures.value) c.in_ok-ranges.ensures.tiled in
+    let led : LeadsByWord blocks new 0 ranges target =
+    subst (λ rs. LeadsByWord blocks new 0 rs target) c.deref.ensures.value
+    (c.in_ok-found.ensures.led blocks
+    (subst (AreWritten blocks mid) (sym c.deref-2.ensures.value) (c.in_ok-write_blocks.ensures.written more)) (refl, omega arith) tiles) in
+    calls_tell p t blocks new ranges target c.in_ok-ranges.ensures.tiled (c.in_ok-ranges.ensures.decides listed) led

@@ -1,10 +1,17 @@
-use Rattle.std.proofs.Common.{◌≡◌, ◌+◌, ◌^◌, ◌<◌, ◌∙◌, List, length, get_or, ap, arith, max, subst, sym}
+use Rattle.std.proofs.Common.{◌≡◌, ◌+◌, ◌^◌, ◌<◌, ◌∙◌, List, length, get_or, ap, arith, max, refl, subst, sym, vec_len}
+use Rattle.std.proofs.lemmas.List.Elements.{All-weaker}
 use Rattle.std.specs.Prelude.{slice_index_or}
 use Rattle.call_tables.specs.declared.numbers.Numbers.{Numbers}
 use Rattle.call_tables.specs.Numbers.{from_to, other_numbers}
 use Rattle.rule_compile.specs.declared.ranges.Leaf.TheVariants.{Word}
+use Rattle.rule_compile.specs.declared.ranges.Range.{Range}
 use Rattle.rule_compile.specs.inner.Numbers.{AreOwn, Between, IsExtended, Reached}
-use Rattle.rule_compile.proofs.RangeLaws.{between_next, last_own, last_reached, own_before, own_reached, tiles_some, whole_few}
+use Rattle.rule_compile.specs.inner.Runs.{IsBefore}
+use Rattle.rule_compile.specs.inner.Told.{ToldSoFar}
+use Rattle.rule_compile.proofs.DecidesLaws.{before_le, more_on, more_same}
+use Rattle.rule_compile.proofs.RangeLaws.{between_next, between_none, last_own, last_reached, others_between, own_before, own_reached}
+use Rattle.rule_compile.proofs.RangeLaws.{tiles_some, whole_few}
+use Rattle.rule_compile.proofs.ToldLaws.{told_foreign, told_none}
 use Rattle.rule_compile.proofs.ranges.ranges_of.Goals as goal
 
 pub add_own-requires-clause-own : goal.add_own-requires-clause-own
@@ -54,7 +61,45 @@ loop-foreign-preserved c =
       between = subst (λ n. Between p m (k + 1) n new) (sym end)
           (between_next p m k upto foreign (from_to 0 0) old between inside at mid new reached last);
       no_block = λ plain. c.in_ok-add_own.ensures.no_block plain ∙ c.loop-foreign.invariant.no_block plain;
+      sound = c.in_ok-add_own.ensures.sound;
+      more = more_on c.loop-foreign.invariant.more c.in_ok-add_own.ensures.more;
+      told =
+          let blocks = c.add_own.new.blocks.blocks.items in
+          let so_far : ToldSoFar p m blocks foreign.first mid =
+          subst (λ n. ToldSoFar p m blocks n mid) (c.in_ok-add_own.ensures.end ∙ first)
+          (c.in_ok-add_own.ensures.told c.loop-foreign.invariant.told) in
+          subst (λ n. ToldSoFar p m blocks n new) (sym end)
+          (told_foreign p m blocks c.requires.clear foreign.first (foreign.last + 1) mid new
+          (λ u low high. others_between p m k upto foreign (from_to 0 0) old between inside at u low (omega (arith, high))) so_far last);
     }
+
+pub loop-foreign-init : goal.loop-foreign-init
+loop-foreign-init c = record {
+  between = subst (λ n. Between c.args.profile.now c.args.machine 0 n c.new-ranges.result.ranges.items) (sym c.new-ranges.ensures.end)
+      (subst (Between c.args.profile.now c.args.machine 0 0) (sym c.new-ranges.ensures.ranges) (between_none c.args.profile.now c.args.machine));
+  no_block = λ plain. refl;
+  sound = c.requires.sound;
+  more = more_same c.args.blocks.now.blocks.items;
+  told = subst (λ n. ToldSoFar c.args.profile.now c.args.machine c.args.blocks.now.blocks.items n c.new-ranges.result.ranges.items)
+      (sym c.new-ranges.ensures.end)
+      (subst (ToldSoFar c.args.profile.now c.args.machine c.args.blocks.now.blocks.items 0) (sym c.new-ranges.ensures.ranges)
+      (told_none c.args.profile.now c.args.machine c.args.blocks.now.blocks.items));
+}
+
+pub returns-clause-more : goal.returns-clause-more
+returns-clause-more c = more_on c.loop-foreign.invariant.more c.in_ok-add_own-2.ensures.more
+
+pub returns-clause-before : goal.returns-clause-before
+returns-clause-before c =
+    let told = c.in_ok-add_own-2.ensures.told c.loop-foreign.invariant.told in
+    let blocks = c.add_own-2.new.blocks.blocks in
+    All-weaker (λ (x : Range). IsBefore (length blocks.items) x.leaf) (λ (x : Range). IsBefore (vec_len blocks) x.leaf)
+    (λ x is. before_le (length blocks.items) (vec_len blocks) (omega (arith, blocks.ok)) x.leaf is) c.add_own-2.new.self.ranges.items told.before
+
+pub returns-clause-decides : goal.returns-clause-decides
+returns-clause-decides c listed =
+    let told = c.in_ok-add_own-2.ensures.told c.loop-foreign.invariant.told in
+    told.decides listed
 
 pub add_own-requires-2-clause-own : goal.add_own-requires-2-clause-own
 add_own-requires-2-clause-own c =

@@ -1,5 +1,23 @@
-use Rattle.rule_compile.proofs.GoesLaws.{grows_written}
+use Rattle.std.proofs.Common.{◌≡◌, ◌∷◌, ◌∙◌, ap, arith, length, refl, subst, sym}
+use Rattle.bpf_insn.specs.declared.code.Operation.TheVariants.{Jump}
+use Rattle.rule_compile.specs.inner.Code.{insn_of, position}
+use Rattle.rule_compile.specs.inner.Emitted.{IsFine, jumps}
+use Rattle.rule_compile.specs.inner.Runs.{gives_from}
+use Rattle.rule_compile.proofs.GoesLaws.{grows_same, grows_written, jump_code}
+use Rattle.rule_compile.proofs.RunsLaws.{jump_runs}
 use Rattle.rule_compile.proofs.assembler.Assembler.begin_at.Goals as goal
 
-pub returns : goal.returns
-returns c = grows_written c.args.self.now c.write.new.self _ c.in_ok-write.ensures.written
+pub write-requires : goal.write-requires
+write-requires c =
+    subst (λ i. IsFine i (length c.args.self.now)) (sym c.insn.ensures)
+    (jumps jump_code (omega (arith, c.distance-skipped.ensures.skipped, c.requires.0)))
+
+pub returns-clause-grows : goal.returns-clause-grows
+returns-clause-grows c = grows_written c.args.self.now c.write.new.self _ c.in_ok-write.ensures.written
+
+pub returns-clause-runs : goal.returns-clause-runs
+returns-clause-runs c a r =
+    let k = c.distance-skipped.result in
+    let old = c.args.self.now in
+    let written : c.write.new.self ≡ insn_of Jump k ∷ old = c.in_ok-write.ensures.written ∙ ap (λ i. i ∷ old) c.insn.ensures in
+    ap (λ code. gives_from code 0 a r) written ∙ jump_runs old c.args.to k c.requires c.distance-skipped.ensures.skipped a r

@@ -1,4 +1,5 @@
-use Rattle.std.proofs.Common.{refl}
+use Rattle.std.proofs.Common.{arith, refl}
+use Rattle.rule_compile.specs.inner.Emitted.{forks}
 use Rattle.rule_compile.proofs.GoesLaws.{branches, if_branched}
 use Rattle.rule_compile.proofs.assembler.Assembler.branch.Goals as goal
 
@@ -10,3 +11,8 @@ returns-clause-written c =
     c.in_ok-yes.yes
     c.requires c.in_ok-no.ensures.reached c.in_ok-yes.ensures.reached c.code.ensures.decoded refl c.distance.ensures.skipped
     c.distance-2.ensures.skipped)
+
+pub write-requires : goal.write-requires
+write-requires c =
+    forks c.args.test c.code.ensures.decoded (omega (arith, c.distance.ensures.skipped, c.in_ok-yes.ensures.reached.placed.0))
+    (omega (arith, c.distance-2.ensures.skipped, c.in_ok-no.ensures.reached.placed.0))

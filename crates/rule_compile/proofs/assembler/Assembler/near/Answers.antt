@@ -1,4 +1,5 @@
-use Rattle.std.proofs.Common.{◌≡◌, ◌∷◌, subst}
+use Rattle.std.proofs.Common.{◌≡◌, ◌∷◌, arith, length, subst, sym}
+use Rattle.rule_compile.specs.inner.Emitted.{IsFine, jumps}
 use Rattle.std.specs.Prelude.{OnOk}
 use Rattle.bpf_insn.specs.declared.code.Operation.TheVariants.{Jump}
 use Rattle.rule_compile.specs.declared.label.Target.TheVariants.{Place}
@@ -18,3 +19,8 @@ returns-in-None-clause-reached c =
     c.write.ensures.start
     (λ place start. reach_new_jump c.args.self.now (insn_of Jump k) c.args.to place c.requires start jump_code
     c.distance-skipped.ensures.skipped)
+
+pub write-requires : goal.write-requires
+write-requires c =
+    subst (λ i. IsFine i (length c.args.self.now)) (sym c.insn.ensures)
+    (jumps jump_code (omega (arith, c.distance-skipped.ensures.skipped, c.requires.0)))

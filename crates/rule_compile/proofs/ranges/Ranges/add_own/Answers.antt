@@ -1,5 +1,6 @@
-use Rattle.std.proofs.Common.{◌≡◌, ◌∙◌, subst, arith}
+use Rattle.std.proofs.Common.{◌≡◌, ◌∙◌, subst, arith, refl}
 use Rattle.rule_compile.specs.inner.Numbers.{Reached}
+use Rattle.rule_compile.proofs.DecidesLaws.{more_on, more_same}
 use Rattle.rule_compile.proofs.ranges.Ranges.add_own.Goals as goal
 
 pub own-preserved : goal.own-preserved
@@ -10,7 +11,21 @@ own-preserved c =
       upto = further.1;
       no_block = λ plain. c.in_ok-add_next.ensures.no_block plain ∙ c.own.invariant.no_block plain;
       reached = λ most many old. c.in_ok-add_next.ensures.reached most many (c.own.invariant.reached most many old);
+      sound = c.in_ok-add_next.ensures.sound;
+      more = more_on c.own.invariant.more c.in_ok-add_next.ensures.more;
+      told = λ told. c.in_ok-add_next.ensures.told (c.own.invariant.told told);
     }
+
+pub own-init : goal.own-init
+own-init c = record {
+  from = omega arith;
+  upto = c.requires.upto;
+  no_block = λ plain. refl;
+  reached = λ most many old. old;
+  sound = c.requires.sound;
+  more = more_same c.args.blocks.now.blocks.items;
+  told = λ told. told;
+}
 
 pub returns-clause-reached : goal.returns-clause-reached
 returns-clause-reached c most many old =

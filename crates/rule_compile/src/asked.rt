@@ -1,0 +1,336 @@
+//! What is left to ask of rules.
+ghost use Rattle.std.specs.Prelude.{◌≡◌, ◌↔◌, ◌==◌, ◌+◌, ◌*◌, ◌≤◌, ◌<◌, ◌^◌, ◌%◌, ◌/◌, ℕ, List, [], ◌∷◌, ◌++◌, true, false, bit_and, length, take, slice_index, IsTrue, IfOk, OnOk, ⊤};
+ghost use Rattle.call_record.specs.Words.{IsRecord, argument};
+ghost use Rattle.profile.specs.Condition.{Meets};
+ghost use Rattle.rule_compile.specs.Questions.{IsMet, compares};
+ghost use Rattle.rule_compile.specs.inner.Left.{AreHeld, AreLeft, AreRules, AreSame, IsOffset, IsQuestion, IsSame, SaysHeld};
+ghost use Rattle.rule_compile.specs.inner.Asked.{Asks, IsAdded, IsAsked, IsLast, argument_at};
+
+use crate::index::mixed;
+use crate::question::{Comparison, Question, Reply, Subject};
+use call_record::offset::ARGUMENTS;
+use call_record::{Word, halves};
+use profile::{Cond, Op, Rule};
+use std::alloc::{AllocError, Global};
+
+/// A rule of a profile, with its place in the profile's order.
+#[derive(Clone, Copy)]
+pub(crate) struct Placed<'a> {
+    pub(crate) place: usize,
+    pub(crate) rule: &'a Rule,
+}
+
+/// Which condition asks a question.
+#[derive(Clone, Copy, PartialEq, Eq)]
+pub struct Asker {
+    /// The place of its rule in the profile's order.
+    pub rule: usize,
+    /// Its own place among the rule's.
+    pub condition: usize,
+}
+
+/// A question of a rule. Those of one rule stand together.
+#[derive(Clone, Copy, PartialEq, Eq)]
+pub struct Open {
+    /// Whether the question is the first one of its rule.
+    pub begins: bool,
+    /// The word of the rule.
+    pub answer: Word,
+    pub question: Question,
+    pub asker: Asker,
+}
+
+impl Open {
+    // Whether both ask the same, for the same word, whoever asks it.
+    fn is_like(&self, other: &Open) -> bool
+        ensures { IsTrue result → IsSame self.now other.now }
+    {
+        self.begins == other.begins
+            && self.answer == other.answer
+            && self.question == other.question
+    }
+
+    /// A key of what is asked, for which word. What is alike has one key.
+    pub(crate) fn key(&self) -> u32 {
+        let question = self.question;
+        let mut key = mixed(self.answer.0, question.number);
+        key = mixed(key, question.subject.mask);
+        key = mixed(key, question.subject.word);
+        key = mixed(key, question.low.unwrap_or(0));
+        let wanted = if question.wanted { 1 } else { 0 };
+        let begins = if self.begins { 2 } else { 0 };
+        mixed(key, wanted | begins)
+    }
+}
+
+/// Whether both are the same questions, whoever asks them.
+pub fn are_alike(these: &[Open], others: &[Open]) -> bool
+    ensures { IsTrue result → AreSame these.now others.now }
+{
+    if these.len() != others.len() {
+        return false;
+    }
+    for (this, other) in these.iter().zip(others) {
+        if !this.is_like(other) {
+            return false;
+        }
+    }
+    true
+}
+
+/// What rules come to.
+#[derive(Drop)]
+pub enum Rest {
+    /// The rule at this place of the profile's order holds, and this is its word.
+    Met(usize, Word),
+    /// What is left to ask of those that may hold.
+    Open(Vec<Open>),
+}
+
+/// The questions of some rules, the last of which is being asked.
+#[derive(Drop)]
+pub(crate) struct Questions {
+    pub(crate) asked: Vec<Open>,
+    /// Where the last rule begins.
+    start: usize,
+    /// Whether the last rule does not hold, or there is none.
+    failed: bool,
+}
+
+impl Questions {
+    pub(crate) fn new(alloc: Global) -> Questions
+        ensures asked { result.asked.items ≡ [] }
+        ensures start { result.start ≡ 0 }
+        ensures failed { result.failed ≡ true }
+    {
+        Questions {
+            asked: Vec::new(alloc),
+            start: 0,
+            failed: true,
+        }
+    }
+
+    /// Begins with the next rule.
+    pub(crate) fn begin(&mut self)
+        ensures asked { self.new.asked ≡ self.old.asked }
+        ensures start { self.new.start ≡ length self.old.asked.items }
+        ensures failed { self.new.failed ≡ false }
+    {
+        self.start = self.asked.len();
+        self.failed = false;
+    }
+
+    /// The rule does not hold.
+    pub(crate) fn fail(&mut self)
+        ensures asked { self.new.asked.items ≡ take self.old.start self.old.asked.items }
+        ensures start { self.new.start ≡ self.old.start }
+        ensures failed { self.new.failed ≡ true }
+    {
+        self.asked.truncate(self.start);
+        self.failed = true;
+    }
+
+    /// Whether the rule holds.
+    pub(crate) fn is_met(&self) -> bool
+        ensures { IsTrue result ↔ ((self.now.failed ≡ false) × (length self.now.asked.items ≡ self.now.start)) }
+    {
+        !self.failed && self.asked.len() == self.start
+    }
+
+    /// Asks a question for a condition of the rule with this word, unless the rule does not hold.
+    pub(crate) fn ask(
+        &mut self,
+        asker: Asker,
+        answer: Word,
+        question: Question,
+    ) -> Result<(), AllocError>
+        ensures start { OnOk result (self.new.start ≡ self.old.start) }
+        ensures failed { OnOk result (self.new.failed ≡ self.old.failed) }
+        ensures asked { OnOk result (IsAsked self.old self.new asker answer question) }
+        ensures asks { IsLast answer self.old → IsQuestion question → OnOk result (Asks self.old self.new answer (λ _. ⊤) (IsMet question)) }
+    {
+        if self.failed {
+            return Ok(());
+        }
+        let begins = self.asked.len() == self.start;
+        self.asked.push(Open {
+            begins,
+            answer,
+            question,
+            asker,
+        })?;
+        Ok(())
+    }
+
+    /// Asks for a rule, unless it has the default word. Gives whether it holds for sure.
+    fn add(&mut self, placed: Placed<'_>, default: Word) -> Result<bool, AllocError>
+        ensures rules { OnOk result (AreRules self.old.asked.items → AreRules self.new.asked.items) }
+        ensures says { IfOk result (IsAdded self.old self.new placed.entry default) }
+    {
+        if placed.rule.word == default {
+            return Ok(false);
+        }
+        self.begin();
+        self.ask_rule(placed)?;
+        Ok(self.is_met())
+    }
+
+    // Asks what the conditions of a rule ask.
+    fn ask_rule(&mut self, placed: Placed<'_>) -> Result<(), AllocError>
+        requires last { IsLast placed.rule.now.word self.now }
+        ensures { OnOk result (Asks self.old self.new placed.entry.rule.now.word IsRecord (AreHeld placed.entry)) }
+    {
+        for (condition, cond) in placed.rule.conds.iter().enumerate() {
+            let asker = Asker {
+                rule: placed.place,
+                condition,
+            };
+            self.ask_condition(asker, placed.rule.word, cond)?;
+        }
+        Ok(())
+    }
+
+    // Asks what a condition asks.
+    fn ask_condition(&mut self, asker: Asker, answer: Word, cond: &Cond) -> Result<(), AllocError>
+        requires last { IsLast answer self.now }
+        ensures { OnOk result (Asks self.old self.new answer IsRecord (λ r. Meets cond.now (argument r cond.now.index))) }
+    {
+        let low = ARGUMENTS + 8 * u32::from(cond.index);
+        let above = cond.value.checked_add(1);
+        match (cond.op, above) {
+            (Op::MaskedEq, _) => self.ask_bits(asker, answer, low, cond),
+            (Op::Eq, _) => self.ask(
+                asker,
+                answer,
+                argument(low, Comparison::Equal, cond.value, true),
+            ),
+            (Op::Ne, _) => self.ask(
+                asker,
+                answer,
+                argument(low, Comparison::Equal, cond.value, false),
+            ),
+            (Op::Ge, _) => self.ask_least(asker, answer, low, cond.value, true),
+            (Op::Lt, _) => self.ask_least(asker, answer, low, cond.value, false),
+            (Op::Gt, Some(least)) => self.ask_least(asker, answer, low, least, true),
+            (Op::Le, Some(least)) => self.ask_least(asker, answer, low, least, false),
+            (Op::Gt, None) => {
+                self.fail();
+                Ok(())
+            }
+            (Op::Le, None) => Ok(()),
+        }
+    }
+
+    // Asks whether the argument is at least a number. Each is at least 0.
+    fn ask_least(
+        &mut self,
+        asker: Asker,
+        answer: Word,
+        low: u32,
+        least: u64,
+        wanted: bool,
+    ) -> Result<(), AllocError>
+        requires low { (low % 4 ≡ 0) × (low + 4 < 64) }
+        requires last { IsLast answer self.now }
+        ensures { OnOk result (Asks self.old self.new answer IsRecord (λ r. compares Comparison.AtLeast least (argument_at low r) ≡ wanted)) }
+    {
+        if least > 0 {
+            let question = argument(low, Comparison::AtLeast, least, wanted);
+            return self.ask(asker, answer, question);
+        }
+        if !wanted {
+            self.fail();
+        }
+        Ok(())
+    }
+
+    // Asks for the bits of both words under a mask.
+    fn ask_bits(
+        &mut self,
+        asker: Asker,
+        answer: Word,
+        low: u32,
+        cond: &Cond,
+    ) -> Result<(), AllocError>
+        requires low { (low % 4 ≡ 0) × (low + 4 < 64) }
+        requires no_stray { bit_and cond.now.datum cond.now.value ≡ cond.now.datum }
+        requires last { IsLast answer self.now }
+        ensures { OnOk result (Asks self.old self.new answer IsRecord (λ r. bit_and (argument_at low r) cond.now.value ≡ cond.now.datum)) }
+    {
+        let (mask, mask_above) = halves(cond.value);
+        let (datum, datum_above) = halves(cond.datum);
+        self.ask_word(
+            asker,
+            answer,
+            low.saturating_add(4),
+            mask_above,
+            datum_above,
+        )?;
+        self.ask_word(asker, answer, low, mask, datum)
+    }
+
+    // Asks for the bits of a word under a mask. A mask of 0 asks for nothing.
+    fn ask_word(
+        &mut self,
+        asker: Asker,
+        answer: Word,
+        word: u32,
+        mask: u32,
+        number: u32,
+    ) -> Result<(), AllocError>
+        requires offset { IsOffset word }
+        requires number { bit_and number mask ≡ number }
+        requires last { IsLast answer self.now }
+        ensures { OnOk result (Asks self.old self.new answer (λ _. ⊤) (λ r. bit_and (slice_index r (word / 4)) mask ≡ number)) }
+    {
+        if mask == 0 {
+            return Ok(());
+        }
+        let question = Question {
+            subject: Subject { word, mask },
+            comparison: Comparison::Equal,
+            number,
+            low: None,
+            wanted: true,
+        };
+        self.ask(asker, answer, question)
+    }
+}
+
+// How an argument compares with a number, from its high word on.
+fn argument(low: u32, comparison: Comparison, number: u64, wanted: bool) -> Question
+    requires low { (low % 4 ≡ 0) × (low + 4 < 64) }
+    ensures met { (r : List ℕ) → IsRecord r → IsMet result r ↔ (compares comparison number (argument_at low r) ≡ wanted) }
+    ensures is { IsQuestion result }
+{
+    let subject = Subject {
+        word: low.saturating_add(4),
+        mask: u32::MAX,
+    };
+    let (number, above) = halves(number);
+    Question {
+        subject,
+        comparison,
+        number: above,
+        low: Some(number),
+        wanted,
+    }
+}
+
+/// What is to be asked of rules. One with the default word makes no difference.
+pub(crate) fn questions_of(
+    alloc: Global,
+    rules: &[Placed<'_>],
+    default: Word,
+) -> Result<Rest, AllocError>
+    ensures left { IfOk result AreLeft }
+    ensures says { IfOk result (λ rest. (r : List ℕ) → IsRecord r → SaysHeld rules.now default r rest) }
+{
+    let mut questions = Questions::new(alloc);
+    for placed in rules {
+        if questions.add(*placed, default)? {
+            return Ok(Rest::Met(placed.place, placed.rule.word));
+        }
+    }
+    Ok(Rest::Open(questions.asked))
+}
