@@ -5,7 +5,7 @@
 use crate::answers::Answers;
 use crate::desk::Made;
 use crate::question::Question;
-use lifecycle::{Reply, Runtime};
+use lifecycle::{Command, Reply, Runtime};
 use processes::TaskTable;
 use std::alloc::AllocError;
 
@@ -13,12 +13,12 @@ use std::alloc::AllocError;
 pub fn answer(kept: &[Made], out: &mut Answers, question: Question<'_>) {
     let mut runtime = Runtime::new(out.alloc, TaskTable::new(out.alloc));
     for command in question.rest.split('\t') {
-        carry_out(&mut runtime, kept, out, Question::new(command));
+        answer_one(&mut runtime, kept, out, Question::new(command));
     }
 }
 
 // Tells the reply to a command.
-fn carry_out<'a>(
+fn answer_one<'a>(
     runtime: &mut Runtime<'a, TaskTable>,
     kept: &'a [Made],
     out: &mut Answers,
@@ -28,10 +28,10 @@ fn carry_out<'a>(
     let id = question.word();
     let replied = match word {
         "create" => create(runtime, kept, out, id, question.place()),
-        "start" => runtime.start(id),
-        "kill" => Ok(runtime.kill(id, question.number())),
-        "delete" => Ok(runtime.delete(id)),
-        "state" => Ok(runtime.state(id)),
+        "start" => runtime.carry_out(Command::Start(id)),
+        "kill" => runtime.carry_out(Command::Kill(id, question.number())),
+        "delete" => runtime.carry_out(Command::Delete(id)),
+        "state" => runtime.carry_out(Command::State(id)),
         "call" => call(runtime, out, id, question),
         _ => return tell_id(runtime, out, question.place()),
     };
@@ -55,7 +55,7 @@ fn create<'a>(
     let Ok(checked) = made.checked(out.alloc) else {
         return Err(AllocError);
     };
-    runtime.create(id, checked)
+    runtime.carry_out(Command::Create(id, checked))
 }
 
 // Makes a call.
@@ -73,7 +73,7 @@ fn call(
     } else {
         Some(program.as_slice())
     };
-    runtime.call(id, task, &record, attached)
+    runtime.carry_out(Command::Call(id, task, record, attached))
 }
 
 fn tell_id(runtime: &Runtime<'_, TaskTable>, out: &mut Answers, place: usize) {
