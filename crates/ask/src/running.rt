@@ -5,20 +5,19 @@
 use crate::answers::Answers;
 use crate::desk::Made;
 use crate::question::Question;
-use lifecycle::{Reply, Runtime};
+use lifecycle::{Command, Runtime};
 use processes::TaskTable;
-use std::alloc::AllocError;
 
 /// Tells the replies to commands.
 pub fn answer(kept: &[Made], out: &mut Answers, question: Question<'_>) {
     let mut runtime = Runtime::new(out.alloc, TaskTable::new(out.alloc));
     for command in question.rest.split('\t') {
-        carry_out(&mut runtime, kept, out, Question::new(command));
+        answer_one(&mut runtime, kept, out, Question::new(command));
     }
 }
 
 // Tells the reply to a command.
-fn carry_out<'a>(
+fn answer_one<'a>(
     runtime: &mut Runtime<'a, TaskTable>,
     kept: &'a [Made],
     out: &mut Answers,
@@ -28,23 +27,23 @@ fn carry_out<'a>(
     let id = question.word();
     match word {
         "create" => create(runtime, kept, out, id, question.place()),
-        "start" => tell_made(out, runtime.start(id)),
-        "kill" => tell(out, runtime.kill(id, question.number())),
-        "delete" => tell(out, runtime.delete(id)),
-        "state" => tell(out, runtime.state(id)),
+        "start" => carry_out(runtime, out, Command::Start(id)),
+        "kill" => carry_out(runtime, out, Command::Kill(id, question.number())),
+        "delete" => carry_out(runtime, out, Command::Delete(id)),
+        "state" => carry_out(runtime, out, Command::State(id)),
         "call" => call(runtime, out, id, question),
         _ => tell_id(runtime, out, question.place()),
     }
 }
 
-fn tell(out: &mut Answers, reply: Reply) {
-    out.tell(format_args!("{reply:?}"));
-}
-
-// Tells the reply to a command for which there was memory.
-fn tell_made(out: &mut Answers, replied: Result<Reply, AllocError>) {
-    match replied {
-        Ok(reply) => tell(out, reply),
+// Carries a command out, and tells its reply, where there was memory.
+fn carry_out<'a>(
+    runtime: &mut Runtime<'a, TaskTable>,
+    out: &mut Answers,
+    command: Command<'a, '_>,
+) {
+    match runtime.carry_out(command) {
+        Ok(reply) => out.tell(format_args!("{reply:?}")),
         Err(_) => out.fail(),
     }
 }
@@ -61,7 +60,7 @@ fn create<'a>(
         return out.fail();
     };
     match made.checked(out.alloc) {
-        Ok(checked) => tell_made(out, runtime.create(id, checked)),
+        Ok(checked) => carry_out(runtime, out, Command::Create(id, checked)),
         Err(_) => out.fail(),
     }
 }
@@ -81,7 +80,7 @@ fn call(
     } else {
         Some(program.as_slice())
     };
-    tell_made(out, runtime.call(id, task, &record, attached));
+    carry_out(runtime, out, Command::Call(id, task, record, attached));
 }
 
 fn tell_id(runtime: &Runtime<'_, TaskTable>, out: &mut Answers, place: usize) {

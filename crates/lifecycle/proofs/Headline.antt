@@ -1,6 +1,7 @@
 -- A checked value's program and its profile are one judge, so a run by either is the same run.
-use Rattle.std.proofs.Common.{◌≡◌, ℕ, List, Option, Some, unwrap_or, length, ap, ◌∙◌}
+use Rattle.std.proofs.Common.{◌≡◌, ℕ, List, Option, Some, Result, IfOk, unwrap_or, length, ap, subst, ◌∙◌}
 use std.Path.{fun_ext}
+use Rattle.std.specs.declared.alloc.AllocError.{AllocError}
 use Rattle.std.specs.Option.{option_map}
 use Rattle.call_record.specs.declared.layout.Record.{Record}
 use Rattle.call_record.specs.Record.{words}
@@ -12,9 +13,10 @@ use Rattle.profile.specs.Said.{said}
 use Rattle.cert_check.specs.declared.checked.Checked.{Checked}
 use Rattle.cert_check.specs.Checked.{profile_of, program_of}
 use Rattle.processes.specs.First.{by_program, by_profile}
+use Rattle.lifecycle.specs.declared.command.Reply.{Reply}
 use Rattle.lifecycle.specs.Orders.{Order}
-use Rattle.lifecycle.specs.Worlds.{World}
-use Rattle.lifecycle.specs.Steps.{run}
+use Rattle.lifecycle.specs.Worlds.{First, World}
+use Rattle.lifecycle.specs.Steps.{run, step}
 
 -- the program gives the word that the profile says
 gives : (c : Checked) (r : Record) → verdict_of (program_of c) (words r) ≡ Some (said (profile_of c) (words r))
@@ -33,3 +35,8 @@ same_first =
 
 pub same_run : (os : List Order) (w : World) → run by_program os w ≡ run by_profile os w
 same_run os w = ap (λ F. run F os w) same_first
+
+-- a step by either is the same step
+pub profiles_step : (result : Result Reply AllocError) (o : Order) (w u : World) → IfOk result (λ r. (r, u) ≡ step by_program o w)
+    → IfOk result (λ r. (r, u) ≡ step by_profile o w)
+profiles_step result o w u is = subst (λ (F : First). IfOk result (λ r. (r, u) ≡ step F o w)) same_first is

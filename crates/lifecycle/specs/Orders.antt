@@ -22,7 +22,7 @@ order_of (command.Start id) = Start id.now
 order_of (command.Kill id sig) = Kill id.now sig
 order_of (command.Delete id) = Delete id.now
 order_of (command.State id) = State id.now
-order_of (command.Call id task r attached) = Call id.now task r.now (attached_of (option_map (λ a. a.now) attached))
+order_of (command.Call id task r attached) = Call id.now task r (attached_of (option_map (λ a. a.now) attached))
 
 -- the id that it names
 abbrev pub id_of : Order → List ℕ

@@ -4,21 +4,21 @@ use call_record::Record;
 use cert_check::Checked;
 use processes::Outcome;
 
-/// A command of the lifecycle, or a call that a task presents.
+/// A command of the lifecycle, or a call that a task presents: its filter is kept, and its texts are not.
 #[derive(Clone, Copy)]
-pub enum Command<'a> {
+pub enum Command<'a, 'c> {
     /// Make a container with this filter.
-    Create(&'a str, Checked<'a>),
+    Create(&'c str, Checked<'a>),
     /// Make its task 1, and let it present the call with which it begins.
-    Start(&'a str),
+    Start(&'c str),
     /// Send its first group a signal.
-    Kill(&'a str, u64),
+    Kill(&'c str, u64),
     /// Forget a stopped container.
-    Delete(&'a str),
+    Delete(&'c str),
     /// Tell its status.
-    State(&'a str),
+    State(&'c str),
     /// A task of this number presents a record, perhaps with the bytes of a program attached.
-    Call(&'a str, u64, &'a Record, Option<&'a [u8]>),
+    Call(&'c str, u64, Record, Option<&'c [u8]>),
 }
 
 /// How far a container has come.

@@ -1,4 +1,4 @@
-//! Whole runs.
+//! One command, and whole runs.
 ghost use Rattle.std.specs.Prelude.{◌≡◌, ◌<◌, [], IfOk, OnOk, OnErr, length, take};
 ghost use Rattle.processes.specs.First.{by_profile, by_program};
 ghost use Rattle.lifecycle.specs.Growth.{MayGrow, NextMayGrow};
@@ -15,13 +15,31 @@ use std::alloc::AllocError;
 impl<'a, K: Kernel> Runtime<'a, K> {
     ghost use Rattle.lifecycle.specs.Views.{world_of};
 
-    /// Carries out commands in order. Where memory is refused it stops, with the replies so far: the command after them is
+    /// Carries out one command: a step of the kernel in which a container's profile decides what its first filter answers, and
+    /// of that in which the filter's program does. Where memory is refused it is left undone.
+    pub fn carry_out(&mut self, command: Command<'a, '_>) -> Result<Reply, AllocError>
+        ensures headline { IfOk result (λ r. (r, world_of self.new) ≡ step by_profile (order_of command.entry) (world_of self.old)) }
+        ensures step { IfOk result (λ r. (r, world_of self.new) ≡ step by_program (order_of command.entry) (world_of self.old)) }
+        ensures err { OnErr result (world_of self.new ≡ world_of self.old) }
+        ensures growth { OnErr result (MayGrow (order_of command.entry) (world_of self.old)) }
+    {
+        match command {
+            Command::Create(id, checked) => self.create(id, checked),
+            Command::Start(id) => self.start(id),
+            Command::Kill(id, sig) => Ok(self.kill(id, sig)),
+            Command::Delete(id) => Ok(self.delete(id)),
+            Command::State(id) => Ok(self.state(id)),
+            Command::Call(id, task, rec, attached) => self.call(id, task, &rec, attached),
+        }
+    }
+
+    /// Carries out commands one after another. Where memory is refused it stops, with the replies so far: the command after them is
     /// left undone.
     ///
     /// The replies, and the world after them, are those of a run in which a container's profile decides what its first
     /// filter answers; with the program of the filter in the profile's place it is the same run. So a call that a profile
     /// refuses is not carried out, and a call that no filter refuses is.
-    pub fn run(&mut self, commands: &[Command<'a>]) -> (Vec<Reply>, Result<(), AllocError>)
+    pub fn run(&mut self, commands: &[Command<'a, '_>]) -> (Vec<Reply>, Result<(), AllocError>)
         ensures headline { IsRun by_profile (orders_of (take (length result.0.items) commands.now)) (world_of self.old) result.0.items (world_of self.new) }
         ensures so_far { IsRun by_program (orders_of (take (length result.0.items) commands.now)) (world_of self.old) result.0.items (world_of self.new) }
         ensures refused { world_of self.old ≡ [] → RefusesIn (orders_of (take (length result.0.items) commands.now)) result.0.items }
@@ -38,27 +56,11 @@ impl<'a, K: Kernel> Runtime<'a, K> {
             return (replies, Err(AllocError));
         }
         for command in commands {
-            match self.act(command) {
+            match self.carry_out(*command) {
                 Ok(reply) => replies.push_reserved(reply),
                 Err(error) => return (replies, Err(error)),
             }
         }
         (replies, Ok(()))
-    }
-
-    // Carries out one command.
-    fn act(&mut self, command: &Command<'a>) -> Result<Reply, AllocError>
-        ensures step { IfOk result (λ r. (r, world_of self.new) ≡ step by_program (order_of command.now) (world_of self.old)) }
-        ensures err { OnErr result (world_of self.new ≡ world_of self.old) }
-        ensures growth { OnErr result (MayGrow (order_of command.now) (world_of self.old)) }
-    {
-        match *command {
-            Command::Create(id, checked) => self.create(id, checked),
-            Command::Start(id) => self.start(id),
-            Command::Kill(id, sig) => Ok(self.kill(id, sig)),
-            Command::Delete(id) => Ok(self.delete(id)),
-            Command::State(id) => Ok(self.state(id)),
-            Command::Call(id, task, rec, attached) => self.call(id, task, rec, attached),
-        }
     }
 }

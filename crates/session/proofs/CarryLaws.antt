@@ -1,32 +1,17 @@
--- What a request's command did.
-use Rattle.std.proofs.Common.{◌≡◌, ap, inl, sym}
-use Rattle.std.specs.Prelude.{Option, Some, None, Ok, Err}
-use Rattle.std.specs.declared.alloc.AllocError.{AllocError}
+-- What a request's command names.
+use Rattle.std.proofs.Common.{◌≡◌, ap, sym}
+use Rattle.std.specs.Prelude.{Option, Some, None}
+use Rattle.std.specs.Option.{option_map}
+use Rattle.std.proofs.lemmas.Option.{none-some, same_Some}
 use Rattle.cert_check.specs.declared.checked.Checked.{Checked}
 use Rattle.call_record.specs.declared.layout.Record.{Record}
 use Rattle.processes.specs.Attached.{attached_of}
-use Rattle.processes.specs.First.{by_program}
-use Rattle.lifecycle.specs.declared.command.Reply.{Reply}
-use Rattle.lifecycle.specs.Growth.{MayGrow}
 use Rattle.lifecycle.specs.Orders.{Order, id_of}
 use Rattle.lifecycle.specs.Orders as command
-use Rattle.lifecycle.specs.Steps.{step}
-use Rattle.lifecycle.specs.Worlds.{World}
 use Rattle.script.specs.Orders as script
-use Rattle.std.specs.Option.{option_map}
-use Rattle.std.proofs.lemmas.Option.{none-some, same_Some}
 use Rattle.session.specs.declared.bundles.Bundles.{Bundles}
 use Rattle.session.specs.Commands.{Commands, first_called, named}
-use Rattle.session.specs.inner.Carried.{CarriesOut, id_in}
-
-pub carried : (bundles : Bundles) (order : script.Order) (c : Order) (w w' : World) (r : Reply) → Commands bundles order (Some c)
-    → (r, w') ≡ step by_program c w → CarriesOut bundles order w w' (Ok (Some r))
-carried bundles order c w w' r is e = record { command = Some c; is = is; done = e; kept = tt; wants = tt }
-
-pub not_carried : (bundles : Bundles) (order : script.Order) (c : Order) (w w' : World) (fault : AllocError)
-    → Commands bundles order (Some c)
-    → w' ≡ w → MayGrow c w → CarriesOut bundles order w w' (Err fault)
-not_carried bundles order c w w' fault is e grows = record { command = Some c; is = is; done = tt; kept = e; wants = inl grows }
+use Rattle.session.specs.inner.Carried.{id_in}
 
 -- a command names what its order names
 pub names : (bundles : Bundles) (order : script.Order) (c : Order) → Commands bundles order (Some c) → id_of c ≡ id_in order

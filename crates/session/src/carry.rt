@@ -2,20 +2,17 @@
 ghost use Rattle.std.specs.Prelude.{◌≡◌, ◌≤◌, IfOk, OnErr, []};
 ghost use Rattle.std.specs.Option.{option_map};
 ghost use Rattle.std.specs.Vec.{vec_capacity};
-ghost use Rattle.processes.specs.Attached.{attached_of};
-ghost use Rattle.processes.specs.First.{by_program};
-ghost use Rattle.lifecycle.specs.Growth.{MayGrow};
-ghost use Rattle.lifecycle.specs.Orders.Order.{Call};
-ghost use Rattle.lifecycle.specs.Steps.{step};
+ghost use Rattle.lifecycle.specs.Orders as ordered;
 ghost use Rattle.lifecycle.specs.Views.{world_of};
 ghost use Rattle.script.specs.Requests.{bytes_of, order_of};
-ghost use Rattle.session.specs.Commands.{IsRecordOf};
-ghost use Rattle.session.specs.inner.Carried.{CarriesOut, Fits, FitsLine, id_in};
+ghost use Rattle.session.specs.Commands.{Commands, IsRecordOf};
+ghost use Rattle.session.specs.Wants.{WantsMemory};
+ghost use Rattle.session.specs.inner.Carried.{CarriesOut, Fits, Replies, id_in, program_in};
 
 use crate::bundles::Bundles;
 use call_record::Record;
 use call_tables::Arch;
-use lifecycle::{Reply, Runtime};
+use lifecycle::{Command, Reply, Runtime};
 use script::{Hex, MAX_LINE, Request};
 use shared_table::SharedTable;
 use std::alloc::{AllocError, Global};
@@ -56,6 +53,61 @@ fn record_of(arch: Arch, nr: u32, args: [u64; 6]) -> Record
     }
 }
 
+// The program beside what is asked for, if it is a call with one.
+fn program_beside<'a>(request: &Request<'a>) -> Option<Hex<'a>>
+    ensures { option_map bytes_of result ≡ program_in (order_of request.now) }
+{
+    match *request {
+        Request::Create { .. } => None,
+        Request::Start { .. } => None,
+        Request::Delete { .. } => None,
+        Request::State { .. } => None,
+        Request::Kill { .. } => None,
+        Request::Call { program, .. } => program,
+    }
+}
+
+// The command that is asked for, with the bytes of its program: none where it names no bundle that is there.
+fn command_of<'a, 'c, 'r: 'c>(
+    bundles: &Bundles<'a>,
+    request: &Request<'r>,
+    program: Option<&'c [u8]>,
+) -> Option<Command<'a, 'c>>
+    requires { option_map (λ p. p.now) program ≡ program_in (order_of request.now) }
+    ensures { Commands bundles.now (order_of request.now) (option_map ordered.order_of result) }
+{
+    match *request {
+        Request::Create { id, bundle } => Some(Command::Create(id, bundles.find(bundle)?)),
+        Request::Start { id } => Some(Command::Start(id)),
+        Request::Delete { id } => Some(Command::Delete(id)),
+        Request::State { id } => Some(Command::State(id)),
+        Request::Kill { id, signal } => Some(Command::Kill(id, signal)),
+        Request::Call {
+            id,
+            task,
+            arch,
+            nr,
+            args,
+            ..
+        } => Some(Command::Call(id, task, record_of(arch, nr, args), program)),
+    }
+}
+
+// Carries out a command, if there is one.
+fn obey<'a>(
+    runtime: &mut Runtime<'a, SharedTable>,
+    command: Option<Command<'a, '_>>,
+) -> Result<Option<Reply>, AllocError>
+    ensures done { IfOk result (Replies (option_map ordered.order_of command.entry) (world_of runtime.old) (world_of runtime.new)) }
+    ensures kept { OnErr result (world_of runtime.new ≡ world_of runtime.old) }
+    ensures wants { OnErr result (WantsMemory (option_map ordered.order_of command.entry) (world_of runtime.old)) }
+{
+    match command {
+        None => Ok(None),
+        Some(command) => Ok(Some(runtime.carry_out(command)?)),
+    }
+}
+
 impl<'a> Session<'a> {
     /// No containers, and room for the longest program of a line.
     pub(crate) fn new(alloc: Global, bundles: Bundles<'a>) -> Result<Session<'a>, AllocError>
@@ -70,57 +122,21 @@ impl<'a> Session<'a> {
         })
     }
 
-    // A task of the container presents a record, perhaps with a program.
-    fn call(
-        &mut self,
-        id: &str,
-        task: u64,
-        rec: &Record,
-        program: Option<Hex<'_>>,
-    ) -> Result<Reply, AllocError>
-        requires { FitsLine (option_map bytes_of program) }
-        ensures bundles { self.new.bundles ≡ self.old.bundles }
-        ensures step { let given = attached_of (option_map bytes_of program.entry) in
-            IfOk result (λ r. (r, world_of self.new.runtime) ≡ step by_program (Call id.now task rec.now given) (world_of self.old.runtime)) }
-        ensures err { OnErr result (world_of self.new.runtime ≡ world_of self.old.runtime) }
-        ensures growth { let given = attached_of (option_map bytes_of program.entry) in
-            OnErr result (MayGrow (Call id.now task rec.now given) (world_of self.old.runtime)) }
-    {
-        match program {
-            None => self.runtime.call(id, task, rec, None),
-            Some(hex) => {
-                hex.put_into(&mut self.program);
-                let bytes = self.program.as_slice();
-                self.runtime.call(id, task, rec, Some(bytes))
-            }
-        }
-    }
-
     /// Carries out what a line asks for, if it is a command.
     pub(crate) fn carry_out(&mut self, request: &Request<'_>) -> Result<Option<Reply>, AllocError>
         requires { Fits (order_of request.now) }
         ensures bundles { self.new.bundles ≡ self.old.bundles }
         ensures done { CarriesOut self.old.bundles (order_of request.now) (world_of self.old.runtime) (world_of self.new.runtime) result }
     {
-        match *request {
-            Request::Create { id, bundle } => match self.bundles.find(bundle) {
-                Some(checked) => Ok(Some(self.runtime.create(id, checked)?)),
-                None => Ok(None),
-            },
-            Request::Start { id } => Ok(Some(self.runtime.start(id)?)),
-            Request::Delete { id } => Ok(Some(self.runtime.delete(id))),
-            Request::State { id } => Ok(Some(self.runtime.state(id))),
-            Request::Kill { id, signal } => Ok(Some(self.runtime.kill(id, signal))),
-            Request::Call {
-                id,
-                task,
-                arch,
-                nr,
-                args,
-                program,
-            } => {
-                let rec = record_of(arch, nr, args);
-                Ok(Some(self.call(id, task, &rec, program)?))
+        match program_beside(request) {
+            None => obey(&mut self.runtime, command_of(&self.bundles, request, None)),
+            Some(hex) => {
+                hex.put_into(&mut self.program);
+                let bytes = self.program.as_slice();
+                obey(
+                    &mut self.runtime,
+                    command_of(&self.bundles, request, Some(bytes)),
+                )
             }
         }
     }

@@ -38,6 +38,15 @@ id_in (script.State id) = id
 id_in (script.Kill id signal) = id
 id_in (script.Call id task arch nr args program) = id
 
+-- the program beside it
+abbrev pub program_in : script.Order → Option (List ℕ)
+program_in (script.Create id name) = None
+program_in (script.Start id) = None
+program_in (script.Delete id) = None
+program_in (script.State id) = None
+program_in (script.Kill id signal) = None
+program_in (script.Call id task arch nr args program) = program
+
 -- the line that is answered to the line of this number, and the world after it
 abbrev pub answer_line : First → ℕ → Option Order → World → List ℕ
 answer_line F number None w = no_command_line number
