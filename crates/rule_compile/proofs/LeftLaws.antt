@@ -157,7 +157,7 @@ both_same os r w P like old = (
 module _ (subject : Subject) (number : ℕ) (old begun asked new : Questions) (first : Open) (more : List Open)
     (same : begun.asked ≡ old.asked) (start : begun.start ≡ length old.asked.items) (fresh : begun.failed ≡ false)
     (one : IsLast first.answer begun → IsQuestion first.question
-        → Asks begun asked first.answer (LookedOne subject number first) (IsMet first.question))
+    → Asks begun asked first.answer (LookedOne subject number first) (IsMet first.question))
     (every : (word : ℕ) → IsLast word asked → All (IsOf word) more → Asks asked new word (Looked subject number more) (λ r. IsRuleMet r more))
     (of : AreOf first.answer (first ∷ more)) where
   abbrev looked : List ℕ → Type 0
@@ -274,10 +274,10 @@ module _ (subject : Subject) (number : ℕ) where
           let most = part.most in
           elim (part.less asks) [
             | inl some ↦ elim (any_either (λ o. o.question.subject ≡ subject) (first ∷ more) next
-            (subst (λ os. AsksFor os subject) is some)) [
-              | inl own ↦ (let fewer = weighs.1 own in inr (omega (arith, fewer, most, split)))
-              | inr later ↦ inl later
-            ]
+                (subst (λ os. AsksFor os subject) is some)) [
+                  | inl own ↦ (let fewer = weighs.1 own in inr (omega (arith, fewer, most, split)))
+                  | inr later ↦ inl later
+                ]
             | inr fewer ↦ inr (omega (arith, fewer, weighs.0, split))
           ]
 

@@ -4,7 +4,6 @@ pub mod GoesLaws
 pub mod FindLaws
 pub mod RangeLaws
 pub mod CallLaws
-pub mod RulesLaws
 pub mod AskedLaws
 pub mod HalvesLaws
 pub mod ConditionLaws

@@ -22,11 +22,11 @@ returns-then-branch-clause-says c = λ are.
     let back : next ≡ drop c.further.result others = c.split_at.ensures.back in
     let is : c.loop-rest.rest.now ≡ (c.first-item.result ∷ more) ++ next =
     split_first c.loop-rest.rest.now others more next c.first-item.result c.further.result c.in-len1-up.len_at_least c.first-item.is
-        behind front back in
+    behind front back in
     let goes_on : All GoesOn more = subst (All GoesOn) (sym front) c.further.ensures.further in
     let begins : begins_here next ≡ true = ap begins_here back ∙ c.further.ensures.next in
     let of = first_rule c.args.subject c.args.number c.args.rules.now c.loop-rest.rest.now c.loop-rest.questions.asked.items part
-        c.first-item.result more next is goes_on begins in
+    c.first-item.result more next is goes_on begins in
     let looked = Looked c.args.subject c.args.number (c.first-item.result ∷ more) in
     part_met c.args.subject c.args.number c.args.rules.now c.loop-rest.rest.now c.loop-rest.questions.asked.items part
     c.first-item.result more next is goes_on begins
@@ -44,11 +44,11 @@ loop-rest-preserved c = λ are.
     let back : next ≡ drop c.further.result others = c.split_at.ensures.back in
     let is : c.loop-rest.rest.now ≡ (c.first-item.result ∷ more) ++ next =
     split_first c.loop-rest.rest.now others more next c.first-item.result c.further.result c.in-len1-up.len_at_least c.first-item.is
-        behind front back in
+    behind front back in
     let goes_on : All GoesOn more = subst (All GoesOn) (sym front) c.further.ensures.further in
     let begins : begins_here next ≡ true = ap begins_here back ∙ c.further.ensures.next in
     let of = first_rule c.args.subject c.args.number c.args.rules.now c.loop-rest.rest.now c.loop-rest.questions.asked.items part
-        c.first-item.result more next is goes_on begins in
+    c.first-item.result more next is goes_on begins in
     let looked = Looked c.args.subject c.args.number (c.first-item.result ∷ more) in
     let asked = part.are_asked in
     part_next c.args.subject c.args.number c.args.rules.now c.loop-rest.rest.now c.loop-rest.questions.asked.items part
