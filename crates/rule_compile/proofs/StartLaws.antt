@@ -1,5 +1,5 @@
 -- Starts: between two of them each question gets one reply.
-use Rattle.std.proofs.Common.{◌≡◌, ℕ, zero, suc, ◌+◌, ◌<◌, ◌≤◌, ◌^◌, ◌⊎◌, ◌==◌, Bool, true, List, length, Some, refl, ap, sym, ◌∙◌, subst, arith, inl, inr}
+use Rattle.std.proofs.Common.{◌≡◌, ℕ, zero, suc, ◌+◌, ◌<◌, ◌≤◌, ◌^◌, ◌⊎◌, ◌==◌, List, length, Some, ap, sym, ◌∙◌, subst, arith, inl, inr}
 use Rattle.std.specs.Prelude.{nat_le, slice_get, slice_index, slice_index_or, take}
 use Rattle.std.specs.List.{All, Contains, dedup}
 use Rattle.std.specs.List.Sorted.{IsPermutation, IsSorted, IsStrictlyIncreasing}
@@ -14,7 +14,7 @@ use Rattle.std.proofs.lemmas.Option.{get_or_from_slice_get, slice_get-get_or, sl
 use Rattle.rule_compile.specs.declared.asked.Open.{Open}
 use Rattle.rule_compile.specs.declared.question.Question.{Question}
 use Rattle.rule_compile.specs.declared.question.Subject.{Subject}
-use Rattle.rule_compile.specs.inner.Left.{AreStarts, HasNoNext, HasTurns, IsAlikeAt, IsFrom}
+use Rattle.rule_compile.specs.inner.Left.{AreStarts, HasTurns, IsFrom}
 use Rattle.rule_compile.specs.inner.Replies.{AreAlike}
 
 module _ (starts : List ℕ) (up : IsStrictlyIncreasing starts) where

@@ -1,9 +1,10 @@
-use Rattle.std.proofs.Common.{◌≡◌, ◌-◌, ◌∙◌, List, [], ◌∷◌, ◌++◌, ap, drop, length, false, subst, sym, take, true}
+use Rattle.std.proofs.Common.{◌≡◌, ◌-◌, ◌∙◌, List, [], ◌∷◌, ◌++◌, ap, drop, length, subst, sym, take, true}
 use Rattle.std.specs.List.{All}
 use Rattle.rule_compile.specs.declared.asked.Open.{Open}
 use Rattle.rule_compile.specs.Rules.{begins_here}
-use Rattle.rule_compile.specs.inner.Left.{GoesOn, IsAddedLeft}
+use Rattle.rule_compile.specs.inner.Left.{IsAddedLeft}
 use Rattle.rule_compile.proofs.LeftLaws.{IsPart, Looked, first_rule, none_come, part_first, part_met, part_next, part_says, rest_is, split_first}
+use Rattle.rule_compile.proofs.RulesLaws.{GoesOn}
 use Rattle.rule_compile.proofs.remaining.left.Goals as goal
 
 pub loop-rest-init : goal.loop-rest-init
