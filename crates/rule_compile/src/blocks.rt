@@ -5,10 +5,8 @@
 //! half leaves of them is a block as well. Where the same is left to ask, it is the same block,
 //! whichever calls and machines come to it.
 ghost use Rattle.std.specs.Prelude.{◌≡◌, ◌≤◌, ◌<◌, ◌^◌, ◌++◌, ◌∷◌, ◌⊎◌, [], None, true, take, drop, length, vec_len, All, IfOk, IfSome, IsSome, IsTrue, OnOk};
-ghost use Rattle.rule_compile.specs.Rules.{begins_here};
 ghost use Rattle.rule_compile.specs.inner.Built.{IsFoundAt, IsKept};
 ghost use Rattle.rule_compile.specs.inner.Left.{AreRules, AsksFor, weight};
-ghost use Rattle.rule_compile.specs.inner.Left.{weight_of as question_weight};
 ghost use Rattle.rule_compile.specs.inner.Ranges.{IsPicked};
 ghost use Rattle.rule_compile.specs.inner.Runs.{IsBefore};
 ghost use Rattle.rule_compile.specs.inner.Stands.{AreRanged, AreSound, DecidesRules, HasMore, IsFound, IsLast};
@@ -16,6 +14,7 @@ ghost use Rattle.rule_compile.specs.inner.Stands.{AreRanged, AreSound, DecidesRu
 use crate::asked::{Open, Placed, Rest, are_alike, questions_of};
 use crate::index::{Index, key_of};
 use crate::known::{Known, Span};
+use crate::measures::{all_have, middle, room_for, weight_of};
 use crate::outline::{Asked, Block, Call, Outline, Part};
 use crate::question::Subject;
 use crate::ranges::{Leaf, Range, Ranges};
@@ -37,9 +36,6 @@ pub(crate) struct Blocks {
     /// How many ranges may be looked at, until the rules are no more asked all at once; none: as many as there are.
     room: Option<usize>,
 }
-
-/// How many ranges may be looked at for each question, before neighbours that go on alike are one.
-const RANGES: usize = 6;
 
 impl Blocks {
     /// No blocks.
@@ -440,15 +436,6 @@ impl Blocks {
     }
 }
 
-// Whether each rule has the word of what is gone on at without them.
-fn all_have(rules: &[Open], other: &Leaf) -> bool
-    ensures { IsTrue result → All (λ o. other.now ≡ Leaf.Word o.answer) rules.now }
-{
-    rules
-        .iter()
-        .all(|open| other.is_like(&Leaf::Word(open.answer)))
-}
-
 // Whether of bits under a mask each range is one number or has the leaf of the last range.
 fn are_picked(subject: Subject, ranges: &[Range]) -> bool
     ensures { IsTrue result → (subject.mask ≡ 0xffffffff) ⊎ ((last : Range) → IsLast ranges.now last → All (IsPicked last) ranges.now) }
@@ -469,49 +456,4 @@ fn all_picked(ranges: &[Range], rest: &Range) -> bool
     ranges
         .iter()
         .all(|range| range.is_like(rest) || range.is_single())
-}
-
-// How much is left to ask.
-fn weight_of(rules: &[Open]) -> usize
-    ensures { result ≡ weight rules.now }
-{
-    let mut sum = 0usize;
-    for open in rules {
-        sum += weight_of_one(open);
-    }
-    sum
-}
-
-// A question that goes on with the low word counts twice.
-fn weight_of_one(open: &Open) -> usize
-    ensures weight { result ≡ question_weight open.now.question.low }
-    ensures most { result ≤ 2 }
-{
-    match open.question.low {
-        Some(_) => 2,
-        None => 1,
-    }
-}
-
-// How many ranges may be looked at where rules are asked all at once, that are to be no more than these.
-fn room_for(rules: &[Open], fewest: usize) -> usize {
-    let looked_at = RANGES.saturating_mul(rules.len().saturating_add(1));
-    looked_at.max(fewest.saturating_mul(2))
-}
-
-// The place of the rule that begins nearest behind the middle, or else of the last one.
-fn middle(rules: &[Open]) -> Option<usize>
-    ensures within { IfSome result (λ place. (1 ≤ place) × (place < length rules.now)) }
-    ensures begins { IfSome result (λ place. begins_here (drop place rules.now) ≡ true) }
-{
-    let mut found = None;
-    for place in 1..rules.len() {
-        if rules[place].begins {
-            found = Some(place);
-            if place >= rules.len() / 2 {
-                return found;
-            }
-        }
-    }
-    found
 }

@@ -14,6 +14,7 @@ mod groups;
 mod index;
 mod known;
 mod label;
+mod measures;
 mod outline;
 mod plan;
 mod question;
