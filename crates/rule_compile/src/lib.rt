@@ -16,6 +16,7 @@ mod known;
 mod label;
 mod measures;
 mod outline;
+mod parted;
 mod plan;
 mod question;
 mod ranges;
