@@ -31,11 +31,11 @@ pub(crate) fn weight_of(rules: &[Open]) -> usize
 }
 
 // A question that goes on with the low word counts twice.
-fn weight_of_one(open: &Open) -> usize
-    ensures weight { result ≡ question_weight open.now.question.low }
+fn weight_of_one(this: &Open) -> usize
+    ensures weight { result ≡ question_weight this.now.question.low }
     ensures most { result ≤ 2 }
 {
-    match open.question.low {
+    match this.question.low {
         Some(_) => 2,
         None => 1,
     }
