@@ -3,7 +3,7 @@ use Rattle.std.proofs.Common.{◌≡◌, ◌↔◌, ℕ, zero, suc, ◌+◌, ◌
 use Rattle.std.proofs.Common.{refl, ap, sym, ◌∙◌, subst, arith, inl, inr, add-one, length-drop}
 use Rattle.std.proofs.Math.Seq.{take-suc}
 use Rattle.std.specs.Prelude.{IsTrue, if◌then◌else◌, slice_index_or}
-use Rattle.std.specs.List.{All, Any}
+use Rattle.std.specs.List.{All}
 use Rattle.std.proofs.lemmas.Bool.{true≢false}
 use Rattle.std.proofs.lemmas.List.{take-append-drop, take_all}
 use Rattle.std.proofs.lemmas.List.Elements.{All-cons, All-head, All-nil, All-tail}
@@ -16,11 +16,11 @@ use Rattle.rule_compile.specs.declared.question.Reply.TheVariants as reply
 use Rattle.rule_compile.specs.Questions.{IsMet, bits}
 use Rattle.rule_compile.specs.Rules.{IsRuleMet, SomeMet, begins_here, rules_of, word_of}
 use Rattle.rule_compile.specs.inner.Asked.{AreOf, Asks, IsAsked, IsLast, IsOf}
-use Rattle.rule_compile.specs.inner.Left.{AreAlikeAt, AreRules, AsksFor, GoesOn, IsAddedLeft, IsAlikeAt, IsQuestion, IsRule, Weighs, WeighsLess, weight, weight_of}
+use Rattle.rule_compile.specs.inner.Left.{AreAlikeAt, AreRules, AsksFor, IsAddedLeft, IsAlikeAt, IsQuestion, IsRule, Weighs, WeighsLess, weight, weight_of}
 use Rattle.rule_compile.proofs.AskedLaws.{added_met, added_rules, added_sure, asks_like, asks_nothing, asks_then, begun_last}
 use Rattle.rule_compile.proofs.FindLaws.{all_left, all_right}
 use Rattle.rule_compile.proofs.HeldLaws.{held_more}
-use Rattle.rule_compile.proofs.RulesLaws.{any_cases, any_either, any_left, any_nil, any_right, met_either, met_left, met_one, met_right, rules_append, rules_one, weight_append}
+use Rattle.rule_compile.proofs.RulesLaws.{GoesOn, any_cases, any_either, any_nil, met_either, met_left, met_one, met_right, rules_append, rules_one, weight_append}
 
 -- ---- how much is left
 
@@ -157,7 +157,7 @@ both_same os r w P like old = (
 module _ (subject : Subject) (number : ℕ) (old begun asked new : Questions) (first : Open) (more : List Open)
     (same : begun.asked ≡ old.asked) (start : begun.start ≡ length old.asked.items) (fresh : begun.failed ≡ false)
     (one : IsLast first.answer begun → IsQuestion first.question
-        → Asks begun asked first.answer (LookedOne subject number first) (IsMet first.question))
+    → Asks begun asked first.answer (LookedOne subject number first) (IsMet first.question))
     (every : (word : ℕ) → IsLast word asked → All (IsOf word) more → Asks asked new word (Looked subject number more) (λ r. IsRuleMet r more))
     (of : AreOf first.answer (first ∷ more)) where
   abbrev looked : List ℕ → Type 0
@@ -274,10 +274,10 @@ module _ (subject : Subject) (number : ℕ) where
           let most = part.most in
           elim (part.less asks) [
             | inl some ↦ elim (any_either (λ o. o.question.subject ≡ subject) (first ∷ more) next
-            (subst (λ os. AsksFor os subject) is some)) [
-              | inl own ↦ (let fewer = weighs.1 own in inr (omega (arith, fewer, most, split)))
-              | inr later ↦ inl later
-            ]
+                (subst (λ os. AsksFor os subject) is some)) [
+                  | inl own ↦ (let fewer = weighs.1 own in inr (omega (arith, fewer, most, split)))
+                  | inr later ↦ inl later
+                ]
             | inr fewer ↦ inr (omega (arith, fewer, weighs.0, split))
           ]
 

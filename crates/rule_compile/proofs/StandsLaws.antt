@@ -106,10 +106,9 @@ pub parts_are_rules : (os : List Open) (place : ℕ) → AreRules os → 1 ≤ p
 parts_are_rules os place rules least within begins =
     let whole : rules_of os ≡ rules_of (take place os) ++ rules_of (drop place os) =
     ap rules_of (sym (take-append-drop place os)) ∙ rules_append (take place os) (drop place os) begins in
-    let all : All IsRule (rules_of (take place os) ++ rules_of (drop place os)) = subst (All IsRule) whole rules.1 in
-    (
+    let all : All IsRule (rules_of (take place os) ++ rules_of (drop place os)) = subst (All IsRule) whole rules.1 in (
       (begins_take os place rules.0, all_left IsRule (rules_of (take place os)) (rules_of (drop place os)) all),
-      (begins, all_right IsRule (rules_of (take place os)) (rules_of (drop place os)) all)
+      (begins, all_right IsRule (rules_of (take place os)) (rules_of (drop place os)) all),
     )
 
 -- ---- rules with the word of what is gone on at

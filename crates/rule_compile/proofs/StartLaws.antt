@@ -1,5 +1,5 @@
 -- Starts: between two of them each question gets one reply.
-use Rattle.std.proofs.Common.{◌≡◌, ℕ, zero, suc, ◌+◌, ◌<◌, ◌≤◌, ◌^◌, ◌⊎◌, ◌==◌, Bool, true, List, length, Some, refl, ap, sym, ◌∙◌, subst, arith, inl, inr}
+use Rattle.std.proofs.Common.{◌≡◌, ℕ, zero, suc, ◌+◌, ◌<◌, ◌≤◌, ◌^◌, ◌⊎◌, ◌==◌, List, length, Some, ap, sym, ◌∙◌, subst, arith, inl, inr}
 use Rattle.std.specs.Prelude.{nat_le, slice_get, slice_index, slice_index_or, take}
 use Rattle.std.specs.List.{All, Contains, dedup}
 use Rattle.std.specs.List.Sorted.{IsPermutation, IsSorted, IsStrictlyIncreasing}
@@ -14,7 +14,7 @@ use Rattle.std.proofs.lemmas.Option.{get_or_from_slice_get, slice_get-get_or, sl
 use Rattle.rule_compile.specs.declared.asked.Open.{Open}
 use Rattle.rule_compile.specs.declared.question.Question.{Question}
 use Rattle.rule_compile.specs.declared.question.Subject.{Subject}
-use Rattle.rule_compile.specs.inner.Left.{AreStarts, HasNoNext, HasTurns, IsAlikeAt, IsFrom}
+use Rattle.rule_compile.specs.inner.Left.{AreStarts, HasTurns, IsFrom}
 use Rattle.rule_compile.specs.inner.Replies.{AreAlike}
 
 module _ (starts : List ℕ) (up : IsStrictlyIncreasing starts) where
@@ -26,8 +26,8 @@ module _ (starts : List ℕ) (up : IsStrictlyIncreasing starts) where
       let next : suc j ≡ j + 1 = omega arith in
       elim (cases_lt i (suc j)) [
         | inl lt ↦ (let before : slice_index starts i ≤ slice_index starts j = in_order i j (omega (arith, lt)) (omega (arith, within)) in
-        let step : slice_index starts j < slice_index starts (j + 1) = up j (omega (arith, within)) in
-        omega (arith, before, step, ap (slice_index starts) next))
+            let step : slice_index starts j < slice_index starts (j + 1) = up j (omega (arith, within)) in
+            omega (arith, before, step, ap (slice_index starts) next))
         | inr ge ↦ (let same : i ≡ suc j = omega (arith, le, ge) in omega (arith, ap (slice_index starts) same))
       ]
 
@@ -45,12 +45,12 @@ module _ (starts : List ℕ) (up : IsStrictlyIncreasing starts) where
         let within : place < length starts = slice_get_within starts place start from.is in
         elim (cases_lt place at.0) [
           | inl before ↦ (let more : place + 1 < length starts = omega (arith, before, at.1) in
-          let above : u < slice_index starts (place + 1) =
-          from.below (slice_index starts (place + 1)) (slice_get-get_or starts (place + 1) 0 more) in
-          let behind : slice_index starts (place + 1) ≤ slice_index starts at.0 = in_order (place + 1) at.0 (omega (arith, before)) at.1 in
-          absurd (omega (arith, above, behind, at.2, le)))
+              let above : u < slice_index starts (place + 1) =
+              from.below (slice_index starts (place + 1)) (slice_get-get_or starts (place + 1) 0 more) in
+              let behind : slice_index starts (place + 1) ≤ slice_index starts at.0 = in_order (place + 1) at.0 (omega (arith, before)) at.1 in
+              absurd (omega (arith, above, behind, at.2, le)))
           | inr after ↦ (let least : slice_index starts at.0 ≤ slice_index starts place = in_order at.0 place after within in
-          omega (arith, least, at.2, own))
+              omega (arith, least, at.2, own))
         ]
 
     one_side : (m : ℕ) → Contains starts m → nat_le m start ≡ nat_le m u

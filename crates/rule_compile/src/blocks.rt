@@ -4,24 +4,21 @@
 //! has the number of these bits. So what is known of a word is used by all rules, and what a failed
 //! half leaves of them is a block as well. Where the same is left to ask, it is the same block,
 //! whichever calls and machines come to it.
-ghost use Rattle.std.specs.Prelude.{◌≡◌, ◌≤◌, ◌<◌, ◌^◌, ◌++◌, ◌∷◌, ◌⊎◌, [], None, true, take, drop, length, vec_len, All, IfOk, IfSome, IsSome, IsTrue, OnOk};
-ghost use Rattle.rule_compile.specs.Rules.{begins_here};
+ghost use Rattle.std.specs.Prelude.{◌≡◌, ◌≤◌, ◌<◌, ◌^◌, ◌++◌, ◌∷◌, ◌⊎◌, [], None, take, drop, length, vec_len, All, IfOk, IfSome, IsSome, IsTrue, OnOk};
 ghost use Rattle.rule_compile.specs.inner.Built.{IsFoundAt, IsKept};
 ghost use Rattle.rule_compile.specs.inner.Left.{AreRules, AsksFor, weight};
-ghost use Rattle.rule_compile.specs.inner.Left.{weight_of as question_weight};
 ghost use Rattle.rule_compile.specs.inner.Ranges.{IsPicked};
 ghost use Rattle.rule_compile.specs.inner.Runs.{IsBefore};
-ghost use Rattle.rule_compile.specs.inner.Stands.{AreRanged, AreSound, DecidesRules, HasMore, IsFound, IsLast};
+ghost use Rattle.rule_compile.specs.inner.Stands.{AreRanged, AreSound, HasMore, IsFound, IsLast};
 
-use crate::asked::{Open, Placed, Rest, are_alike, questions_of};
+use crate::asked::{Open, Rest, are_alike};
 use crate::index::{Index, key_of};
 use crate::known::{Known, Span};
-use crate::outline::{Asked, Block, Call, Outline, Part};
+use crate::outline::{Block, Call, Outline};
 use crate::question::Subject;
 use crate::ranges::{Leaf, Range, Ranges};
 use crate::remaining::left;
 use crate::starts::{end_of, starts_of, subject_of};
-use call_record::Word;
 use std::alloc::{AllocError, Global};
 
 /// Blocks. Each goes on at blocks before it.
@@ -30,16 +27,13 @@ pub(crate) struct Blocks {
     pub(crate) blocks: Vec<Block>,
     index: Index,
     // The calls that they decide, and the questions of which these are known.
-    calls: Vec<Call>,
-    known: Vec<Known>,
+    pub(crate) calls: Vec<Call>,
+    pub(crate) known: Vec<Known>,
     // The parts of the questions that are looked at, the last one first.
-    spans: Vec<Span>,
+    pub(crate) spans: Vec<Span>,
     /// How many ranges may be looked at, until the rules are no more asked all at once; none: as many as there are.
-    room: Option<usize>,
+    pub(crate) room: Option<usize>,
 }
-
-/// How many ranges may be looked at for each question, before neighbours that go on alike are one.
-const RANGES: usize = 6;
 
 impl Blocks {
     /// No blocks.
@@ -70,167 +64,8 @@ impl Blocks {
         Outline { blocks, calls }
     }
 
-    /// What decides the calls of a number of the machine with the token, which has these rules.
-    pub(crate) fn leaf_of(
-        &mut self,
-        alloc: Global,
-        token: u32,
-        number: u32,
-        rules: &[Placed<'_>],
-        default: Word,
-    ) -> Result<Leaf, AllocError>
-        requires sound { AreSound self.old }
-        ensures sound { OnOk result (AreSound self.new) }
-        ensures more { OnOk result (HasMore self.old.blocks.items self.new.blocks.items) }
-        ensures before { IfOk result (IsBefore (vec_len self.new.blocks)) }
-        ensures decides { IfOk result (DecidesRules self.new.blocks.items rules.now default) }
-    {
-        match questions_of(alloc, rules, default)? {
-            Rest::Met(rule, word) => {
-                let leaf = Leaf::Word(word);
-                self.add_call(token, number, &leaf, Asked::Nothing(rule))?;
-                Ok(leaf)
-            }
-            Rest::Open(open) => {
-                let (leaf, parts) = self.asked(alloc, &open, &Leaf::Word(default))?;
-                self.add_call(token, number, &leaf, Asked::InParts(parts))?;
-                Ok(leaf)
-            }
-        }
-    }
-
-    // What decides these questions, and the parts in which they are asked. Calls that ask the same have one answer.
-    fn asked(
-        &mut self,
-        alloc: Global,
-        rules: &[Open],
-        other: &Leaf,
-    ) -> Result<(Leaf, Vec<Part>), AllocError>
-        requires sound { AreSound self.old }
-        requires rules { AreRules rules.now }
-        requires other { IsBefore (vec_len self.old.blocks) other.now }
-        ensures sound { OnOk result (AreSound self.new) }
-        ensures more { OnOk result (HasMore self.old.blocks.items self.new.blocks.items) }
-        ensures found { IfOk result (λ found. IsFound self.new.blocks.items rules.now other.now found.0) }
-    {
-        let key = key_of(rules, other);
-        for known in &self.known {
-            if known.is_of(key, rules, other) {
-                return Ok((known.leaf, known.parts_of(alloc, rules)?));
-            }
-        }
-        let leaf = self.add(alloc, rules, 0, other)?;
-        let spans = std::mem::replace(&mut self.spans, Vec::new(alloc));
-        let asked = Vec::from_slice(alloc, rules)?;
-        let other = *other;
-        let known = Known {
-            key,
-            asked,
-            other,
-            leaf,
-            spans,
-        };
-        let parts = known.parts_of(alloc, &known.asked)?;
-        self.known.push(known)?;
-        Ok((leaf, parts))
-    }
-
-    // Notes what decides a call.
-    fn add_call(
-        &mut self,
-        token: u32,
-        number: u32,
-        leaf: &Leaf,
-        asked: Asked,
-    ) -> Result<(), AllocError>
-        ensures blocks { OnOk result (self.new.blocks.items ≡ self.old.blocks.items) }
-        ensures known { OnOk result (self.new.known.items ≡ self.old.known.items) }
-    {
-        let leaf = *leaf;
-        self.calls.push(Call {
-            token,
-            number,
-            leaf,
-            asked,
-        })?;
-        Ok(())
-    }
-
-    // The block of these rules. Rules with the word of what is gone on at without them make no
-    // difference. They are asked all at once where that takes no more ranges than the first half of
-    // them before the second. The first of them stands at a place among those of its call.
-    fn add(
-        &mut self,
-        alloc: Global,
-        rules: &[Open],
-        start: usize,
-        other: &Leaf,
-    ) -> Result<Leaf, AllocError>
-        requires sound { AreSound self.old }
-        requires rules { AreRules rules.now }
-        requires other { IsBefore (vec_len self.old.blocks) other.now }
-        ensures sound { OnOk result (AreSound self.new) }
-        ensures more { OnOk result (HasMore self.old.blocks.items self.new.blocks.items) }
-        ensures known { OnOk result (self.new.known.items ≡ self.old.known.items) }
-        ensures found { IfOk result (IsFound self.new.blocks.items rules.now other.now) }
-    {
-        if all_have(rules, other) {
-            return Ok(*other);
-        }
-        let Some(place) = middle(rules) else {
-            let leaf = self.add_rule(alloc, rules, other)?;
-            self.add_span(start, rules.len(), &leaf)?;
-            return Ok(leaf);
-        };
-        let spans = self.spans.len();
-        let before = self.blocks.len();
-        let (first, second) = rules.split_at(place);
-        let next = self.add(alloc, second, start.saturating_add(place), other)?;
-        let parted = self.add(alloc, first, start, &next)?;
-        let fewest = self.ranges_from(before);
-        let aside = self.set_aside(before)?;
-        self.room = Some(room_for(rules, fewest));
-        if let Some(whole) = self.decide(alloc, rules, other, weight_of(rules))?
-            && self.ranges_from(before) <= fewest
-        {
-            self.spans.truncate(spans);
-            self.add_span(start, rules.len(), &whole)?;
-            return Ok(whole);
-        }
-        self.drop_from(before);
-        self.put_back(alloc, aside)?;
-        Ok(parted)
-    }
-
-    // Notes that so many questions from a place on are asked at once.
-    fn add_span(&mut self, start: usize, count: usize, leaf: &Leaf) -> Result<(), AllocError>
-        ensures blocks { OnOk result (self.new.blocks.items ≡ self.old.blocks.items) }
-        ensures known { OnOk result (self.new.known.items ≡ self.old.known.items) }
-    {
-        let leaf = *leaf;
-        self.spans.push(Span { start, count, leaf })?;
-        Ok(())
-    }
-
-    // The block of one rule.
-    fn add_rule(&mut self, alloc: Global, rules: &[Open], other: &Leaf) -> Result<Leaf, AllocError>
-        requires sound { AreSound self.old }
-        requires rules { AreRules rules.now }
-        requires other { IsBefore (vec_len self.old.blocks) other.now }
-        ensures sound { OnOk result (AreSound self.new) }
-        ensures more { OnOk result (HasMore self.old.blocks.items self.new.blocks.items) }
-        ensures known { OnOk result (self.new.known.items ≡ self.old.known.items) }
-        ensures found { IfOk result (IsFound self.new.blocks.items rules.now other.now) }
-    {
-        self.room = None;
-        match self.decide(alloc, rules, other, weight_of(rules))? {
-            Some(leaf) => Ok(leaf),
-            None => unreachable!(),
-        }
-    }
-
-    // How many ranges the blocks have from a place on.
-    fn ranges_from(&self, place: usize) -> usize {
+    /// How many ranges the blocks have from a place on.
+    pub(crate) fn ranges_from(&self, place: usize) -> usize {
         let mut count = 0usize;
         for block in self.blocks.iter().skip(place) {
             count = count.saturating_add(block.ranges.len());
@@ -238,8 +73,8 @@ impl Blocks {
         count
     }
 
-    // Takes the blocks out from a place on.
-    fn set_aside(&mut self, place: usize) -> Result<Vec<Block>, AllocError>
+    /// Takes the blocks out from a place on.
+    pub(crate) fn set_aside(&mut self, place: usize) -> Result<Vec<Block>, AllocError>
         requires { place ≤ vec_len self.old.blocks }
         ensures kept { OnOk result (self.new.blocks.items ≡ take place self.old.blocks.items) }
         ensures aside { IfOk result (λ aside. aside.items ≡ drop place self.old.blocks.items) }
@@ -250,8 +85,8 @@ impl Blocks {
         Ok(aside)
     }
 
-    // Drops the blocks from a place on.
-    fn drop_from(&mut self, place: usize)
+    /// Drops the blocks from a place on.
+    pub(crate) fn drop_from(&mut self, place: usize)
         ensures kept { self.new.blocks.items ≡ take place self.old.blocks.items }
         ensures known { self.new.known.items ≡ self.old.known.items }
     {
@@ -259,8 +94,12 @@ impl Blocks {
         self.blocks.truncate(place);
     }
 
-    // Puts blocks back that were taken out.
-    fn put_back(&mut self, alloc: Global, mut aside: Vec<Block>) -> Result<(), AllocError>
+    /// Puts blocks back that were taken out.
+    pub(crate) fn put_back(
+        &mut self,
+        alloc: Global,
+        mut aside: Vec<Block>,
+    ) -> Result<(), AllocError>
         ensures blocks { OnOk result (self.new.blocks.items ≡ self.old.blocks.items ++ aside.items) }
         ensures known { OnOk result (self.new.known.items ≡ self.old.known.items) }
     {
@@ -269,9 +108,9 @@ impl Blocks {
         Ok(())
     }
 
-    // The block that looks at all questions for the same bits at once, unless it is too long.
+    /// The block that looks at all questions for the same bits at once, unless it is too long.
     #[cycle(decide)]
-    fn decide(
+    pub(crate) fn decide(
         &mut self,
         alloc: Global,
         rules: &[Open],
@@ -440,15 +279,6 @@ impl Blocks {
     }
 }
 
-// Whether each rule has the word of what is gone on at without them.
-fn all_have(rules: &[Open], other: &Leaf) -> bool
-    ensures { IsTrue result → All (λ o. other.now ≡ Leaf.Word o.answer) rules.now }
-{
-    rules
-        .iter()
-        .all(|open| other.is_like(&Leaf::Word(open.answer)))
-}
-
 // Whether of bits under a mask each range is one number or has the leaf of the last range.
 fn are_picked(subject: Subject, ranges: &[Range]) -> bool
     ensures { IsTrue result → (subject.mask ≡ 0xffffffff) ⊎ ((last : Range) → IsLast ranges.now last → All (IsPicked last) ranges.now) }
@@ -469,49 +299,4 @@ fn all_picked(ranges: &[Range], rest: &Range) -> bool
     ranges
         .iter()
         .all(|range| range.is_like(rest) || range.is_single())
-}
-
-// How much is left to ask.
-fn weight_of(rules: &[Open]) -> usize
-    ensures { result ≡ weight rules.now }
-{
-    let mut sum = 0usize;
-    for open in rules {
-        sum += weight_of_one(open);
-    }
-    sum
-}
-
-// A question that goes on with the low word counts twice.
-fn weight_of_one(open: &Open) -> usize
-    ensures weight { result ≡ question_weight open.now.question.low }
-    ensures most { result ≤ 2 }
-{
-    match open.question.low {
-        Some(_) => 2,
-        None => 1,
-    }
-}
-
-// How many ranges may be looked at where rules are asked all at once, that are to be no more than these.
-fn room_for(rules: &[Open], fewest: usize) -> usize {
-    let looked_at = RANGES.saturating_mul(rules.len().saturating_add(1));
-    looked_at.max(fewest.saturating_mul(2))
-}
-
-// The place of the rule that begins nearest behind the middle, or else of the last one.
-fn middle(rules: &[Open]) -> Option<usize>
-    ensures within { IfSome result (λ place. (1 ≤ place) × (place < length rules.now)) }
-    ensures begins { IfSome result (λ place. begins_here (drop place rules.now) ≡ true) }
-{
-    let mut found = None;
-    for place in 1..rules.len() {
-        if rules[place].begins {
-            found = Some(place);
-            if place >= rules.len() / 2 {
-                return found;
-            }
-        }
-    }
-    found
 }

@@ -27,11 +27,11 @@ use call_tables::Arch;
 use profile::Profile;
 use std::alloc::Global;
 
-/// A filter of the profile, as the bytes of its instructions.
+/// A filter of the profile, as the bytes of its instructions: the kernel accepts it, and its verdict on each call record is
+/// the one that the profile says, conditions included.
 ///
-/// Where no rule has a condition, and each number is one of a table, there is a filter if there is
-/// memory, and it answers each call what the profile says. Of other profiles nothing is promised: who
-/// relies on the verdicts has the filter checked against the profile.
+/// Where no rule has a condition, and each number is one of a table, there is a filter if there is memory, and its paths are
+/// few and short.
 pub fn compile(alloc: Global, profile: &Profile) -> Result<Vec<u8>, CompileError>
     ensures program { IfOk result (λ bytes. view_fault bytes.items ≡ None) }
     ensures right { IfOk result (λ bytes. IsRightFilter profile.now (insns_of bytes.items)) }
@@ -42,7 +42,7 @@ pub fn compile(alloc: Global, profile: &Profile) -> Result<Vec<u8>, CompileError
     Ok(bytes)
 }
 
-/// A filter, and what the compiler knows of it.
+/// A right filter, and what the compiler knows of it.
 #[derive(Drop)]
 pub struct Made {
     /// The bytes of its instructions.

@@ -1,7 +1,7 @@
 //! Compiles a profile to a seccomp filter.
 //!
-//! The compiler is not trusted. What it answers is a program, and whether the verdicts of the
-//! program are those of the profile is left to a check of the filter.
+//! That each filter is right is proved here. Nobody has to rely on it: what loads a filter stands on a check of the filter
+//! against the profile, which knows nothing of this code.
 #![tactic(auto)]
 
 mod asked;
@@ -14,7 +14,9 @@ mod groups;
 mod index;
 mod known;
 mod label;
+mod measures;
 mod outline;
+mod parted;
 mod plan;
 mod question;
 mod ranges;

@@ -1,9 +1,9 @@
 //! What is left to ask of rules where some bits are known.
-ghost use Rattle.std.specs.Prelude.{◌≡◌, ◌≤◌, ◌+◌, ℕ, List, [], ◌∷◌, true, All, IfOk, OnOk, drop, length, take};
+ghost use Rattle.std.specs.Prelude.{◌≡◌, ◌≤◌, ◌+◌, ℕ, List, [], ◌∷◌, false, true, All, IfOk, OnOk, drop, length, take};
 ghost use Rattle.rule_compile.specs.Questions.{IsMet, bits};
 ghost use Rattle.rule_compile.specs.Rules.{IsRuleMet, begins_here};
 ghost use Rattle.rule_compile.specs.inner.Asked.{AreOf, Asks, IsLast, IsOf};
-ghost use Rattle.rule_compile.specs.inner.Left.{AreAlikeAt, AreRules, AsksLess, GoesOn, IsAddedLeft, IsAlikeAt, IsQuestion, SaysAlike, Weighs};
+ghost use Rattle.rule_compile.specs.inner.Left.{AreAlikeAt, AreRules, AsksLess, IsAddedLeft, IsAlikeAt, IsQuestion, SaysAlike, Weighs};
 
 use crate::asked::{Open, Questions, Rest};
 use crate::question::{Reply, Subject};
@@ -34,7 +34,7 @@ pub fn left(
 // How many questions stand in front of the next rule.
 fn further(questions: &[Open]) -> usize
     ensures within { result ≤ length questions.now }
-    ensures further { All GoesOn (take result questions.now) }
+    ensures further { All (λ o. o.begins ≡ false) (take result questions.now) }
     ensures next { begins_here (drop result questions.now) ≡ true }
 {
     for (place, open) in questions.iter().enumerate() {

@@ -46,11 +46,7 @@ fn turns_of(alloc: Global, rules: &[Open], subject: Subject) -> Result<Vec<u32>,
 }
 
 // Adds the numbers from which on the reply to the question may be another, if it asks for these bits.
-fn add_turns(
-    turns: &mut Vec<u32>,
-    question: &Question,
-    subject: Subject,
-) -> Result<(), AllocError>
+fn add_turns(turns: &mut Vec<u32>, question: &Question, subject: Subject) -> Result<(), AllocError>
     ensures words { All (λ number. number < 2 ^ 32) turns.old.items → OnOk result (All (λ number. number < 2 ^ 32) turns.new.items) }
     ensures kept { OnOk result ((n : ℕ) → Contains turns.old.items n → Contains turns.new.items n) }
     ensures turns { OnOk result (question.now.subject ≡ subject → HasTurns turns.new.items question.now) }

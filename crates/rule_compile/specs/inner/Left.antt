@@ -1,5 +1,6 @@
 -- What is left to ask of rules.
-use Rattle.std.specs.Prelude.{◌≡◌, ◌↔◌, ◌≢◌, ◌≤◌, ◌<◌, ◌+◌, ◌^◌, ◌%◌, ◌⊎◌, ⊤, ℕ, Bool, true, false, List, [], ◌∷◌, Option, Some, None, slice_get, length}
+use Rattle.std.specs.Prelude.{◌≡◌, ◌↔◌, ◌≢◌, ◌≤◌, ◌<◌, ◌+◌, ◌^◌, ◌%◌, ◌⊎◌, ⊤, ℕ, Bool, true, false}
+use Rattle.std.specs.Prelude.{List, [], ◌∷◌, Option, Some, None, slice_get}
 use Rattle.std.specs.List.{All, Any, Contains}
 use Rattle.call_record.specs.Words.{argument}
 use Rattle.profile.specs.Condition.{Meets}
@@ -12,7 +13,6 @@ use Rattle.rule_compile.specs.declared.question.Question.{Question}
 use Rattle.rule_compile.specs.declared.question.Reply.{Reply}
 use Rattle.rule_compile.specs.declared.question.Reply.TheVariants as reply
 use Rattle.rule_compile.specs.declared.question.Subject.{Subject}
-use Rattle.rule_compile.specs.Questions.{bits}
 use Rattle.rule_compile.specs.Rules.{IsRuleMet, SomeMet, begins_here, rules_of, word_of}
 use Rattle.rule_compile.specs.inner.Replies.{AreAlike}
 
@@ -27,10 +27,6 @@ pub record IsQuestion (q : Question) : Type 0 where
   pub offset : IsOffset q.subject.word
   pub high : (low : ℕ) → q.low ≡ Some low → (4 ≤ q.subject.word) × (q.subject.mask ≡ 0xffffffff) × (low < 2 ^ 32)
   pub masked : (q.subject.mask ≡ 0xffffffff) ⊎ (q.number ≤ q.subject.mask)
-
--- the question does not begin a rule
-abbrev pub GoesOn : Open → Type 0
-GoesOn o = o.begins ≡ false
 
 -- the questions of one rule have one word
 abbrev pub IsRule : List Open → Type 0

@@ -1,5 +1,5 @@
 -- What a reply to a question says of records.
-use Rattle.std.specs.Prelude.{◌≡◌, ◌↔◌, ◌⊎◌, ℕ, ◌==◌, nat_le, Bool, if◌then◌else◌, List, Option, None}
+use Rattle.std.specs.Prelude.{◌≡◌, ◌↔◌, ◌⊎◌, ℕ, ◌==◌, nat_le, Bool, if◌then◌else◌, List, None}
 use Rattle.rule_compile.specs.declared.question.Comparison.TheVariants.{AtLeast}
 use Rattle.rule_compile.specs.declared.question.Question.{Question}
 use Rattle.rule_compile.specs.declared.question.Reply.{Reply}

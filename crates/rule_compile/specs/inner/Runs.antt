@@ -75,7 +75,8 @@ LeadsByBits blocks code subject ranges to =
 
 -- single numbers are picked out of ranges: from the target on, each record gets what its range decides, and where A holds a number of none
 -- of them what the rest decides
-pub record PicksOut (blocks : List Block) (code : List Insn) (loaded : Option ℕ) (ranges : List Range) (rest : Range) (to : Target) : Type 0 where
+pub record PicksOut (blocks : List Block) (code : List Insn) (loaded : Option ℕ) (ranges : List Range) (rest : Range) (to : Target)
+    : Type 0 where
   pub led : AreLed blocks code loaded ranges to
   pub others : LeadsElse blocks code loaded ranges to rest.leaf
 

@@ -40,7 +40,7 @@ pub record IsBlock (place : ℕ) (block : Block) : Type 0 where
   pub tiles : Tiles 0 block.ranges.items (2 ^ 32)
   pub before : AreBefore place block.ranges.items
   pub goes_on : IsBefore place block.other
-  pub picked : (block.subject.mask ≡ 0xffffffff) ⊎ ((last : Range) → IsLast block.ranges.items last → All (IsPicked last) block.ranges.items)
+  pub picked : (block.subject.mask ≡ 0xffffffff) ⊎ ((x : Range) → IsLast block.ranges.items x → All (IsPicked x) block.ranges.items)
 
 abbrev pub AreBlocks : List Block → Type 0
 AreBlocks blocks = (place : ℕ) (block : Block) → slice_get blocks place ≡ Some block → IsBlock place block
@@ -73,10 +73,10 @@ pub record IsFound (blocks : List Block) (os : List Open) (other leaf : Leaf) : 
   pub stands : StandsFor blocks leaf os other
 
 -- the ranges of a block so far: those up to an end have what the questions come to
-pub record AreRanged (blocks : List Block) (os : List Open) (other : Leaf) (subject : Subject) (ranges : List Range) (end : ℕ) : Type 0 where
+pub record AreRanged (blocks : List Block) (os : List Open) (other : Leaf) (s : Subject) (ranges : List Range) (end : ℕ) : Type 0 where
   pub tiles : Tiles 0 ranges end
   pub before : AreBefore (length blocks) ranges
-  pub come : All (λ range. (r : List ℕ) → IsRecord r → IsClearAt os r → IsWithin range (bits subject r) → (v : ℕ) → Comes blocks os other r v
+  pub come : All (λ range. (r : List ℕ) → IsRecord r → IsClearAt os r → IsWithin range (bits s r) → (v : ℕ) → Comes blocks os other r v
       → Decides blocks r v range.leaf) ranges
 
 -- ---- calls
@@ -110,7 +110,7 @@ IsClearOn rules r = (a b : Rule) → Contains rules a → Contains rules b → M
 -- the word of a rule that matches, or the default where none does
 abbrev pub IsSaidBy : List Rule → ℕ → List ℕ → ℕ → Type 0
 IsSaidBy rules default r word =
-    ((rule : Rule) × Contains rules rule × Matches rule r × (rule.word ≡ word)) ⊎ (All (λ rule. Matches rule r → ⊥) rules × (word ≡ default))
+    ((rule : Rule) × Contains rules rule × Matches rule r × (rule.word ≡ word)) ⊎ (All (λ x. Matches x r → ⊥) rules × (word ≡ default))
 
 -- of a record of a number of the machine with the token this word is said, whatever it asks for: each rule that it matches has it, and
 -- it is the default word unless one does

@@ -92,5 +92,5 @@ returns-clause-tells c listed wr =
     let led : LeadsByWord blocks new 0 ranges target =
     subst (λ rs. LeadsByWord blocks new 0 rs target) c.deref.ensures.value
     (c.in_ok-found.ensures.led blocks
-    (subst (AreWritten blocks mid) (sym c.deref-2.ensures.value) (c.in_ok-write_blocks.ensures.written more)) (refl, omega arith) tiles) in
+    (subst (AreWritten blocks mid) (sym c.deref-2.ensures.value) (c.in_ok-write_blocks.ensures.written more)) tiles) in
     calls_tell p t blocks new ranges target c.in_ok-ranges.ensures.tiled (c.in_ok-ranges.ensures.decides listed) led

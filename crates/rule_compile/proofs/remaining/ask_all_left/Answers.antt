@@ -1,10 +1,8 @@
 use Rattle.std.proofs.Common.{◌<◌, ◌≤◌, length, rules, subst}
-use Rattle.std.specs.List.{All}
 use Rattle.std.proofs.lemmas.List.{take_all}
 use Rattle.rule_compile.specs.Rules.{IsRuleMet}
 use Rattle.rule_compile.specs.inner.Asked.{Asks}
 use Rattle.rule_compile.specs.inner.Left.{Weighs}
-use Rattle.rule_compile.proofs.AskedLaws.{asks_nothing}
 use Rattle.rule_compile.proofs.LeftLaws.{Looked, none_asked, one_more, weighs_more, weighs_nothing}
 use Rattle.rule_compile.proofs.remaining.ask_all_left.Goals as goal
 

@@ -1,4 +1,4 @@
-use Rattle.std.specs.Prelude.{ℕ, List, take}
+use Rattle.std.specs.Prelude.{ℕ, take}
 use Rattle.std.specs.List.{All}
 use Rattle.rule_compile.specs.Rules.{IsRuleMet}
 use Rattle.rule_compile.specs.inner.Asked.{Asks, IsLast, IsOf}

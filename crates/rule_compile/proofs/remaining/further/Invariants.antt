@@ -1,6 +1,6 @@
 use Rattle.std.specs.Prelude.{take}
 use Rattle.std.specs.List.{All}
-use Rattle.rule_compile.specs.inner.Left.{GoesOn}
+use Rattle.rule_compile.proofs.RulesLaws.{GoesOn}
 use Rattle.rule_compile.proofs.remaining.further.Given as goal
 
 abbrev pub invariant-loop-place : goal.invariant-loop-place

@@ -1,9 +1,10 @@
-use Rattle.std.proofs.Common.{◌≡◌, ◌-◌, ◌∙◌, List, [], ◌∷◌, ◌++◌, ap, drop, length, false, subst, sym, take, true}
+use Rattle.std.proofs.Common.{◌≡◌, ◌-◌, ◌∙◌, List, [], ◌∷◌, ◌++◌, ap, drop, length, subst, sym, take, true}
 use Rattle.std.specs.List.{All}
 use Rattle.rule_compile.specs.declared.asked.Open.{Open}
 use Rattle.rule_compile.specs.Rules.{begins_here}
-use Rattle.rule_compile.specs.inner.Left.{GoesOn, IsAddedLeft}
+use Rattle.rule_compile.specs.inner.Left.{IsAddedLeft}
 use Rattle.rule_compile.proofs.LeftLaws.{IsPart, Looked, first_rule, none_come, part_first, part_met, part_next, part_says, rest_is, split_first}
+use Rattle.rule_compile.proofs.RulesLaws.{GoesOn}
 use Rattle.rule_compile.proofs.remaining.left.Goals as goal
 
 pub loop-rest-init : goal.loop-rest-init
@@ -22,11 +23,11 @@ returns-then-branch-clause-says c = λ are.
     let back : next ≡ drop c.further.result others = c.split_at.ensures.back in
     let is : c.loop-rest.rest.now ≡ (c.first-item.result ∷ more) ++ next =
     split_first c.loop-rest.rest.now others more next c.first-item.result c.further.result c.in-len1-up.len_at_least c.first-item.is
-        behind front back in
+    behind front back in
     let goes_on : All GoesOn more = subst (All GoesOn) (sym front) c.further.ensures.further in
     let begins : begins_here next ≡ true = ap begins_here back ∙ c.further.ensures.next in
     let of = first_rule c.args.subject c.args.number c.args.rules.now c.loop-rest.rest.now c.loop-rest.questions.asked.items part
-        c.first-item.result more next is goes_on begins in
+    c.first-item.result more next is goes_on begins in
     let looked = Looked c.args.subject c.args.number (c.first-item.result ∷ more) in
     part_met c.args.subject c.args.number c.args.rules.now c.loop-rest.rest.now c.loop-rest.questions.asked.items part
     c.first-item.result more next is goes_on begins
@@ -44,11 +45,11 @@ loop-rest-preserved c = λ are.
     let back : next ≡ drop c.further.result others = c.split_at.ensures.back in
     let is : c.loop-rest.rest.now ≡ (c.first-item.result ∷ more) ++ next =
     split_first c.loop-rest.rest.now others more next c.first-item.result c.further.result c.in-len1-up.len_at_least c.first-item.is
-        behind front back in
+    behind front back in
     let goes_on : All GoesOn more = subst (All GoesOn) (sym front) c.further.ensures.further in
     let begins : begins_here next ≡ true = ap begins_here back ∙ c.further.ensures.next in
     let of = first_rule c.args.subject c.args.number c.args.rules.now c.loop-rest.rest.now c.loop-rest.questions.asked.items part
-        c.first-item.result more next is goes_on begins in
+    c.first-item.result more next is goes_on begins in
     let looked = Looked c.args.subject c.args.number (c.first-item.result ∷ more) in
     let asked = part.are_asked in
     part_next c.args.subject c.args.number c.args.rules.now c.loop-rest.rest.now c.loop-rest.questions.asked.items part

@@ -31,9 +31,16 @@ add-requires-2 t c =
     let within = c.in-Some.ensures.within in
     let parts = parts_are_rules c.args.rules.now c.in-Some.place c.requires.rules within.0 within.1 c.in-Some.ensures.begins in
     let next = c.in_ok-next.ensures.found in
-    let long : vec_len c.add.new.self.blocks ≡ length c.add.new.self.blocks.items = search rules in
-    (search rules, (c.in_ok-next.ensures.sound, (subst AreRules (sym c.split_at.ensures.front) parts.0,
-    subst (λ n. IsBefore n c.in_ok-next.next) (sym long) next.before)))
+    let long : vec_len c.add.new.self.blocks ≡ length c.add.new.self.blocks.items = search rules in (
+      search rules,
+      (
+        c.in_ok-next.ensures.sound,
+        (
+          subst AreRules (sym c.split_at.ensures.front) parts.0,
+          subst (λ n. IsBefore n c.in_ok-next.next) (sym long) next.before,
+        ),
+      ),
+    )
 
 pub decide-requires-clause-sound : goal.decide-requires-clause-sound
 decide-requires-clause-sound t c =

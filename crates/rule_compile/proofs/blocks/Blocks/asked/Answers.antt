@@ -1,4 +1,5 @@
 use Rattle.std.proofs.Common.{◌≡◌, ◌∙◌, ◌++◌, ◌<◌, [], ◌∷◌, ap, length, refl, rules, subst, sym, vec_len}
+use Rattle.std.specs.List.{All}
 use Rattle.rule_compile.specs.declared.known.Known.{Known}
 use Rattle.rule_compile.specs.Decides.{StandsFor}
 use Rattle.rule_compile.specs.inner.Runs.{IsBefore}
@@ -8,7 +9,16 @@ use Rattle.rule_compile.proofs.StandsLaws.{known_found, known_sound}
 use Rattle.rule_compile.proofs.blocks.Blocks.asked.Goals as goal
 
 pub returns-then-is_of-clause-found : goal.returns-then-is_of-clause-found
-returns-then-is_of-clause-found c = ?
+returns-then-is_of-clause-found c =
+    let bs = c.args.self.now.blocks.items in
+    let within : c.loop-known.known-index < length c.deref-known-items.result.now = search rules in
+    let sound = c.requires.sound in
+    let all : All (KnownStands bs) c.deref-known-items.result.now =
+    subst (All (KnownStands bs)) (sym c.deref-known-items.ensures.value) sound.known in
+    let stands : KnownStands bs c.known-item.result =
+    subst (KnownStands bs) (sym c.known-item.is) (all c.loop-known.known-index c.known-item.result within) in
+    let alike = c.is_of.ensures c.if-is_of.true in
+    known_found bs c.known-item.result c.args.rules.now c.args.other.now stands alike.0 alike.1
 
 pub returns-clause-sound : goal.returns-clause-sound
 returns-clause-sound c =

@@ -3,7 +3,7 @@ use Rattle.std.specs.Prelude.{slice_index_or}
 use Rattle.rule_compile.specs.declared.asked.Open.{Open}
 use Rattle.rule_compile.specs.inner.Left.{weight_of}
 use Rattle.rule_compile.proofs.BlocksLaws.{weight_more}
-use Rattle.rule_compile.proofs.blocks.weight_of.Goals as goal
+use Rattle.rule_compile.proofs.measures.weight_of.Goals as goal
 
 pub loop-open-preserved : goal.loop-open-preserved
 loop-open-preserved c =

@@ -1,6 +1,6 @@
 use Rattle.std.specs.Prelude.{◌≡◌, ◌≤◌, ◌*◌, take}
 use Rattle.rule_compile.specs.inner.Left.{weight}
-use Rattle.rule_compile.proofs.blocks.weight_of.Given as goal
+use Rattle.rule_compile.proofs.measures.weight_of.Given as goal
 
 abbrev pub invariant-loop-open : goal.invariant-loop-open
 invariant-loop-open l = record {

@@ -1,0 +1,65 @@
+//! How much questions ask, and where they are parted.
+ghost use Rattle.std.specs.Prelude.{◌≡◌, ◌≤◌, ◌<◌, true, drop, length, All, IfSome, IsTrue};
+ghost use Rattle.rule_compile.specs.Rules.{begins_here};
+ghost use Rattle.rule_compile.specs.inner.Left.{weight};
+ghost use Rattle.rule_compile.specs.inner.Left.{weight_of as question_weight};
+
+use crate::asked::Open;
+use crate::ranges::Leaf;
+
+// How many ranges may be looked at for each question, before neighbours that go on alike are one.
+const RANGES: usize = 6;
+
+/// Whether each rule has the word of what is gone on at without them.
+pub(crate) fn all_have(rules: &[Open], other: &Leaf) -> bool
+    ensures { IsTrue result → All (λ o. other.now ≡ Leaf.Word o.answer) rules.now }
+{
+    rules
+        .iter()
+        .all(|open| other.is_like(&Leaf::Word(open.answer)))
+}
+
+/// How much is left to ask.
+pub(crate) fn weight_of(rules: &[Open]) -> usize
+    ensures { result ≡ weight rules.now }
+{
+    let mut sum = 0usize;
+    for open in rules {
+        sum += weight_of_one(open);
+    }
+    sum
+}
+
+// A question that goes on with the low word counts twice.
+fn weight_of_one(this: &Open) -> usize
+    ensures weight { result ≡ question_weight this.now.question.low }
+    ensures most { result ≤ 2 }
+{
+    match this.question.low {
+        Some(_) => 2,
+        None => 1,
+    }
+}
+
+/// How many ranges may be looked at where rules are asked all at once, that are to be no more than these.
+pub(crate) fn room_for(rules: &[Open], fewest: usize) -> usize {
+    let looked_at = RANGES.saturating_mul(rules.len().saturating_add(1));
+    looked_at.max(fewest.saturating_mul(2))
+}
+
+/// The place of the rule that begins nearest behind the middle, or else of the last one.
+pub(crate) fn middle(rules: &[Open]) -> Option<usize>
+    ensures within { IfSome result (λ place. (1 ≤ place) × (place < length rules.now)) }
+    ensures begins { IfSome result (λ place. begins_here (drop place rules.now) ≡ true) }
+{
+    let mut found = None;
+    for place in 1..rules.len() {
+        if rules[place].begins {
+            found = Some(place);
+            if place >= rules.len() / 2 {
+                return found;
+            }
+        }
+    }
+    found
+}
