@@ -17,3 +17,4 @@ pub mod OwnLaws
 pub mod TableLaws
 pub mod UnlikeLaws
 pub mod ShapeLaws
+pub mod CompiledLaws

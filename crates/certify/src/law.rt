@@ -1,6 +1,6 @@
 //! What own work comes to, as laws of the definitions.
 ghost use Rattle.certify.specs.Own.{OwnWorkIsKept};
-ghost use Rattle.certify.specs.Right.{ShapeIsRight};
+ghost use Rattle.certify.specs.Right.{CompiledIsRight, ShapeIsRight};
 ghost use Rattle.certify.specs.Tables.{TableProfilesArePlain};
 
 /// A certificate that `certify` promises for a profile without conditions breaks no rule that the checker looks for.
@@ -18,4 +18,10 @@ pub fn table_profiles_are_plain()
 /// call record the word that the profile says.
 pub fn shape_is_right()
     ensures { ShapeIsRight }
+{}
+
+/// A filter of the compiler is right in the checker's words: on each call record it gives the word that the profile says, and
+/// no other.
+pub fn compiled_is_right()
+    ensures { CompiledIsRight }
 {}
