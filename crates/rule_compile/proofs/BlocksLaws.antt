@@ -25,7 +25,7 @@ use Rattle.rule_compile.specs.inner.Left.{AreAlikeAt, AreRules, AreSame, AreStar
 use Rattle.rule_compile.specs.inner.Numbers.{IsExtended, Tiles, more, nothing, wider}
 use Rattle.rule_compile.specs.inner.Ranges.{IsPicked}
 use Rattle.rule_compile.specs.inner.Runs.{AreBefore, IsBefore}
-use Rattle.rule_compile.specs.inner.Stands.{AreBlocks, AreRanged, AreSound, BlocksStand, HasMore, IsBlock, IsFound, IsLast, KnownStands}
+use Rattle.rule_compile.specs.inner.Stands.{AreBlocks, AreRanged, AreSound, BlocksStand, HasMore, IsBlock, IsFound, KnownStands}
 use Rattle.rule_compile.proofs.DecidesLaws.{before_le, before_more, decides_less, decides_more, get_less}
 use Rattle.rule_compile.proofs.FindLaws.{all_left, all_right}
 use Rattle.rule_compile.proofs.RangeLaws.{tiles_back, tiles_extended}
@@ -332,12 +332,6 @@ pub single : (xs : List Range) (x : Range) → 1 ≤ length xs → length xs < 2
 single [] x some few is = absurd (omega (arith, some))
 single (y ∷ []) x some few is = ap (λ z. z ∷ []) (sym is)
 single (y ∷ z ∷ zs) x some few is = absurd (omega (arith, few))
-
-pub last_is : (ranges : List Range) (rest last : Range) → slice_get ranges (length ranges - 1) ≡ Some rest → IsLast ranges last → rest ≡ last
-last_is ranges rest last at one =
-    let n : length ranges - 1 ≡ length one.front = omega (arith, ap length one.is, length-append one.front (last ∷ [])) in
-    same_Some rest last
-    (sym at ∙ ap (slice_get ranges) n ∙ ap (λ xs. slice_get xs (length one.front)) one.is ∙ slice_get_last one.front last)
 
 -- ---- each question of rules
 

@@ -30,7 +30,6 @@ use Rattle.rule_compile.specs.inner.Goes.{Branches}
 use Rattle.rule_compile.specs.inner.Left.{IsOffset}
 use Rattle.rule_compile.specs.inner.Ranges.{AreInOrder, IsLike}
 use Rattle.rule_compile.specs.inner.Runs.{AreLed, IsLoaded, Leads, LeadsByBits, LeadsByWord, LeadsElse, LeadsIn, PicksOut, gives_from, runs}
-use Rattle.rule_compile.specs.inner.Stands.{IsLast}
 use Rattle.rule_compile.proofs.FindLaws.{after_all, all_left, all_right, first_is_least, in_order_parts}
 use Rattle.rule_compile.proofs.RunsLaws.{load_runs, mask_runs, runs_kept}
 
@@ -176,23 +175,23 @@ by_whole blocks code subject ranges to whole leads k d inside a r v is_r within 
     leads k d inside a r v is_r (subst (IsWithin (get_or ranges k d)) (whole r is_r) within) decided
 
 -- bits under a mask, which stand in A behind a load and an AND
-pub by_mask : (blocks : List Block) (mid begun masked new : List Insn) (subject : Subject) (ranges : List Range) (rest : Range) (first place : Label)
-    → IsOffset subject.word → PicksOut blocks mid None ranges rest (Place first)
+pub by_mask : (blocks : List Block) (mid begun masked new : List Insn) (subject : Subject) (ranges : List Range) (first place : Label)
+    → IsOffset subject.word → AreLed blocks mid None ranges (Place first)
     → ((a : ℕ) (r : List ℕ) → gives_from begun 0 a r ≡ gives_from mid (position mid first) a r)
     → masked ≡ insn_of (Compute And K) subject.mask ∷ begun → new ≡ insn_of LoadWord subject.word ∷ masked → IsStart new place
     → LeadsByBits blocks new subject ranges (Place place)
-by_mask blocks mid begun masked new subject ranges rest first place is p on anded written start k d inside a r v is_r within decided =
+by_mask blocks mid begun masked new subject ranges first place is led on anded written start k d inside a r v is_r within decided =
     begins mid new (record { yes = Place place; no = Place place }) place start a r
     ∙ ap (λ code. gives_from code 0 a r) written
     ∙ load_runs subject.word is masked a r is_r
     ∙ ap (λ code. gives_from code 0 (slice_index r (subject.word / 4)) r) anded
     ∙ mask_runs subject.mask begun (slice_index r (subject.word / 4)) r
     ∙ on (bits subject r) r
-    ∙ p.led k d inside (bits subject r) r v is_r tt within decided
+    ∙ led k d inside (bits subject r) r v is_r tt within decided
 
-pub by_return : (blocks : List Block) (code : List Insn) (subject : Subject) (ranges : List Range) (rest : Range) (w : ℕ)
-    → PicksOut blocks code None ranges rest (Return w) → LeadsByBits blocks code subject ranges (Return w)
-by_return blocks code subject ranges rest w p k d inside a r v is_r within decided = p.led k d inside (bits subject r) r v is_r tt within decided
+pub by_return : (blocks : List Block) (code : List Insn) (subject : Subject) (ranges : List Range) (w : ℕ)
+    → AreLed blocks code None ranges (Return w) → LeadsByBits blocks code subject ranges (Return w)
+by_return blocks code subject ranges w led k d inside a r v is_r within decided = led k d inside (bits subject r) r v is_r tt within decided
 
 -- one jump for bits that are all 0 or not
 pub by_any : (blocks : List Block) (old mid new : List Insn) (subject : Subject) (unset set : Range) (exits : Exits) (place : Label)
@@ -228,15 +227,6 @@ whole_bits subject all r is_r =
     let w = slice_index r (subject.word / 4) in
     let small : w % 2 ^ 32 ≡ w = omega (arith, is_r.words (subject.word / 4)) in
     ap (bit_and w) all ∙ and_mask w 32 ∙ small
-
--- the last range
-pub last_is : (ranges : List Range) (x : Range) → 1 ≤ length ranges → x ≡ get_or ranges (length ranges - 1) x → IsLast ranges x
-last_is [] x some is = absurd (omega (arith, some))
-last_is (y ∷ []) x some is = record { front = []; is = ap (λ z. z ∷ []) (sym is) }
-last_is (y ∷ (z ∷ zs)) x some is =
-    let at : length (y ∷ (z ∷ zs)) - 1 ≡ suc (length (z ∷ zs) - 1) = omega arith in
-    let rest = last_is (z ∷ zs) x (omega arith) (is ∙ ap (λ n. get_or (y ∷ (z ∷ zs)) n x) at) in
-    record { front = y ∷ rest.front; is = ap (λ ws. y ∷ ws) rest.is }
 
 -- both of two
 pub two_parts : (ranges : List Range) (x y : Range) → 2 ≤ length ranges → length ranges ≤ 2 → x ≡ get_or ranges 0 x → y ≡ get_or ranges 1 y

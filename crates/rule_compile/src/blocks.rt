@@ -7,16 +7,15 @@
 ghost use Rattle.std.specs.Prelude.{◌≡◌, ◌≤◌, ◌<◌, ◌^◌, ◌++◌, ◌∷◌, ◌⊎◌, [], None, take, drop, length, vec_len, All, IfOk, IfSome, IsSome, IsTrue, OnOk};
 ghost use Rattle.rule_compile.specs.inner.Built.{IsFoundAt, IsKept};
 ghost use Rattle.rule_compile.specs.inner.Left.{AreRules, AsksFor, weight};
-ghost use Rattle.rule_compile.specs.inner.Ranges.{IsPicked};
 ghost use Rattle.rule_compile.specs.inner.Runs.{IsBefore};
-ghost use Rattle.rule_compile.specs.inner.Stands.{AreRanged, AreSound, HasMore, IsFound, IsLast};
+ghost use Rattle.rule_compile.specs.inner.Stands.{AreRanged, AreSound, HasMore, IsFound};
 
 use crate::asked::{Open, Rest, are_alike};
 use crate::index::{Index, key_of};
 use crate::known::{Known, Span};
 use crate::outline::{Block, Call, Outline};
 use crate::question::Subject;
-use crate::ranges::{Leaf, Range, Ranges};
+use crate::ranges::{Leaf, Ranges};
 use crate::remaining::left;
 use crate::starts::{end_of, starts_of, subject_of};
 use std::alloc::{AllocError, Global};
@@ -217,9 +216,6 @@ impl Blocks {
         if let [only] = ranges.as_slice() {
             return Ok(only.leaf);
         }
-        if !are_picked(subject, &ranges) {
-            return Err(AllocError);
-        }
         let block = self.blocks.len();
         let rules = Vec::from_slice(alloc, rules)?;
         let other = *other;
@@ -277,26 +273,4 @@ impl Blocks {
         }
         None
     }
-}
-
-// Whether of bits under a mask each range is one number or has the leaf of the last range.
-fn are_picked(subject: Subject, ranges: &[Range]) -> bool
-    ensures { IsTrue result → (subject.mask ≡ 0xffffffff) ⊎ ((last : Range) → IsLast ranges.now last → All (IsPicked last) ranges.now) }
-{
-    if subject.mask == u32::MAX {
-        return true;
-    }
-    let Some(rest) = ranges.last() else {
-        return true;
-    };
-    all_picked(ranges, rest)
-}
-
-// Whether each range is one number or has the leaf of the rest.
-fn all_picked(ranges: &[Range], rest: &Range) -> bool
-    ensures { IsTrue result → All (IsPicked rest.now) ranges.now }
-{
-    ranges
-        .iter()
-        .all(|range| range.is_like(rest) || range.is_single())
 }

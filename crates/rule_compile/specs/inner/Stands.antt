@@ -25,22 +25,14 @@ use Rattle.rule_compile.specs.Rules.{IsClearAt}
 use Rattle.rule_compile.specs.inner.Calls.{IsOneOf}
 use Rattle.rule_compile.specs.inner.Left.{IsOffset, SomeHeld}
 use Rattle.rule_compile.specs.inner.Numbers.{IsFor, Tiles}
-use Rattle.rule_compile.specs.inner.Ranges.{IsPicked}
 use Rattle.rule_compile.specs.inner.Runs.{AreBefore, IsBefore, runs}
 
--- the last range of some
-pub record IsLast (ranges : List Range) (last : Range) : Type 0 where
-  pub front : List Range
-  pub is : ranges ≡ front ++ last ∷ []
-
--- a block asks for bits of a word, its ranges have all numbers, and it goes on at blocks before it; of bits under a mask
--- single numbers are picked out, and the last range is the rest
+-- a block asks for bits of a word, its ranges have all numbers, and it goes on at blocks before it
 pub record IsBlock (place : ℕ) (block : Block) : Type 0 where
   pub offset : IsOffset block.subject.word
   pub tiles : Tiles 0 block.ranges.items (2 ^ 32)
   pub before : AreBefore place block.ranges.items
   pub goes_on : IsBefore place block.other
-  pub picked : (block.subject.mask ≡ 0xffffffff) ⊎ ((x : Range) → IsLast block.ranges.items x → All (IsPicked x) block.ranges.items)
 
 abbrev pub AreBlocks : List Block → Type 0
 AreBlocks blocks = (place : ℕ) (block : Block) → slice_get blocks place ≡ Some block → IsBlock place block

@@ -5,7 +5,7 @@ use Rattle.rule_compile.specs.declared.ranges.Leaf.TheVariants as leaf
 use Rattle.rule_compile.specs.declared.ranges.Range.{Range}
 use Rattle.rule_compile.specs.inner.Ranges.{IsPicked}
 use Rattle.rule_compile.specs.inner.Runs.{IsBefore}
-use Rattle.rule_compile.specs.inner.Stands.{AreRanged, IsBlock, IsFound, IsLast}
+use Rattle.rule_compile.specs.inner.Stands.{AreRanged, IsBlock, IsFound}
 use Rattle.rule_compile.proofs.BlocksLaws.{asked_offset, pushed_found, pushed_sound, ranged_one, single}
 use Rattle.rule_compile.proofs.DecidesLaws.{before_le}
 use Rattle.rule_compile.proofs.blocks.Blocks.push.Goals as goal
@@ -50,9 +50,6 @@ own_of c =
       tiles = ranged.tiles;
       before = ranged.before;
       goes_on = before_of c;
-      picked =
-          subst (λ xs. (c.args.subject.mask ≡ 0xffffffff) ⊎ ((last : Range) → IsLast xs last → All (IsPicked last) xs))
-          c.deref.ensures.value (c.are_picked.ensures c.if-not-are_picked.false);
     }
 
 pub returns-clause-sound : goal.returns-clause-sound
