@@ -7,10 +7,10 @@ mod words;
 use crate::disk::Disk;
 use crate::words::words_of;
 use cli::{Stop, dispatch, report};
-use export::{FromRead, ToWrite};
 use std::alloc::{AllocError, Global};
 use std::io::BufReader;
 use std::process::ExitCode;
+use streams::{FromRead, ToWrite};
 
 fn texts_of(alloc: Global, words: &[String]) -> Result<Vec<&str>, AllocError> {
     let mut texts = Vec::new(alloc);

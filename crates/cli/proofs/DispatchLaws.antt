@@ -4,8 +4,8 @@ use Rattle.std.proofs.lemmas.List.{get_or_default, map-append, take_more}
 use denote.Ref.{Bor}
 use Rattle.std.specs.Prelude.{Bool, Option, Result, Ok, Err}
 use Rattle.call_tables.specs.declared.arch.Arch.{Arch}
-use Rattle.export.specs.Failures.{Failures}
-use Rattle.export.specs.declared.fault.ExportFault.{ExportFault}
+use Rattle.streams.specs.Failures.{Failures}
+use Rattle.streams.specs.declared.fault.WriteFault.{WriteFault}
 use Rattle.export.specs.declared.form.Form.{Form}
 use Rattle.pipeline.specs.Answer.{WritesAnswer}
 use Rattle.pipeline.specs.Certified.{Certifies}
@@ -42,7 +42,7 @@ module _ {O : Type 0} (held : O → Option (List ℕ)) (failures : O → Failure
         unwritten = refl;
       })
 
-      pub verdict_done : (new : O) (r : List ℕ) (answer : Result Bool ExportFault) (result : Result Bool Stop) → HasEnough 64 later rec r
+      pub verdict_done : (new : O) (r : List ℕ) (answer : Result Bool WriteFault) (result : Result Bool Stop) → HasEnough 64 later rec r
           → WritesAnswer held failures old new f r answer → result ≡ told_line answer
           → AnswersVerdict held failures folder old new filter rec result
       verdict_done new r answer result of_record h e =
@@ -63,7 +63,7 @@ module _ {O : Type 0} (held : O → Option (List ℕ)) (failures : O → Failure
         → AnswersExport held failures folder old old native bundle form result
     export_first form stop result h e = inl (record { stop = stop; at = inl h; told = e; unwritten = refl })
 
-    pub export_done : (form : Form) (new : O) (b : List ℕ) (answer : Result Bool ExportFault) (result : Result Bool Stop)
+    pub export_done : (form : Form) (new : O) (b : List ℕ) (answer : Result Bool WriteFault) (result : Result Bool Stop)
         → HasBytes folder bundle b → Exports held failures old new native b form answer → result ≡ told_line answer
         → AnswersExport held failures folder old new native bundle form result
     export_done form new b answer result of_bundle h e = inr (b, of_bundle, record { answer = answer; written = h; told = e })
@@ -95,7 +95,7 @@ module _ {O : Type 0} (held : O → Option (List ℕ)) (failures : O → Failure
           has_filter : HasBytes folder filter of_filter.file
           has_filter = subst (λ d. HasBytes d filter of_filter.file) same of_filter.is
 
-          pub certify_done : (new : O) (answer : Result Bool ExportFault) (result : Result Bool Stop)
+          pub certify_done : (new : O) (answer : Result Bool WriteFault) (result : Result Bool Stop)
               → Certifies held failures old new native b f answer → result ≡ told_line answer
               → AnswersCertify held failures folder old new native bundle filter result
           certify_done new answer result h e = inr (
@@ -121,7 +121,7 @@ module _ {O : Type 0} (held : O → Option (List ℕ)) (failures : O → Failure
               unwritten = refl;
             })
 
-            pub check_done : (new : O) (c : List ℕ) (answer : Result Bool ExportFault) (result : Result Bool Stop)
+            pub check_done : (new : O) (c : List ℕ) (answer : Result Bool WriteFault) (result : Result Bool Stop)
                 → HasEnough 4194304 last cert c → WritesFinding held failures old new native b f c answer → result ≡ told_line answer
                 → AnswersCheck held failures folder old new native bundle filter cert result
             check_done new c answer result of_cert h e =

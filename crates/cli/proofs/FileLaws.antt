@@ -5,9 +5,9 @@ use Rattle.bpf_insn.specs.Bytes.{view_fault}
 use Rattle.bpf_insn.specs.declared.fault.ViewError.TheVariants.{NotMultipleOf8}
 use Rattle.call_tables.specs.declared.arch.Arch.{Arch}
 use Rattle.cert_check.specs.declared.fault.CheckError.TheVariants.{View}
-use Rattle.export.specs.Failures.{Failures}
-use Rattle.export.specs.declared.fault.ExportFault.{ExportFault}
-use Rattle.export.specs.declared.fault.ExportFault.TheVariants as fault
+use Rattle.streams.specs.Failures.{Failures}
+use Rattle.streams.specs.declared.fault.WriteFault.{WriteFault}
+use Rattle.streams.specs.declared.fault.WriteFault.TheVariants as fault
 use Rattle.pipeline.specs.Answer.{IsAnswer, WritesAnswer}
 use Rattle.pipeline.specs.Certified.{AreJudged, Certifies, IsConvicted, IsOpen}
 use Rattle.pipeline.specs.Finding.{IsFinding, TellsFinding, WritesFinding}
@@ -35,7 +35,7 @@ module _ (filter f rec r : List ℕ) (of_filter : IsEnough 32768 filter f) (of_r
   answer_of_files (Refusal e) h = same_both h.0 h.1 (Refusal e) h
   answer_of_files (Verdict v) h = same_both h.0 h.1 (Verdict v) h
 
-  pub verdict_of_files : {S : Type 0} (held : S → Option (List ℕ)) (failures : S → Failures) (old new : S) (result : Result Bool ExportFault)
+  pub verdict_of_files : {S : Type 0} (held : S → Option (List ℕ)) (failures : S → Failures) (old new : S) (result : Result Bool WriteFault)
       → WritesAnswer held failures old new f r result → WritesAnswer held failures old new filter rec result
   verdict_of_files held failures old new result h =
       record { answer = h.answer; stands = answer_of_files h.answer h.stands; written = h.written; told = h.told }
@@ -53,12 +53,12 @@ module _ (native : Arch) (bundle filter f : List ℕ) (enough : IsEnough 32768 f
   finding_of_file cert (NoProfile e) h = h
 
   module _ {S : Type 0} (held : S → Option (List ℕ)) (failures : S → Failures) (old new : S) where
-    told_of_file : (cert : List ℕ) (result : Result Bool ExportFault) → TellsFinding held failures old new native bundle f cert result
+    told_of_file : (cert : List ℕ) (result : Result Bool WriteFault) → TellsFinding held failures old new native bundle f cert result
         → TellsFinding held failures old new native bundle filter cert result
     told_of_file cert result h =
         record { finding = h.finding; stands = finding_of_file cert h.finding h.stands; written = h.written; told = h.told }
 
-    pub check_of_file : (cert : List ℕ) (result : Result Bool ExportFault) → WritesFinding held failures old new native bundle f cert result
+    pub check_of_file : (cert : List ℕ) (result : Result Bool WriteFault) → WritesFinding held failures old new native bundle f cert result
         → WritesFinding held failures old new native bundle filter cert result
     check_of_file cert (Ok done) h = told_of_file cert (Ok done) h
     check_of_file cert (Err (fault.Write out)) h = told_of_file cert (Err (fault.Write out)) h
@@ -72,7 +72,7 @@ module _ (native : Arch) (bundle filter f : List ℕ) (enough : IsEnough 32768 f
     open_of_file (Check e) h = (h.0, (h.1.0, h.1.1, h.1.2, first_of_file filter f enough h.1.0 h.1.1 e h.0 h.1.3))
     open_of_file OutOfMemory h = absurd h
 
-    pub certified_of_file : (result : Result Bool ExportFault) → Certifies held failures old new native bundle f result
+    pub certified_of_file : (result : Result Bool WriteFault) → Certifies held failures old new native bundle f result
         → Certifies held failures old new native bundle filter result
     certified_of_file result (inl h) = inl (record { cert = h.cert; is = yes_of_file h.cert h.is; written = h.written; told = h.told })
     certified_of_file result (inr (inl h)) = inr (inl (record {

@@ -3,11 +3,11 @@ use Rattle.std.proofs.Common.{◌≡◌, ℕ, suc, ◌+◌, ◌<◌, List, [], �
 use Rattle.std.specs.Prelude.{Option, Result, Ok, Err}
 use Rattle.std.specs.Io.KnownBytes.{Appends}
 use Rattle.std.proofs.lemmas.List.{take-append-le}
-use Rattle.export.proofs.SinkLemmas.{Appends-then, has_failed}
-use Rattle.export.specs.Failures.{Failures}
-use Rattle.export.specs.Sink.{Writes, Wrote}
-use Rattle.export.specs.declared.fault.ExportFault.{ExportFault}
-use Rattle.export.specs.declared.fault.ExportFault.TheVariants.{Write, OutOfMemory}
+use Rattle.streams.proofs.SinkLemmas.{Appends-then, has_failed}
+use Rattle.streams.specs.Failures.{Failures}
+use Rattle.streams.specs.Sink.{Writes, Wrote}
+use Rattle.streams.specs.declared.fault.WriteFault.{WriteFault}
+use Rattle.streams.specs.declared.fault.WriteFault.TheVariants.{Write, OutOfMemory}
 use Rattle.cli.specs.Stop.{Reports}
 
 take_past : (xs ys : List ℕ) (n : ℕ) → take (length xs + n) (xs ++ ys) ≡ xs ++ take n ys
@@ -18,12 +18,12 @@ take_past (x ∷ xs) ys n =
 
 module _ {S : Type 0} (held : S → Option (List ℕ)) (failures : S → Failures) where
   -- the line was handed over whole
-  pub reported : (old new : S) (bytes line : List ℕ) (result : Result (Unit {0}) ExportFault) → bytes ≡ line
+  pub reported : (old new : S) (bytes line : List ℕ) (result : Result (Unit {0}) WriteFault) → bytes ≡ line
       → Writes held failures old new bytes result → Reports held failures old new line
   reported old new bytes line result e h = (result, subst (λ b. Writes held failures old new b result) e h)
 
   -- a part failed, and the rest was not asked for
-  failed_at : (old new : S) (xs ys : List ℕ) (f : ExportFault) → Writes {T = Unit {0}} held failures old new xs (Err f)
+  failed_at : (old new : S) (xs ys : List ℕ) (f : WriteFault) → Writes {T = Unit {0}} held failures old new xs (Err f)
       → Reports held failures old new (xs ++ ys)
   failed_at old new xs ys (Write out) h =
       let within : out < length xs = h.1 in
@@ -31,7 +31,7 @@ module _ {S : Type 0} (held : S → Option (List ℕ)) (failures : S → Failure
       (Err (Write out), (subst (λ l. Appends (held old) (held new) l) (sym same) h.0, omega (arith, length-append xs ys), h.2))
   failed_at old new xs ys OutOfMemory h = absurd h
 
-  pub part_failed : (old new : S) (bytes xs ys : List ℕ) (f : ExportFault) → bytes ≡ xs
+  pub part_failed : (old new : S) (bytes xs ys : List ℕ) (f : WriteFault) → bytes ≡ xs
       → Writes {T = Unit {0}} held failures old new bytes (Err f) → Reports held failures old new (xs ++ ys)
   part_failed old new bytes xs ys f e h =
       failed_at old new xs ys f (subst (λ b. Writes {T = Unit {0}} held failures old new b (Err f)) e h)

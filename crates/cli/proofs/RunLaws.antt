@@ -4,8 +4,8 @@ use Rattle.std.specs.Prelude.{Option, Result, Ok, Err, IfOk, ◌≢◌}
 use Rattle.std.specs.List.{All, Contains}
 use Rattle.std.proofs.lemmas.List.Elements.{All-contains, Contains-append_right}
 use Rattle.call_tables.specs.declared.arch.Arch.{Arch}
-use Rattle.export.specs.Failures.{Failures}
-use Rattle.export.specs.declared.fault.ExportFault.{ExportFault}
+use Rattle.streams.specs.Failures.{Failures}
+use Rattle.streams.specs.declared.fault.WriteFault.{WriteFault}
 use Rattle.profile_json.proofs.Lists.{contains_head}
 use Rattle.session.specs.declared.bundles.Bundles.{Bundles}
 use Rattle.session.specs.declared.fault.ScriptFault.{ScriptFault}
@@ -56,7 +56,7 @@ module _ {I O : Type 0} (left : I → Option (List ℕ)) (given : I → Failures
 module _ {I O : Type 0} (left : I → Option (List ℕ)) (given : I → Failures) (held : O → Option (List ℕ)) (taken : O → Failures)
     (source : I) (sink sink' : O) (native : Arch) (texts : List (List ℕ)) where
   -- a text is refused
-  pub refused_script : (u : Unready) (r : Result Bool ExportFault) (result : Result Bool Stop)
+  pub refused_script : (u : Unready) (r : Result Bool WriteFault) (result : Result Bool Stop)
       → (u ≢ OutOfMemory → FirstUnready native texts u)
       → Refuses held taken sink sink' u r → result ≡ told_line r
       → RunsBundles left given held taken source source sink sink' native texts result
@@ -81,7 +81,7 @@ module _ {I O : Type 0} (left : I → Option (List ℕ)) (given : I → Failures
   all_answered bundles (Ok x) runs e = runs
   all_answered bundles (Err fault) runs e = absurd (cc)
 
-  none_refused : (r : Result Bool ExportFault) → IfOk r (λ done. done ≡ false) → told_line r ≡ Ok true → ⊥
+  none_refused : (r : Result Bool WriteFault) → IfOk r (λ done. done ≡ false) → told_line r ≡ Ok true → ⊥
   none_refused (Ok done) answer e = let same : done ≡ true = cc in let bad : true ≡ false = sym same ∙ answer in absurd (cc)
   none_refused (Err fault) answer e = absurd (cc)
 

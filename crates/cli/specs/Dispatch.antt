@@ -3,8 +3,8 @@ use Rattle.std.specs.Prelude.{ℕ, ◌≡◌, ◌⊎◌, Bool, true, false, List
 use Rattle.call_tables.specs.declared.arch.Arch.{Arch}
 use Rattle.command_line.specs.Arguments.{Given}
 use Rattle.command_line.specs.Arguments.Given.{Verdict, Check, Certify, Export, Run, Adapt}
-use Rattle.export.specs.Failures.{Failures}
-use Rattle.export.specs.declared.fault.ExportFault.{ExportFault}
+use Rattle.streams.specs.Failures.{Failures}
+use Rattle.streams.specs.declared.fault.WriteFault.{WriteFault}
 use Rattle.export.specs.declared.form.Form.{Form}
 use Rattle.pipeline.specs.Answer.{WritesAnswer}
 use Rattle.pipeline.specs.Certified.{Certifies}
@@ -60,8 +60,8 @@ pub record StopsAtFile {O : Type 0} (folder : Option Folder) (old new : O) (name
   pub unwritten : new ≡ old
 
 -- an answer is written, and the program tells it
-pub record AnswersBy (Writes : Result Bool ExportFault → Type 0) (result : Result Bool Stop) : Type 0 where
-  pub answer : Result Bool ExportFault
+pub record AnswersBy (Writes : Result Bool WriteFault → Type 0) (result : Result Bool Stop) : Type 0 where
+  pub answer : Result Bool WriteFault
   pub written : Writes answer
   pub told : result ≡ told_line answer
 

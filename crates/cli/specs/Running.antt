@@ -4,9 +4,9 @@ use Rattle.std.specs.Fmt.{decimal}
 use Rattle.std.specs.List.{All}
 use Rattle.call_tables.specs.declared.arch.Arch.{Arch}
 use Rattle.cert_check.specs.declared.checked.Checked.{Checked}
-use Rattle.export.specs.Failures.{Failures}
-use Rattle.export.specs.Sink.{WritesMade}
-use Rattle.export.specs.declared.fault.ExportFault.{ExportFault}
+use Rattle.streams.specs.Failures.{Failures}
+use Rattle.streams.specs.Sink.{WritesMade}
+use Rattle.streams.specs.declared.fault.WriteFault.{WriteFault}
 use Rattle.session.specs.declared.bundles.Bundle.{Bundle}
 use Rattle.session.specs.declared.bundles.Bundles.{Bundles}
 use Rattle.session.specs.declared.fault.ScriptFault.{ScriptFault}
@@ -66,7 +66,7 @@ abbrev pub told_script : {T : Type 0} → Result T ScriptFault → Result Bool S
 told_script (Ok x) = Ok true
 told_script (Err fault) = Err (stop_at_script fault)
 
-abbrev pub told_line : Result Bool ExportFault → Result Bool Stop
+abbrev pub told_line : Result Bool WriteFault → Result Bool Stop
 told_line (Ok done) = Ok done
 told_line (Err fault) = Err (stop_at_fault fault)
 
@@ -88,7 +88,7 @@ pub record RefusesScript {I O : Type 0} (held : O → Option (List ℕ)) (taken 
   pub unready : Unready
   pub is : FirstUnready native texts unready
   pub unread : source' ≡ source
-  pub outcome : Result Bool ExportFault
+  pub outcome : Result Bool WriteFault
   pub written : WritesMade held taken sink sink' (line_of unready) outcome
   pub answer : IfOk outcome (λ done. done ≡ false)
   pub told : result ≡ told_line outcome

@@ -2,10 +2,10 @@
 use Rattle.std.specs.Prelude.{ℕ, List, [], ◌∷◌, ◌++◌, Result, Option, codes}
 use Rattle.std.specs.Fmt.{decimal}
 use Rattle.texts.specs.Lines.{line_feed}
-use Rattle.export.specs.Failures.{Failures}
-use Rattle.export.specs.Sink.{Writes}
-use Rattle.export.specs.declared.fault.ExportFault.{ExportFault}
-use Rattle.export.specs.declared.fault.ExportFault.TheVariants as fault
+use Rattle.streams.specs.Failures.{Failures}
+use Rattle.streams.specs.Sink.{Writes}
+use Rattle.streams.specs.declared.fault.WriteFault.{WriteFault}
+use Rattle.streams.specs.declared.fault.WriteFault.TheVariants as fault
 use Rattle.session.specs.declared.fault.ScriptFault.{ScriptFault}
 use Rattle.session.specs.declared.fault.ScriptFault.TheVariants as script
 use Rattle.cli.specs.declared.stops.Stop.{Stop}
@@ -36,9 +36,9 @@ name_line name = codes "ccell: cannot read " ++ name ++ line_feed ∷ []
 
 -- the line was written, or a beginning of it where a write failed
 abbrev pub Reports : {S : Type 0} → (S → Option (List ℕ)) → (S → Failures) → S → S → List ℕ → Type 0
-Reports held failures old new line = (written : Result (Unit {0}) ExportFault) × Writes held failures old new line written
+Reports held failures old new line = (written : Result (Unit {0}) WriteFault) × Writes held failures old new line written
 
-abbrev pub stop_at_fault : ExportFault → Stop
+abbrev pub stop_at_fault : WriteFault → Stop
 stop_at_fault (fault.Write out) = Write out
 stop_at_fault fault.OutOfMemory = OutOfMemory
 

@@ -3,8 +3,8 @@ use crate::files::{Files, read};
 use crate::stops::Stop;
 use call_tables::Arch;
 use explain::Told;
-use export::{Sink, write_all};
 use std::alloc::Global;
+use streams::{Sink, write_all};
 
 /// Compares what two bundles say.
 pub fn compare<'a>(

@@ -12,9 +12,9 @@ use crate::stops::{Stop, report};
 use call_tables::Arch;
 use command_line::{Command, Form, read_words};
 use explain::Told;
-use export::{Sink, Source, write_all};
 use pipeline::{certify_bundle, check_line, export_bundle, verdict_line};
 use std::alloc::Global;
+use streams::{Sink, Source, write_all};
 
 // Answers a filter to a record.
 fn verdict<'a, F: Files, O: Sink>(

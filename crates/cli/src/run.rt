@@ -5,10 +5,10 @@ ghost use Rattle.cli.specs.Running.{AnswersScript, HasAnswered, InTurn, IsBundle
 
 use crate::stops::Stop;
 use call_tables::Arch;
-use export::{Sink, Source};
 use pipeline::{Prepared, Unready, refuse};
 use session::{Bundle, Bundles, run_script};
 use std::alloc::{AllocError, Global};
+use streams::{Sink, Source};
 
 // A bundle's name in a script, and what was made of its text.
 #[derive(Drop)]

@@ -4,11 +4,11 @@ ghost use Rattle.cli.specs.Stop.{Reports, line_of, name_line, status_of};
 ghost use Rattle.cli.specs.declared.stops.Stop.TheVariants.{Read, Write};
 
 use arrayvec::ArrayString;
-use export::{ExportFault, Sink, write_all};
 use session::ScriptFault;
 use std::alloc::AllocError;
 use std::error::Error;
 use std::fmt;
+use streams::{Sink, WriteFault, write_all};
 use texts::{Line, put, put_number};
 
 /// What stops the program before its line is written. Its text is the line on standard error.
@@ -70,15 +70,15 @@ impl From<AllocError> for Stop<'_> {
     }
 }
 
-impl From<ExportFault> for Stop<'_> {
+impl From<WriteFault> for Stop<'_> {
     ghost use Rattle.cli.specs.Stop.{stop_at_fault};
 
     ghost from_gives = { λ fault stop. stop ≡ stop_at_fault fault };
 
-    fn from(fault: ExportFault) -> Self {
+    fn from(fault: WriteFault) -> Self {
         match fault {
-            ExportFault::Write { out } => Stop::Write(out),
-            ExportFault::OutOfMemory => Stop::OutOfMemory,
+            WriteFault::Write { out } => Stop::Write(out),
+            WriteFault::OutOfMemory => Stop::OutOfMemory,
         }
     }
 }
@@ -117,7 +117,7 @@ fn line_of_name(name: &str) -> Option<ArrayString<ROOM>>
 }
 
 // Writes the line of a file that cannot be read in three parts.
-fn tell_parts<E: Sink>(name: &str, err: &mut E) -> Result<(), ExportFault>
+fn tell_parts<E: Sink>(name: &str, err: &mut E) -> Result<(), WriteFault>
     ensures { Reports E.held E.failures err.old err.new (name_line name.now) }
 {
     write_all(b"ccell: cannot read ", err)?;
@@ -126,7 +126,7 @@ fn tell_parts<E: Sink>(name: &str, err: &mut E) -> Result<(), ExportFault>
 }
 
 // Writes the line of a file that cannot be read: in one write where it has room, since a file's name has no bound.
-fn tell_name<E: Sink>(name: &str, err: &mut E) -> Result<(), ExportFault>
+fn tell_name<E: Sink>(name: &str, err: &mut E) -> Result<(), WriteFault>
     ensures { Reports E.held E.failures err.old err.new (name_line name.now) }
 {
     match line_of_name(name) {
@@ -156,7 +156,7 @@ fn line_of_write(out: u64) -> Line
 }
 
 // Writes the line that says why the program stops.
-fn tell<E: Sink>(stop: &Stop<'_>, err: &mut E) -> Result<(), ExportFault>
+fn tell<E: Sink>(stop: &Stop<'_>, err: &mut E) -> Result<(), WriteFault>
     ensures { Reports E.held E.failures err.old err.new (line_of stop.now) }
 {
     match stop {

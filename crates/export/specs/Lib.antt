@@ -1,4 +1,1 @@
-pub mod Failures
-pub mod Sink
-pub mod Fault
 pub mod Forms

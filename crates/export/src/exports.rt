@@ -3,17 +3,16 @@ ghost use Rattle.bpf_insn.specs.Bytes.{spelling};
 ghost use Rattle.bpf_asm.specs.Listing.{listing};
 ghost use Rattle.cert_check.specs.Checked.{cert_of, program_of};
 ghost use Rattle.export.specs.Forms.{bytes_in};
-ghost use Rattle.export.specs.Sink.{Writes, WritesMade};
+ghost use Rattle.streams.specs.Sink.{Writes, WritesMade};
 
-use crate::fault::ExportFault;
 use crate::form::Form;
-use crate::sink::{Sink, write_all};
 use bpf_asm::disassemble;
 use cert_check::Checked;
 use std::alloc::Global;
+use streams::{Sink, WriteFault, write_all};
 
 /// Writes the bytes of the filter, which is what a kernel loads.
-pub fn export_raw<S: Sink>(checked: &Checked<'_>, sink: &mut S) -> Result<(), ExportFault>
+pub fn export_raw<S: Sink>(checked: &Checked<'_>, sink: &mut S) -> Result<(), WriteFault>
     ensures { Writes S.held S.failures sink.old sink.new (spelling (program_of checked.now)) result }
 {
     let program = checked.program().program();
@@ -21,7 +20,7 @@ pub fn export_raw<S: Sink>(checked: &Checked<'_>, sink: &mut S) -> Result<(), Ex
 }
 
 /// Writes the bytes of the certificate.
-pub fn export_cert<S: Sink>(checked: &Checked<'_>, sink: &mut S) -> Result<(), ExportFault>
+pub fn export_cert<S: Sink>(checked: &Checked<'_>, sink: &mut S) -> Result<(), WriteFault>
     ensures { Writes S.held S.failures sink.old sink.new (cert_of checked.now) result }
 {
     write_all(checked.cert(), sink)
@@ -32,7 +31,7 @@ pub fn export_listing<S: Sink>(
     alloc: Global,
     checked: &Checked<'_>,
     sink: &mut S,
-) -> Result<(), ExportFault>
+) -> Result<(), WriteFault>
     ensures { WritesMade S.held S.failures sink.old sink.new (listing (program_of checked.now)) result }
 {
     let program = checked.program().program();
@@ -46,7 +45,7 @@ pub fn export_form<S: Sink>(
     checked: &Checked<'_>,
     form: Form,
     sink: &mut S,
-) -> Result<(), ExportFault>
+) -> Result<(), WriteFault>
     ensures { WritesMade S.held S.failures sink.old sink.new (bytes_in form checked.now) result }
 {
     match form {

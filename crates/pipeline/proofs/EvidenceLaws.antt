@@ -17,12 +17,12 @@ use Rattle.cert_check.specs.Right.{IsRight}
 use Rattle.cert_walk.specs.declared.fault.CertifyError.{CertifyError}
 use Rattle.cert_walk.specs.declared.fault.CertifyError.TheVariants as maker
 use Rattle.certify.specs.Conviction.{Convicts}
-use Rattle.export.specs.Failures.{Failures}
+use Rattle.streams.specs.Failures.{Failures}
 use Rattle.certify.specs.Own.{IsOwnWork}
 use Rattle.certify.proofs.OwnLaws.{accepted}
-use Rattle.export.specs.Sink.{StopsAt, Writes, WritesMade}
-use Rattle.export.specs.declared.fault.ExportFault.{ExportFault}
-use Rattle.export.specs.declared.fault.ExportFault.TheVariants as fault
+use Rattle.streams.specs.Sink.{StopsAt, Writes, WritesMade}
+use Rattle.streams.specs.declared.fault.WriteFault.{WriteFault}
+use Rattle.streams.specs.declared.fault.WriteFault.TheVariants as fault
 use Rattle.profile.specs.Policy.{Policy}
 use Rattle.profile_json.specs.declared.fault.ProfileError.{ProfileError}
 use Rattle.profile_json.specs.declared.fault.ProfileError.TheVariants as refusal
@@ -61,7 +61,7 @@ line_told rec words given said (Ok line) size bytes same h =
 line_told rec words given said (Err e) size bytes same h = h
 
 -- a fault of writing bytes that were made first
-pub made_first : {S : Type 0} (T : Type 0) (held : S → Option (List ℕ)) (failures : S → Failures) (old new : S) (bytes line : List ℕ) (fault : ExportFault)
+pub made_first : {S : Type 0} (T : Type 0) (held : S → Option (List ℕ)) (failures : S → Failures) (old new : S) (bytes line : List ℕ) (fault : WriteFault)
     → bytes ≡ line → Writes {S = S} {T = T} held failures old new bytes (Err fault)
     → WritesMade {S = S} {T = T} held failures old new line (Err fault)
 made_first T held failures old new bytes line (fault.Write out) same h =
@@ -69,13 +69,13 @@ made_first T held failures old new bytes line (fault.Write out) same h =
 made_first T held failures old new bytes line fault.OutOfMemory same h = absurd h
 
 module _ {S : Type 0} (held : S → Option (List ℕ)) (failures : S → Failures) (old new : S) (words : List ℕ) (given said : ℕ) where
-  pub line_failed : (T : Type 0) (line : List ℕ) (fault : ExportFault) (result : Result Bool ExportFault) → IsLine words given said line
+  pub line_failed : (T : Type 0) (line : List ℕ) (fault : WriteFault) (result : Result Bool WriteFault) → IsLine words given said line
       → WritesMade {S = S} {T = T} held failures old new line (Err fault) → result ≡ Err fault
       → Tells held failures old new words given said result
   line_failed T line fault result is written e =
       let here : TellsLine held failures old new words given said (Err fault) =
       record { line = line; is = is; written = as_failed held failures old new T line fault written; told = tt } in
-      inl (subst (λ (r : Result Bool ExportFault). TellsLine held failures old new words given said r) (sym e) here)
+      inl (subst (λ (r : Result Bool WriteFault). TellsLine held failures old new words given said r) (sym e) here)
 
 -- the record's words, under another name of their list
 convicts_on : (policy : Policy) (p q : List Insn) (r s : List ℕ) (given said : ℕ) → q ≡ p → r ≡ s → Convicts policy q s given said
@@ -107,16 +107,16 @@ module _ {S : Type 0} (held : S → Option (List ℕ)) (failures : S → Failure
   certificate_written policy cert means kept written =
       inl (record { cert = cert; is = (policy, means, kept); written = written; told = refl })
 
-  pub certificate_failed : (T : Type 0) (policy : Policy) (cert : List ℕ) (fault : ExportFault) (result : Result Bool ExportFault)
+  pub certificate_failed : (T : Type 0) (policy : Policy) (cert : List ℕ) (fault : WriteFault) (result : Result Bool WriteFault)
       → IsBundle native bundle policy → IsYes policy filter cert
       → WritesMade {S = S} {T = T} held failures old new cert (Err fault) → result ≡ Err fault
       → Certifies held failures old new native bundle filter result
   certificate_failed T policy cert fault result means kept written e =
       let here : WritesCertificate held failures old new native bundle filter (Err fault) =
       record { cert = cert; is = (policy, means, kept); written = as_failed held failures old new T cert fault written; told = tt } in
-      inl (subst (λ (r : Result Bool ExportFault). WritesCertificate held failures old new native bundle filter r) (sym e) here)
+      inl (subst (λ (r : Result Bool WriteFault). WritesCertificate held failures old new native bundle filter r) (sym e) here)
 
-  pub record_told : (policy : Policy) (p : List Insn) (words : List ℕ) (given said : ℕ) (result : Result Bool ExportFault)
+  pub record_told : (policy : Policy) (p : List Insn) (words : List ℕ) (given said : ℕ) (result : Result Bool WriteFault)
       → AreJudged native bundle filter policy → p ≡ insns_of filter → IsRecord words → Convicts policy p words given said
       → Tells held failures old new words given said result → Certifies held failures old new native bundle filter result
   record_told policy p words given said result judged same is convicts (inl h) =
@@ -135,7 +135,7 @@ module _ {S : Type 0} (held : S → Option (List ℕ)) (failures : S → Failure
       }))
   record_told policy p words given said result judged same is convicts (inr h) = inr (inr (inr h))
 
-  pub open_told : (u : Unready) (result : Result Bool ExportFault) → (u ≢ unready.OutOfMemory → IsOpen native bundle filter u)
+  pub open_told : (u : Unready) (result : Result Bool WriteFault) → (u ≢ unready.OutOfMemory → IsOpen native bundle filter u)
       → Refuses held failures old new u result → Certifies held failures old new native bundle filter result
   open_told u result why (inl h) = inr (inr (inl (record { unready = u; is = why h.0; written = h.1; told = h.2 })))
   open_told u result why (inr h) = inr (inr (inr h))
@@ -178,7 +178,7 @@ module _ (native : Arch) (bundle filter : List ℕ) (policy : Policy) (own : IsO
 
   module _ {S : Type 0} (held : S → Option (List ℕ)) (failures : S → Failures) (old new : S) where
     -- a bundle that means a profile is refused for want of memory alone
-    pub own_refused : (e : ProfileError) (u : Unready) (result : Result Bool ExportFault)
+    pub own_refused : (e : ProfileError) (u : Unready) (result : Result Bool WriteFault)
         → IfSome (fault_of e) (Breaks bundle native) → IsToldAs unready.Profile refusal.OutOfMemory e u
         → Refuses held failures old new u result → CertifiesOwn held failures old new native bundle filter result
     own_refused e u result stands told (inr h) = inr h
@@ -192,10 +192,10 @@ module _ (native : Arch) (bundle filter : List ℕ) (policy : Policy) (own : IsO
     own_written cert kept written =
         inl (record { cert = cert; is = (policy, own.means, kept); written = written; told = refl })
 
-    pub own_failed : (T : Type 0) (cert : List ℕ) (fault : ExportFault) (result : Result Bool ExportFault) → IsYes policy filter cert
+    pub own_failed : (T : Type 0) (cert : List ℕ) (fault : WriteFault) (result : Result Bool WriteFault) → IsYes policy filter cert
         → WritesMade {S = S} {T = T} held failures old new cert (Err fault) → result ≡ Err fault
         → CertifiesOwn held failures old new native bundle filter result
     own_failed T cert fault result kept written e =
         let here : WritesCertificate held failures old new native bundle filter (Err fault) =
         record { cert = cert; is = (policy, own.means, kept); written = as_failed held failures old new T cert fault written; told = tt } in
-        inl (subst (λ (r : Result Bool ExportFault). WritesCertificate held failures old new native bundle filter r) (sym e) here)
+        inl (subst (λ (r : Result Bool WriteFault). WritesCertificate held failures old new native bundle filter r) (sym e) here)

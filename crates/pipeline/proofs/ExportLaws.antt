@@ -8,13 +8,13 @@ use Rattle.call_tables.specs.declared.arch.Arch.{Arch}
 use Rattle.cert_check.specs.declared.checked.Checked.{Checked}
 use Rattle.cert_check.specs.declared.fault.CheckError.TheVariants.{View}
 use Rattle.cert_check.specs.Checked.{cert_of, profile_of, program_of}
-use Rattle.export.specs.Failures.{Failures}
+use Rattle.streams.specs.Failures.{Failures}
 use Rattle.export.specs.declared.form.Form.{Form}
 use Rattle.export.specs.declared.form.Form.TheVariants.{Raw}
 use Rattle.export.specs.Forms.{bytes_in}
-use Rattle.export.specs.Sink.{WritesMade}
-use Rattle.export.specs.declared.fault.ExportFault.{ExportFault}
-use Rattle.export.specs.declared.fault.ExportFault.TheVariants.{Write, OutOfMemory}
+use Rattle.streams.specs.Sink.{WritesMade}
+use Rattle.streams.specs.declared.fault.WriteFault.{WriteFault}
+use Rattle.streams.specs.declared.fault.WriteFault.TheVariants.{Write, OutOfMemory}
 use Rattle.pipeline.specs.declared.unready.Unready.{Unready}
 use Rattle.pipeline.specs.declared.unready.Unready.TheVariants as unready
 use Rattle.profile.specs.Policy.{Policy}
@@ -39,7 +39,7 @@ is_checked native bundle policy filter cert c means profile program certificate 
 
 module _ {S : Type 0} (held : S → Option (List ℕ)) (failures : S → Failures) (old new : S) where
   -- a fault of writing, whatever was to be told
-  pub as_failed : (T : Type 0) (bytes : List ℕ) (fault : ExportFault) → WritesMade {S = S} {T = T} held failures old new bytes (Err fault)
+  pub as_failed : (T : Type 0) (bytes : List ℕ) (fault : WriteFault) → WritesMade {S = S} {T = T} held failures old new bytes (Err fault)
       → WritesMade {S = S} {T = Bool} held failures old new bytes (Err fault)
   as_failed T bytes (Write out) h = h
   as_failed T bytes OutOfMemory h = h
@@ -50,16 +50,16 @@ module _ {S : Type 0} (held : S → Option (List ℕ)) (failures : S → Failure
         → Exports held failures old new native bundle form (Ok true)
     filter_written checked is written = inl (record { checked = checked; is = is; written = written; told = refl })
 
-    pub filter_failed : (T : Type 0) (checked : Checked) (fault : ExportFault) (result : Result Bool ExportFault)
+    pub filter_failed : (T : Type 0) (checked : Checked) (fault : WriteFault) (result : Result Bool WriteFault)
         → IsCheckedOf native bundle checked
         → WritesMade {S = S} {T = T} held failures old new (bytes_in form checked) (Err fault) → result ≡ Err fault
         → Exports held failures old new native bundle form result
     filter_failed T checked fault result is written e =
         let here : WritesFilter held failures old new native bundle form (Err fault) =
         record { checked = checked; is = is; written = as_failed T (bytes_in form checked) fault written; told = tt } in
-        inl (subst (λ (r : Result Bool ExportFault). WritesFilter held failures old new native bundle form r) (sym e) here)
+        inl (subst (λ (r : Result Bool WriteFault). WritesFilter held failures old new native bundle form r) (sym e) here)
 
-    pub refused : (u : Unready) (result : Result Bool ExportFault) → (u ≢ unready.OutOfMemory → IsUnready native bundle u)
+    pub refused : (u : Unready) (result : Result Bool WriteFault) → (u ≢ unready.OutOfMemory → IsUnready native bundle u)
         → Refuses held failures old new u result → Exports held failures old new native bundle form result
     refused u result why (inl h) = inr (inl (record { unready = u; is = why h.0; written = h.1; told = h.2 }))
     refused u result why (inr h) = inr (inr h)

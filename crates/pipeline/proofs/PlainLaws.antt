@@ -29,8 +29,8 @@ use Rattle.certify.proofs.TableLaws.{table_rule_is_plain}
 use Rattle.cert_check.specs.declared.fault.CheckError.{CheckError}
 use Rattle.cert_check.specs.declared.fault.CheckError.TheVariants as error
 use Rattle.cert_check.specs.Certified.{IsFirst}
-use Rattle.export.specs.Failures.{Failures}
-use Rattle.export.specs.declared.fault.ExportFault.{ExportFault}
+use Rattle.streams.specs.Failures.{Failures}
+use Rattle.streams.specs.declared.fault.WriteFault.{WriteFault}
 use Rattle.export.specs.declared.form.Form.{Form}
 use Rattle.pipeline.specs.declared.pipeline.Prepared.{Prepared}
 use Rattle.pipeline.specs.declared.unready.Unready.{Unready}
@@ -208,7 +208,7 @@ not_refused native bundle (Check e) is h = has_none native bundle h.1.0 is h.1.1
 not_refused native bundle OutOfMemory is h = h
 
 pub filter_is_written : {S : Type 0} (held : S → Option (List ℕ)) (failures : S → Failures) (old new : S) (native : Arch) (bundle : List ℕ)
-    (form : Form) (result : Result Bool ExportFault) → Exports held failures old new native bundle form result
+    (form : Form) (result : Result Bool WriteFault) → Exports held failures old new native bundle form result
     → IsPlainBundle native bundle → ExportsFilter held failures old new native bundle form result
 filter_is_written held failures old new native bundle form result (inl h) is = inl h
 filter_is_written held failures old new native bundle form result (inr (inl h)) is = absurd (not_refused native bundle h.unready is h.is)

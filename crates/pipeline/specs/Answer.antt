@@ -9,9 +9,9 @@ use Rattle.bpf_insn.specs.Machine.{verdict_of}
 use Rattle.bpf_insn.specs.Fault as view
 use Rattle.kernel_check.specs.Accepted.{IsAccepted, IsRefusal}
 use Rattle.kernel_check.specs.Fault as kernel
-use Rattle.export.specs.Failures.{Failures}
-use Rattle.export.specs.Sink.{Writes}
-use Rattle.export.specs.declared.fault.ExportFault.{ExportFault}
+use Rattle.streams.specs.Failures.{Failures}
+use Rattle.streams.specs.Sink.{Writes}
+use Rattle.streams.specs.declared.fault.WriteFault.{WriteFault}
 use Rattle.pipeline.specs.declared.verdict.Answer.{Answer}
 use Rattle.pipeline.specs.declared.verdict.Answer.TheVariants.{Verdict, NoRecord, NoProgram, Refusal}
 
@@ -41,7 +41,7 @@ line_of (Refusal e) = codes "refused kernel " ++ kernel.text_of e ++ line_feed �
 
 -- what was written is the line of the answer, and the call tells whether that is a word
 pub record WritesAnswer {S : Type 0} (held : S → Option (List ℕ)) (failures : S → Failures) (old new : S) (filter rec : List ℕ)
-    (result : Result Bool ExportFault) : Type 0 where
+    (result : Result Bool WriteFault) : Type 0 where
   pub answer : Answer
   pub stands : IsAnswer filter rec answer
   pub written : Writes held failures old new (line_of answer) result

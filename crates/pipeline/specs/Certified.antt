@@ -14,9 +14,9 @@ use Rattle.certify.specs.Conviction.{Convicts}
 use Rattle.cert_walk.specs.declared.fault.CertifyError.TheVariants as maker
 use Rattle.cert_check.specs.Certified.{IsFirst}
 use Rattle.cert_check.specs.declared.fault.CheckError.TheVariants as error
-use Rattle.export.specs.Failures.{Failures}
-use Rattle.export.specs.Sink.{WritesMade}
-use Rattle.export.specs.declared.fault.ExportFault.{ExportFault}
+use Rattle.streams.specs.Failures.{Failures}
+use Rattle.streams.specs.Sink.{WritesMade}
+use Rattle.streams.specs.declared.fault.WriteFault.{WriteFault}
 use Rattle.texts.specs.Lines.{line_feed}
 use Rattle.pipeline.specs.Exported.{IsUnready, LacksMemory, line_of}
 use Rattle.pipeline.specs.Finding.{IsBundle, IsFinding}
@@ -64,7 +64,7 @@ IsOpen native bundle filter OutOfMemory = ⊥
 
 -- what was written is a certificate with which the checker says yes, and the answer is true
 pub record WritesCertificate {S : Type 0} (held : S → Option (List ℕ)) (failures : S → Failures) (old new : S) (native : Arch)
-    (bundle filter : List ℕ) (result : Result Bool ExportFault) : Type 0 where
+    (bundle filter : List ℕ) (result : Result Bool WriteFault) : Type 0 where
   pub cert : List ℕ
   pub is : IsFinding native bundle filter cert Yes
   pub written : WritesMade held failures old new cert result
@@ -72,7 +72,7 @@ pub record WritesCertificate {S : Type 0} (held : S → Option (List ℕ)) (fail
 
 -- what was written is the line of a record that convicts the filter, and the answer is false
 pub record WritesConviction {S : Type 0} (held : S → Option (List ℕ)) (failures : S → Failures) (old new : S) (native : Arch)
-    (bundle filter : List ℕ) (result : Result Bool ExportFault) : Type 0 where
+    (bundle filter : List ℕ) (result : Result Bool WriteFault) : Type 0 where
   pub rec : List ℕ
   pub given : ℕ
   pub said : ℕ
@@ -82,7 +82,7 @@ pub record WritesConviction {S : Type 0} (held : S → Option (List ℕ)) (failu
 
 -- what was written is the line that says why there is neither, and the answer is false
 pub record WritesOpen {S : Type 0} (held : S → Option (List ℕ)) (failures : S → Failures) (old new : S) (native : Arch)
-    (bundle filter : List ℕ) (result : Result Bool ExportFault) : Type 0 where
+    (bundle filter : List ℕ) (result : Result Bool WriteFault) : Type 0 where
   pub unready : Unready
   pub is : IsOpen native bundle filter unready
   pub written : WritesMade held failures old new (line_of unready) result
@@ -90,7 +90,7 @@ pub record WritesOpen {S : Type 0} (held : S → Option (List ℕ)) (failures : 
 
 -- what `ccell certify` writes for a bundle and a filter
 abbrev pub Certifies : {S : Type 0} → (S → Option (List ℕ)) → (S → Failures) → S → S → Arch → List ℕ → List ℕ
-    → Result Bool ExportFault → Type 0
+    → Result Bool WriteFault → Type 0
 Certifies held failures old new native bundle filter result =
     WritesCertificate held failures old new native bundle filter result
     ⊎ (WritesConviction held failures old new native bundle filter result
@@ -105,7 +105,7 @@ pub record IsOwnFilter (native : Arch) (bundle filter : List ℕ) (policy : Poli
   pub shape : IsCallFilter policy (insns_of filter)
 
 -- a certificate was written, or memory was refused
-abbrev pub CertifiesOwn : {S : Type 0} → (S → Option (List ℕ)) → (S → Failures) → S → S → Arch → List ℕ → List ℕ → Result Bool ExportFault
+abbrev pub CertifiesOwn : {S : Type 0} → (S → Option (List ℕ)) → (S → Failures) → S → S → Arch → List ℕ → List ℕ → Result Bool WriteFault
     → Type 0
 CertifiesOwn held failures old new native bundle filter result =
     WritesCertificate held failures old new native bundle filter result ⊎ LacksMemory old new result

@@ -16,11 +16,11 @@ use Rattle.cert_check.specs.declared.fault.CheckError.TheVariants as error
 use Rattle.cert_check.specs.Certified.{IsFirst}
 use Rattle.cert_check.specs.Checked.{profile_of, program_of}
 use Rattle.cert_check.specs.Fault.{text_of as error_text}
-use Rattle.export.specs.Failures.{Failures}
+use Rattle.streams.specs.Failures.{Failures}
 use Rattle.export.specs.Forms.{bytes_in}
-use Rattle.export.specs.Sink.{WritesMade}
-use Rattle.export.specs.declared.fault.ExportFault.{ExportFault}
-use Rattle.export.specs.declared.fault.ExportFault.TheVariants as fault
+use Rattle.streams.specs.Sink.{WritesMade}
+use Rattle.streams.specs.declared.fault.WriteFault.{WriteFault}
+use Rattle.streams.specs.declared.fault.WriteFault.TheVariants as fault
 use Rattle.export.specs.declared.form.Form.{Form}
 use Rattle.export.specs.declared.form.Form.TheVariants.{Raw, Certificate}
 use Rattle.texts.specs.Lines.{line_feed}
@@ -74,7 +74,7 @@ IsToldAs step memory e unready = ((e ≡ memory) × (unready ≡ OutOfMemory)) �
 
 -- what was written is a checked filter of the bundle in the form, and the answer is true
 pub record WritesFilter {S : Type 0} (held : S → Option (List ℕ)) (failures : S → Failures) (old new : S) (native : Arch) (bundle : List ℕ)
-    (form : Form) (result : Result Bool ExportFault) : Type 0 where
+    (form : Form) (result : Result Bool WriteFault) : Type 0 where
   pub checked : Checked
   pub is : IsCheckedOf native bundle checked
   pub written : WritesMade held failures old new (bytes_in form checked) result
@@ -82,31 +82,31 @@ pub record WritesFilter {S : Type 0} (held : S → Option (List ℕ)) (failures 
 
 -- what was written is the line that says why there is none, and the answer is false
 pub record WritesUnready {S : Type 0} (held : S → Option (List ℕ)) (failures : S → Failures) (old new : S) (native : Arch) (bundle : List ℕ)
-    (result : Result Bool ExportFault) : Type 0 where
+    (result : Result Bool WriteFault) : Type 0 where
   pub unready : Unready
   pub is : IsUnready native bundle unready
   pub written : WritesMade held failures old new (line_of unready) result
   pub told : IfOk result (λ done. done ≡ false)
 
 -- memory was refused, and nothing was written
-abbrev pub LacksMemory : {S : Type 0} → S → S → Result Bool ExportFault → Type 0
+abbrev pub LacksMemory : {S : Type 0} → S → S → Result Bool WriteFault → Type 0
 LacksMemory old new result = (result ≡ Err fault.OutOfMemory) × (new ≡ old)
 
 -- what `ccell export` writes for a bundle
 abbrev pub Exports : {S : Type 0} → (S → Option (List ℕ)) → (S → Failures) → S → S → Arch → List ℕ → Form
-    → Result Bool ExportFault → Type 0
+    → Result Bool WriteFault → Type 0
 Exports held failures old new native bundle form result =
     WritesFilter held failures old new native bundle form result
     ⊎ (WritesUnready held failures old new native bundle result ⊎ LacksMemory old new result)
 
 -- a checked filter of the bundle was written, or memory was refused
 abbrev pub ExportsFilter : {S : Type 0} → (S → Option (List ℕ)) → (S → Failures) → S → S → Arch → List ℕ → Form
-    → Result Bool ExportFault → Type 0
+    → Result Bool WriteFault → Type 0
 ExportsFilter held failures old new native bundle form result =
     WritesFilter held failures old new native bundle form result ⊎ LacksMemory old new result
 
 -- what is written of a refusal, if it is one
-abbrev pub Refuses : {S : Type 0} → (S → Option (List ℕ)) → (S → Failures) → S → S → Unready → Result Bool ExportFault → Type 0
+abbrev pub Refuses : {S : Type 0} → (S → Option (List ℕ)) → (S → Failures) → S → S → Unready → Result Bool WriteFault → Type 0
 Refuses held failures old new unready result =
     ((unready ≢ OutOfMemory) × WritesMade held failures old new (line_of unready) result × IfOk result (λ done. done ≡ false))
     ⊎ LacksMemory old new result

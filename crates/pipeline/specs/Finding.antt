@@ -15,10 +15,10 @@ use Rattle.cert_check.specs.declared.fault.CheckError.TheVariants as error
 use Rattle.cert_check.specs.Certified.{IsFirst, Kept}
 use Rattle.cert_check.specs.Fault.{text_of as error_text}
 use Rattle.cert_check.specs.Right.{IsRight}
-use Rattle.export.specs.Failures.{Failures}
-use Rattle.export.specs.Sink.{Writes}
-use Rattle.export.specs.declared.fault.ExportFault.{ExportFault}
-use Rattle.export.specs.declared.fault.ExportFault.TheVariants.{Write, OutOfMemory}
+use Rattle.streams.specs.Failures.{Failures}
+use Rattle.streams.specs.Sink.{Writes}
+use Rattle.streams.specs.declared.fault.WriteFault.{WriteFault}
+use Rattle.streams.specs.declared.fault.WriteFault.TheVariants.{Write, OutOfMemory}
 use Rattle.texts.specs.Lines.{line_feed}
 use Rattle.pipeline.specs.declared.check.Finding.{Finding}
 use Rattle.pipeline.specs.declared.check.Finding.TheVariants.{Yes, No, NoProfile}
@@ -61,7 +61,7 @@ line_of finding = text_of finding ++ line_feed ∷ []
 
 -- what was written is the line of what is found, and the call tells whether that is a yes
 pub record TellsFinding {S : Type 0} (held : S → Option (List ℕ)) (failures : S → Failures) (old new : S) (native : Arch)
-    (bundle filter cert : List ℕ) (result : Result Bool ExportFault) : Type 0 where
+    (bundle filter cert : List ℕ) (result : Result Bool WriteFault) : Type 0 where
   pub finding : Finding
   pub stands : IsFinding native bundle filter cert finding
   pub written : Writes held failures old new (line_of finding) result
@@ -69,7 +69,7 @@ pub record TellsFinding {S : Type 0} (held : S → Option (List ℕ)) (failures 
 
 -- the line was written, or a beginning of it; or memory was refused, and nothing was written
 abbrev pub WritesFinding : {S : Type 0} → (S → Option (List ℕ)) → (S → Failures) → S → S → Arch → List ℕ → List ℕ → List ℕ
-    → Result Bool ExportFault → Type 0
+    → Result Bool WriteFault → Type 0
 WritesFinding held failures old new native bundle filter cert (Ok told) =
     TellsFinding held failures old new native bundle filter cert (Ok told)
 WritesFinding held failures old new native bundle filter cert (Err (Write out)) =

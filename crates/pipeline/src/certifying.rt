@@ -18,11 +18,11 @@ use call_record::{Word, words_are_a_record};
 use call_tables::Arch;
 use cert_check::{CheckError, check};
 use certify::{Conviction, certify, convict};
-use export::{ExportFault, Sink, write_all};
 use kernel_check::{Accepted, accept};
 use profile::Profile;
 use profile_json::read_bundle;
 use std::alloc::{AllocError, Global};
+use streams::{Sink, WriteFault, write_all};
 
 // The certificate that is made of a profile and a filter, once the checker says yes to it.
 fn certified(
@@ -80,11 +80,11 @@ fn line_of(alloc: Global, found: &Conviction) -> Result<String, AllocError>
 }
 
 // Writes the line that tells a conviction. The answer is false.
-fn tell<S: Sink>(alloc: Global, found: &Conviction, sink: &mut S) -> Result<bool, ExportFault>
+fn tell<S: Sink>(alloc: Global, found: &Conviction, sink: &mut S) -> Result<bool, WriteFault>
     ensures { Tells S.held S.failures sink.old sink.new (words found.now.call) found.now.given found.now.said result }
 {
     let Ok(line) = line_of(alloc, found) else {
-        return Err(ExportFault::OutOfMemory);
+        return Err(WriteFault::OutOfMemory);
     };
     write_all(line.as_bytes(), sink)?;
     Ok(false)
@@ -97,7 +97,7 @@ fn convict_or_refuse<S: Sink>(
     program: &Accepted<'_>,
     unready: &Unready,
     sink: &mut S,
-) -> Result<bool, ExportFault>
+) -> Result<bool, WriteFault>
     ensures found { (native : TheArch) (bundle filter : List ℕ) → AreJudged native bundle filter profile.now
         → accepted_insns program.now ≡ insns_of filter
         → (unready.now ≢ OutOfMemory → IsOpen native bundle filter unready.now)
@@ -105,7 +105,7 @@ fn convict_or_refuse<S: Sink>(
     ensures memory { unready.now ≡ OutOfMemory → LacksMemory sink.old sink.new result }
 {
     if let Unready::OutOfMemory = unready {
-        return Err(ExportFault::OutOfMemory);
+        return Err(WriteFault::OutOfMemory);
     }
     match convict(alloc, profile, program) {
         Ok(Some(found)) => {
@@ -124,7 +124,7 @@ fn certify_accepted<S: Sink>(
     filter: &[u8],
     program: &Accepted<'_>,
     sink: &mut S,
-) -> Result<bool, ExportFault>
+) -> Result<bool, WriteFault>
     ensures found { (native : TheArch) (bundle : List ℕ) → AreJudged native bundle filter.now profile.now
         → accepted_insns program.now ≡ insns_of filter.now
         → Certifies S.held S.failures sink.old sink.new native bundle filter.now result }
@@ -147,7 +147,7 @@ fn certify_filter<S: Sink>(
     profile: &Profile,
     filter: &[u8],
     sink: &mut S,
-) -> Result<bool, ExportFault>
+) -> Result<bool, WriteFault>
     ensures found { (native : TheArch) (bundle : List ℕ) → IsBundle native bundle profile.now
         → Certifies S.held S.failures sink.old sink.new native bundle filter.now result }
     ensures own { (native : TheArch) (bundle : List ℕ) → IsOwnFilter native bundle filter.now profile.now
@@ -172,7 +172,7 @@ pub fn certify_bundle<S: Sink>(
     bundle: &[u8],
     filter: &[u8],
     sink: &mut S,
-) -> Result<bool, ExportFault>
+) -> Result<bool, WriteFault>
     ensures found { Certifies S.held S.failures sink.old sink.new native bundle.now filter.now result }
     // Of a bundle that means a profile without conditions, and a filter as the compiler makes it of such, a certificate is
     // written, unless memory is refused or the sink fails.

@@ -7,11 +7,11 @@ ghost use Rattle.pipeline.specs.Finding.{IsFinding, IsJudged, WritesFinding};
 
 use call_tables::Arch;
 use cert_check::{CheckError, check};
-use export::{ExportFault, Sink, write_all};
 use profile::Profile;
 use profile_json::{ProfileError, read_bundle};
 use std::alloc::{AllocError, Global};
 use std::fmt;
+use streams::{Sink, WriteFault, write_all};
 
 /// What is found of a bundle, a filter and a certificate. Its text is the line of `ccell check`.
 #[derive(Clone, Copy, Debug, PartialEq, Eq)]
@@ -104,14 +104,14 @@ pub fn check_line<S: Sink>(
     filter: &[u8],
     cert: &[u8],
     sink: &mut S,
-) -> Result<bool, ExportFault>
+) -> Result<bool, WriteFault>
     ensures { WritesFinding S.held S.failures sink.old sink.new native bundle.now filter.now cert.now result }
 {
     let Ok(finding) = finding_of(alloc, native, bundle, filter, cert) else {
-        return Err(ExportFault::OutOfMemory);
+        return Err(WriteFault::OutOfMemory);
     };
     let Ok(line) = format!(in alloc; "{finding}\n") else {
-        return Err(ExportFault::OutOfMemory);
+        return Err(WriteFault::OutOfMemory);
     };
     write_all(line.as_bytes(), sink)?;
     Ok(matches!(finding, Finding::Yes))

@@ -8,8 +8,9 @@ ghost use Rattle.pipeline.specs.Prepared.{IsPrepared};
 use crate::pipeline::Prepared;
 use crate::unready::refuse;
 use call_tables::Arch;
-use export::{ExportFault, Form, Sink, export_form};
+use export::{Form, export_form};
 use std::alloc::Global;
+use streams::{Sink, WriteFault};
 
 // Writes the filter in a form once it is checked.
 fn export_prepared<S: Sink>(
@@ -17,7 +18,7 @@ fn export_prepared<S: Sink>(
     prepared: &Prepared,
     form: Form,
     sink: &mut S,
-) -> Result<bool, ExportFault>
+) -> Result<bool, WriteFault>
     ensures { (native : TheArch) (bundle : List ℕ)
         → IsPrepared native bundle prepared.now.profile prepared.now.filter.items prepared.now.certificate.items
         → Exports S.held S.failures sink.old sink.new native bundle form result }
@@ -39,7 +40,7 @@ pub fn export_bundle<S: Sink>(
     bundle: &[u8],
     form: Form,
     sink: &mut S,
-) -> Result<bool, ExportFault>
+) -> Result<bool, WriteFault>
     ensures exports { Exports S.held S.failures sink.old sink.new native bundle.now form result }
     // Of a bundle that means a profile without conditions the filter is written, unless memory is refused or the sink
     // fails.

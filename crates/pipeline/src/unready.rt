@@ -3,12 +3,12 @@ ghost use Rattle.pipeline.specs.Exported.{Refuses};
 
 use cert_check::CheckError;
 use certify::CertifyError;
-use export::{ExportFault, Sink, write_all};
 use profile_json::ProfileError;
 use rule_compile::CompileError;
 use std::alloc::Global;
 use std::error::Error;
 use std::fmt;
+use streams::{Sink, WriteFault, write_all};
 
 /// Why a bundle has no checked filter. Its text is the line that says so.
 #[derive(Clone, Copy, Debug)]
@@ -105,14 +105,14 @@ impl From<CheckError> for Unready {
 }
 
 /// Writes the line that says why there is no checked filter. The answer is false.
-pub fn refuse<S: Sink>(alloc: Global, unready: &Unready, sink: &mut S) -> Result<bool, ExportFault>
+pub fn refuse<S: Sink>(alloc: Global, unready: &Unready, sink: &mut S) -> Result<bool, WriteFault>
     ensures { Refuses S.held S.failures sink.old sink.new unready.now result }
 {
     if let Unready::OutOfMemory = unready {
-        return Err(ExportFault::OutOfMemory);
+        return Err(WriteFault::OutOfMemory);
     }
     let Ok(line) = format!(in alloc; "{unready}\n") else {
-        return Err(ExportFault::OutOfMemory);
+        return Err(WriteFault::OutOfMemory);
     };
     write_all(line.as_bytes(), sink)?;
     Ok(false)

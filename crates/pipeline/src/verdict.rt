@@ -5,8 +5,8 @@ ghost use Rattle.pipeline.specs.Answer.{IsAnswer, WritesAnswer, line_of};
 use bpf_insn::{Program, ViewError};
 use bpf_interp::verdict;
 use call_record::{Record, Word};
-use export::{ExportFault, Sink, write_all};
 use kernel_check::{Refused, accept};
+use streams::{Sink, WriteFault, write_all};
 use texts::{Line, put, put_label, put_number};
 
 /// A word, or why there is none.
@@ -59,7 +59,7 @@ fn line(answer: &Answer) -> Line
 }
 
 /// Writes the line for a filter and a record. It is true of a word, and false of a refusal.
-pub fn verdict_line<S: Sink>(filter: &[u8], rec: &[u8], sink: &mut S) -> Result<bool, ExportFault>
+pub fn verdict_line<S: Sink>(filter: &[u8], rec: &[u8], sink: &mut S) -> Result<bool, WriteFault>
     ensures { WritesAnswer S.held S.failures sink.old sink.new filter.now rec.now result }
 {
     let answer = answer_to(filter, rec);

@@ -2,10 +2,10 @@
 use Rattle.std.proofs.Common.{◌≡◌, ℕ, ◌+◌, ◌<◌, List, [], length, take, ap, inr, refl, sym, subst, ◌∙◌}
 use Rattle.std.specs.Prelude.{Option, Some, None, Result, Ok, Err, IfOk}
 use Rattle.std.specs.Io.KnownBytes.{Appends}
-use Rattle.export.specs.declared.fault.ExportFault.{ExportFault}
-use Rattle.export.specs.declared.fault.ExportFault.TheVariants.{Write, OutOfMemory}
-use Rattle.export.specs.Failures.{Failures, HasFailed, NoneFailed}
-use Rattle.export.specs.Sink.{WritesMade}
+use Rattle.streams.specs.declared.fault.WriteFault.{WriteFault}
+use Rattle.streams.specs.declared.fault.WriteFault.TheVariants.{Write, OutOfMemory}
+use Rattle.streams.specs.Failures.{Failures, HasFailed, NoneFailed}
+use Rattle.streams.specs.Sink.{WritesMade}
 use Rattle.processes.specs.First.{by_program}
 use Rattle.lifecycle.specs.declared.command.Reply.{Reply}
 use Rattle.lifecycle.specs.declared.command.Reply.TheVariants.{IsIn}
@@ -27,13 +27,13 @@ use Rattle.session.proofs.StandLaws.{broke_off, ran_out, went_on}
 
 module _ {S : Type 0} (sheld : S → Option (List ℕ)) (failures : S → Failures) (bundles : Bundles) where
   -- a reply was written
-  pub answered : (line : List ℕ) (number : ℕ) (order : script.Order) (w w' : World) (old new : S) (result : Result ℕ ExportFault) (reply : Reply) (id : List ℕ)
+  pub answered : (line : List ℕ) (number : ℕ) (order : script.Order) (w w' : World) (old new : S) (result : Result ℕ WriteFault) (reply : Reply) (id : List ℕ)
       → LineIs bundles.native line (Some order) → CarriesOut bundles order w w' (Ok (Some reply)) → id ≡ id_in order
       → WritesMade sheld failures old new (reply_line id reply) result → IfOk result (λ n. n ≡ length (reply_line id reply))
       → (result ≡ Err OutOfMemory → (s : Status) × (reply ≡ IsIn s))
       → AnswersLine sheld failures bundles line number w w' old new result
   answered line number order w w' old new result reply id is done named written len told = by_command done.command done.is done.done where
-    always : (r : Result ℕ ExportFault) (P : Type 0) → P → IfOk r (λ _. P)
+    always : (r : Result ℕ WriteFault) (P : Type 0) → P → IfOk r (λ _. P)
     always (Ok n) P p = p
     always (Err e) P p = tt
 
@@ -68,30 +68,30 @@ module _ {S : Type 0} (sheld : S → Option (List ℕ)) (failures : S → Failur
         (subst (λ (l : List ℕ). Appends (sheld old) (sheld new) l) (line_is h.command) h.written.0)
         (h.len ∙ ap length (line_is h.command)) (world ∙ h.world) kept (count ∙ numbered) out
 
-    pub breaks_off : (fault : ExportFault) (m out : ℕ) → AnswersLine sheld failures bundles line number s.world w' old new (Err fault)
+    pub breaks_off : (fault : WriteFault) (m out : ℕ) → AnswersLine sheld failures bundles line number s.world w' old new (Err fault)
         → fault ≡ Write m → out ≡ counted (s.out + m) → BreaksOff bundles held (sheld new) part cs out
     breaks_off fault m out g e told =
         let h : AnswersLine sheld failures bundles line number s.world w' old new (Err (Write m)) =
-        subst (λ (f : ExportFault). AnswersLine sheld failures bundles line number s.world w' old new (Err f)) e g in
+        subst (λ (f : WriteFault). AnswersLine sheld failures bundles line number s.world w' old new (Err f)) e g in
         broke_off bundles s held (sheld old) lines part cs st (sheld new) h.command m out (is_kept h.command h.is)
         (subst (λ (l : List ℕ). Appends (sheld old) (sheld new) (take m l)) (line_is h.command) h.written.0)
         (subst (λ (l : List ℕ). m < length l) (line_is h.command) h.written.1) told
 
-    pub runs_out : (fault : ExportFault) (told : ℕ) → AnswersLine sheld failures bundles line number s.world w' old new (Err fault)
+    pub runs_out : (fault : WriteFault) (told : ℕ) → AnswersLine sheld failures bundles line number s.world w' old new (Err fault)
         → fault ≡ OutOfMemory → told ≡ number → RunsOut bundles held (sheld new) part cs told
     runs_out fault told g none e =
         let h : AnswersLine sheld failures bundles line number s.world w' old new (Err OutOfMemory) =
-        subst (λ (f : ExportFault). AnswersLine sheld failures bundles line number s.world w' old new (Err f)) none g in
+        subst (λ (f : WriteFault). AnswersLine sheld failures bundles line number s.world w' old new (Err f)) none g in
         let stays : RunsOut bundles held (sheld old) part cs told =
         ran_out bundles s held (sheld old) lines part cs st h.command told (is_kept h.command h.is) (e ∙ numbered) (h.wants refl) in
         subst (λ (x : S). RunsOut bundles held (sheld x) part cs told) (sym h.written) stays
 
 -- a fault of writing, and want of memory
 
-module _ {S : Type 0} (held : S → Option (List ℕ)) (failures : S → Failures) (old new : S) (bytes : List ℕ) (fault : ExportFault)
+module _ {S : Type 0} (held : S → Option (List ℕ)) (failures : S → Failures) (old new : S) (bytes : List ℕ) (fault : WriteFault)
     (written : WritesMade {S = S} {T = ℕ} held failures old new bytes (Err fault)) where
-  by_fault : (f : ExportFault) → fault ≡ f → WritesMade {S = S} {T = ℕ} held failures old new bytes (Err f)
-  by_fault f e = subst (λ (f : ExportFault). WritesMade {S = S} {T = ℕ} held failures old new bytes (Err f)) e written
+  by_fault : (f : WriteFault) → fault ≡ f → WritesMade {S = S} {T = ℕ} held failures old new bytes (Err f)
+  by_fault f e = subst (λ (f : WriteFault). WritesMade {S = S} {T = ℕ} held failures old new bytes (Err f)) e written
 
   pub failed_write : (m : ℕ) → fault ≡ Write m → HasFailed (failures old) (failures new)
   failed_write m e = (by_fault (Write m) e).2

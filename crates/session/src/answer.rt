@@ -5,9 +5,9 @@ ghost use Rattle.session.specs.inner.Carried.{AnswersLine};
 
 use crate::carry::{Session, id_named};
 use crate::reply::{write_no_command, write_reply};
-use export::{ExportFault, Sink};
 use script::read_line;
 use std::alloc::Global;
+use streams::{Sink, WriteFault};
 
 /// Carries out the line of this number, writes the line that answers it, and says how many bytes that line has.
 pub(crate) fn answer_line<S: Sink>(
@@ -16,7 +16,7 @@ pub(crate) fn answer_line<S: Sink>(
     line: &[u8],
     number: u64,
     sink: &mut S,
-) -> Result<usize, ExportFault>
+) -> Result<usize, WriteFault>
     ensures bundles { session.new.bundles ≡ session.old.bundles }
     ensures done { AnswersLine S.held S.failures session.old.bundles line.now number (world_of session.old.runtime) (world_of session.new.runtime) sink.old sink.new result }
 {

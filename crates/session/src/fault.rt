@@ -17,8 +17,8 @@ impl ScriptFault {
     ghost use Rattle.std.specs.Prelude.{◌≡◌};
     ghost use Rattle.session.specs.Fault.{label_of};
 
-    // The number and the name by which it is told.
-    fn label(self) -> (u32, &'static str)
+    /// The number and the name by which it is told.
+    pub fn label(self) -> (u32, &'static str)
         ensures number { result.0 ≡ (label_of self).0 }
         ensures name { result.1.now ≡ (label_of self).1 }
     {
@@ -27,20 +27,6 @@ impl ScriptFault {
             ScriptFault::Write { .. } => (2, "Write"),
             ScriptFault::Memory { .. } => (3, "Memory"),
         }
-    }
-
-    /// The number by which the fault is told.
-    pub fn number(self) -> u32
-        ensures { result ≡ (label_of self).0 }
-    {
-        self.label().0
-    }
-
-    /// The name of the fault.
-    pub fn name(self) -> &'static str
-        ensures { result.now ≡ (label_of self).1 }
-    {
-        self.label().1
     }
 }
 

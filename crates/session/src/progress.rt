@@ -7,9 +7,9 @@ use crate::answer::answer_line;
 use crate::bundles::Bundles;
 use crate::carry::Session;
 use crate::fault::ScriptFault;
-use export::{ExportFault, Sink};
 use script::MAX_LINE;
 use std::alloc::{AllocError, Global};
+use streams::{Sink, WriteFault};
 
 const LINE_FEED: u8 = 10;
 
@@ -93,10 +93,10 @@ impl<'a> Progress<'a> {
                 self.out = self.out.saturating_add(n as u64);
                 Ok(())
             }
-            Err(ExportFault::Write { out }) => Err(ScriptFault::Write {
+            Err(WriteFault::Write { out }) => Err(ScriptFault::Write {
                 out: self.out.saturating_add(out),
             }),
-            Err(ExportFault::OutOfMemory) => Err(ScriptFault::Memory { line: number }),
+            Err(WriteFault::OutOfMemory) => Err(ScriptFault::Memory { line: number }),
         }
     }
 

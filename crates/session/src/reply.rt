@@ -3,19 +3,19 @@ ghost use Rattle.std.specs.Prelude.{◌≡◌, ◌≤◌, ◌+◌, ◌++◌, ◌
 ghost use Rattle.arrayvec.specs.ArrayVec.{array_vec_len};
 ghost use Rattle.serde_json.specs.View.{view};
 ghost use Rattle.serde_json.specs.Written.{compact_text};
-ghost use Rattle.export.specs.Sink.{Writes, WritesMade};
-ghost use Rattle.export.specs.declared.fault.ExportFault.TheVariants.{OutOfMemory};
+ghost use Rattle.streams.specs.Sink.{Writes, WritesMade};
+ghost use Rattle.streams.specs.declared.fault.WriteFault.TheVariants.{OutOfMemory};
 ghost use Rattle.lifecycle.specs.Fault as refusal;
 ghost use Rattle.lifecycle.specs.declared.command.Reply.TheVariants.{IsIn};
 ghost use Rattle.lifecycle.specs.declared.command.Status.{Status};
 ghost use Rattle.texts.specs.Lines.{line_feed};
 ghost use Rattle.session.specs.Replies.{no_command_line, outcome_text, reply_line, state_of, status_name};
 
-use export::{ExportFault, Sink, write_all};
 use lifecycle::{Refusal, Reply, Status};
 use processes::Outcome;
 use serde_json::{Value, json};
 use std::alloc::{AllocError, Global};
+use streams::{Sink, WriteFault, write_all};
 use texts::{Line, put, put_label, put_number};
 
 // Adds what became of a call.
@@ -60,7 +60,8 @@ fn put_refusal(line: &mut Line, refused: &Refusal)
     ensures items { line.new.items ≡ line.old.items ++ refusal.text_of refused.now }
     ensures len { array_vec_len line.new ≤ array_vec_len line.old + 40 }
 {
-    put_label(line, refused.number(), refused.name());
+    let (number, name) = refused.label();
+    put_label(line, number, name);
     put_word(line, refused);
 }
 
@@ -92,7 +93,7 @@ fn state_line(alloc: Global, id: &str, status: Status) -> Result<String, AllocEr
 }
 
 // Writes a line, and says how many bytes it has.
-fn send<S: Sink>(line: &[u8], sink: &mut S) -> Result<usize, ExportFault>
+fn send<S: Sink>(line: &[u8], sink: &mut S) -> Result<usize, WriteFault>
     ensures written { Writes S.held S.failures sink.old sink.new line.now result }
     ensures len { IfOk result (λ n. n ≡ length line.now) }
 {
@@ -107,7 +108,7 @@ pub(crate) fn write_reply<S: Sink>(
     id: &str,
     reply: &Reply,
     sink: &mut S,
-) -> Result<usize, ExportFault>
+) -> Result<usize, WriteFault>
     ensures written { WritesMade S.held S.failures sink.old sink.new (reply_line id.now reply.now) result }
     ensures len { IfOk result (λ n. n ≡ length (reply_line id.now reply.now)) }
     ensures memory { result ≡ Err OutOfMemory → (s : Status) × (reply.now ≡ IsIn s) }
@@ -129,7 +130,7 @@ pub(crate) fn write_reply<S: Sink>(
 }
 
 /// Writes the line that says that the line of this number is no command, and says how many bytes it has.
-pub(crate) fn write_no_command<S: Sink>(number: u64, sink: &mut S) -> Result<usize, ExportFault>
+pub(crate) fn write_no_command<S: Sink>(number: u64, sink: &mut S) -> Result<usize, WriteFault>
     ensures written { Writes S.held S.failures sink.old sink.new (no_command_line number) result }
     ensures len { IfOk result (λ n. n ≡ length (no_command_line number)) }
 {

@@ -1,9 +1,9 @@
 -- What is written of a record on which a filter gives another word than a profile says.
 use Rattle.std.specs.Prelude.{ℕ, ◌≡◌, ◌<◌, ◌⊎◌, Bool, false, List, length, slice_index, Option, Result, IfOk}
 use Rattle.call_record.specs.Words.{words_of}
-use Rattle.export.specs.Failures.{Failures}
-use Rattle.export.specs.Sink.{WritesMade}
-use Rattle.export.specs.declared.fault.ExportFault.{ExportFault}
+use Rattle.streams.specs.Failures.{Failures}
+use Rattle.streams.specs.Sink.{WritesMade}
+use Rattle.streams.specs.declared.fault.WriteFault.{WriteFault}
 use Rattle.pipeline.specs.Certified.{conviction_line}
 use Rattle.pipeline.specs.Exported.{LacksMemory}
 
@@ -17,12 +17,12 @@ pub record IsLine (words : List ℕ) (given said : ℕ) (line : List ℕ) : Type
 
 -- what was written is such a line, and the answer is false
 pub record TellsLine {S : Type 0} (held : S → Option (List ℕ)) (failures : S → Failures) (old new : S) (words : List ℕ) (given said : ℕ)
-    (result : Result Bool ExportFault) : Type 0 where
+    (result : Result Bool WriteFault) : Type 0 where
   pub line : List ℕ
   pub is : IsLine words given said line
   pub written : WritesMade held failures old new line result
   pub told : IfOk result (λ done. done ≡ false)
 
-abbrev pub Tells : {S : Type 0} → (S → Option (List ℕ)) → (S → Failures) → S → S → List ℕ → ℕ → ℕ → Result Bool ExportFault → Type 0
+abbrev pub Tells : {S : Type 0} → (S → Option (List ℕ)) → (S → Failures) → S → S → List ℕ → ℕ → ℕ → Result Bool WriteFault → Type 0
 Tells held failures old new words given said result =
     TellsLine held failures old new words given said result ⊎ LacksMemory old new result

@@ -1,10 +1,10 @@
 -- What one line does.
 use Rattle.std.specs.Prelude.{ℕ, ◌≡◌, ◌≤◌, List, Option, None, Some, Result, Err, IfOk, OnErr, length}
 use Rattle.std.specs.declared.alloc.AllocError.{AllocError}
-use Rattle.export.specs.Failures.{Failures}
-use Rattle.export.specs.Sink.{WritesMade}
-use Rattle.export.specs.declared.fault.ExportFault.{ExportFault}
-use Rattle.export.specs.declared.fault.ExportFault.TheVariants.{OutOfMemory}
+use Rattle.streams.specs.Failures.{Failures}
+use Rattle.streams.specs.Sink.{WritesMade}
+use Rattle.streams.specs.declared.fault.WriteFault.{WriteFault}
+use Rattle.streams.specs.declared.fault.WriteFault.TheVariants.{OutOfMemory}
 use Rattle.processes.specs.First.{by_program}
 use Rattle.lifecycle.specs.declared.command.Reply.{Reply}
 use Rattle.lifecycle.specs.Orders.{Order, id_of}
@@ -73,7 +73,7 @@ pub record CarriesOut (bundles : Bundles) (order : script.Order) (w w' : World) 
 
 -- a line was carried out and answered, by so many bytes
 pub record AnswersLine {S : Type 0} (held : S → Option (List ℕ)) (failures : S
-    → Failures) (bundles : Bundles) (line : List ℕ) (number : ℕ) (w w' : World) (old new : S) (result : Result ℕ ExportFault) : Type 0 where
+    → Failures) (bundles : Bundles) (line : List ℕ) (number : ℕ) (w w' : World) (old new : S) (result : Result ℕ WriteFault) : Type 0 where
   pub command : Option Order
   pub is : CommandIs bundles line command
   pub written : WritesMade held failures old new (answer_line by_program number command w) result

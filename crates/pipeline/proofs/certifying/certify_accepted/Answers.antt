@@ -1,7 +1,7 @@
 use Rattle.std.proofs.Common.{◌∙◌, ℕ, List, ap, inr, subst}
 use Rattle.std.specs.Prelude.{Err}
 use Rattle.std.proofs.lemmas.Result.{err_from_is_err_and}
-use Rattle.export.specs.Sink.{Wrote}
+use Rattle.streams.specs.Sink.{Wrote}
 use Rattle.pipeline.proofs.EvidenceLaws.{made_first, own_failed, own_written}
 use Rattle.pipeline.proofs.certifying.certify_accepted.Goals as goal
 

@@ -4,7 +4,7 @@ use Rattle.std.proofs.lemmas.List.{append-nil}
 use Rattle.std.specs.Prelude.{Option, Some, None, ◌==◌, if◌then◌else◌}
 use Rattle.std.specs.Io.KnownBytes.{Appends, Keeps}
 use Rattle.std.proofs.lemmas.Bool.Decides.{nat_tests}
-use Rattle.export.specs.Failures.{Failures, HasFailed, NoneFailed, one_more}
+use Rattle.streams.specs.Failures.{Failures, HasFailed, NoneFailed, one_more}
 
 pub Appends-then : (a b c : Option (List ℕ)) (xs ys zs : List ℕ) → zs ≡ xs ++ ys → Appends a b xs → Appends b c ys → Appends a c zs
 Appends-then None b c xs ys zs e h g = tt

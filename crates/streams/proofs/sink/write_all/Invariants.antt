@@ -1,7 +1,7 @@
 use Rattle.std.proofs.Common.{◌≤◌, ◌-◌, length, take}
 use Rattle.std.specs.Io.KnownBytes.{Appends}
-use Rattle.export.specs.Failures.{NoneFailed}
-use Rattle.export.proofs.sink.write_all.Given as goal
+use Rattle.streams.specs.Failures.{NoneFailed}
+use Rattle.streams.proofs.sink.write_all.Given as goal
 
 abbrev pub invariant-write : goal.invariant-write
 invariant-write g l = record {

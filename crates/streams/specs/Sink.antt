@@ -1,9 +1,9 @@
 -- What a call that writes leaves.
 use Rattle.std.specs.Prelude.{ℕ, ◌≡◌, ◌<◌, Bool, true, ◌==◌, List, length, take, Option, Result, Ok, Err}
 use Rattle.std.specs.Io.KnownBytes.{Appends}
-use Rattle.export.specs.Failures.{Failures, HasFailed, NoneFailed}
-use Rattle.export.specs.declared.fault.ExportFault.{ExportFault}
-use Rattle.export.specs.declared.fault.ExportFault.TheVariants.{Write, OutOfMemory}
+use Rattle.streams.specs.Failures.{Failures, HasFailed, NoneFailed}
+use Rattle.streams.specs.declared.fault.WriteFault.{WriteFault}
+use Rattle.streams.specs.declared.fault.WriteFault.TheVariants.{Write, OutOfMemory}
 
 -- a write failed: an error, or no byte taken
 abbrev pub is_failure : {E : Type 0} → Result ℕ E → Bool
@@ -20,13 +20,13 @@ abbrev pub Wrote : {S : Type 0} → (S → Option (List ℕ)) → (S → Failure
 Wrote held failures old new bytes = Appends (held old) (held new) bytes × NoneFailed (failures old) (failures new)
 
 -- Ok: these bytes were written, and no call failed. A fault of writing tells where the sink stopped.
-abbrev pub Writes : {S T : Type 0} → (S → Option (List ℕ)) → (S → Failures) → S → S → List ℕ → Result T ExportFault → Type 0
+abbrev pub Writes : {S T : Type 0} → (S → Option (List ℕ)) → (S → Failures) → S → S → List ℕ → Result T WriteFault → Type 0
 Writes held failures old new bytes (Ok x) = Wrote held failures old new bytes
 Writes held failures old new bytes (Err (Write out)) = StopsAt held failures old new bytes out
 Writes held failures old new bytes (Err OutOfMemory) = ⊥
 
 -- The same of bytes that have to be made first: without memory for them the sink was not asked.
-abbrev pub WritesMade : {S T : Type 0} → (S → Option (List ℕ)) → (S → Failures) → S → S → List ℕ → Result T ExportFault → Type 0
+abbrev pub WritesMade : {S T : Type 0} → (S → Option (List ℕ)) → (S → Failures) → S → S → List ℕ → Result T WriteFault → Type 0
 WritesMade held failures old new bytes (Ok x) = Wrote held failures old new bytes
 WritesMade held failures old new bytes (Err (Write out)) = StopsAt held failures old new bytes out
 WritesMade held failures old new bytes (Err OutOfMemory) = new ≡ old

@@ -7,7 +7,7 @@ use std::io;
 
 /// What gives bytes.
 pub trait Source {
-    ghost use Rattle.export.specs.Failures.{Failures, one_more};
+    ghost use Rattle.streams.specs.Failures.{Failures, one_more};
 
     /// The bytes that are left, where its reader tells them.
     ghost left: { Self → Option (List ℕ) };

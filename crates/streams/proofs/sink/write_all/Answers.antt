@@ -2,8 +2,8 @@ use Rattle.std.proofs.Common.{◌-◌, ◌++◌, length, length-drop, take, drop
 use Rattle.std.proofs.lemmas.Grind.{common_steps}
 use Rattle.std.proofs.lemmas.List.{take_all}
 use Rattle.std.proofs.Math.Seq.{take-add}
-use Rattle.export.proofs.SinkLemmas.{Appends-then, no_failure}
-use Rattle.export.proofs.sink.write_all.Goals as goal
+use Rattle.streams.proofs.SinkLemmas.{Appends-then, no_failure}
+use Rattle.streams.proofs.sink.write_all.Goals as goal
 
 pub write-preserved : goal.write-preserved
 write-preserved g c = record {

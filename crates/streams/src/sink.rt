@@ -1,15 +1,15 @@
 //! Where bytes go.
 ghost use Rattle.std.specs.Prelude.{◌≡◌, ◌≤◌, ◌<◌, ℕ, List, Option, IfOk, false, length, if◌then◌else◌};
 ghost use Rattle.std.specs.Io.KnownBytes.{WriteAppends};
-ghost use Rattle.export.specs.Sink.{Writes};
+ghost use Rattle.streams.specs.Sink.{Writes};
 
-use crate::fault::{ExportFault, Failed};
+use crate::fault::{Failed, WriteFault};
 use std::io;
 
 /// What takes bytes.
 pub trait Sink {
-    ghost use Rattle.export.specs.Failures.{Failures, one_more};
-    ghost use Rattle.export.specs.Sink.{is_failure};
+    ghost use Rattle.streams.specs.Failures.{Failures, one_more};
+    ghost use Rattle.streams.specs.Sink.{is_failure};
 
     /// The bytes that it holds, where its writer tells them.
     ghost held: { Self → Option (List ℕ) };
@@ -72,15 +72,15 @@ impl<W: io::Write + Drop> Sink for ToWrite<W> {
 }
 
 /// Writes all of the bytes, or says how many were written. A call that failed is not tried again.
-pub fn write_all<S: Sink>(bytes: &[u8], sink: &mut S) -> Result<(), ExportFault>
+pub fn write_all<S: Sink>(bytes: &[u8], sink: &mut S) -> Result<(), WriteFault>
     ensures { Writes S.held S.failures sink.old sink.new bytes.now result }
 {
     let mut out = 0;
     'write: while out < bytes.len() {
         match sink.write(&bytes[out..]) {
-            Ok(0) => return Err(ExportFault::Write { out: out as u64 }),
+            Ok(0) => return Err(WriteFault::Write { out: out as u64 }),
             Ok(n) => out += n,
-            Err(_) => return Err(ExportFault::Write { out: out as u64 }),
+            Err(_) => return Err(WriteFault::Write { out: out as u64 }),
         }
     }
     Ok(())
