@@ -5,6 +5,7 @@
 use crate::answers::Answers;
 use crate::desk::Made;
 use crate::question::Question;
+use call_record::Record;
 use lifecycle::{Command, Runtime};
 use processes::TaskTable;
 
@@ -65,6 +66,21 @@ fn create<'a>(
     }
 }
 
+// The command by which a task presents a record, with a program attached unless that is empty.
+fn call_of<'a, 'c, 'r: 'c>(
+    id: &'r str,
+    task: u64,
+    record: Record,
+    program: &'c [u8],
+) -> Command<'a, 'c> {
+    let attached = if program.is_empty() {
+        None
+    } else {
+        Some(program)
+    };
+    Command::Call(id, task, record, attached)
+}
+
 // Makes a call.
 fn call(
     runtime: &mut Runtime<'_, TaskTable>,
@@ -75,12 +91,7 @@ fn call(
     let task = question.number();
     let record = question.record();
     let program = out.bytes(question.word());
-    let attached = if program.is_empty() {
-        None
-    } else {
-        Some(program.as_slice())
-    };
-    carry_out(runtime, out, Command::Call(id, task, record, attached));
+    carry_out(runtime, out, call_of(id, task, record, program.as_slice()));
 }
 
 fn tell_id(runtime: &Runtime<'_, TaskTable>, out: &mut Answers, place: usize) {
