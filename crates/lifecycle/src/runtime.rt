@@ -69,7 +69,7 @@ impl<'a, K: Kernel> Runtime<'a, K> {
     }
 
     /// Makes a container with this filter.
-    pub(crate) fn create(&mut self, id: &str, checked: Checked<'a>) -> Result<Reply, AllocError>
+    pub fn create(&mut self, id: &str, checked: Checked<'a>) -> Result<Reply, AllocError>
         ensures step { IfOk result (λ r. (r, world_of self.new) ≡ step by_program (Create id.now checked.entry) (world_of self.old)) }
         ensures err { OnErr result (world_of self.new ≡ world_of self.old) }
         ensures growth { OnErr result (MayGrow (Create id.now checked.entry) (world_of self.old)) }
@@ -86,7 +86,7 @@ impl<'a, K: Kernel> Runtime<'a, K> {
     }
 
     /// Makes the container's task 1, and lets it present the call with which it begins.
-    pub(crate) fn start(&mut self, id: &str) -> Result<Reply, AllocError>
+    pub fn start(&mut self, id: &str) -> Result<Reply, AllocError>
         ensures step { IfOk result (λ r. (r, world_of self.new) ≡ step by_program (Start id.now) (world_of self.old)) }
         ensures err { OnErr result (world_of self.new ≡ world_of self.old) }
         ensures growth { OnErr result (MayGrow (Start id.now) (world_of self.old)) }
@@ -106,7 +106,7 @@ impl<'a, K: Kernel> Runtime<'a, K> {
     }
 
     /// Sends the container's first group a signal.
-    pub(crate) fn kill(&mut self, id: &str, sig: u64) -> Reply
+    pub fn kill(&mut self, id: &str, sig: u64) -> Reply
         ensures { (result, world_of self.new) ≡ step by_program (Kill id.now sig) (world_of self.old) }
     {
         let Some(Found { name, status, .. }) = self.find(id) else {
@@ -134,7 +134,7 @@ impl<'a, K: Kernel> Runtime<'a, K> {
     }
 
     /// Forgets a container that has stopped.
-    pub(crate) fn delete(&mut self, id: &str) -> Reply
+    pub fn delete(&mut self, id: &str) -> Reply
         ensures { (result, world_of self.new) ≡ step by_program (Delete id.now) (world_of self.old) }
     {
         let Some(Found { name, status, .. }) = self.find(id) else {
@@ -152,7 +152,7 @@ impl<'a, K: Kernel> Runtime<'a, K> {
     }
 
     /// The status of a container.
-    pub(crate) fn state(&self, id: &str) -> Reply
+    pub fn state(&self, id: &str) -> Reply
         ensures { (result, world_of self.now) ≡ step by_program (State id.now) (world_of self.now) }
     {
         match self.find(id) {
@@ -162,7 +162,7 @@ impl<'a, K: Kernel> Runtime<'a, K> {
     }
 
     /// A task of the container presents a record, perhaps with a program attached.
-    pub(crate) fn call(
+    pub fn call(
         &mut self,
         id: &str,
         task: u64,
