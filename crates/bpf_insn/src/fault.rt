@@ -17,8 +17,8 @@ impl ViewError {
     ghost use Rattle.std.specs.Prelude.{◌≡◌};
     ghost use Rattle.bpf_insn.specs.Fault.{label_of};
 
-    // The number and the name by which it is told.
-    fn label(self) -> (u32, &'static str)
+    /// The number and the name by which it is told.
+    pub fn label(self) -> (u32, &'static str)
         ensures number { result.0 ≡ (label_of self).0 }
         ensures name { result.1.now ≡ (label_of self).1 }
     {
@@ -27,20 +27,6 @@ impl ViewError {
             ViewError::Empty => (2, "Empty"),
             ViewError::TooLong => (3, "TooLong"),
         }
-    }
-
-    /// The number by which the fault is told, from 1.
-    pub fn number(self) -> u32
-        ensures { result ≡ (label_of self).0 }
-    {
-        self.label().0
-    }
-
-    /// The name of the fault.
-    pub fn name(self) -> &'static str
-        ensures { result.now ≡ (label_of self).1 }
-    {
-        self.label().1
     }
 }
 

@@ -3,3 +3,4 @@ pub mod ArchLaws
 pub mod PlaceLaws
 pub mod HalvingLaws
 pub mod NumberLaws
+mod WholeLaws

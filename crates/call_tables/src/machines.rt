@@ -1,6 +1,6 @@
 //! Machines as types, each with the table of its calls.
 ghost use Rattle.std.specs.Prelude.{◌≡◌, ℕ, option_copied, IsTrue, refl};
-ghost use Rattle.call_tables.specs.Table.{Table, number_in, name_in, is_one_to_one, IsInverse};
+ghost use Rattle.call_tables.specs.Table.{Table, entries, number_in, name_in, is_one_to_one, IsInverse};
 ghost use Rattle.call_tables.specs.Machines as spec;
 ghost use Rattle.call_tables.specs.inner.WholeTables.{linux_x86_64-one_to_one, linux_aarch64-one_to_one};
 
@@ -41,6 +41,36 @@ pub fn machine_look_ups_are_inverse<M: Machine>()
     ensures { IsInverse M.table }
 {}
 
+// Each of the next four is the one place where a table is spelled out as code.
+
+#[tactic(auto, unfolding(crate::specs::Machines::x86_64_table))]
+fn x86_64_calls() -> &'static [(&'static str, u32)]
+    ensures { entries result.now ≡ spec.x86_64_table }
+{
+    X86_64_CALLS
+}
+
+#[tactic(auto, unfolding(crate::specs::Machines::aarch64_table))]
+fn aarch64_calls() -> &'static [(&'static str, u32)]
+    ensures { entries result.now ≡ spec.aarch64_table }
+{
+    AARCH64_CALLS
+}
+
+#[tactic(auto, unfolding(crate::specs::Machines::linux_x86_64_table))]
+fn linux_x86_64_calls() -> &'static [(&'static str, u32)]
+    ensures { entries result.now ≡ spec.linux_x86_64_table }
+{
+    LINUX_X86_64_CALLS
+}
+
+#[tactic(auto, unfolding(crate::specs::Machines::linux_aarch64_table))]
+fn linux_aarch64_calls() -> &'static [(&'static str, u32)]
+    ensures { entries result.now ≡ spec.linux_aarch64_table }
+{
+    LINUX_AARCH64_CALLS
+}
+
 const X86_64_TOKEN: u32 = 0xc000_003e;
 
 const AARCH64_TOKEN: u32 = 0xc000_00b7;
@@ -76,14 +106,12 @@ impl Machine for X86_64 {
 
     const SCMP: &'static str = X86_64_SCMP;
 
-    #[tactic(auto, unfolding(crate::specs::Machines::x86_64_table))]
     fn number(name: &str) -> Option<u32> {
-        find_number(X86_64_CALLS, name)
+        find_number(x86_64_calls(), name)
     }
 
-    #[tactic(auto, unfolding(crate::specs::Machines::x86_64_table))]
     fn name(number: u32) -> Option<&'static str> {
-        find_name(X86_64_CALLS, number)
+        find_name(x86_64_calls(), number)
     }
 }
 
@@ -98,14 +126,12 @@ impl Machine for Aarch64 {
 
     const SCMP: &'static str = AARCH64_SCMP;
 
-    #[tactic(auto, unfolding(crate::specs::Machines::aarch64_table))]
     fn number(name: &str) -> Option<u32> {
-        find_number(AARCH64_CALLS, name)
+        find_number(aarch64_calls(), name)
     }
 
-    #[tactic(auto, unfolding(crate::specs::Machines::aarch64_table))]
     fn name(number: u32) -> Option<&'static str> {
-        find_name(AARCH64_CALLS, number)
+        find_name(aarch64_calls(), number)
     }
 }
 
@@ -120,14 +146,14 @@ impl Machine for LinuxX86_64 {
 
     const SCMP: &'static str = X86_64_SCMP;
 
-    #[tactic(auto, unfolding(crate::specs::Machines::linux_x86_64_table))]
+    #[tactic(auto, using(crate::proofs::WholeLaws::x86_64_in_order))]
     fn number(name: &str) -> Option<u32> {
-        number_of(LINUX_X86_64_CALLS, name)
+        number_of(linux_x86_64_calls(), name)
     }
 
-    #[tactic(auto, unfolding(crate::specs::Machines::linux_x86_64_table))]
+    #[tactic(auto, using(crate::proofs::WholeLaws::x86_64_in_place))]
     fn name(number: u32) -> Option<&'static str> {
-        name_of(LINUX_X86_64_CALLS, LINUX_X86_64_PLACES, number)
+        name_of(linux_x86_64_calls(), LINUX_X86_64_PLACES, number)
     }
 }
 
@@ -142,13 +168,13 @@ impl Machine for LinuxAarch64 {
 
     const SCMP: &'static str = AARCH64_SCMP;
 
-    #[tactic(auto, unfolding(crate::specs::Machines::linux_aarch64_table))]
+    #[tactic(auto, using(crate::proofs::WholeLaws::aarch64_in_order))]
     fn number(name: &str) -> Option<u32> {
-        number_of(LINUX_AARCH64_CALLS, name)
+        number_of(linux_aarch64_calls(), name)
     }
 
-    #[tactic(auto, unfolding(crate::specs::Machines::linux_aarch64_table))]
+    #[tactic(auto, using(crate::proofs::WholeLaws::aarch64_in_place))]
     fn name(number: u32) -> Option<&'static str> {
-        name_of(LINUX_AARCH64_CALLS, LINUX_AARCH64_PLACES, number)
+        name_of(linux_aarch64_calls(), LINUX_AARCH64_PLACES, number)
     }
 }

@@ -9,10 +9,9 @@ ghost use Rattle.cert_form.specs.Views.{says};
 ghost use Rattle.cert_check.specs.Agree.{Agrees, AllAreYes, ForeignNumbersAgree, IsAmong, IsLeft, IsNoRule, IsYesRule, ListedAgrees, MachineAgrees, OneIsNo, RulesAgree};
 ghost use Rattle.cert_check.specs.inner.Judged.{AreKnownNumbers, Bears, IsAnswered, IsJudged, IsKnownNumber};
 
+use crate::claims::{Mets, Outs};
 use crate::conditions::{judge_conditions, judge_left};
 use crate::judged::{Answered, Bearing, Judged, Number};
-use crate::mets::Mets;
-use crate::outs::Outs;
 use call_record::Word;
 use call_tables::{Arch, Numbers};
 use cert_state::{Facts, Lit, State};

@@ -5,8 +5,8 @@ ghost use Rattle.cert_form.specs.Views.{says};
 ghost use Rattle.cert_check.specs.Agree.{AllAreYes, AtBothEnds, HasBits, IsNo, IsYes, LacksBits, OneIsNo, SomeIsNo};
 ghost use Rattle.cert_check.specs.inner.Judged.{AreEnds, AreYes, IsJudged, IsNoNorMet, IsOrder, IsYesOrMet};
 
+use crate::claims::Mets;
 use crate::judged::Judged;
-use crate::mets::Mets;
 use call_record::halves;
 use cert_state::{Facts, Lit, State};
 use profile::{Cond, Op};

@@ -10,9 +10,8 @@ ghost use Rattle.cert_check.specs.inner.Among.{AreAmong};
 ghost use Rattle.cert_check.specs.inner.Broken.{CarriesTo};
 ghost use Rattle.cert_check.specs.inner.Ways.{edge_list, edge_of};
 
+use crate::claims::{mets_follow, outs_follow};
 use crate::edges::{Way, Ways};
-use crate::met::mets_follow;
-use crate::refuted::outs_follow;
 use cert_form::{CertView, Kind, NodeView};
 use cert_state::{AVal, Facts, Lit, State, With, dead};
 use profile::Profile;

@@ -33,8 +33,8 @@ impl CheckError {
     ghost use Rattle.std.specs.Prelude.{◌≡◌};
     ghost use Rattle.cert_check.specs.Fault.{label_of};
 
-    // The number and the name by which it is told.
-    fn label(self) -> (u32, &'static str)
+    /// The number and the name by which it is told.
+    pub fn label(self) -> (u32, &'static str)
         ensures number { result.0 ≡ (label_of self).0 }
         ensures name { result.1.now ≡ (label_of self).1 }
     {
@@ -49,20 +49,6 @@ impl CheckError {
             CheckError::Split(_) => (8, "Split"),
             CheckError::OutOfMemory => (9, "OutOfMemory"),
         }
-    }
-
-    /// The number by which the error is told.
-    pub fn number(self) -> u32
-        ensures { result ≡ (label_of self).0 }
-    {
-        self.label().0
-    }
-
-    /// The name of the error.
-    pub fn name(self) -> &'static str
-        ensures { result.now ≡ (label_of self).1 }
-    {
-        self.label().1
     }
 }
 

@@ -3,22 +3,20 @@
 
 mod agree;
 mod checked;
+mod checking;
+mod claims;
 mod conditions;
 mod edges;
 mod entailed;
 mod fault;
 mod judged;
 mod law;
-mod met;
-mod mets;
 mod nodes;
-mod outs;
-mod refuted;
 mod returned;
 mod root;
 mod split;
 
 pub use checked::Checked;
+pub use checking::check;
 pub use fault::CheckError;
 pub use law::valid_is_right;
-pub use nodes::check;

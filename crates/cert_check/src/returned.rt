@@ -8,8 +8,7 @@ ghost use Rattle.cert_check.specs.Rules.{word_by};
 ghost use Rattle.cert_check.specs.inner.Broken.{ReturnsAt};
 
 use crate::agree::agrees;
-use crate::mets::{Mets, has_no_met, mark_mets};
-use crate::outs::{Outs, has_none, mark_outs};
+use crate::claims::{Mets, Outs, has_no_met, has_none, mark_mets, mark_outs};
 use bpf_insn::{Insn, Operation};
 use call_record::Word;
 use cert_form::{Kind, NodeView};

@@ -3,8 +3,7 @@ ghost use Rattle.std.specs.Prelude.{◌↔◌, ◌<◌, IsTrue, length};
 ghost use Rattle.cert_form.specs.Views.{nodes_of};
 ghost use Rattle.cert_check.specs.Rules.{RootRule};
 
-use crate::mets::has_no_met;
-use crate::outs::has_none;
+use crate::claims::{has_no_met, has_none};
 use cert_form::CertView;
 use cert_state::{AVal, State};
 

@@ -28,8 +28,8 @@ impl FormError {
     ghost use Rattle.std.specs.Prelude.{◌≡◌};
     ghost use Rattle.cert_form.specs.Fault.{label_of};
 
-    // The number and the name by which it is told.
-    fn label(self) -> (u32, &'static str)
+    /// The number and the name by which it is told.
+    pub fn label(self) -> (u32, &'static str)
         ensures number { result.0 ≡ (label_of self).0 }
         ensures name { result.1.now ≡ (label_of self).1 }
     {
@@ -42,20 +42,6 @@ impl FormError {
             FormError::Trailing => (6, "Trailing"),
             FormError::OutOfMemory => (9, "OutOfMemory"),
         }
-    }
-
-    /// The number by which the fault is told.
-    pub fn number(self) -> u32
-        ensures { result ≡ (label_of self).0 }
-    {
-        self.label().0
-    }
-
-    /// The name of the fault.
-    pub fn name(self) -> &'static str
-        ensures { result.now ≡ (label_of self).1 }
-    {
-        self.label().1
     }
 }
 

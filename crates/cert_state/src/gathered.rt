@@ -5,7 +5,7 @@ ghost use Rattle.cert_state.specs.declared.gathered.WordFacts.{WordFacts as TheF
 ghost use Rattle.cert_state.specs.Literals.{index_of};
 ghost use Rattle.cert_state.specs.Points.{HasNoPoint, IsRange, IsWithin, NoneBetween};
 ghost use Rattle.cert_state.specs.Entailment.{Differ, Entails};
-ghost use Rattle.cert_state.specs.inner.Gathered.{AreFactsOf, Follows, IsExact, IsOther};
+ghost use Rattle.cert_state.specs.inner.Gathered.{AreFactsOf, Follows, Holds, IsExact, IsOther};
 
 use crate::entailment::{is_excluded, none_between, states};
 use crate::literal::Lit;
@@ -41,6 +41,17 @@ pub(crate) const NOTHING: WordFacts = WordFacts {
     exact: true,
 };
 
+// What is asked of each literal of a state, for a word.
+#[derive(Clone, Copy)]
+enum Asked {
+    /// If it is a `Bits` of the word, that it follows from a mask and a datum.
+    Whole(u32, u32),
+    /// That it is no `NotBits` of the word.
+    Free,
+    /// If it is a `NotBits` of the word, that its datum has no bit outside the mask.
+    Exact,
+}
+
 // Whether a literal, if it is a `Bits` of the word, follows from the union of masks and that of data.
 fn follows(literal: Lit, word: u8, mask: u32, datum: u32) -> bool
     ensures { IsTrue result ↔ Follows word mask datum literal }
@@ -57,20 +68,6 @@ fn follows(literal: Lit, word: u8, mask: u32, datum: u32) -> bool
     }
 }
 
-// Whether each literal, if it is a `Bits` of the word, follows from the union of masks and that of data.
-fn all_follow<S: State>(state: &S, word: u8, mask: u32, datum: u32) -> bool
-    ensures { IsTrue result ↔ All (Follows word mask datum) (S.known state.now) }
-{
-    let mut at = state.start();
-    while let Some((literal, next)) = state.next(at) {
-        if !follows(literal, word, mask, datum) {
-            return false;
-        }
-        at = next;
-    }
-    true
-}
-
 // Whether a literal is no `NotBits` of the word.
 fn is_other(literal: Lit, word: u8) -> bool
     ensures { IsTrue result ↔ IsOther word literal }
@@ -80,20 +77,6 @@ fn is_other(literal: Lit, word: u8) -> bool
         Lit::In(_, _, _) => true,
         Lit::Bits(_, _, _) => true,
     }
-}
-
-// Whether no literal is a `NotBits` of the word.
-fn all_other<S: State>(state: &S, word: u8) -> bool
-    ensures { IsTrue result ↔ All (IsOther word) (S.known state.now) }
-{
-    let mut at = state.start();
-    while let Some((literal, next)) = state.next(at) {
-        if !is_other(literal, word) {
-            return false;
-        }
-        at = next;
-    }
-    true
 }
 
 // Whether the datum of a literal, if it is a `NotBits` of the word, has no bit outside the mask.
@@ -112,13 +95,24 @@ fn is_exact(literal: Lit, word: u8) -> bool
     }
 }
 
-// Whether each datum of a `NotBits` of the word has no bit outside its mask.
-fn all_exact<S: State>(state: &S, word: u8) -> bool
-    ensures { IsTrue result ↔ All (IsExact word) (S.known state.now) }
+// Whether what is asked holds of a literal.
+fn holds(asked: Asked, word: u8, literal: Lit) -> bool
+    ensures { IsTrue result ↔ Holds asked word literal }
+{
+    match asked {
+        Asked::Whole(mask, datum) => follows(literal, word, mask, datum),
+        Asked::Free => is_other(literal, word),
+        Asked::Exact => is_exact(literal, word),
+    }
+}
+
+// Whether what is asked holds of each literal.
+fn all_hold<S: State>(state: &S, word: u8, asked: Asked) -> bool
+    ensures { IsTrue result ↔ All (Holds asked word) (S.known state.now) }
 {
     let mut at = state.start();
     while let Some((literal, next)) = state.next(at) {
-        if !is_exact(literal, word) {
+        if !holds(asked, word, literal) {
             return false;
         }
         at = next;
@@ -165,9 +159,9 @@ pub(crate) fn facts_of<S: State>(state: &S, word: u8) -> WordFacts
         high,
         mask: summary.mask,
         datum: summary.datum,
-        whole: all_follow(state, word, summary.mask, summary.datum),
-        free: all_other(state, word),
-        exact: all_exact(state, word),
+        whole: all_hold(state, word, Asked::Whole(summary.mask, summary.datum)),
+        free: all_hold(state, word, Asked::Free),
+        exact: all_hold(state, word, Asked::Exact),
     }
 }
 

@@ -98,7 +98,7 @@ fn put_place(
     if let Some((first, second)) = overlap_in(error) {
         return put_overlap(text, first, second);
     }
-    let number = error.number();
+    let (number, _) = error.label();
     let Some(found) = find(Wanted { number, family }, value) else {
         return text.push_str("at linux.seccomp.syscalls: too many rules or entries\n");
     };

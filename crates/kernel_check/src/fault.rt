@@ -24,10 +24,10 @@ pub enum Cause {
 
 impl Cause {
     ghost use Rattle.std.specs.Prelude.{◌≡◌};
-    ghost use Rattle.kernel_check.specs.Fault.{label_of, number_of};
+    ghost use Rattle.kernel_check.specs.Fault.{label_of};
 
-    // The number and the name by which it is told.
-    fn label(self) -> (u32, &'static str)
+    /// The number and the name by which it is told.
+    pub fn label(self) -> (u32, &'static str)
         ensures number { result.0 ≡ (label_of self).0 }
         ensures name { result.1.now ≡ (label_of self).1 }
     {
@@ -39,20 +39,6 @@ impl Cause {
             Cause::End => (5, "End"),
             Cause::Scratch => (6, "Scratch"),
         }
-    }
-
-    /// The number by which the cause is told, from 1.
-    pub fn number(self) -> u32
-        ensures { result ≡ number_of self }
-    {
-        self.label().0
-    }
-
-    /// The name of the cause.
-    pub fn name(self) -> &'static str
-        ensures { result.now ≡ (label_of self).1 }
-    {
-        self.label().1
     }
 }
 

@@ -45,11 +45,13 @@ fn line(answer: &Answer) -> Line
         Answer::NoRecord => put(&mut line, b"refused record"),
         Answer::NoProgram(e) => {
             put(&mut line, b"refused view ");
-            put_label(&mut line, e.number(), e.name());
+            let (number, name) = e.label();
+            put_label(&mut line, number, name);
         }
         Answer::Refusal(e) => {
             put(&mut line, b"refused kernel ");
-            put_label(&mut line, e.cause.number(), e.cause.name());
+            let (number, name) = e.cause.label();
+            put_label(&mut line, number, name);
             put(&mut line, b" pc ");
             put_number(&mut line, e.pc);
         }

@@ -3,6 +3,8 @@ use Rattle.std.specs.Prelude.{◌≡◌, ◌≢◌, ℕ, ◌<◌, ◌≤◌, ⊤
 use Rattle.std.proofs.Props.{props}
 use Rattle.cert_state.specs.declared.literal.Lit.{Lit}
 use Rattle.cert_state.specs.declared.literal.Lit.TheVariants.{In, Bits, NotBits}
+use Rattle.cert_state.specs.declared.gathered.Asked.{Asked}
+use Rattle.cert_state.specs.declared.gathered.Asked.TheVariants.{Whole, Free, Exact}
 use Rattle.cert_state.specs.declared.gathered.WordFacts.{WordFacts}
 use Rattle.cert_state.specs.Literals.{Meets}
 use Rattle.cert_state.specs.Points.{AreKnown, HasNoPoint, IsRange, IsWithin, datum_of, mask_of}
@@ -24,6 +26,12 @@ abbrev pub IsExact : ℕ → Lit → Type 0
 IsExact w (NotBits v m d) = v ≡ w → bit_and d m ≡ d
 IsExact w (In v lo hi) = ⊤
 IsExact w (Bits v m d) = ⊤
+
+-- what is asked of each literal, for w
+abbrev pub Holds : Asked → ℕ → Lit → Type 0
+Holds (Whole mask datum) w = Follows w mask datum
+Holds Free w = IsOther w
+Holds Exact w = IsExact w
 
 -- what was gathered of w is what the literals say of it
 pub record AreFactsOf (lits : List Lit) (w : ℕ) (facts : WordFacts) : Type 0 where

@@ -1,6 +1,0 @@
-use Rattle.std.proofs.Common.{false}
-use Rattle.std.proofs.lemmas.List.{get_or-replicate}
-use Rattle.cert_check.proofs.outs.Outs.none.Goals as goal
-
-pub invariant_of-result : goal.invariant_of-result
-invariant_of-result c = record { whole = λ k d lt. rw c.requires (get_or-replicate 8192 k false d lt) }

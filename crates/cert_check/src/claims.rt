@@ -1,0 +1,6 @@
+//! What a node claims of rules: which are out, and which of their conditions are met.
+mod mets;
+mod outs;
+
+pub(crate) use mets::{Mets, has_no_met, mark_mets, mets_follow};
+pub(crate) use outs::{Outs, has_none, mark_outs, outs_follow};

@@ -1,0 +1,194 @@
+//! The conditions that a node says to be met, by the places of their rules in the profile's order and their own, and
+//! whether they are met on the way to it.
+ghost use Rattle.std.specs.Prelude.{◌≡◌, ◌↔◌, ◌+◌, ◌*◌, ◌<◌, ◌⊎◌, [], ℕ, Bool as TheBool, Contains, IsTrue, false, replicate, slice_index_or, true, ◌++◌, All, option_to_list};
+ghost use Rattle.cert_form.specs.Views.{says};
+ghost use Rattle.cert_check.specs.inner.Marked.{AreMetMarked};
+ghost use Rattle.cert_check.specs.Agree.{IsYes};
+ghost use Rattle.cert_check.specs.Rules.{IsMetBy, known_on};
+ghost use Rattle.cert_check.specs.inner.Ways.{edge_of};
+
+use crate::conditions::judge_condition;
+use crate::edges::Way;
+use crate::judged::Judged;
+use cert_form::NodeView;
+use cert_state::{Facts, State, With};
+use profile::{Cond, Profile};
+
+/// The conditions that a node says to be met, each marked at its place: a profile has at most 8,192 rules of at most six
+/// conditions.
+#[derive(Clone, Copy)]
+pub(crate) struct Mets<'t, 'a> {
+    pub(crate) node: NodeView<'a>,
+    marked: &'t [bool; 49152],
+    ghost whole: { AreMetMarked (says node).met marked.now },
+}
+
+// No condition is marked.
+const NO_CONDITION: &[bool; 49152] = &[false; 49152];
+
+// Marks a condition, if the table has it.
+fn mark(marked: &mut [bool; 49152], place: (u32, u32))
+    ensures { (rule own : ℕ) (d : TheBool) → rule < 8192 → own < 6 → (slice_index_or marked.new (6 * rule + own) d ≡ true)
+        ↔ ((slice_index_or marked.old (6 * rule + own) d ≡ true) ⊎ ((rule ≡ place.0) × (own ≡ place.1))) }
+{
+    let rule = place.0 as usize;
+    let own = place.1 as usize;
+    if rule >= 8192 {
+        return;
+    }
+    if own >= 6 {
+        return;
+    }
+    marked[6 * rule + own] = true;
+}
+
+/// Marks the conditions that a node says to be met, in a table where none is.
+pub(crate) fn mark_mets(node: &NodeView<'_>, marked: &mut [bool; 49152])
+    requires { marked.old ≡ replicate 49152 false }
+    ensures { AreMetMarked (says node.now).met marked.new }
+{
+    let mut at = node.first_met();
+    while let Some((place, next)) = node.next_met(at) {
+        mark(marked, place);
+        at = next;
+    }
+}
+
+impl<'t, 'a> Mets<'t, 'a> {
+    ghost use Rattle.std.specs.Prelude.{◌≡◌, ◌↔◌, ◌<◌, [], ℕ, Contains, IsTrue};
+    ghost use Rattle.cert_form.specs.Views.{says};
+    ghost use Rattle.cert_check.specs.inner.Marked.{AreMetMarked};
+
+    /// Of a node that says no condition to be met.
+    pub(crate) fn none(node: &NodeView<'a>) -> Mets<'t, 'a>
+        requires { (says node.now).met ≡ [] }
+        ensures { result.node ≡ node.now }
+    {
+        Mets {
+            node: *node,
+            marked: NO_CONDITION,
+        }
+    }
+
+    /// The conditions that a node says to be met, by its table.
+    pub(crate) fn of(node: &NodeView<'a>, marked: &'t [bool; 49152]) -> Mets<'t, 'a>
+        requires { AreMetMarked (says node.now).met marked.now }
+        ensures { result.node ≡ node.now }
+    {
+        Mets {
+            node: *node,
+            marked,
+        }
+    }
+
+    /// Whether a condition of the rule at a place is said to be met.
+    pub(crate) fn has(&self, rule: usize, own: usize) -> bool
+        requires rule { rule < 8192 }
+        requires own { own < 6 }
+        ensures { IsTrue result ↔ Contains (says self.now.node).met (rule, own) }
+    {
+        self.marked[6 * rule + own]
+    }
+
+    /// Whether some condition of the rule at a place is.
+    pub(crate) fn has_some(&self, rule: usize) -> bool
+        requires { rule < 8192 }
+        ensures { IsTrue result ↔ ((own : ℕ) × (own < 6) × Contains (says self.now.node).met (rule, own)) }
+    {
+        for own in 0..6_usize {
+            if self.has(rule, own) {
+                return true;
+            }
+        }
+        false
+    }
+}
+
+/// Whether a node says no condition to be met.
+pub(crate) fn has_no_met(node: &NodeView<'_>) -> bool
+    ensures { IsTrue result ↔ (says node.now).met ≡ [] }
+{
+    node.next_met(node.first_met()).is_none()
+}
+
+// Whether what is known makes a condition yes.
+fn is_yes<S: State>(facts: &Facts<'_, S>, cond: &Cond) -> bool
+    ensures { IsTrue result ↔ IsYes (S.known facts.now.state.now) cond.now }
+{
+    match judge_condition(facts, cond) {
+        Judged::Yes => true,
+        Judged::No => false,
+        Judged::Open => false,
+    }
+}
+
+// Whether a condition, by the places of its rule and its own, is met: it is one of the profile's, and was met before or
+// is yes by what is known.
+fn is_met<S: State>(
+    profile: &Profile,
+    facts: &Facts<'_, S>,
+    here: &Mets<'_, '_>,
+    place: (u32, u32),
+) -> bool
+    ensures { IsTrue result ↔ IsMetBy profile.now (says here.now.node).met (S.known facts.now.state.now) place }
+{
+    let rules = profile.rules();
+    let at = place.0 as usize;
+    if at >= rules.len() {
+        return false;
+    }
+    let conds = rules[at].conds.as_slice();
+    let own = place.1 as usize;
+    if own >= conds.len() {
+        return false;
+    }
+    if here.has(at, own) {
+        return true;
+    }
+    is_yes(facts, &conds[own])
+}
+
+// Whether each condition that a node says to be met was so before or is yes by what is known.
+fn all_are_met<S: State>(
+    profile: &Profile,
+    known: &With<'_, S>,
+    here: &Mets<'_, '_>,
+    there: &NodeView<'_>,
+) -> bool
+    ensures { IsTrue result ↔ All (IsMetBy profile.now (says here.now.node).met
+        (S.known known.now.state.now ++ option_to_list known.now.more)) (says there.now).met }
+{
+    let facts = Facts::of(known);
+    let mut at = there.first_met();
+    while let Some((place, next)) = there.next_met(at) {
+        if !is_met(profile, &facts, here, place) {
+            return false;
+        }
+        at = next;
+    }
+    true
+}
+
+/// Whether each condition that a node says to be met is met on the way to it.
+pub(crate) fn mets_follow(
+    profile: &Profile,
+    node: &NodeView<'_>,
+    way: &Way,
+    there: &NodeView<'_>,
+) -> bool
+    ensures { IsTrue result ↔ All (IsMetBy profile.now (says node.now).met (known_on (says node.now) (edge_of way.now))) (says there.now).met }
+{
+    if has_no_met(there) {
+        return true;
+    }
+    let known = With {
+        state: node,
+        more: way.fact,
+    };
+    if has_no_met(node) {
+        return all_are_met(profile, &known, &Mets::none(node), there);
+    }
+    let mut marked = [false; 49152];
+    mark_mets(node, &mut marked);
+    all_are_met(profile, &known, &Mets::of(node, &marked), there)
+}
