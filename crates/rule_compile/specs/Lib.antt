@@ -5,4 +5,5 @@ pub mod Questions
 pub mod Right
 pub mod Rules
 pub mod Shape
+pub mod Steady
 pub mod inner

@@ -11,4 +11,5 @@ pub mod Ranges
 pub mod Replies
 pub mod Runs
 pub mod Stands
+pub mod Steadily
 pub mod Told

@@ -8,7 +8,9 @@ ghost use Rattle.kernel_check.specs.Accepted.{IsAccepted};
 ghost use Rattle.call_record.specs.Words.{IsRecord};
 ghost use Rattle.rule_compile.specs.inner.Emitted.{IsFine};
 ghost use Rattle.rule_compile.specs.inner.Left.{IsOffset};
+ghost use Rattle.rule_compile.specs.Steady.{Held, IsSteady, Whole};
 ghost use Rattle.rule_compile.specs.inner.Runs.{gives_from, runs};
+ghost use Rattle.rule_compile.specs.inner.Steadily.{IsAlwaysSteady, IsSteadyAt};
 ghost use Rattle.bpf_insn.specs.declared.code.Operation.TheVariants.{Compute, LoadWord};
 ghost use Rattle.bpf_insn.specs.declared.code.Arithmetic.TheVariants.{And};
 ghost use Rattle.bpf_insn.specs.declared.code.Operand.TheVariants.{K};
@@ -183,6 +185,7 @@ impl Assembler {
         requires { IsIn self.old to }
         ensures grows { OnOk result (Grows self.old self.new) }
         ensures runs { OnOk result ((a : ℕ) (r : List ℕ) → gives_from self.new 0 a r ≡ gives_from self.old (position self.old to) a r) }
+        ensures steady { OnOk result ((h : Held) → IsSteady self.old (position self.old to) h → IsSteady self.new 0 h) }
         ensures same { to.to_end ≡ length self.old → OnOk result (self.new ≡ self.old) }
         ensures full { IsErrOf result CompileError.TooLong → to.to_end ≡ length self.old → ⊥ }
     {
@@ -241,6 +244,7 @@ impl Assembler {
         requires { IsTarget self.now to }
         ensures placed { IsTarget self.now result }
         ensures runs { (a : ℕ) (r : List ℕ) → IsRecord r → IsOffset loaded → a ≡ slice_index r (loaded / 4) → runs self.now result a r ≡ runs self.now to a r }
+        ensures steady { IsAlwaysSteady self.now to → IsSteadyAt self.now result Whole }
     {
         match to {
             Target::Place(place) => {

@@ -11,6 +11,8 @@ ghost use Rattle.rule_compile.specs.inner.Calls.{Apart, CallsOf};
 ghost use Rattle.rule_compile.specs.inner.Numbers.{IsListed};
 ghost use Rattle.rule_compile.specs.inner.Runs.{AreIn, AreWritten, gives_from};
 ghost use Rattle.rule_compile.specs.inner.Stands.{AreSound, TellsCalls, TellsThese};
+ghost use Rattle.rule_compile.specs.inner.Steadily.{AreSteady, IsAlwaysSteady, IsSteadyAt};
+ghost use Rattle.rule_compile.specs.Steady.{IsSteady, Nothing, Whole};
 
 use crate::assembler::Assembler;
 use crate::blocks::Blocks;
@@ -35,6 +37,7 @@ use std::alloc::Global;
 pub fn compile(alloc: Global, profile: &Profile) -> Result<Vec<u8>, CompileError>
     ensures program { IfOk result (λ bytes. view_fault bytes.items ≡ None) }
     ensures right { IfOk result (λ bytes. IsRightFilter profile.now (insns_of bytes.items)) }
+    ensures steady { IfOk result (λ bytes. IsSteady (insns_of bytes.items) 0 Nothing) }
     ensures shape { IsPlain profile.now → IfOk result (λ bytes. IsCallFilter profile.now (insns_of bytes.items)) }
     ensures never { IsPlain profile.now → IfErr result (λ error. error ≡ CompileError.OutOfMemory) }
 {
@@ -55,6 +58,7 @@ pub struct Made {
 pub fn make(alloc: Global, profile: &Profile) -> Result<Made, CompileError>
     ensures program { IfOk result (λ made. view_fault made.bytes.items ≡ None) }
     ensures right { IfOk result (λ made. IsRightFilter profile.now (insns_of made.bytes.items)) }
+    ensures steady { IfOk result (λ made. IsSteady (insns_of made.bytes.items) 0 Nothing) }
     ensures shape { IsPlain profile.now → IfOk result (λ made. IsCallFilter profile.now (insns_of made.bytes.items)) }
     ensures never { IsPlain profile.now → IfErr result (λ error. error ≡ CompileError.OutOfMemory) }
 {
@@ -78,6 +82,7 @@ fn filter(
     requires sound { AreSound blocks.old }
     ensures gives { OnOk result ((r : List ℕ) → IsRecord r → gives_from code.new 0 0 r ≡ Some (said profile.now r)) }
     ensures some { OnOk result (1 ≤ length code.new) }
+    ensures steady { OnOk result (IsSteady code.new 0 Nothing) }
     ensures shape { IsPlain profile.now → OnOk result (IsCallFilter profile.now code.new) }
     ensures never { IsPlain profile.now → IsErrOf result CompileError.TooLong → ⊥ }
 {
@@ -112,6 +117,7 @@ fn tell_machines_apart(
     ensures placed { OnOk result (AreIn code.new written.new.items) }
     ensures written { AreWritten blocks.old.blocks.items code.old written.old.items → OnOk result (AreWritten blocks.new.blocks.items code.new written.new.items) }
     ensures tells { All (IsListed profile.now) machines.now → AreWritten blocks.old.blocks.items code.old written.old.items → IfOk result (TellsThese profile.now machines.now code.new) }
+    ensures steady { AreSteady code.old written.old.items → IfOk result (λ to. IsSteadyAt code.new to Whole) }
     ensures apart { IfOk result (Apart profile.now machines.now (vec_len blocks.old.blocks) code.old code.new) }
     ensures no_block { IsPlain profile.now → OnOk result (blocks.new ≡ blocks.old) }
     ensures full { IsErrOf result CompileError.TooLong → IsPlain profile.now → vec_len blocks.old.blocks ≡ 0 → All (IsListed profile.now) machines.now → 4096 < length code.old + 1546 * length machines.now }
@@ -161,6 +167,8 @@ fn calls_of(
     ensures placed { OnOk result (AreIn code.new written.new.items) }
     ensures written { AreWritten blocks.old.blocks.items code.old written.old.items → OnOk result (AreWritten blocks.new.blocks.items code.new written.new.items) }
     ensures tells { IsListed profile.now machine → AreWritten blocks.old.blocks.items code.old written.old.items → IfOk result (TellsCalls profile.now (token_of machine) code.new) }
+    ensures steady { AreSteady code.old written.old.items → OnOk result (AreSteady code.new written.new.items) }
+    ensures always { AreSteady code.old written.old.items → IfOk result (IsAlwaysSteady code.new) }
     ensures calls { IfOk result (CallsOf profile.now machine (vec_len blocks.old.blocks) code.old code.new) }
     ensures no_block { IsPlain profile.now → OnOk result (blocks.new ≡ blocks.old) }
     ensures full { IsErrOf result CompileError.TooLong → IsPlain profile.now → vec_len blocks.old.blocks ≡ 0 → IsListed profile.now machine → 4096 < length code.old + 1543 }

@@ -13,7 +13,9 @@ use Rattle.rule_compile.specs.declared.label.Exits.{Exits}
 use Rattle.rule_compile.specs.Shape.{answer, weight, depth}
 use Rattle.rule_compile.specs.inner.Code.{Grows, IsIn, position}
 use Rattle.rule_compile.specs.inner.Emitted.{AreFine}
+use Rattle.rule_compile.specs.Steady.{Held, IsSteady, Tells}
 use Rattle.rule_compile.specs.inner.Runs.{gives_from, runs}
+use Rattle.rule_compile.specs.inner.Steadily.{IsSteadyAt}
 
 -- the answer from a target on
 abbrev pub goes : List Insn → Target → Option ℕ → List ℕ → Option ℕ
@@ -40,6 +42,7 @@ pub record Reaches (old new : List Insn) (to : Target) (place : Label) : Type 0 
   pub answers : (held : Option ℕ) (r : List ℕ) → answer new (position new place) held r ≡ goes old to held r
   pub weighs : weight new (position new place) ≤ cost old to
   pub shallow : depth new (position new place) ≤ deep old to
+  pub steady : (h : Held) → IsSteadyAt old to h → IsSteady new (position new place) h
   pub fine : AreFine old → AreFine new
 
 -- the instruction at the place jumps to another place
@@ -57,5 +60,6 @@ pub record Branches (old new : List Insn) (test : Test) (k : ℕ) (exits : Exits
       → answer new 0 (Some w) r ≡ goes old (if holds test (slice_index r w) k then exits.yes else exits.no) (Some w) r
   pub weighs : weight new 0 ≤ 1 + (cost old exits.yes + cost old exits.no)
   pub shallow : depth new 0 ≤ 1 + max (deep old exits.yes) (deep old exits.no)
+  pub steady : (h : Held) → Tells test h → IsSteadyAt old exits.yes h → IsSteadyAt old exits.no h → IsSteady new 0 h
   pub fine : AreFine old → AreFine new
   pub short : length new ≤ length old + 3
