@@ -117,7 +117,8 @@ fn tell_machines_apart(
     ensures placed { OnOk result (AreIn code.new written.new.items) }
     ensures written { AreWritten blocks.old.blocks.items code.old written.old.items → OnOk result (AreWritten blocks.new.blocks.items code.new written.new.items) }
     ensures tells { All (IsListed profile.now) machines.now → AreWritten blocks.old.blocks.items code.old written.old.items → IfOk result (TellsThese profile.now machines.now code.new) }
-    ensures steady { AreSteady code.old written.old.items → IfOk result (λ to. IsSteadyAt code.new to Whole) }
+    ensures steady { AreSteady code.old written.old.items → OnOk result (AreSteady code.new written.new.items) }
+    ensures tells_steadily { AreSteady code.old written.old.items → IfOk result (λ to. IsSteadyAt code.new to Whole) }
     ensures apart { IfOk result (Apart profile.now machines.now (vec_len blocks.old.blocks) code.old code.new) }
     ensures no_block { IsPlain profile.now → OnOk result (blocks.new ≡ blocks.old) }
     ensures full { IsErrOf result CompileError.TooLong → IsPlain profile.now → vec_len blocks.old.blocks ≡ 0 → All (IsListed profile.now) machines.now → 4096 < length code.old + 1546 * length machines.now }
