@@ -11,6 +11,7 @@ pub mod HalvesLaws
 pub mod HeldLaws
 pub mod LeadsLaws
 pub mod LeftLaws
+pub mod PickLaws
 pub mod MachineLaws
 pub mod RangeLaws
 pub mod RulesLaws
