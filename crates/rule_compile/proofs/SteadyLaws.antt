@@ -45,7 +45,8 @@ pub are_steady_kept : (old new : List Insn) → Grows old new → (written : Lis
 are_steady_kept old new g written placed s k d below = always_kept old new g _ (placed k d below) (s k d below)
 
 -- from a place that the code begins at
-pub steady_at_start : (code : List Insn) (place : Label) → IsStart code place → (h : Held) → IsSteady code 0 h → IsSteadyAt code (Place place) h
+pub steady_at_start : (code : List Insn) (place : Label) → IsStart code place → (h : Held) → IsSteady code 0 h
+    → IsSteadyAt code (Place place) h
 steady_at_start code place start h s =
     let first : 0 ≡ position code place = omega (arith, start.1) in
     subst (λ n. IsSteady code n h) first s
