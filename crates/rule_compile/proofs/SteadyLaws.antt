@@ -56,6 +56,12 @@ steady_at_start code place start h s =
 pub steady_return : (i : Insn) (code : List Insn) → operation_of i.code ≡ Some ReturnK → (h : Held) → IsSteady (i ∷ code) 0 h
 steady_return i code is h = subst (λ o. steady_by o i h (λ skip now. IsSteady code skip now)) (sym is) tt
 
+pub steady_jump_front : (jump : Insn) (code : List Insn) (to : Label) → operation_of jump.code ≡ Some Jump → IsIn code to
+    → jump.k + to.to_end ≡ length code → (h : Held) → IsSteady code (position code to) h → IsSteady (jump ∷ code) 0 h
+steady_jump_front jump code to is at leads h s =
+    let there : position code to ≡ jump.k = omega (arith, leads, at.1) in
+    subst (λ o. steady_by o jump h (λ skip now. IsSteady code skip now)) (sym is) (subst (λ n. IsSteady code n h) there s)
+
 pub steady_load : (k : ℕ) (code : List Insn) (h : Held) → IsSteady code 0 Whole → IsSteady (insn_of LoadWord k ∷ code) 0 h
 steady_load k code h s = subst (λ o. steady_by o (insn_of LoadWord k) h (λ skip now. IsSteady code skip now)) (sym load_code) s
 
