@@ -11,8 +11,9 @@ pub mod HalvesLaws
 pub mod HeldLaws
 pub mod LeadsLaws
 pub mod LeftLaws
-pub mod PickLaws
+pub mod LoadLaws
 pub mod MachineLaws
+pub mod PickLaws
 pub mod RangeLaws
 pub mod RulesLaws
 pub mod RunsLaws
