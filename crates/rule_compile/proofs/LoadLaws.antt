@@ -1,15 +1,17 @@
 -- Code that begins by a load compares steadily, whatever A holds.
-use Rattle.std.proofs.Common.{◌≡◌, ℕ, List, ◌∷◌, arith, subst, sym}
+use Rattle.std.proofs.Common.{◌≡◌, ℕ, List, [], ◌∷◌, arith, subst, sym}
 use Rattle.std.specs.Prelude.{None, Option, Some}
+use Rattle.std.proofs.lemmas.List.Elements.{All-nil}
 use Rattle.bpf_insn.specs.declared.code.Arithmetic.TheVariants.{And}
 use Rattle.bpf_insn.specs.declared.code.Operand.TheVariants.{K}
 use Rattle.bpf_insn.specs.declared.code.Operation.TheVariants.{Compute, LoadWord}
 use Rattle.bpf_insn.specs.declared.instruction.Insn.{Insn}
 use Rattle.rule_compile.specs.declared.label.Label.{Label}
 use Rattle.rule_compile.specs.declared.label.Target.TheVariants.{Place}
+use Rattle.rule_compile.specs.declared.written.Written.{Written}
 use Rattle.rule_compile.specs.Steady.{Held, IsOfWord, IsSteady, Part, Whole}
 use Rattle.rule_compile.specs.inner.Code.{IsStart, insn_of, position}
-use Rattle.rule_compile.specs.inner.Steadily.{IsAlwaysSteady, IsSteadyAt, held_by}
+use Rattle.rule_compile.specs.inner.Steadily.{AreSteady, IsAlwaysSteady, IsSteadyAt, held_by}
 use Rattle.rule_compile.proofs.SteadyLaws.{steady_load, steady_mask}
 
 -- where the code begins
@@ -31,3 +33,7 @@ masked_steady begun masked new mask offset place anded written start s =
 pub held_tells : (loaded : Option ℕ) → IsOfWord (held_by loaded)
 held_tells None = tt
 held_tells (Some offset) = tt
+
+-- no block is written
+pub steady_none : (code : List Insn) (written : List Written) → written ≡ [] → AreSteady code written
+steady_none code written none = subst (AreSteady code) (sym none) (All-nil (λ (w : Written). IsAlwaysSteady code w.target))

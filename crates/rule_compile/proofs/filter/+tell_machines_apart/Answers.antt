@@ -19,6 +19,10 @@ use Rattle.std.specs.List.{All}
 use Rattle.std.proofs.lemmas.List.Elements.{All-head, All-tail}
 use Rattle.rule_compile.specs.inner.Numbers.{IsListed}
 use Rattle.rule_compile.specs.inner.Stands.{TellsThese}
+use Rattle.rule_compile.specs.Steady.{Whole}
+use Rattle.rule_compile.specs.inner.Steadily.{IsSteadyAt}
+use Rattle.rule_compile.proofs.LoadLaws.{start_steady}
+use Rattle.rule_compile.proofs.SteadyLaws.{are_steady_kept, steady_kept}
 use Rattle.rule_compile.proofs.TellsLaws.{tells_branch, tells_skip, written_grows}
 use Rattle.rule_compile.proofs.filter.+tell_machines_apart.Goals as goal
 
@@ -137,3 +141,24 @@ pub returns-in_ok-start-in-Some-clause-written : goal.returns-in_ok-start-in-Som
 returns-in_ok-start-in-Some-clause-written t c wr =
     written_grows c.calls_of.new.blocks.blocks.items c.calls_of.new.code c.branch-code.new.self c.calls_of.new.written.items
     c.in_ok-start-in-Some.ensures.written.grows (c.in_ok-calls_of.ensures.written (c.in_ok-no.ensures.written wr))
+
+pub returns-in_ok-start-in-Some-clause-steady : goal.returns-in_ok-start-in-Some-clause-steady
+returns-in_ok-start-in-Some-clause-steady t c steady =
+    are_steady_kept c.calls_of.new.code c.branch-code.new.self c.in_ok-start-in-Some.ensures.written.grows c.calls_of.new.written.items
+    c.in_ok-calls_of.ensures.placed (c.in_ok-calls_of.ensures.steady (c.in_ok-no.ensures.steady steady))
+
+pub returns-in-None-clause-tells_steadily : goal.returns-in-None-clause-tells_steadily
+returns-in-None-clause-tells_steadily t c steady =
+    steady_kept c.tell_machines_apart.new.code c.calls_of.new.code c.in_ok-calls_of.ensures.calls.grows c.in_ok-no.no
+    c.in_ok-no.ensures.apart.placed Whole (c.in_ok-no.ensures.tells_steadily steady)
+
+pub returns-in_ok-start-in-Some-clause-tells_steadily : goal.returns-in_ok-start-in-Some-clause-tells_steadily
+returns-in_ok-start-in-Some-clause-tells_steadily t c steady =
+    let mid = c.tell_machines_apart.new.code in
+    let top = c.calls_of.new.code in
+    let own = c.in_ok-calls_of.ensures.always (c.in_ok-no.ensures.steady steady) Whole in
+    start_steady c.branch-code.new.self c.in_ok-start-in-Some.start c.in_ok-start-in-Some.ensures.start Whole
+    (c.in_ok-start-in-Some.ensures.written.steady Whole tt
+    (subst (λ to. IsSteadyAt top to Whole) (sym c.in-Some.ensures) own)
+    (steady_kept mid top c.in_ok-calls_of.ensures.calls.grows c.in_ok-no.no c.in_ok-no.ensures.apart.placed Whole
+    (c.in_ok-no.ensures.tells_steadily steady)))

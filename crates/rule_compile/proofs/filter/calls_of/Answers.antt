@@ -9,9 +9,11 @@ use Rattle.rule_compile.specs.Shape.{IsPlain}
 use Rattle.rule_compile.specs.inner.Numbers.{Tiles}
 use Rattle.rule_compile.specs.inner.Ranges.{AreOfWords, Searched}
 use Rattle.rule_compile.specs.inner.Runs.{AreWritten, LeadsByWord}
+use Rattle.rule_compile.specs.inner.Steadily.{AreSteady}
 use Rattle.rule_compile.proofs.CallLaws.{calls_searched, searched_grows, searched_placed}
 use Rattle.rule_compile.proofs.FullLaws.{search_full}
 use Rattle.rule_compile.proofs.GoesLaws.{grows_on}
+use Rattle.rule_compile.proofs.SteadyLaws.{are_steady_kept}
 use Rattle.rule_compile.proofs.TellsLaws.{calls_tell, written_grows, written_more}
 use Rattle.rule_compile.proofs.filter.calls_of.Goals as goal
 
@@ -94,3 +96,18 @@ returns-clause-tells c listed wr =
     (c.in_ok-found.ensures.led blocks
     (subst (AreWritten blocks mid) (sym c.deref-2.ensures.value) (c.in_ok-write_blocks.ensures.written more)) tiles) in
     calls_tell p t blocks new ranges target c.in_ok-ranges.ensures.tiled (c.in_ok-ranges.ensures.decides listed) led
+
+pub returns-clause-steady : goal.returns-clause-steady
+returns-clause-steady c steady =
+    let mid = c.write_blocks.new.code in
+    let new = c.search_word.new.code in
+    let target = c.in_ok-found.found.target in
+    let searched : Searched mid new c.in_ok-ranges.ranges.items 0 target =
+    subst (λ rs. Searched mid new rs 0 target) c.deref.ensures.value c.in_ok-found.ensures.searched in
+    are_steady_kept mid new (searched_grows mid new c.in_ok-ranges.ranges.items 0 target searched) c.write_blocks.new.written.items
+    c.in_ok-write_blocks.ensures.placed (c.in_ok-write_blocks.ensures.steady steady)
+
+pub returns-clause-always : goal.returns-clause-always
+returns-clause-always c steady =
+    c.in_ok-found.ensures.steady
+    (subst (AreSteady c.write_blocks.new.code) (sym c.deref-2.ensures.value) (c.in_ok-write_blocks.ensures.steady steady))

@@ -16,6 +16,11 @@ use Rattle.rule_compile.specs.inner.Runs.{gives_from}
 use Rattle.rule_compile.specs.inner.Stands.{TellsThese}
 use Rattle.rule_compile.proofs.CallLaws.{each_listed, whole_front, whole_full, whole_load, whole_one, whole_return}
 use Rattle.rule_compile.proofs.FullLaws.{all_fit}
+use Rattle.rule_compile.specs.declared.label.Target.TheVariants.{Place}
+use Rattle.rule_compile.specs.Steady.{Held, IsSteady, Nothing, Whole}
+use Rattle.rule_compile.specs.inner.Steadily.{IsSteadyAt}
+use Rattle.rule_compile.proofs.LoadLaws.{steady_none}
+use Rattle.rule_compile.proofs.SteadyLaws.{steady_load}
 use Rattle.rule_compile.proofs.TellsLaws.{on_ok, whole_loaded, whole_returns, written_none}
 use Rattle.rule_compile.proofs.filter.filter.Goals as goal
 
@@ -158,3 +163,21 @@ returns-clause-gives c =
     (λ begins r is_r.
     whole_returns p clear mid new begun c.in-Return.word place (subst (TellsThese p p.machines mid) c.in-Return.is tells)
     c.in_ok-place-in-Return.ensures.reached begins r is_r)
+
+pub returns-in-Place-clause-steady : goal.returns-in-Place-clause-steady
+returns-in-Place-clause-steady c =
+    let mid = c.tell_machines_apart.new.code in
+    let begun = c.begin_at.new.self in
+    let none = steady_none c.args.code.now c.new-written.result.items c.new-written.ensures.items in
+    let at : IsSteadyAt mid (Place c.in-Place.place) Whole =
+    subst (λ to. IsSteadyAt mid to Whole) c.in-Place.is (c.in_ok-place.ensures.tells_steadily none) in
+    subst (λ code. IsSteady code 0 Nothing) (sym c.in_ok-load-in-Place.ensures.written)
+    (steady_load 4 begun Nothing (c.in_ok-begin_at-in-Place.ensures.steady Whole at))
+
+pub returns-clause-steady : goal.returns-clause-steady
+returns-clause-steady c =
+    let new = c.near_return.new.self in
+    let begun = c.begin_at-in-Return.new.self in
+    let place = c.in_ok-place-in-Return.place in
+    on_ok c.begin_at-in-Return.result ((h : Held) → IsSteady new (position new place) h → IsSteady begun 0 h) (IsSteady begun 0 Nothing)
+    c.begin_at-in-Return.ensures.steady (λ begins. begins Nothing (c.in_ok-place-in-Return.ensures.reached.steady Nothing tt))
