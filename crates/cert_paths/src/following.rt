@@ -71,13 +71,8 @@ fn at_return(
         return Err(PathsError::Unsettled(u32::from(from.pc)));
     };
     let (one, other) = (cut.one, cut.other);
-    let stay = |literal| Next {
-        pc: from.pc,
-        a: from.a,
-        learned: Some(literal),
-    };
-    let first = paths.add(from, stay(one))?;
-    let second = paths.add(from, stay(other))?;
+    let first = paths.add(from, from.knowing(one))?;
+    let second = paths.add(from, from.knowing(other))?;
     Ok(Kind::Split(one, other, first, second))
 }
 

@@ -1,4 +1,5 @@
 //! Where a path stands.
+ghost use Rattle.std.specs.Prelude.{◌≡◌, Some};
 
 use cert_state::{AVal, Lit};
 
@@ -19,6 +20,17 @@ impl Place {
         chain: 0,
         depth: 0,
     };
+
+    /// The same place, where a literal is known too.
+    pub(crate) fn knowing(self, literal: Lit) -> Next
+        ensures { result ≡ record { pc = self.pc; a = self.a; learned = Some literal } }
+    {
+        Next {
+            pc: self.pc,
+            a: self.a,
+            learned: Some(literal),
+        }
+    }
 }
 
 /// Where a path goes on: at a position, with this in A, and with what the way there told.
