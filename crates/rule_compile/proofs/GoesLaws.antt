@@ -16,11 +16,13 @@ use Rattle.rule_compile.specs.declared.label.Target.TheVariants.{Place, Return}
 use Rattle.rule_compile.specs.declared.label.Exits.{Exits}
 use Rattle.rule_compile.specs.Moves.{move_at}
 use Rattle.rule_compile.specs.Shape.{answer, answer_by, weight, weight_by, depth, depth_by}
+use Rattle.rule_compile.specs.Steady.{Held, IsSteady}
 use Rattle.rule_compile.specs.inner.Code.{Grows, HasExits, IsIn, IsStart, IsTarget, insn_of, position}
 use Rattle.rule_compile.specs.inner.Emitted.{forks, jumps, returns}
 use Rattle.rule_compile.specs.inner.Goes.{Branches, JumpsTo, Reaches, cost, deep, goes}
 use Rattle.rule_compile.specs.inner.Runs.{gives_from, holding, runs}
 use Rattle.rule_compile.proofs.RunsLaws.{gives_ends, gives_goes, runs_kept}
+use Rattle.rule_compile.proofs.SteadyLaws.{steady_at_return, steady_branch, steady_jump, steady_kept}
 use Rattle.rule_compile.proofs.MachineLaws.{answer_is, answer_more, depth_is, depth_more, weight_is, weight_more}
 
 -- ---- growing
@@ -93,6 +95,7 @@ reach_place code to at near = record {
   answers = λ held r. refl;
   weighs = omega arith;
   shallow = omega arith;
+  steady = λ h s. s;
   fine = λ fine. fine;
 }
 
@@ -120,6 +123,7 @@ reach_jump code to place at placed near j =
           ∙ (same j.jump.k held ∙ ap (λ n. answer code n held r) on));
       weighs = omega (arith, weighs);
       shallow = omega (arith, shallow);
+      steady = λ h s. steady_jump code (position code place) j.jump h j.stands j.is_jump (subst (λ n. IsSteady code n h) (sym on) s);
       fine = λ fine. fine;
     }
 
@@ -148,6 +152,7 @@ reach_new_jump old jump to place at start is_jump leads =
       answers = λ held r. there.answers held r ∙ goes_kept old new g (Place to) at held r;
       weighs = omega (arith, there.weighs, cost_kept old new g (Place to) at);
       shallow = omega (arith, there.shallow, deep_kept old new g (Place to) at);
+      steady = λ h s. there.steady h (steady_kept old new g (Place to) at h s);
       fine = λ fine. (jumps is_jump (omega (arith, leads, at.0)), fine);
     }
 
@@ -162,6 +167,7 @@ pub record Returns (code : List Insn) (word : ℕ) (place : Label) : Type 0 wher
   pub answers : (held : Option ℕ) (r : List ℕ) → answer code (position code place) held r ≡ Some word
   pub weighs : weight code (position code place) ≡ 5
   pub shallow : depth code (position code place) ≡ 0
+  pub steady : (h : Held) → IsSteady code (position code place) h
 
 pub return_code : operation_of 0x06 ≡ Some ReturnK
 unfolding operation_of
@@ -177,6 +183,7 @@ returns_at code word place stands =
           (λ rest same. ap (λ o. answer_by (move_at o word held) i r rest) return_code);
       weighs = weight_is code (position code place) i 5 stands (λ rest same. ap (λ o. weight_by o i rest) return_code);
       shallow = depth_is code (position code place) i 0 stands (λ rest same. ap (λ o. depth_by o i rest) return_code);
+      steady = λ h. steady_at_return code (position code place) i h stands return_code;
     }
 
 -- from a return that is found
@@ -193,6 +200,7 @@ reach_return old new word found place stands there =
       answers = λ held r. there.answers held r ∙ at.answers held r;
       weighs = omega (arith, there.weighs, at.weighs);
       shallow = omega (arith, there.shallow, at.shallow);
+      steady = λ h s. there.steady h (at.steady h);
       fine = there.fine;
     }
 
@@ -212,6 +220,7 @@ reach_new_return old word place start =
       answers = at.answers;
       weighs = omega (arith, at.weighs);
       shallow = omega (arith, at.shallow);
+      steady = λ h s. at.steady h;
       fine = λ fine. (returns return_code, fine);
     }
 
@@ -320,6 +329,12 @@ module _ (old mid top : List Insn) (test : Test) (k : ℕ) (exits : Exits) (jump
           deep_kept mid
               top to_yes.grows (Place no) to_no.placed,
         );
+    steady = λ h tells yes_is no_is.
+        let on_yes : IsSteady top (position top yes) h = to_yes.steady h (steady_kept old mid to_no.grows exits.yes exist.yes h yes_is) in
+        let on_no : IsSteady top (position top no) h =
+        steady_kept mid top to_yes.grows (Place no) to_no.placed h (to_no.steady h no_is) in
+        steady_branch jump top test is_branch h tells (subst (λ n. IsSteady top n h) (sym yes_at) on_yes)
+        (subst (λ n. IsSteady top n h) (sym no_at) on_no);
     fine = λ fine. (
       forks test is_branch (omega (arith, jt_is, to_yes.placed.0)) (omega (arith, jf_is, to_no.placed.0)),
       to_yes.fine

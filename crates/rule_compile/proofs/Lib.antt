@@ -18,6 +18,7 @@ pub mod RunsLaws
 pub mod SaysLaws
 pub mod StandsLaws
 pub mod StartLaws
+pub mod SteadyLaws
 pub mod TellsLaws
 pub mod ThoseLaws
 pub mod ToldLaws

@@ -1,10 +1,12 @@
 use Rattle.std.proofs.Common.{◌≡◌, ◌∷◌, ◌∙◌, ap, arith, length, refl, subst, sym}
 use Rattle.bpf_insn.specs.declared.code.Operation.TheVariants.{Jump}
+use Rattle.rule_compile.specs.Steady.{IsSteady}
 use Rattle.rule_compile.specs.inner.Code.{insn_of, position}
 use Rattle.rule_compile.specs.inner.Emitted.{IsFine, jumps}
 use Rattle.rule_compile.specs.inner.Runs.{gives_from}
 use Rattle.rule_compile.proofs.GoesLaws.{grows_same, grows_written, jump_code}
 use Rattle.rule_compile.proofs.RunsLaws.{jump_runs}
+use Rattle.rule_compile.proofs.SteadyLaws.{steady_jump_front}
 use Rattle.rule_compile.proofs.assembler.Assembler.begin_at.Goals as goal
 
 pub write-requires : goal.write-requires
@@ -21,3 +23,11 @@ returns-clause-runs c a r =
     let old = c.args.self.now in
     let written : c.write.new.self ≡ insn_of Jump k ∷ old = c.in_ok-write.ensures.written ∙ ap (λ i. i ∷ old) c.insn.ensures in
     ap (λ code. gives_from code 0 a r) written ∙ jump_runs old c.args.to k c.requires c.distance-skipped.ensures.skipped a r
+
+pub returns-clause-steady : goal.returns-clause-steady
+returns-clause-steady c h s =
+    let k = c.distance-skipped.result in
+    let old = c.args.self.now in
+    let written : c.write.new.self ≡ insn_of Jump k ∷ old = c.in_ok-write.ensures.written ∙ ap (λ i. i ∷ old) c.insn.ensures in
+    subst (λ code. IsSteady code 0 h) (sym written)
+    (steady_jump_front (insn_of Jump k) old c.args.to jump_code c.requires c.distance-skipped.ensures.skipped h s)
