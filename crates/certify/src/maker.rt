@@ -3,12 +3,17 @@ ghost use Rattle.std.specs.Prelude.{◌≡◌, ◌↔◌, [], All, IfErr, IfOk, 
 ghost use Rattle.bpf_insn.specs.Program.{insns};
 ghost use Rattle.kernel_check.specs.Accepted.{IsAccepted};
 ghost use Rattle.rule_compile.specs.Shape.{IsCallFilter, IsPlain};
+ghost use Rattle.cert_paths.specs.Steady.{IsSteady, Nothing};
+ghost use Rattle.cert_check.specs.Right.{IsRight};
+ghost use Rattle.cert_paths.specs.Fault.{IsSize};
 ghost use Rattle.cert_walk.specs.declared.fault.CertifyError.TheVariants.{OutOfMemory};
-ghost use Rattle.certify.specs.Own.{IsOwnWork};
+ghost use Rattle.certify.specs.Own.{IsOfSize, IsOwnWork};
 
 use crate::own::with_conditions;
 use crate::plain::plain_certificate;
 use bpf_insn::Program;
+use cert_check::check;
+use cert_paths::{PathsError, by_paths};
 use cert_walk::{CertifyError, walk_through};
 use kernel_check::accept;
 use profile::{Profile, Rule};
@@ -49,26 +54,67 @@ fn certified(
     }
 }
 
-/// A certificate that the filter gives each call record the word that the profile says.
+// Whether the checker says yes to a certificate.
+fn is_checked(alloc: Global, profile: &Profile, program: &Program<'_>, bytes: &[u8]) -> bool
+    ensures { IsTrue result → IsOwnWork profile.now (insns program.now) bytes.now }
+{
+    check(alloc, profile, program.bytes(), bytes).is_ok()
+}
+
+// Why there is no certificate that follows each path.
+fn told(error: PathsError) -> CertifyError
+    ensures { IsSize error → IsOfSize result }
+{
+    match error {
+        PathsError::Unsettled(pc) => CertifyError::Undecided(pc),
+        PathsError::TooLarge => CertifyError::TooLarge,
+        PathsError::OutOfMemory => CertifyError::OutOfMemory,
+    }
+}
+
+// The certificate that follows each path of a filter.
+fn followed(
+    alloc: Global,
+    profile: &Profile,
+    program: &Program<'_>,
+) -> Result<Vec<u8>, CertifyError>
+    ensures accepted { OnOk result (IsAccepted (insns program.now)) }
+    ensures valid { IfOk result (λ bytes. IsOwnWork profile.now (insns program.now) bytes.items) }
+    ensures sure { IsAccepted (insns program.now) → IsRight profile.now (insns program.now) → IsSteady (insns program.now) 0 Nothing
+        → IfErr result IsOfSize }
+{
+    match accept(program) {
+        Ok(accepted) => match by_paths(alloc, profile, &accepted) {
+            Ok(bytes) => Ok(bytes),
+            Err(error) => Err(told(error)),
+        },
+        Err(refused) => Err(CertifyError::Undecided(refused.pc)),
+    }
+}
+
+/// A certificate that the filter gives each call record the word that the profile says. The checker says yes to it.
 ///
-/// Of a profile with conditions, or a filter of another shape, nothing is promised of what it says: who relies on it has
-/// it checked.
+/// That there is none says nothing of the filter, but where no rule has a condition and the filter has the shape of such a
+/// profile's: then memory was refused.
 pub fn certify(
     alloc: Global,
     profile: &Profile,
     program: &Program<'_>,
 ) -> Result<Vec<u8>, CertifyError>
     ensures accepted { OnOk result (IsAccepted (insns program.now)) }
-    // Where no rule has a condition and the filter has the shape of such a profile's, an error is want of memory, and the
-    // certificate keeps each rule of the checker.
-    ensures own { IsPlain profile.now → IsCallFilter profile.now (insns program.now)
-        → IfOk result (λ bytes. IsOwnWork profile.now (insns program.now) bytes.items) }
+    // The certificate keeps each rule of the checker.
+    ensures valid { IfOk result (λ bytes. IsOwnWork profile.now (insns program.now) bytes.items) }
     ensures never { IsPlain profile.now → IsCallFilter profile.now (insns program.now) → IfErr result (λ e. e ≡ OutOfMemory) }
 {
-    certified(alloc, profile, program, None)
+    let bytes = certified(alloc, profile, program, None)?;
+    if is_checked(alloc, profile, program, &bytes) {
+        return Ok(bytes);
+    }
+    followed(alloc, profile, program)
 }
 
-/// The same of the filter that the compiler made of the profile, with its outline.
+/// The same of the filter that the compiler made of the profile, with its outline. Of a right filter that compares steadily, as
+/// each of the compiler's is, an error tells of memory or of the format's limits.
 pub fn certify_made(
     alloc: Global,
     profile: &Profile,
@@ -76,9 +122,19 @@ pub fn certify_made(
     outline: &Outline,
 ) -> Result<Vec<u8>, CertifyError>
     ensures accepted { OnOk result (IsAccepted (insns program.now)) }
-    ensures own { IsPlain profile.now → IsCallFilter profile.now (insns program.now)
-        → IfOk result (λ bytes. IsOwnWork profile.now (insns program.now) bytes.items) }
+    ensures valid { IfOk result (λ bytes. IsOwnWork profile.now (insns program.now) bytes.items) }
+    ensures sure { IsAccepted (insns program.now) → IsRight profile.now (insns program.now) → IsSteady (insns program.now) 0 Nothing
+        → IfErr result IsOfSize }
     ensures never { IsPlain profile.now → IsCallFilter profile.now (insns program.now) → IfErr result (λ e. e ≡ OutOfMemory) }
 {
-    certified(alloc, profile, program, Some(outline))
+    match certified(alloc, profile, program, Some(outline)) {
+        Ok(bytes) => {
+            if is_checked(alloc, profile, program, &bytes) {
+                return Ok(bytes);
+            }
+            followed(alloc, profile, program)
+        }
+        Err(CertifyError::OutOfMemory) => Err(CertifyError::OutOfMemory),
+        Err(_) => followed(alloc, profile, program),
+    }
 }

@@ -13,6 +13,7 @@ use Rattle.rule_compile.specs.Shape.{IsCallFilter}
 use Rattle.certify.specs.Conviction.{Convicts}
 use Rattle.cert_walk.specs.declared.fault.CertifyError.TheVariants as maker
 use Rattle.cert_check.specs.Certified.{IsFirst}
+use Rattle.cert_check.specs.declared.fault.CheckError.{CheckError}
 use Rattle.cert_check.specs.declared.fault.CheckError.TheVariants as error
 use Rattle.streams.specs.Failures.{Failures}
 use Rattle.streams.specs.Sink.{WritesMade}
@@ -52,14 +53,20 @@ digits_line digits given said =
 abbrev pub conviction_line : List ℕ → ℕ → ℕ → List ℕ
 conviction_line rec given said = digits_line (encode_lower rec) given said
 
--- Why there is neither. The bundle breaks a rule of bundles; or it means a profile, and the checker names a rule that the filter
--- and a certificate break first; or the maker of certificates gave nothing. Want of memory is no such reason.
+-- a fault of the filter's bytes or of the kernel's check
+abbrev pub IsOfFilter : CheckError → Type 0
+IsOfFilter (error.View fault) = Unit {0}
+IsOfFilter (error.Kernel refused) = Unit {0}
+IsOfFilter other = ⊥
+
+-- Why there is neither. The bundle breaks a rule of bundles; or it means a profile, and the filter's bytes are no program that
+-- the kernel accepts; or the maker of certificates gave nothing. Want of memory is no such reason.
 abbrev pub IsOpen : Arch → List ℕ → List ℕ → Unready → Type 0
 IsOpen native bundle filter (Profile e) = IsUnready native bundle (Profile e)
 IsOpen native bundle filter (Compile e) = ⊥
 IsOpen native bundle filter (Certify e) = (e ≢ maker.OutOfMemory) × ((policy : Policy) × AreJudged native bundle filter policy)
 IsOpen native bundle filter (Check e) =
-    (e ≢ error.OutOfMemory) × ((policy : Policy) × (cert : List ℕ) × IsBundle native bundle policy × IsFirst policy filter cert e)
+    IsOfFilter e × ((policy : Policy) × (cert : List ℕ) × IsBundle native bundle policy × IsFirst policy filter cert e)
 IsOpen native bundle filter OutOfMemory = ⊥
 
 -- what was written is a certificate with which the checker says yes, and the answer is true

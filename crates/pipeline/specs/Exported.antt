@@ -11,9 +11,6 @@ use Rattle.rule_compile.specs.Fault.{text_of as compile_text}
 use Rattle.cert_walk.specs.declared.fault.CertifyError.TheVariants as maker
 use Rattle.cert_walk.specs.Fault.{text_of as certify_text}
 use Rattle.cert_check.specs.declared.checked.Checked.{Checked}
-use Rattle.cert_check.specs.declared.fault.CheckError.{CheckError}
-use Rattle.cert_check.specs.declared.fault.CheckError.TheVariants as error
-use Rattle.cert_check.specs.Certified.{IsFirst}
 use Rattle.cert_check.specs.Checked.{profile_of, program_of}
 use Rattle.cert_check.specs.Fault.{text_of as error_text}
 use Rattle.streams.specs.Failures.{Failures}
@@ -25,8 +22,7 @@ use Rattle.export.specs.declared.form.Form.{Form}
 use Rattle.export.specs.declared.form.Form.TheVariants.{Raw, Certificate}
 use Rattle.texts.specs.Lines.{line_feed}
 use Rattle.pipeline.specs.Finding.{IsBundle, IsYes}
-use Rattle.pipeline.specs.Plain.{HasConditions, HasNoConditions}
-use Rattle.pipeline.specs.Prepared.{IsTaken}
+use Rattle.pipeline.specs.Plain.{HasConditions}
 use Rattle.pipeline.specs.declared.unready.Unready.{Unready}
 use Rattle.pipeline.specs.declared.unready.Unready.TheVariants.{Profile, Compile, Certify, Check, OutOfMemory}
 
@@ -37,23 +33,14 @@ pub record IsCheckedOf (native : Arch) (bundle : List ℕ) (c : Checked) : Type 
   pub read : insns_of (bytes_in Raw c) ≡ program_of c
   pub yes : IsYes (profile_of c) (bytes_in Raw c) (bytes_in Certificate c)
 
--- The checker names a rule that a filter and a certificate break first, beside a profile. The kernel accepts the filter, so
--- the rule is one of certificates.
-pub record IsNo (policy : Policy) (e : CheckError) : Type 0 where
-  pub filter : List ℕ
-  pub cert : List ℕ
-  pub taken : IsTaken filter
-  pub first : IsFirst policy filter cert e
-
 -- Why a bundle has no checked filter. It breaks a rule of bundles; or it means a profile of which some rule has a condition,
--- and of this the compiler or the maker of certificates gave nothing, or the checker said no of what they gave. Want of
--- memory is no such reason.
+-- and the filter of this is longer than a filter may be, or each certificate that was made of it larger than one may be. The
+-- checker never says no. Want of memory is no such reason.
 abbrev pub IsUnready : Arch → List ℕ → Unready → Type 0
 IsUnready native bundle (Profile e) = (e ≢ refusal.OutOfMemory) × IfSome (fault_of e) (Breaks bundle native)
-IsUnready native bundle (Compile e) = (e ≢ compiler.OutOfMemory) × HasConditions native bundle
-IsUnready native bundle (Certify e) = (e ≢ maker.OutOfMemory) × HasConditions native bundle
-IsUnready native bundle (Check e) =
-    (e ≢ error.OutOfMemory) × ((policy : Policy) × IsBundle native bundle policy × (HasNoConditions policy → ⊥) × IsNo policy e)
+IsUnready native bundle (Compile e) = (e ≡ compiler.TooLong) × HasConditions native bundle
+IsUnready native bundle (Certify e) = (e ≡ maker.TooLarge) × HasConditions native bundle
+IsUnready native bundle (Check e) = ⊥
 IsUnready native bundle OutOfMemory = ⊥
 
 -- the text that says it

@@ -7,7 +7,6 @@ use Rattle.profile.specs.Policy.{Policy}
 use Rattle.cert_check.specs.declared.fault.CheckError.{CheckError}
 use Rattle.cert_check.specs.Certified.{Kept}
 use Rattle.pipeline.specs.Finding.{IsBundle}
-use Rattle.pipeline.specs.Plain.{HasNoConditions}
 
 -- the filter and the certificate break no rule that the checker looks for
 abbrev pub IsUnbroken : Policy → List ℕ → List ℕ → Type 0
@@ -18,9 +17,8 @@ pub record IsTaken (filter : List ℕ) : Type 0 where
   pub program : view_fault filter ≡ None
   pub accepted : IsAccepted (insns_of filter)
 
--- The bundle means the profile, and the kernel accepts the filter; where the profile has no conditions, the filter and the
--- certificate break no rule.
+-- The bundle means the profile, the kernel accepts the filter, and the filter and the certificate break no rule.
 pub record IsPrepared (native : Arch) (bundle : List ℕ) (policy : Policy) (filter cert : List ℕ) : Type 0 where
   pub means : IsBundle native bundle policy
   pub taken : IsTaken filter
-  pub own : HasNoConditions policy → IsUnbroken policy filter cert
+  pub unbroken : IsUnbroken policy filter cert

@@ -1,7 +1,7 @@
 //! From a bundle and a filter to a certificate, or to a call record that convicts the filter.
-ghost use Rattle.std.specs.Prelude.{◌≡◌, ◌≢◌, ◌<◌, ℕ, List, IfErr, IfOk, length, slice_index, string_bytes};
+ghost use Rattle.std.specs.Prelude.{◌≡◌, ◌≢◌, ◌<◌, ℕ, List, None, IfErr, IfOk, length, slice_index, string_bytes};
 ghost use Rattle.call_record.specs.Record.{words};
-ghost use Rattle.bpf_insn.specs.Bytes.{insns_of};
+ghost use Rattle.bpf_insn.specs.Bytes.{insns_of, view_fault};
 ghost use Rattle.bpf_insn.specs.Program.{insns};
 ghost use Rattle.kernel_check.specs.Lent.{accepted_insns};
 ghost use Rattle.call_tables.specs.declared.arch.Arch.{Arch as TheArch};
@@ -16,7 +16,7 @@ use crate::unready::{Unready, refuse};
 use bpf_insn::Program;
 use call_record::{Word, words_are_a_record};
 use call_tables::Arch;
-use cert_check::{CheckError, check};
+use cert_check::CheckError;
 use certify::{Conviction, certify, convict};
 use kernel_check::{Accepted, accept};
 use profile::Profile;
@@ -24,26 +24,23 @@ use profile_json::read_bundle;
 use std::alloc::{AllocError, Global};
 use streams::{Sink, WriteFault, write_all};
 
-// The certificate that is made of a profile and a filter, once the checker says yes to it.
+// The certificate that is made of a profile and a filter, to which the checker says yes.
 fn certified(
     alloc: Global,
     profile: &Profile,
-    filter: &[u8],
     program: &Program<'_>,
 ) -> Result<Vec<u8>, Unready>
-    ensures ok { IfOk result (λ cert. IsYes profile.now filter.now cert.items) }
-    ensures err { (native : TheArch) (bundle : List ℕ) → AreJudged native bundle filter.now profile.now
-        → IfErr result (λ unready. unready ≢ OutOfMemory → IsOpen native bundle filter.now unready) }
+    ensures ok { (filter : List ℕ) → view_fault filter ≡ None → insns program.now ≡ insns_of filter
+        → IfOk result (λ cert. IsYes profile.now filter cert.items) }
+    ensures err { (native : TheArch) (bundle filter : List ℕ) → AreJudged native bundle filter profile.now
+        → IfErr result (λ unready. unready ≢ OutOfMemory → IsOpen native bundle filter unready) }
     // Of a filter of this project's own only memory is refused.
-    ensures own { (native : TheArch) (bundle : List ℕ) → IsOwnFilter native bundle filter.now profile.now
-        → insns program.now ≡ insns_of filter.now → IfErr result (λ unready. unready ≡ OutOfMemory) }
+    ensures own { (native : TheArch) (bundle filter : List ℕ) → IsOwnFilter native bundle filter profile.now
+        → insns program.now ≡ insns_of filter → IfErr result (λ unready. unready ≡ OutOfMemory) }
 {
-    let certificate = match certify(alloc, profile, program) {
-        Ok(certificate) => certificate,
-        Err(error) => return Err(Unready::from(error)),
-    };
-    match check(alloc, profile, filter, &certificate) {
-        Ok(_) => Ok(certificate),
+    profile.rules();
+    match certify(alloc, profile, program) {
+        Ok(certificate) => Ok(certificate),
         Err(error) => Err(Unready::from(error)),
     }
 }
@@ -132,7 +129,7 @@ fn certify_accepted<S: Sink>(
         → accepted_insns program.now ≡ insns_of filter.now
         → CertifiesOwn S.held S.failures sink.old sink.new native bundle filter.now result }
 {
-    match certified(alloc, profile, filter, &program.program()) {
+    match certified(alloc, profile, &program.program()) {
         Ok(certificate) => {
             write_all(&certificate, sink)?;
             Ok(true)

@@ -12,7 +12,7 @@ use profile_json::read_bundle;
 use rule_compile::make;
 use std::alloc::Global;
 
-/// A profile, the filter that was compiled for it, and the certificate that was made of the two. None of it is checked.
+/// A profile, the filter that was compiled for it, and the certificate that was made of the two.
 #[derive(Drop)]
 pub struct Prepared {
     /// What the bundle means.
@@ -53,9 +53,8 @@ impl Prepared {
     pub fn of_profile(alloc: Global, profile: Profile) -> Result<Prepared, Unready>
         ensures profile { IfOk result (λ made. made.profile ≡ profile) }
         ensures taken { IfOk result (λ made. IsTaken made.filter.items) }
-        // Of a profile without conditions only memory is ever refused, and what is made breaks no rule of the checker.
-        ensures own { IsPlain profile
-            → IfOk result (λ made. IsUnbroken profile made.filter.items made.certificate.items) }
+        // What is made breaks no rule of the checker, and of a profile without conditions only memory is ever refused.
+        ensures unbroken { IfOk result (λ made. IsUnbroken profile made.filter.items made.certificate.items) }
         ensures never { IsPlain profile → IfErr result (λ unready. unready ≡ OutOfMemory) }
         ensures err { (native : TheArch) (bundle : List ℕ) → IsBundle native bundle profile
             → IfErr result (λ unready. unready ≢ OutOfMemory → IsUnready native bundle unready) }
@@ -82,9 +81,6 @@ impl Prepared {
         ensures ok { (native : TheArch) (bundle : List ℕ)
             → IsPrepared native bundle self.now.profile self.now.filter.items self.now.certificate.items
             → IfOk result (IsCheckedOf native bundle) }
-        ensures err { (native : TheArch) (bundle : List ℕ)
-            → IsPrepared native bundle self.now.profile self.now.filter.items self.now.certificate.items
-            → IfErr result (λ unready. unready ≢ OutOfMemory → IsUnready native bundle unready) }
     {
         are_spelled(&self.filter);
         Ok(check(alloc, &self.profile, &self.filter, &self.certificate)?)

@@ -1,0 +1,200 @@
+//! Where what is known is cut in two.
+ghost use Rattle.std.specs.Prelude.{◌≡◌, ◌<◌, ℕ, Contains, None};
+ghost use Rattle.cert_form.specs.Nodes.{literals};
+ghost use Rattle.cert_state.specs.declared.literal.Lit.TheVariants.{Bits};
+ghost use Rattle.cert_state.specs.Literals.{IsLit, all_bits};
+ghost use Rattle.cert_check.specs.Rules.{Covers};
+
+use crate::chain::Known;
+use call_tables::Arch;
+use cert_state::{Lit, entails, range};
+use profile::{Cond, Op, Profile, Rule};
+
+/// Two literals of a word, of which one holds of each record.
+#[derive(Clone, Copy)]
+pub(crate) struct Cut {
+    pub(crate) one: Lit,
+    pub(crate) other: Lit,
+    ghost one_is: { IsLit one },
+    ghost other_is: { IsLit other },
+    ghost covers: { Covers one other },
+}
+
+// The words of a record that hold the call's number and the machine's token.
+const NUMBER: u8 = 0;
+
+const TOKEN: u8 = 1;
+
+impl Cut {
+    // A word is below a number, or at least this. It is always at least 0.
+    fn below(word: u8, number: u32) -> Option<Cut> {
+        if word >= 16 || number == 0 {
+            return None;
+        }
+        Some(Cut {
+            one: Lit::In(word, 0, number - 1),
+            other: Lit::In(word, number, u32::MAX),
+        })
+    }
+
+    // A word is this under a mask, or is not. No word has a bit outside the mask.
+    fn bits(word: u8, mask: u32, datum: u32) -> Option<Cut> {
+        if word >= 16 || datum & mask != datum {
+            return None;
+        }
+        Some(Cut {
+            one: Lit::Bits(word, mask, datum),
+            other: Lit::NotBits(word, mask, datum),
+        })
+    }
+
+    // Whether it tells something: neither of the two is known already.
+    fn is_open(&self, known: &Known<'_>) -> bool {
+        !entails(known, &self.one) && !entails(known, &self.other)
+    }
+}
+
+// The cut, if it tells something.
+fn if_open(cut: Option<Cut>, known: &Known<'_>) -> Option<Cut> {
+    let cut = cut?;
+    if cut.is_open(known) {
+        return Some(cut);
+    }
+    None
+}
+
+// The halves of a number of 64 bits, the high one first.
+fn halves(number: u64) -> (u32, u32) {
+    ((number >> 32) as u32, (number & 0xffff_ffff) as u32)
+}
+
+// Where the halves of an argument are cut for a comparison with bits under a mask.
+fn cut_by_bits(known: &Known<'_>, word: u8, mask: u64, datum: u64) -> Option<Cut> {
+    let (high_mask, low_mask) = halves(mask);
+    let (high, low) = halves(datum);
+    match if_open(Cut::bits(word.saturating_add(1), high_mask, high), known) {
+        Some(cut) => Some(cut),
+        None => if_open(Cut::bits(word, low_mask, low), known),
+    }
+}
+
+// Where a word is cut for a comparison by order: in front of a number, or behind it.
+fn cut_beside(known: &Known<'_>, word: u8, number: u32) -> Option<Cut> {
+    match if_open(Cut::below(word, number), known) {
+        Some(cut) => Some(cut),
+        None => if_open(Cut::below(word, number.checked_add(1)?), known),
+    }
+}
+
+// Where the halves of an argument are cut for a comparison by order.
+fn cut_by_order(known: &Known<'_>, word: u8, value: u64) -> Option<Cut> {
+    let (high, low) = halves(value);
+    match cut_beside(known, word.saturating_add(1), high) {
+        Some(cut) => Some(cut),
+        None => cut_beside(known, word, low),
+    }
+}
+
+// Where the argument of a condition is cut. Argument j stands in the words 4 + 2 j and 5 + 2 j, the low half first.
+fn cut_of_condition(known: &Known<'_>, cond: &Cond) -> Option<Cut> {
+    let word = cond.index.saturating_mul(2).saturating_add(4);
+    match cond.op {
+        Op::Eq | Op::Ne => cut_by_bits(known, word, u64::MAX, cond.value),
+        Op::MaskedEq => cut_by_bits(known, word, cond.value, cond.datum),
+        Op::Lt | Op::Le | Op::Ge | Op::Gt => cut_by_order(known, word, cond.value),
+    }
+}
+
+// Where a rule is cut that is not settled: at its machine, its number, or a condition.
+fn cut_of_rule(known: &Known<'_>, rule: &Rule) -> Option<Cut> {
+    let machine = Cut::bits(TOKEN, u32::MAX, rule.arch.token());
+    if let Some(cut) = if_open(machine, known) {
+        return Some(cut);
+    }
+    if entails(known, &Lit::NotBits(TOKEN, u32::MAX, rule.arch.token())) {
+        return None;
+    }
+    if let Some(cut) = if_open(Cut::bits(NUMBER, u32::MAX, rule.nr), known) {
+        return Some(cut);
+    }
+    if entails(known, &Lit::NotBits(NUMBER, u32::MAX, rule.nr)) {
+        return None;
+    }
+    for cond in &rule.conds {
+        if let Some(cut) = cut_of_condition(known, cond) {
+            return Some(cut);
+        }
+    }
+    None
+}
+
+// Where a machine is cut from others, and its own numbers from foreign ones.
+fn cut_of_machine(known: &Known<'_>, machine: Arch) -> Option<Cut> {
+    if let Some(cut) = if_open(Cut::bits(TOKEN, u32::MAX, machine.token()), known) {
+        return Some(cut);
+    }
+    for foreign in machine.other_numbers() {
+        if let Some(cut) = if_open(Cut::below(NUMBER, foreign.first), known) {
+            return Some(cut);
+        }
+        if let Some(next) = foreign.last.checked_add(1)
+            && let Some(cut) = if_open(Cut::below(NUMBER, next), known)
+        {
+            return Some(cut);
+        }
+    }
+    None
+}
+
+// Where a profile is cut that is not settled.
+fn cut_of_profile(profile: &Profile, known: &Known<'_>) -> Option<Cut> {
+    for machine in profile.machines() {
+        if let Some(cut) = cut_of_machine(known, *machine) {
+            return Some(cut);
+        }
+    }
+    for rule in profile.rules() {
+        if let Some(cut) = cut_of_rule(known, rule) {
+            return Some(cut);
+        }
+    }
+    None
+}
+
+// Where a word is cut in halves until it is one number, which is then stated.
+fn cut_of_word(known: &Known<'_>, word: u8) -> Option<Cut>
+    requires { word < 16 }
+    ensures { (result ≡ None) → (u : ℕ) × Contains (literals known.now.entries.now known.now.number) (Bits word all_bits u) }
+{
+    let (low, high) = range(known, word).unwrap_or((0, 0));
+    if low < high {
+        return Cut::below(word, low + (high - low) / 2 + 1);
+    }
+    if known.states(Lit::Bits(word, u32::MAX, low)) {
+        return None;
+    }
+    Cut::bits(word, u32::MAX, low)
+}
+
+// Where one of the words is cut.
+fn cut_of_words(known: &Known<'_>) -> Option<Cut>
+    ensures { (result ≡ None) → (w : ℕ) → w < 16 → (u : ℕ) × Contains (literals known.now.entries.now known.now.number) (Bits w all_bits u) }
+{
+    for word in 0..16 {
+        if let Some(cut) = cut_of_word(known, word) {
+            return Some(cut);
+        }
+    }
+    None
+}
+
+/// Where what is known is cut in two: where a machine, a rule or a condition is not settled, and else anywhere. There is no such
+/// place only where each word of the record is stated.
+pub(crate) fn next_cut(profile: &Profile, known: &Known<'_>) -> Option<Cut>
+    ensures { (result ≡ None) → (w : ℕ) → w < 16 → (u : ℕ) × Contains (literals known.now.entries.now known.now.number) (Bits w all_bits u) }
+{
+    match cut_of_profile(profile, known) {
+        Some(cut) => Some(cut),
+        None => cut_of_words(known),
+    }
+}

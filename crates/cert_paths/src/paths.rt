@@ -1,0 +1,140 @@
+//! The places of all paths, and what their nodes do.
+ghost use Rattle.std.specs.Prelude.{◌≡◌, ◌<◌, ◌++◌, ◌∷◌, [], IfErr, IfOk, IfSome, OnOk, length};
+ghost use Rattle.bpf_insn.specs.declared.instruction.Insn.{Insn as TheInsn};
+ghost use Rattle.profile.specs.Policy.{Policy};
+ghost use Rattle.cert_state.specs.Literals.{IsLit, IsValue};
+ghost use Rattle.cert_paths.specs.Fault.{IsSize};
+ghost use Rattle.cert_paths.specs.Kept.{IsValidCertificate};
+ghost use Rattle.cert_paths.specs.inner.Places.{AreInside, AreKept, ArePaths, IsAdded, IsLearned, IsPlace};
+ghost use Rattle.std.specs.Prelude.{List};
+
+use crate::chain::{Known, regs};
+use crate::fault::PathsError;
+use crate::place::{Next, Place};
+use cert_form::{ChainNode, FormError, Kind, MAX_LITERALS, MAX_NODES, write_chained};
+use cert_state::Lit;
+use std::alloc::{AllocError, Global};
+
+/// The places of all paths, each before those that it leads to, and what the nodes of the first ones do; and the entries of
+/// the chains that say what is known.
+#[derive(Drop)]
+pub(crate) struct Paths {
+    pub(crate) entries: Vec<(u32, Lit)>,
+    pub(crate) places: Vec<Place>,
+    pub(crate) kinds: Vec<Kind>,
+}
+
+// A certificate that is not written is too large, or memory ran out.
+fn refused(error: FormError) -> PathsError
+    ensures { IsSize result }
+{
+    match error {
+        FormError::OutOfMemory => PathsError::OutOfMemory,
+        _ => PathsError::TooLarge,
+    }
+}
+
+impl Paths {
+    /// Where each path begins.
+    pub(crate) fn new(alloc: Global) -> Result<Paths, PathsError>
+        ensures paths { IfOk result ArePaths }
+        ensures places { IfOk result (λ paths. paths.places.items ≡ Place.FIRST ∷ []) }
+        ensures kinds { IfOk result (λ paths. paths.kinds.items ≡ []) }
+        ensures size { IfErr result IsSize }
+    {
+        let mut places = Vec::new(alloc);
+        places.push(Place::FIRST)?;
+        Ok(Paths {
+            entries: Vec::new(alloc),
+            places,
+            kinds: Vec::new(alloc),
+        })
+    }
+
+    /// What is known at a place.
+    pub(crate) fn known(&self, place: Place) -> Known<'_>
+        requires { ArePaths self.now }
+        ensures entries { result.entries.now ≡ self.now.entries.items }
+        ensures number { result.number ≡ place.chain }
+        ensures a { result.a ≡ place.a }
+    {
+        Known {
+            entries: &self.entries,
+            number: place.chain,
+            a: place.a,
+        }
+    }
+
+    /// Adds a place that knows at most one literal more than another. The result is its number.
+    pub(crate) fn add(&mut self, from: Place, next: Next) -> Result<u32, PathsError>
+        requires paths { ArePaths self.old }
+        requires from { IsPlace self.old.entries.items from }
+        requires literal { IfSome next.learned IsLit }
+        requires value { IsValue next.a }
+        ensures paths { OnOk result (ArePaths self.new) }
+        ensures added { IfOk result (IsAdded self.old self.new from next) }
+        ensures size { IfErr result IsSize }
+    {
+        let number = self.places.len();
+        if number >= MAX_NODES {
+            return Err(PathsError::TooLarge);
+        }
+        let (chain, depth) = self.learn(from, next.learned)?;
+        self.places.push(Place {
+            pc: next.pc,
+            a: next.a,
+            chain,
+            depth,
+        })?;
+        Ok(number as u32)
+    }
+
+    // The chain of what is known at a place, with one literal more where it is given, and how many literals it has.
+    fn learn(&mut self, from: Place, learned: Option<Lit>) -> Result<(u32, u32), PathsError>
+        requires paths { ArePaths self.old }
+        requires from { IsPlace self.old.entries.items from }
+        requires literal { IfSome learned IsLit }
+        requires room { length self.old.places.items < 16384 }
+        ensures learned { IfOk result (IsLearned self.old self.new from learned) }
+        ensures size { IfErr result IsSize }
+    {
+        let Some(literal) = learned else {
+            return Ok((from.chain, from.depth));
+        };
+        if from.depth as usize >= MAX_LITERALS {
+            return Err(PathsError::TooLarge);
+        }
+        let count = self.entries.len();
+        self.entries.push((from.chain, literal))?;
+        Ok((count as u32 + 1, from.depth + 1))
+    }
+
+    // The nodes of all places.
+    fn nodes(&self, alloc: Global) -> Result<Vec<ChainNode>, AllocError> {
+        let mut nodes = Vec::new(alloc);
+        for (place, kind) in self.places.iter().zip(self.kinds.iter()) {
+            nodes.push(ChainNode {
+                kind: *kind,
+                pc: place.pc,
+                regs: regs(place.a),
+                chain: place.chain,
+            })?;
+        }
+        Ok(nodes)
+    }
+
+    /// The certificate, once each place has a node.
+    pub(crate) fn written(&self, alloc: Global) -> Result<Vec<u8>, PathsError>
+        requires paths { ArePaths self.now }
+        requires all { length self.now.kinds.items ≡ length self.now.places.items }
+        ensures valid { (policy : Policy) (p : List TheInsn) → AreInside p self.now → AreKept policy p self.now
+            → IfOk result (λ bytes. IsValidCertificate policy p bytes.items) }
+        ensures size { IfErr result IsSize }
+    {
+        let nodes = self.nodes(alloc)?;
+        match write_chained(alloc, &self.entries, &nodes) {
+            Ok(bytes) => Ok(bytes),
+            Err(error) => Err(refused(error)),
+        }
+    }
+}
