@@ -3,7 +3,7 @@ ghost use Rattle.std.specs.Prelude.{◌≡◌, ◌↔◌, [], All, IfErr, IfOk, 
 ghost use Rattle.bpf_insn.specs.Program.{insns};
 ghost use Rattle.kernel_check.specs.Accepted.{IsAccepted};
 ghost use Rattle.rule_compile.specs.Shape.{IsCallFilter, IsPlain};
-ghost use Rattle.cert_paths.specs.Steady.{IsSteady, Nothing};
+ghost use Rattle.rule_compile.specs.Steady.{IsSteady, Nothing};
 ghost use Rattle.cert_check.specs.Right.{IsRight};
 ghost use Rattle.cert_paths.specs.Fault.{IsSize};
 ghost use Rattle.cert_walk.specs.declared.fault.CertifyError.TheVariants.{OutOfMemory};
