@@ -1,29 +1,28 @@
-//! Writes the certificate of a filter from what the compiler knows of it.
+//! Writes the certificate of a filter that the compiler made, and forgets on the way what no longer matters.
 //!
-//! A block of the compiler is a list of what is left to ask of the rules that may still match. That is what a node has to
-//! know: which rules are out, which conditions are met, and which half of an argument is known. So a node is written for
-//! each place of the code and each such list, and a word is cut in two where the compiler went on alike for lists that are
-//! unlike.
+//! It goes down the filter from its beginning, and writes a node for each place and for each thing that may be known there. Of
+//! a call the compiler asks rules in parts, one part after the other: that is all that the maker is told. So a rule of the part
+//! that is asked is out once what is known refutes it, and a condition is met once it is yes; and a word of the record of which
+//! no rule that is left asks anything is forgotten. Paths that are then alike share their nodes. Where the compiler went on alike
+//! for numbers that are unlike, what is known is cut in two.
 //!
 //! The maker is not trusted, and promises nothing of what it writes: whoever relies on a certificate has it checked.
 #![tactic(auto)]
 
-mod arriving;
-mod calls;
+mod asked;
 mod chains;
-mod claims;
-mod facts;
+mod conditions;
+mod cuts;
 mod fault;
-mod groups;
+mod learning;
 mod listing;
 mod maker;
-mod several;
+mod numbers;
 mod sorting;
-mod splits;
 mod spot;
 mod stating;
 mod table;
-mod ways;
+mod words;
 
 pub use fault::OutlineError;
 pub use maker::outlined;

@@ -1,12 +1,10 @@
 //! The nodes of a certificate in their order, and its bytes.
 
 use crate::chains::Chains;
-use crate::facts::word_of;
 use crate::fault::OutlineError;
-use crate::maker::Maker;
+use crate::maker::{Maker, regs_of};
 use crate::spot::Spot;
 use cert_form::{ChainNode, Kind};
-use cert_state::{AVal, Regs};
 use std::alloc::{AllocError, Global};
 
 /// Stands for no node.
@@ -93,28 +91,12 @@ fn numbers_of(alloc: Global, order: &[u32]) -> Result<Vec<u32>, AllocError> {
 }
 
 /// The same, leading to others.
-pub(crate) fn leading_to(kind: Kind, first: u32, second: u32) -> Kind {
+fn leading_to(kind: Kind, first: u32, second: u32) -> Kind {
     match kind {
         Kind::Step(_, _) => Kind::Step(first, second),
         Kind::Split(one, other, _, _) => Kind::Split(one, other, first, second),
         Kind::Return | Kind::Dead => kind,
     }
-}
-
-// What is known of the registers at a spot. As a filter begins, A and X are 0.
-fn regs_of(is_first: bool, spot: &Spot) -> Regs {
-    let mut regs = Regs {
-        a: AVal::Unknown,
-        x: AVal::Unknown,
-        scratch: [AVal::Unknown; 16],
-    };
-    if is_first {
-        regs.a = AVal::Const(0);
-        regs.x = AVal::Const(0);
-    } else if let Some(subject) = spot.loaded {
-        regs.a = AVal::Masked(word_of(subject), subject.mask);
-    }
-    regs
 }
 
 // The nodes so far, and the chains of what they state.
@@ -171,7 +153,7 @@ impl Listing {
         self.nodes.push(ChainNode {
             kind: leading_to(*kind, first, second),
             pc: spot.pc.min(0xffff) as u16,
-            regs: regs_of(is_first, spot),
+            regs: regs_of(is_first, spot.a),
             chain,
         })?;
         Ok(())
@@ -191,7 +173,7 @@ fn chain_of(
 }
 
 /// The certificate of all spots of a maker, with what they do.
-pub(crate) fn listed(maker: &Maker<'_>, ways: &[Kind]) -> Result<Vec<u8>, OutlineError> {
+pub(crate) fn listed_nodes(maker: &Maker<'_>, ways: &[Kind]) -> Result<Vec<u8>, OutlineError> {
     let order = sorted(maker.alloc, ways)?;
     let mut listing = Listing::new(maker.alloc, &order)?;
     listing.add_all(maker, ways, &order)?;

@@ -1,96 +1,98 @@
 //! The maker of the certificate.
 
-use crate::calls::{Numbered, Numbers, all_calls, numbers_of_machine, parts_of};
-use crate::facts::{Facts, only_leaf};
+use crate::asked::{AskedCall, Left, asked_calls};
+use crate::conditions::Cut;
 use crate::fault::OutlineError;
-use crate::listing::{NOBODY, leading_to, listed};
-use crate::several::Decided;
-use crate::spot::{At, Lesson, NOTHING_LEARNED, Remaining, Spot, Stage};
+use crate::learning::joined;
+use crate::listing::{NOBODY, listed_nodes};
+use crate::spot::{Spot, Which};
 use crate::table::Table;
-use bpf_insn::{Insn, Operation, Program};
+use crate::words::{Words, listed};
+use bpf_insn::{Arithmetic, Insn, Operand, Operation, Program, Test};
 use cert_form::{Kind, MAX_NODES};
-use cert_state::Lit;
+use cert_state::{AVal, Listed, Lit, Regs, dead, sharp_fact};
 use profile::Profile;
-use rule_compile::{Leaf, Open, Outline, Part, Subject};
+use rule_compile::Outline;
 use std::alloc::{AllocError, Global};
-
-/// The words of a record that hold the call's number and the machine's token, as wholes.
-pub(crate) const NUMBER: Subject = Subject {
-    word: 0,
-    mask: u32::MAX,
-};
-
-pub(crate) const TOKEN: Subject = Subject {
-    word: 4,
-    mask: u32::MAX,
-};
 
 /// What is known of the profile and its filter, and of the certificate so far.
 #[derive(Drop)]
 pub(crate) struct Maker<'a> {
     pub(crate) alloc: Global,
+    pub(crate) profile: &'a Profile,
     pub(crate) program: Program<'a>,
-    pub(crate) outline: &'a Outline,
-    pub(crate) default: Leaf,
-    pub(crate) machines: Vec<Numbers>,
-    pub(crate) calls: Vec<Numbered>,
-    pub(crate) facts: Table<Facts>,
-    pub(crate) left: Table<Remaining>,
-    pub(crate) learned: Table<Lesson>,
+    pub(crate) calls: Vec<AskedCall>,
+    /// Whether calls that are asked alike are told apart before their arguments are asked for, and not at the returns.
+    pub(crate) is_early: bool,
+    pub(crate) words: Table<Words>,
+    pub(crate) left: Table<Left>,
     pub(crate) spots: Table<Spot>,
-    pub(crate) contradictions: Vec<Vec<Lit>>,
-    pub(crate) decisions: Vec<Decided>,
 }
 
-// What decides the numbers of each machine.
-fn machines_of(
-    alloc: Global,
-    profile: &Profile,
-    calls: &[Numbered],
-) -> Result<Vec<Numbers>, AllocError> {
-    let default = Leaf::Word(profile.default_word());
-    let mut machines = Vec::new(alloc);
-    for machine in profile.machines() {
-        machines.push(numbers_of_machine(alloc, calls, *machine, &default)?)?;
+// The position that a jump leads to.
+fn after(pc: usize, skipped: u32) -> usize {
+    pc.saturating_add(1).saturating_add(skipped as usize)
+}
+
+// Whether a comparison of what A holds tells all that it asks: by order only of a whole word.
+fn tells(test: Test, a: AVal) -> bool {
+    match (test, a) {
+        (Test::Equal | Test::AnyBit, AVal::Masked(_, _)) => true,
+        (Test::AtLeast | Test::Greater, AVal::Masked(_, mask)) => mask == u32::MAX,
+        (_, AVal::Unknown | AVal::Const(_)) => false,
     }
-    Ok(machines)
+}
+
+/// What is known of the registers, where A holds this. As a filter begins, X holds 0.
+pub(crate) fn regs_of(is_first: bool, a: AVal) -> Regs {
+    Regs {
+        a,
+        x: if is_first {
+            AVal::Const(0)
+        } else {
+            AVal::Unknown
+        },
+        scratch: [AVal::Unknown; 16],
+    }
 }
 
 impl<'a> Maker<'a> {
     fn new(
         alloc: Global,
-        profile: &Profile,
+        profile: &'a Profile,
         program: Program<'a>,
-        outline: &'a Outline,
+        outline: &Outline,
+        is_early: bool,
     ) -> Result<Maker<'a>, AllocError> {
-        let calls = all_calls(alloc, profile, outline)?;
-        let machines = machines_of(alloc, profile, &calls)?;
         Ok(Maker {
             alloc,
+            profile,
             program,
-            outline,
-            default: Leaf::Word(profile.default_word()),
-            machines,
-            calls,
-            facts: Table::new(alloc),
+            calls: asked_calls(alloc, outline)?,
+            is_early,
+            words: Table::new(alloc),
             left: Table::new(alloc),
-            learned: Table::new(alloc),
             spots: Table::new(alloc),
-            contradictions: Vec::new(alloc),
-            decisions: Vec::new(alloc),
         })
     }
 
-    // What says nothing stands first, and so does the spot where the filter begins.
+    // Where the filter begins nothing is known but that A holds 0.
     fn begin(&mut self) -> Result<(), OutlineError> {
-        self.facts.place(Facts::any(self.alloc))?;
-        self.learned.place(NOTHING_LEARNED)?;
-        self.place(0, None, Stage::Machines(0))?;
+        let none = self.words.place(Words::none(self.alloc))?;
+        let left = self.left.place(Left::nothing(self.alloc))?;
+        self.spots.place(Spot {
+            pc: 0,
+            a: AVal::Const(0),
+            which: Which::Several,
+            numbers: none,
+            arguments: none,
+            left,
+        })?;
         Ok(())
     }
 
-    /// What an instruction is, and what it does.
-    pub(crate) fn operation(&self, pc: usize) -> Option<(Insn, Operation)> {
+    // What an instruction is, and what it does.
+    fn operation(&self, pc: usize) -> Option<(Insn, Operation)> {
         if pc < self.program.len() {
             let insn = self.program.get(pc);
             return Some((insn, insn.operation()?));
@@ -98,135 +100,131 @@ impl<'a> Maker<'a> {
         None
     }
 
-    // What the instruction does to which jumps lead from a position.
-    fn landing(&self, pc: usize) -> Option<Operation> {
+    // Whether jumps lead from a position to a return or a load, where it does not matter what A holds.
+    fn is_new_start(&self, pc: usize) -> bool {
         let mut pc = pc;
         for _ in 0..self.program.len() {
-            let (insn, operation) = self.operation(pc)?;
-            if operation != Operation::Jump {
-                return Some(operation);
-            }
-            pc = after(pc, insn.k);
-        }
-        None
-    }
-
-    /// Whether jumps lead from a position to a return.
-    pub(crate) fn is_return(&self, pc: usize) -> bool {
-        self.landing(pc) == Some(Operation::ReturnK)
-    }
-
-    /// The parts of a call's questions, the last of which is asked first.
-    pub(crate) fn parts(&self, call: usize) -> &'a [Part] {
-        match self.calls.get(call) {
-            Some(call) => parts_of(self.outline, call),
-            None => &[],
-        }
-    }
-
-    /// The part of a call's questions that is asked after so many.
-    pub(crate) fn part(&self, call: usize, part: usize) -> Option<&'a Part> {
-        let parts = self.parts(call);
-        parts.get(parts.len().checked_sub(part)?.checked_sub(1)?)
-    }
-
-    /// The questions of that part.
-    pub(crate) fn questions(&self, call: usize, part: usize) -> &'a [Open] {
-        match self.part(call, part) {
-            Some(part) => part.rules.as_slice(),
-            None => &[],
-        }
-    }
-
-    /// The places of the calls of a machine whose numbers the facts leave.
-    pub(crate) fn calls_within(&self, token: u32, facts: usize) -> Result<Vec<usize>, AllocError> {
-        let mut places = Vec::new(self.alloc);
-        if let Some(facts) = self.facts.get(facts) {
-            for (place, call) in self.calls.iter().enumerate() {
-                if call.token == token && facts.may_be(call.number) {
-                    places.push(place)?;
-                }
+            match self.operation(pc) {
+                Some((insn, Operation::Jump)) => pc = after(pc, insn.k),
+                Some((_, Operation::ReturnK | Operation::LoadWord)) => return true,
+                _ => return false,
             }
         }
-        Ok(places)
+        false
     }
 
-    /// What decides all numbers of a machine that the facts leave, if that is one.
-    pub(crate) fn leaf_of_numbers(&self, machine: usize, facts: usize) -> Option<Leaf> {
-        only_leaf(&self.machines.get(machine)?.ranges, self.facts.get(facts)?)
-    }
-
-    /// What decides all that the facts leave of the bits of a block, if that is one.
-    pub(crate) fn leaf_within(&self, block: usize, facts: usize) -> Option<Leaf> {
-        only_leaf(
-            &self.outline.blocks.get(block)?.ranges,
-            self.facts.get(facts)?,
-        )
-    }
-
-    /// The place of facts where a literal holds too.
-    pub(crate) fn narrowed(&mut self, facts: usize, literal: Lit) -> Result<usize, OutlineError> {
-        let Some(known) = self.facts.get(facts) else {
-            return Err(OutlineError::Unlike);
-        };
-        let known = known.with(self.alloc, literal)?;
-        Ok(self.facts.place(known)?)
-    }
-
-    /// The spot at a position.
-    pub(crate) fn spot(&self, pc: usize, loaded: Option<Subject>, stage: Stage) -> Spot {
-        let loaded = match (self.landing(pc), stage) {
-            (Some(Operation::ReturnK | Operation::LoadWord), _) | (_, Stage::Dead(_)) => None,
-            _ => loaded,
-        };
-        Spot { pc, loaded, stage }
-    }
-
-    /// The place of the spot with these parts.
-    pub(crate) fn place(
+    // The place of the spot at a position, where A holds this and a literal is known too.
+    fn place(
         &mut self,
+        spot: &Spot,
         pc: usize,
-        loaded: Option<Subject>,
-        stage: Stage,
+        a: AVal,
+        learned: Option<Lit>,
     ) -> Result<u32, OutlineError> {
-        let place = self.spots.place(Spot { pc, loaded, stage })?;
+        let mut next = *spot;
+        next.pc = pc;
+        next.a = if self.is_new_start(pc) {
+            AVal::Unknown
+        } else {
+            a
+        };
+        if let Some(literal) = learned {
+            self.learn(&mut next, literal)?;
+        }
+        let place = self.spots.place(next)?;
         if place < MAX_NODES {
             return Ok(place as u32);
         }
         Err(OutlineError::TooLarge)
     }
 
-    /// The place of a spot that follows, if one does.
-    pub(crate) fn place_next(&mut self, next: Option<Spot>) -> Result<u32, OutlineError> {
-        match next {
-            Some(spot) => self.place(spot.pc, spot.loaded, spot.stage),
-            None => Ok(NOBODY),
+    // On to one position.
+    fn step(&mut self, spot: &Spot, pc: usize, a: AVal) -> Result<Kind, OutlineError> {
+        Ok(Kind::Step(self.place(spot, pc, a, None)?, NOBODY))
+    }
+
+    // The ways behind a cut.
+    fn split(&mut self, spot: &Spot, cut: Cut) -> Result<Kind, OutlineError> {
+        let (one, other) = cut;
+        let first = self.place(spot, spot.pc, spot.a, Some(one))?;
+        let second = self.place(spot, spot.pc, spot.a, Some(other))?;
+        Ok(Kind::Split(one, other, first, second))
+    }
+
+    // Both ways of a comparison.
+    fn compared(
+        &mut self,
+        spot: &Spot,
+        lits: &[Lit],
+        insn: &Insn,
+        test: Test,
+    ) -> Result<Kind, OutlineError> {
+        if !tells(test, spot.a) {
+            return Err(OutlineError::Unlike);
+        }
+        let state = Listed {
+            regs: regs_of(false, spot.a),
+            lits,
+            more: None,
+        };
+        let holds = sharp_fact(&state, insn, true);
+        let fails = sharp_fact(&state, insn, false);
+        let yes = after(spot.pc, u32::from(insn.jt));
+        let no = after(spot.pc, u32::from(insn.jf));
+        let first = self.place(spot, yes, spot.a, holds)?;
+        let second = self.place(spot, no, spot.a, fails)?;
+        Ok(Kind::Step(first, second))
+    }
+
+    // What a spot does at its instruction.
+    fn carried_out(&mut self, spot: &Spot, lits: &[Lit]) -> Result<Kind, OutlineError> {
+        let Some((insn, operation)) = self.operation(spot.pc) else {
+            return Err(OutlineError::Unlike);
+        };
+        match (operation, spot.a) {
+            (Operation::ReturnK, _) => match self.cut_at_return(spot, insn.k)? {
+                Some(cut) => self.split(spot, cut),
+                None => Ok(Kind::Return),
+            },
+            (Operation::LoadWord, _) => match self.cut_at_load(spot, insn.k)? {
+                Some(cut) => self.split(spot, cut),
+                None => {
+                    let a = AVal::Masked((insn.k / 4 % 16) as u8, u32::MAX);
+                    self.step(spot, after(spot.pc, 0), a)
+                }
+            },
+            (Operation::Jump, a) => self.step(spot, after(spot.pc, insn.k), a),
+            (Operation::Compute(Arithmetic::And, Operand::K), AVal::Masked(word, mask)) => {
+                let a = AVal::Masked(word, mask & insn.k);
+                self.step(spot, after(spot.pc, 0), a)
+            }
+            (Operation::Branch(test, Operand::K), _) => self.compared(spot, lits, &insn, test),
+            _ => Err(OutlineError::Unlike),
         }
     }
 
-    // The same. Where numbers are told apart, it is decided how.
-    fn settle_next(&mut self, next: Option<Spot>) -> Result<u32, OutlineError> {
-        let mut next = next;
-        if let Some(own) = &mut next
-            && let Stage::Numbers(machine, facts) = own.stage
-        {
-            own.stage = self.among_numbers(own.pc, machine, facts)?;
-        }
-        self.place_next(next)
+    /// What is known at a spot.
+    fn literals(&self, spot: &Spot) -> Result<Vec<Lit>, OutlineError> {
+        let (Some(numbers), Some(arguments)) = (
+            self.words.get(spot.numbers),
+            self.words.get(spot.arguments),
+        ) else {
+            return Err(OutlineError::Unlike);
+        };
+        Ok(joined(self.alloc, &numbers.lits, &arguments.lits)?)
     }
 
-    // What a spot does.
+    // What the node of a spot does.
     fn kind_of(&mut self, spot: &Spot) -> Result<Kind, OutlineError> {
-        // These name the types of what is held over the calls below: the prover is told of them in no other way.
-        let (_stage, _at) = (spot.stage, At::Return);
-        let ways = self.ways(spot)?;
-        let first = self.settle_next(ways.first)?;
-        let second = self.settle_next(ways.second)?;
-        Ok(leading_to(ways.kind, first, second))
+        let lits = self.literals(spot)?;
+        if dead(&listed(&lits)) {
+            return Ok(Kind::Dead);
+        }
+        self.carried_out(spot, &lits)
     }
 
     // What each spot does, beginning with the first.
-    fn all_ways(&mut self) -> Result<Vec<Kind>, OutlineError> {
+    fn all_kinds(&mut self) -> Result<Vec<Kind>, OutlineError> {
         let mut kinds = Vec::new(self.alloc);
         for place in 0..MAX_NODES {
             let Some(spot) = self.spots.get(place).copied() else {
@@ -240,23 +238,33 @@ impl<'a> Maker<'a> {
     // The certificate of all spots, one after the other from where the filter begins.
     fn certificate(&mut self) -> Result<Vec<u8>, OutlineError> {
         self.begin()?;
-        let ways = self.all_ways()?;
-        listed(self, &ways)
+        let kinds = self.all_kinds()?;
+        listed_nodes(self, &kinds)
     }
 }
 
-/// The position that a jump leads to.
-pub(crate) fn after(pc: usize, skipped: u32) -> usize {
-    pc.saturating_add(1).saturating_add(skipped as usize)
+fn made(
+    alloc: Global,
+    profile: &Profile,
+    program: &Program<'_>,
+    outline: &Outline,
+    is_early: bool,
+) -> Result<Vec<u8>, OutlineError> {
+    let mut maker = Maker::new(alloc, profile, *program, outline, is_early)?;
+    maker.certificate()
 }
 
-/// The certificate of the filter that the compiler made of a profile, with this outline.
+/// The certificate of the filter that the compiler made of a profile, with this outline. Calls that are asked alike are told
+/// apart at the returns; and where it comes out too large so, before their arguments are asked for.
 pub fn outlined(
     alloc: Global,
     profile: &Profile,
     program: &Program<'_>,
     outline: &Outline,
 ) -> Result<Vec<u8>, OutlineError> {
-    let mut maker = Maker::new(alloc, profile, *program, outline)?;
-    maker.certificate()
+    match made(alloc, profile, program, outline, false) {
+        Ok(bytes) => Ok(bytes),
+        Err(OutlineError::OutOfMemory) => Err(OutlineError::OutOfMemory),
+        Err(_) => made(alloc, profile, program, outline, true),
+    }
 }

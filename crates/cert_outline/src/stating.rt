@@ -1,5 +1,10 @@
 //! What is stated, in lists. Whether memory was refused is asked once, when they are whole.
 
+use crate::asked::{AskedCall, Left, LeftRule};
+use crate::fault::OutlineError;
+use crate::maker::Maker;
+use crate::spot::{Spot, Which};
+use crate::words::Words;
 use cert_form::Claim;
 use std::alloc::Global;
 
@@ -26,20 +31,21 @@ impl Claims {
         }
     }
 
-    /// Adds a claim that is not there.
-    pub(crate) fn add_new(&mut self, claim: Claim) {
-        if !self.items.contains(&claim) {
-            self.add(claim);
+    // Adds what is known of words.
+    fn add_words(&mut self, words: Option<&Words>) {
+        if let Some(words) = words {
+            for literal in &words.lits {
+                self.add(Claim::Knows(*literal));
+            }
         }
     }
 
-    /// Adds those of others that are not there.
-    pub(crate) fn add_all_new(&mut self, others: &Claims) {
-        if others.is_refused {
-            self.is_refused = true;
-        }
-        for claim in &others.items {
-            self.add_new(*claim);
+    // Adds the conditions of a rule that are met, which are told by bits.
+    fn add_met(&mut self, left: &LeftRule) {
+        for place in 0..32 {
+            if left.met >> place & 1 == 1 {
+                self.add(Claim::Met(left.rule, place));
+            }
         }
     }
 }
@@ -75,5 +81,44 @@ impl Stated {
     /// Whether memory was refused for any of it.
     pub(crate) fn is_refused(&self) -> bool {
         self.is_refused || self.call.is_refused || self.others.is_refused
+    }
+}
+
+impl<'a> Maker<'a> {
+    // Which rules of a call are out, of those of the parts that were asked and of the one that is asked.
+    fn rules_stated(&self, call: &AskedCall, left: &Left, stated: &mut Stated) {
+        for (place, part) in call.parts.iter().enumerate() {
+            for rule in part {
+                let is_asked = place == left.part && !left.has(*rule);
+                stated.add_rule(*rule, place < left.part || is_asked);
+            }
+        }
+    }
+
+    // What is stated of the rules of a spot's call.
+    fn left_stated(&self, spot: &Spot, stated: &mut Stated) {
+        let (Which::Asked(call), Some(left)) = (spot.which, self.left.get(spot.left)) else {
+            return;
+        };
+        if let Some(call) = self.calls.get(call)
+            && !left.holds
+        {
+            self.rules_stated(call, left, stated);
+        }
+        for own in &left.rules {
+            stated.others.add_met(own);
+        }
+    }
+
+    /// What the node of a spot states.
+    pub(crate) fn stated(&self, spot: &Spot) -> Result<Stated, OutlineError> {
+        let mut stated = Stated::new(self.alloc);
+        stated.call.add_words(self.words.get(spot.numbers));
+        self.left_stated(spot, &mut stated);
+        stated.others.add_words(self.words.get(spot.arguments));
+        if stated.is_refused() {
+            return Err(OutlineError::OutOfMemory);
+        }
+        Ok(stated)
     }
 }

@@ -1,0 +1,134 @@
+//! Of which calls rules ask for arguments, and what is left to ask of one.
+
+use crate::table::{Item, bits, mixed};
+use rule_compile::{Asked, Call, Open, Outline, Part};
+use std::alloc::{AllocError, Global};
+
+/// A call of which rules ask for arguments: the places of these rules in the profile's order, in the parts in which they are
+/// asked, one after the other.
+#[derive(Drop)]
+pub(crate) struct AskedCall {
+    pub(crate) token: u32,
+    pub(crate) number: u32,
+    pub(crate) parts: Vec<Vec<u32>>,
+}
+
+/// A rule that may hold, and which of its conditions are met, by bits.
+#[derive(Clone, Copy, PartialEq, Eq)]
+pub(crate) struct LeftRule {
+    pub(crate) rule: u32,
+    pub(crate) met: u32,
+}
+
+/// What is left to ask of a call.
+#[derive(PartialEq, Eq, Drop)]
+pub(crate) struct Left {
+    /// Which part is asked.
+    pub(crate) part: usize,
+    /// The rules of this part that may hold.
+    pub(crate) rules: Vec<LeftRule>,
+    /// Whether the only one of them holds.
+    pub(crate) holds: bool,
+}
+
+impl Item for Left {
+    fn key(&self) -> u32 {
+        let mut key = mixed(bits(self.part), u32::from(self.holds));
+        for left in &self.rules {
+            key = mixed(key, mixed(left.rule, left.met));
+        }
+        key
+    }
+}
+
+impl Left {
+    /// Nothing is left.
+    pub(crate) fn nothing(alloc: Global) -> Left {
+        Left {
+            part: 0,
+            rules: Vec::new(alloc),
+            holds: false,
+        }
+    }
+
+    /// A rule holds.
+    pub(crate) fn holding(alloc: Global, rule: LeftRule) -> Result<Left, AllocError> {
+        let mut rules = Vec::new(alloc);
+        rules.push(rule)?;
+        Ok(Left {
+            part: 0,
+            rules,
+            holds: true,
+        })
+    }
+
+    /// Whether a rule may hold.
+    pub(crate) fn has(&self, rule: u32) -> bool {
+        for left in &self.rules {
+            if left.rule == rule {
+                return true;
+            }
+        }
+        false
+    }
+}
+
+impl AskedCall {
+    /// All rules of a part are left.
+    pub(crate) fn whole(&self, alloc: Global, part: usize) -> Result<Left, AllocError> {
+        let mut rules = Vec::new(alloc);
+        if let Some(own) = self.parts.get(part) {
+            for rule in own {
+                rules.push(LeftRule {
+                    rule: *rule,
+                    met: 0,
+                })?;
+            }
+        }
+        Ok(Left {
+            part,
+            rules,
+            holds: false,
+        })
+    }
+}
+
+// The rules of a part, each once.
+fn rules_of(alloc: Global, questions: &[Open]) -> Result<Vec<u32>, AllocError> {
+    let mut rules = Vec::new(alloc);
+    for open in questions {
+        if open.begins {
+            rules.push(bits(open.asker.rule))?;
+        }
+    }
+    Ok(rules)
+}
+
+// The rules of all parts. The last part of the outline is asked first.
+fn parts_of(alloc: Global, parts: &[Part]) -> Result<Vec<Vec<u32>>, AllocError> {
+    let mut all = Vec::new(alloc);
+    for part in parts {
+        all.push(rules_of(alloc, &part.rules)?)?;
+    }
+    all.reverse();
+    Ok(all)
+}
+
+fn asked_call(alloc: Global, call: &Call, parts: &[Part]) -> Result<AskedCall, AllocError> {
+    Ok(AskedCall {
+        token: call.token,
+        number: call.number,
+        parts: parts_of(alloc, parts)?,
+    })
+}
+
+/// The calls of which rules ask for arguments.
+pub(crate) fn asked_calls(alloc: Global, outline: &Outline) -> Result<Vec<AskedCall>, AllocError> {
+    let mut calls = Vec::new(alloc);
+    for call in &outline.calls {
+        if let Asked::InParts(parts) = &call.asked {
+            calls.push(asked_call(alloc, call, parts)?)?;
+        }
+    }
+    Ok(calls)
+}

@@ -1,0 +1,97 @@
+//! Where what is known is cut in two.
+
+use crate::asked::Left;
+use crate::conditions::{Cut, cut_of, cut_where_known};
+use crate::fault::OutlineError;
+use crate::learning::joined;
+use crate::maker::Maker;
+use crate::spot::{Spot, Which};
+use crate::words::{Words, listed};
+use cert_state::{Facts, Listed};
+
+// Where the words of a record begin that hold arguments, in bytes.
+const ARGUMENTS: u32 = 16;
+
+impl<'a> Maker<'a> {
+    // Where a condition of a rule that is left is not settled: that of which something is known, or any.
+    fn cut_of_rules(
+        &self,
+        facts: &Facts<'_, Listed<'_>>,
+        known: &Words,
+        left: &Left,
+        is_any: bool,
+    ) -> Option<Cut> {
+        for own in &left.rules {
+            let rule = self.rule(own.rule)?;
+            for (place, cond) in rule.conds.iter().enumerate() {
+                if own.met >> (place % 32) & 1 == 0 {
+                    let cut = if is_any {
+                        cut_of(facts, cond)
+                    } else {
+                        cut_where_known(facts, known, cond)
+                    };
+                    if cut.is_some() {
+                        return cut;
+                    }
+                }
+            }
+        }
+        None
+    }
+
+    // The same, of the rules of a spot.
+    fn cut_of_call(&self, spot: &Spot, is_any: bool) -> Result<Option<Cut>, OutlineError> {
+        let (Some(left), Some(known)) = (self.left.get(spot.left), self.words.get(spot.arguments))
+        else {
+            return Err(OutlineError::Unlike);
+        };
+        if left.holds {
+            return Ok(None);
+        }
+        let facts = listed(&known.lits);
+        Ok(self.cut_of_rules(&Facts::of(&facts), known, left, is_any))
+    }
+
+    // Where several calls are cut: at a return with a verdict, or at the load of an argument.
+    fn cut_of_calls(&self, spot: &Spot, verdict: Option<u32>) -> Result<Option<Cut>, OutlineError> {
+        let (Some(numbers), Some(arguments)) = (
+            self.words.get(spot.numbers),
+            self.words.get(spot.arguments),
+        ) else {
+            return Err(OutlineError::Unlike);
+        };
+        let lits = joined(self.alloc, &numbers.lits, &arguments.lits)?;
+        let state = listed(&lits);
+        let facts = Facts::of(&state);
+        Ok(match verdict {
+            Some(verdict) => self.cut_of_several(numbers, &facts, verdict)?,
+            None => self.cut_of_asked(numbers, &facts)?,
+        })
+    }
+
+    /// Where what is known is cut at a return, if that is needed: until one rule holds or none is left.
+    pub(crate) fn cut_at_return(
+        &self,
+        spot: &Spot,
+        verdict: u32,
+    ) -> Result<Option<Cut>, OutlineError> {
+        match spot.which {
+            Which::Several => self.cut_of_calls(spot, Some(verdict)),
+            Which::Plain => Ok(None),
+            Which::Asked(_) => self.cut_of_call(spot, true),
+        }
+    }
+
+    /// Where what is known is cut before another word is loaded: until what is known of the last one is settled.
+    pub(crate) fn cut_at_load(
+        &self,
+        spot: &Spot,
+        offset: u32,
+    ) -> Result<Option<Cut>, OutlineError> {
+        match spot.which {
+            Which::Several if self.is_early && offset >= ARGUMENTS => self.cut_of_calls(spot, None),
+            Which::Several | Which::Plain => Ok(None),
+            Which::Asked(_) => self.cut_of_call(spot, false),
+        }
+    }
+}

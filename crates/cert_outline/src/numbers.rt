@@ -1,0 +1,188 @@
+//! What is known of the machine and the number of a call.
+
+use crate::conditions::{Cut, answer, below, beside, told_apart};
+use crate::maker::Maker;
+use crate::spot::Which;
+use crate::words::{Words, listed};
+use call_tables::Arch;
+use cert_state::{Facts, Listed, Lit, range};
+use profile::Rule;
+use std::alloc::AllocError;
+
+/// The words of a record that hold the call's number and the machine's token.
+pub(crate) const NUMBER: u8 = 0;
+
+pub(crate) const TOKEN: u8 = 1;
+
+// The only number that a word may be.
+fn only(known: &Words, word: u8) -> Option<u32> {
+    let (low, high) = range(&listed(&known.lits), word)?;
+    if low == high {
+        return Some(low);
+    }
+    None
+}
+
+impl<'a> Maker<'a> {
+    /// Which call it is, by what is known of its machine and its number.
+    pub(crate) fn which(&self, numbers: usize) -> Which {
+        let Some(known) = self.words.get(numbers) else {
+            return Which::Several;
+        };
+        let (Some(token), Some(number)) = (only(known, TOKEN), only(known, NUMBER)) else {
+            return Which::Several;
+        };
+        for (place, call) in self.calls.iter().enumerate() {
+            if call.token == token && call.number == number {
+                return Which::Asked(place);
+            }
+        }
+        Which::Plain
+    }
+
+    // The listed machine of which the call is known to be.
+    fn machine(&self, known: &Words) -> Option<Arch> {
+        let token = only(known, TOKEN)?;
+        for machine in self.profile.machines() {
+            if machine.token() == token {
+                return Some(*machine);
+            }
+        }
+        None
+    }
+
+    // Where listed machines are told apart.
+    fn cut_of_machines(&self, facts: &Facts<'_, Listed<'_>>) -> Option<Cut> {
+        for machine in self.profile.machines() {
+            if let Some(cut) = told_apart(facts, TOKEN, u32::MAX, machine.token()) {
+                return Some(cut);
+            }
+        }
+        None
+    }
+
+    // Whether a rule may hold of a call whose number is not known, by its conditions.
+    fn may_hold(&self, facts: &Facts<'_, Listed<'_>>, rule: &Rule) -> bool {
+        for cond in rule.conds.iter() {
+            if answer(facts, cond) == Some(false) {
+                return false;
+            }
+        }
+        true
+    }
+
+    // Whether the number of a rule has to be told apart where a return gives a verdict.
+    fn is_told(
+        &self,
+        facts: &Facts<'_, Listed<'_>>,
+        rule: &Rule,
+        token: u32,
+        verdict: u32,
+    ) -> bool {
+        if rule.arch.token() != token {
+            return false;
+        }
+        if verdict == self.profile.default_word().0 && rule.word.0 == verdict {
+            return false;
+        }
+        !facts.entails(&Lit::NotBits(NUMBER, u32::MAX, rule.nr)) && self.may_hold(facts, rule)
+    }
+
+    // The numbers of rules that have to be told apart where a return gives a verdict, in order.
+    fn numbers_to_tell(
+        &self,
+        facts: &Facts<'_, Listed<'_>>,
+        token: u32,
+        verdict: u32,
+    ) -> Result<Vec<u32>, AllocError> {
+        let mut numbers = Vec::new(self.alloc);
+        for rule in self.profile.rules() {
+            if self.is_told(facts, rule, token, verdict) {
+                numbers.push(rule.nr)?;
+            }
+        }
+        numbers.sort()?;
+        numbers.dedup();
+        Ok(numbers)
+    }
+
+    // Where foreign numbers are cut from a machine's own.
+    fn cut_of_foreign(&self, facts: &Facts<'_, Listed<'_>>, machine: Arch) -> Option<Cut> {
+        for foreign in machine.other_numbers() {
+            if facts.entails(&Lit::In(NUMBER, foreign.first, foreign.last)) {
+                return None;
+            }
+            if let Some(cut) = below(facts, NUMBER, foreign.first) {
+                return Some(cut);
+            }
+            if let Some(next) = foreign.last.checked_add(1)
+                && let Some(cut) = below(facts, NUMBER, next)
+            {
+                return Some(cut);
+            }
+        }
+        None
+    }
+
+    // Whether all numbers that are known are foreign ones.
+    fn is_foreign(&self, facts: &Facts<'_, Listed<'_>>, machine: Arch) -> bool {
+        for foreign in machine.other_numbers() {
+            if facts.entails(&Lit::In(NUMBER, foreign.first, foreign.last)) {
+                return true;
+            }
+        }
+        false
+    }
+
+    /// Where several calls are cut that come to a return with a verdict, if that is needed.
+    pub(crate) fn cut_of_several(
+        &self,
+        known: &Words,
+        facts: &Facts<'_, Listed<'_>>,
+        verdict: u32,
+    ) -> Result<Option<Cut>, AllocError> {
+        if let Some(cut) = self.cut_of_machines(facts) {
+            return Ok(Some(cut));
+        }
+        let Some(machine) = self.machine(known) else {
+            return Ok(None);
+        };
+        if self.is_foreign(facts, machine) {
+            return Ok(None);
+        }
+        let numbers = self.numbers_to_tell(facts, machine.token(), verdict)?;
+        if numbers.is_empty() && verdict == self.profile.default_word().0 && verdict == 0 {
+            return Ok(None);
+        }
+        if let Some(cut) = self.cut_of_foreign(facts, machine) {
+            return Ok(Some(cut));
+        }
+        match numbers.get(numbers.len() / 2) {
+            Some(number) => Ok(beside(facts, NUMBER, *number)),
+            None => Ok(None),
+        }
+    }
+
+    /// Where several calls are cut that come to the first load of an argument: at the number of one of which rules ask for it.
+    pub(crate) fn cut_of_asked(
+        &self,
+        known: &Words,
+        facts: &Facts<'_, Listed<'_>>,
+    ) -> Result<Option<Cut>, AllocError> {
+        let Some(token) = only(known, TOKEN) else {
+            return Ok(None);
+        };
+        let mut numbers = Vec::new(self.alloc);
+        for call in &self.calls {
+            let excluded = facts.entails(&Lit::NotBits(NUMBER, u32::MAX, call.number));
+            if call.token == token && !excluded {
+                numbers.push(call.number)?;
+            }
+        }
+        numbers.sort()?;
+        match numbers.get(numbers.len() / 2) {
+            Some(number) => Ok(beside(facts, NUMBER, *number)),
+            None => Ok(None),
+        }
+    }
+}
