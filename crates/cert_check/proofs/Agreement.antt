@@ -1,12 +1,12 @@
 -- What is known of a record settles the word that the profile says of it.
 use Rattle.std.proofs.Common.{◌≡◌, ◌≢◌, ℕ, ◌+◌, ◌*◌, ◌/◌, ◌%◌, ◌^◌, ◌<◌, ◌≤◌, Bool, true, false, List, sym, ap, ◌∙◌, subst, inl, inr, arith}
-use Rattle.std.specs.Prelude.{bit_and, slice_get, slice_index, slice_index_or, All, Any, Contains, Some}
+use Rattle.std.specs.Prelude.{bit_and, slice_get, slice_index, slice_index_or, All, Contains, Some}
 use Rattle.std.proofs.lemmas.Nat.{and_block, and_le_l}
 use Rattle.std.specs.Int.Bits.{and_mask}
 use Rattle.std.proofs.lemmas.List.Elements.{All-contains}
 use Rattle.std.proofs.lemmas.Option.{slice_get-get_or}
 use Rattle.cert_check.proofs.Elements.{contains_at, each_of}
-use Rattle.std.proofs.lemmas.Bool.{cases_eq, ltb-true, ltb-false, leb-true, leb-false, lt-ltb, le-ltb, le-leb, lt-leb}
+use Rattle.std.proofs.lemmas.Bool.{ltb-true, ltb-false, leb-true, leb-false, lt-ltb, le-ltb, le-leb, lt-leb}
 use Rattle.std.proofs.lemmas.Bool.Decides.{not_from_Decides}
 use Rattle.call_record.specs.Words.{IsRecord, word, argument}
 use Rattle.call_tables.specs.declared.arch.Arch.{Arch}
