@@ -20,5 +20,5 @@ mod split;
 pub use checked::Checked;
 pub use checking::check;
 pub use fault::CheckError;
-pub use law::valid_is_right;
+pub use law::{stated_is_settled, valid_is_right};
 pub use settled::is_settled;
