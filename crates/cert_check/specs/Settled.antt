@@ -16,5 +16,5 @@ AreStated known r = (w : ℕ) → w < 16 → Contains known (Bits w all_bits (wo
 
 abbrev pub StatedIsSettled : Type 0
 StatedIsSettled =
-    (policy : Policy) (known : List Lit) (r : List ℕ) → InOrder policy.machines → IsRecord r → All (λ l. Holds l r) known → AreStated known r
-    → Agrees policy [] [] known (said policy r)
+    (policy : Policy) (known : List Lit) (r : List ℕ) → InOrder policy.machines → IsRecord r
+    → All (λ l. Holds l r) known → AreStated known r → Agrees policy [] [] known (said policy r)
