@@ -1,12 +1,12 @@
 -- What is known of a record settles the word that the profile says of it.
 use Rattle.std.proofs.Common.{◌≡◌, ◌≢◌, ℕ, ◌+◌, ◌*◌, ◌/◌, ◌%◌, ◌^◌, ◌<◌, ◌≤◌, Bool, true, false, List, sym, ap, ◌∙◌, subst, inl, inr, arith}
-use Rattle.std.specs.Prelude.{bit_and, slice_get, slice_index, slice_index_or, All, Any, Contains, Some}
+use Rattle.std.specs.Prelude.{bit_and, slice_get, slice_index, slice_index_or, All, Contains, Some}
 use Rattle.std.proofs.lemmas.Nat.{and_block, and_le_l}
 use Rattle.std.specs.Int.Bits.{and_mask}
 use Rattle.std.proofs.lemmas.List.Elements.{All-contains}
 use Rattle.std.proofs.lemmas.Option.{slice_get-get_or}
 use Rattle.cert_check.proofs.Elements.{contains_at, each_of}
-use Rattle.std.proofs.lemmas.Bool.{cases_eq, ltb-true, ltb-false, leb-true, leb-false, lt-ltb, le-ltb, le-leb, lt-leb}
+use Rattle.std.proofs.lemmas.Bool.{ltb-true, ltb-false, leb-true, leb-false, lt-ltb, le-ltb, le-leb, lt-leb}
 use Rattle.std.proofs.lemmas.Bool.Decides.{not_from_Decides}
 use Rattle.call_record.specs.Words.{IsRecord, word, argument}
 use Rattle.call_tables.specs.declared.arch.Arch.{Arch}
@@ -35,7 +35,7 @@ use Rattle.cert_check.specs.Agree.{IsNoBy, IsYes, IsYesRule, IsNoRule, IsRefuted
 use Rattle.cert_check.specs.Agree.{RulesAgree, MachineAgrees, ListedAgrees, Agrees}
 
 -- a number of two halves under a mask, half by half
-masked_halves : (l h m : ℕ) → l < 2 ^ 32 → bit_and (l + 2 ^ 32 * h) m ≡ bit_and h (m / 2 ^ 32) * 2 ^ 32 + bit_and l (m % 2 ^ 32)
+pub masked_halves : (l h m : ℕ) → l < 2 ^ 32 → bit_and (l + 2 ^ 32 * h) m ≡ bit_and h (m / 2 ^ 32) * 2 ^ 32 + bit_and l (m % 2 ^ 32)
 masked_halves l h m small =
     let e : l + 2 ^ 32 * h ≡ h * 2 ^ 32 + l = omega arith in
     let f : m ≡ (m / 2 ^ 32) * 2 ^ 32 + m % 2 ^ 32 = omega arith in
@@ -43,7 +43,7 @@ masked_halves l h m small =
     ap (λ n. bit_and n m) e ∙ ap (λ n. bit_and (h * 2 ^ 32 + l) n) f ∙ and_block 32 h (m / 2 ^ 32) l (m % 2 ^ 32) small below
 
 -- a number is one of two halves alone
-quotient : (q t d : ℕ) → t < 2 ^ 32 → q * 2 ^ 32 + t ≡ d → (q ≡ d / 2 ^ 32) × (t ≡ d % 2 ^ 32)
+pub quotient : (q t d : ℕ) → t < 2 ^ 32 → q * 2 ^ 32 + t ≡ d → (q ≡ d / 2 ^ 32) × (t ≡ d % 2 ^ 32)
 quotient q t d small e = (omega arith, omega arith)
 
 fits : (l h : ℕ) → l < 2 ^ 32 → h < 2 ^ 32 → (l + 2 ^ 32 * h) % 2 ^ 64 ≡ l + 2 ^ 32 * h
@@ -112,7 +112,7 @@ module _ (r : List ℕ) (rec : IsRecord r) (known : List Lit) (so : All (λ l. H
       let below = half_low j in
       differ (quotient (bit_and (slice_index r (5 + 2 * j)) (m / 2 ^ 32)) (bit_and (slice_index r (4 + 2 * j)) (m % 2 ^ 32)) d (omega (arith, small, below)) e).1
 
-  whole : (j : ℕ) → bit_and (argument r j) all_64_bits ≡ argument r j
+  pub whole : (j : ℕ) → bit_and (argument r j) all_64_bits ≡ argument r j
   whole j = and_mask (argument r j) 64
       ∙ fits (slice_index r (4 + 2 * j)) (slice_index r (5 + 2 * j)) (rec.words (4 + 2 * j)) (rec.words (5 + 2 * j))
 
@@ -156,7 +156,7 @@ module _ (r : List ℕ) (rec : IsRecord r) (known : List Lit) (so : All (λ l. H
   no_by Gt j value datum h = order_no Gt j value datum tt h
 
   -- a word that is known whole
-  word_is : (w n : ℕ) → Entails known (Bits w all_bits n) → slice_index r w ≡ n
+  pub word_is : (w n : ℕ) → Entails known (Bits w all_bits n) → slice_index r w ≡ n
   word_is w n h = sym (and_all (slice_index r w) (rec.words w)) ∙ entailed_is_true r rec known so (Bits w all_bits n) h
 
   word_is_not : (w n : ℕ) → Entails known (NotBits w all_bits n) → slice_index r w ≢ n

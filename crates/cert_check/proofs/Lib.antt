@@ -3,6 +3,10 @@ pub mod OutsLaws
 pub mod MetsLaws
 pub mod Agreement
 pub mod Follow
+pub mod StatedPoints
+pub mod StatedConditions
+pub mod StatedRules
+pub mod StatedRecords
 pub mod Right
 pub mod SoFar
 pub mod RulesLaws

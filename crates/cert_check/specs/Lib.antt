@@ -4,4 +4,5 @@ pub mod Rules
 pub mod Right
 pub mod Certified
 pub mod Checked
+pub mod Settled
 pub mod inner

@@ -1,6 +1,7 @@
 -- Mirrors of private code.
 pub mod Judged
 pub mod Marked
+pub mod Claimed
 pub mod Ways
 pub mod Broken
 pub mod Among

@@ -5,7 +5,7 @@ ghost use Rattle.call_tables.specs.declared.arch.Arch.{Arch as TheArch};
 ghost use Rattle.cert_state.specs.declared.literal.Lit.TheVariants.{Bits};
 ghost use Rattle.cert_state.specs.Literals.{all_bits};
 ghost use Rattle.cert_state.specs.Entailment.{Entails};
-ghost use Rattle.cert_form.specs.Views.{says};
+ghost use Rattle.cert_check.specs.inner.Claimed.{mets_of, outs_of};
 ghost use Rattle.cert_check.specs.Agree.{Agrees, AllAreYes, ForeignNumbersAgree, IsAmong, IsLeft, IsNoRule, IsYesRule, ListedAgrees, MachineAgrees, OneIsNo, RulesAgree};
 ghost use Rattle.cert_check.specs.inner.Judged.{AreKnownNumbers, Bears, IsAnswered, IsJudged, IsKnownNumber};
 
@@ -119,7 +119,7 @@ fn answer_at<'a, S: State>(
 ) -> (Judged, Answered<'a>)
     requires place { place < 8192 }
     requires last { IsAnswered (S.known facts.now.state.now) last }
-    ensures judged { let met = (says mets.now.node).met in let known = S.known facts.now.state.now in
+    ensures judged { let met = mets_of mets.now.node in let known = S.known facts.now.state.now in
         IsJudged (AllAreYes met known place rule.now.conds.items) (OneIsNo met known place rule.now.conds.items) result.0 }
     ensures answer { IsAnswered (S.known facts.now.state.now) result.1 }
 {
@@ -141,9 +141,9 @@ fn judge_rule<S: State>(
     conds: Judged,
 ) -> Judged
     requires number { IsKnownNumber (S.known facts.now.state.now) rule.now.nr number }
-    requires conds { let met = (says mets.now.node).met in let known = S.known facts.now.state.now in
+    requires conds { let met = mets_of mets.now.node in let known = S.known facts.now.state.now in
         IsJudged (AllAreYes met known place rule.now.conds.items) (OneIsNo met known place rule.now.conds.items) conds }
-    ensures { let met = (says mets.now.node).met in let known = S.known facts.now.state.now in
+    ensures { let met = mets_of mets.now.node in let known = S.known facts.now.state.now in
         IsJudged (IsYesRule met known place rule.now) (IsNoRule met known place rule.now) result }
 {
     match conds {
@@ -176,9 +176,9 @@ fn bearing_of<S: State>(
     word: Word,
     judged: Judged,
 ) -> Bearing
-    requires { let met = (says mets.now.node).met in let known = S.known facts.now.state.now in
+    requires { let met = mets_of mets.now.node in let known = S.known facts.now.state.now in
         IsJudged (IsYesRule met known place rule.now) (IsNoRule met known place rule.now) judged }
-    ensures { Bears (says mets.now.node).met (S.known facts.now.state.now) word place rule.now result }
+    ensures { Bears (mets_of mets.now.node) (S.known facts.now.state.now) word place rule.now result }
 {
     if rule.word == word {
         match judged {
@@ -205,7 +205,7 @@ fn is_for(rule: &Rule, arch: Arch) -> bool
 // Whether a rule at a place is for the machine, and is not said to be out.
 fn is_left(outs: &Outs<'_, '_>, place: usize, rule: &Rule, arch: Arch) -> bool
     requires { place < 8192 }
-    ensures { IsTrue result ↔ IsLeft (says outs.now.node).out arch place rule.now }
+    ensures { IsTrue result ↔ IsLeft (outs_of outs.now.node) arch place rule.now }
 {
     if !is_for(rule, arch) {
         return false;
@@ -227,7 +227,7 @@ fn weigh<'a, S: State>(
     requires place { place < 8192 }
     requires number { IsKnownNumber (S.known facts.now.state.now) rule.now.nr number }
     requires last { IsAnswered (S.known facts.now.state.now) last }
-    ensures bearing { Bears (says mets.now.node).met (S.known facts.now.state.now) word place rule.now result.0 }
+    ensures bearing { Bears (mets_of mets.now.node) (S.known facts.now.state.now) word place rule.now result.0 }
     ensures answer { IsAnswered (S.known facts.now.state.now) result.1 }
 {
     if number.other {
@@ -249,7 +249,7 @@ fn rules_agree<S: State>(
     word: Word,
     arch: Arch,
 ) -> bool
-    ensures { IsTrue result ↔ RulesAgree profile.now (says outs.now.node).out (says mets.now.node).met (S.known facts.now.state.now) word arch }
+    ensures { IsTrue result ↔ RulesAgree profile.now (outs_of outs.now.node) (mets_of mets.now.node) (S.known facts.now.state.now) word arch }
 {
     let mut others = false;
     let mut place = 0_usize;
@@ -307,7 +307,7 @@ fn machine_agrees<S: State>(
     word: Word,
     arch: Arch,
 ) -> bool
-    ensures { IsTrue result ↔ MachineAgrees profile.now (says outs.now.node).out (says mets.now.node).met (S.known facts.now.state.now) word arch }
+    ensures { IsTrue result ↔ MachineAgrees profile.now (outs_of outs.now.node) (mets_of mets.now.node) (S.known facts.now.state.now) word arch }
 {
     if !foreign_numbers_agree(facts, word, arch) {
         return false;
@@ -328,7 +328,7 @@ fn listed_agrees<S: State>(
     word: Word,
     arch: Arch,
 ) -> bool
-    ensures { IsTrue result ↔ ListedAgrees profile.now (says outs.now.node).out (says mets.now.node).met (S.known facts.now.state.now) word arch }
+    ensures { IsTrue result ↔ ListedAgrees profile.now (outs_of outs.now.node) (mets_of mets.now.node) (S.known facts.now.state.now) word arch }
 {
     if facts.entails(&Lit::NotBits(TOKEN, u32::MAX, arch.token())) {
         return true;
@@ -345,7 +345,7 @@ fn all_agree<S: State>(
     word: Word,
     machines: &[Arch],
 ) -> bool
-    ensures { IsTrue result ↔ All (ListedAgrees profile.now (says outs.now.node).out (says mets.now.node).met (S.known facts.now.state.now) word) machines.now }
+    ensures { IsTrue result ↔ All (ListedAgrees profile.now (outs_of outs.now.node) (mets_of mets.now.node) (S.known facts.now.state.now) word) machines.now }
 {
     for arch in machines {
         if !listed_agrees(profile, outs, mets, facts, word, *arch) {
@@ -382,7 +382,7 @@ pub(crate) fn agrees<S: State>(
     facts: &Facts<'_, S>,
     word: Word,
 ) -> bool
-    ensures { IsTrue result ↔ Agrees profile.now (says outs.now.node).out (says mets.now.node).met (S.known facts.now.state.now) word }
+    ensures { IsTrue result ↔ Agrees profile.now (outs_of outs.now.node) (mets_of mets.now.node) (S.known facts.now.state.now) word }
 {
     if !foreign_agrees(profile, facts, word) {
         return false;

@@ -1,7 +1,7 @@
 //! Whether what is known of a record settles a condition on an argument.
 ghost use Rattle.std.specs.Prelude.{◌≡◌, ◌↔◌, ◌<◌, ◌≤◌, ◌+◌, ◌*◌, ◌/◌, ◌%◌, ◌^◌, ◌⊎◌, IsTrue, MatchOption, length, true, false};
 ghost use Rattle.cert_state.specs.Points.{HasNoPoint};
-ghost use Rattle.cert_form.specs.Views.{says};
+ghost use Rattle.cert_check.specs.inner.Claimed.{mets_of};
 ghost use Rattle.cert_check.specs.Agree.{AllAreYes, AtBothEnds, HasBits, IsNo, IsYes, LacksBits, OneIsNo, SomeIsNo};
 ghost use Rattle.cert_check.specs.inner.Judged.{AreEnds, AreYes, IsJudged, IsNoNorMet, IsOrder, IsYesOrMet};
 
@@ -163,7 +163,7 @@ fn judge_unless_met<S: State>(
 ) -> Judged
     requires place { place < 8192 }
     requires own { own < 6 }
-    ensures { let met = (says mets.now.node).met in let known = S.known facts.now.state.now in
+    ensures { let met = mets_of mets.now.node in let known = S.known facts.now.state.now in
         IsJudged (IsYesOrMet met known place own cond.now) (IsNoNorMet met known place own cond.now) result }
 {
     if mets.has(place, own) {
@@ -181,7 +181,7 @@ pub(crate) fn judge_left<S: State>(
 ) -> Judged
     requires place { place < 8192 }
     requires few { length conds.now ≤ 6 }
-    ensures { let met = (says mets.now.node).met in let known = S.known facts.now.state.now in
+    ensures { let met = mets_of mets.now.node in let known = S.known facts.now.state.now in
         IsJudged (AllAreYes met known place conds.now) (OneIsNo met known place conds.now) result }
 {
     let mut all_yes = true;

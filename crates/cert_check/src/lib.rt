@@ -14,9 +14,11 @@ mod law;
 mod nodes;
 mod returned;
 mod root;
+mod settled;
 mod split;
 
 pub use checked::Checked;
 pub use checking::check;
 pub use fault::CheckError;
-pub use law::valid_is_right;
+pub use law::{stated_is_settled, valid_is_right};
+pub use settled::is_settled;

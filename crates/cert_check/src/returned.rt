@@ -6,6 +6,7 @@ ghost use Rattle.cert_form.specs.Views.{says};
 ghost use Rattle.cert_check.specs.Agree.{Agrees};
 ghost use Rattle.cert_check.specs.Rules.{word_by};
 ghost use Rattle.cert_check.specs.inner.Broken.{ReturnsAt};
+ghost use Rattle.cert_check.specs.inner.Claimed.{outs_of};
 
 use crate::agree::agrees;
 use crate::claims::{Mets, Outs, has_no_met, has_none, mark_mets, mark_outs};
@@ -33,7 +34,7 @@ fn word_of(insn: &Insn, regs: &Regs) -> Option<u32>
 // the node names something alone: so no other return makes room for it.
 #[inline(never)]
 fn agrees_by_mets(profile: &Profile, node: &NodeView<'_>, outs: &Outs<'_, '_>, word: Word) -> bool
-    requires { outs.now.node ≡ node.now }
+    requires { outs_of outs.now.node ≡ (says node.now).out }
     ensures { let n = says node.now in IsTrue result ↔ Agrees profile.now n.out n.met n.known word }
 {
     let facts = Facts::of(node);
@@ -44,12 +45,12 @@ fn agrees_by_mets(profile: &Profile, node: &NodeView<'_>, outs: &Outs<'_, '_>, w
 
 // Whether the profile says a word of all that a node knows, of which these rules are out.
 fn agrees_but_for(profile: &Profile, node: &NodeView<'_>, outs: &Outs<'_, '_>, word: Word) -> bool
-    requires { outs.now.node ≡ node.now }
+    requires { outs_of outs.now.node ≡ (says node.now).out }
     ensures { let n = says node.now in IsTrue result ↔ Agrees profile.now n.out n.met n.known word }
 {
     if has_no_met(node) {
         let facts = Facts::of(node);
-        return agrees(profile, outs, &Mets::none(node), &facts, word);
+        return agrees(profile, outs, &Mets::none(), &facts, word);
     }
     agrees_by_mets(profile, node, outs, word)
 }
@@ -72,7 +73,7 @@ fn returns(profile: &Profile, insn: &Insn, node: &NodeView<'_>) -> bool
         return false;
     };
     if has_none(node) {
-        return agrees_but_for(profile, node, &Outs::none(node), Word(word));
+        return agrees_but_for(profile, node, &Outs::none(), Word(word));
     }
     agrees_by_outs(profile, node, Word(word))
 }

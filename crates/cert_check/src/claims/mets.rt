@@ -2,6 +2,7 @@
 //! whether they are met on the way to it.
 ghost use Rattle.std.specs.Prelude.{◌≡◌, ◌↔◌, ◌+◌, ◌*◌, ◌<◌, ◌⊎◌, [], ℕ, Bool as TheBool, Contains, IsTrue, false, replicate, slice_index_or, true, ◌++◌, All, option_to_list};
 ghost use Rattle.cert_form.specs.Views.{says};
+ghost use Rattle.cert_check.specs.inner.Claimed.{mets_of};
 ghost use Rattle.cert_check.specs.inner.Marked.{AreMetMarked};
 ghost use Rattle.cert_check.specs.Agree.{IsYes};
 ghost use Rattle.cert_check.specs.Rules.{IsMetBy, known_on};
@@ -15,12 +16,12 @@ use cert_state::{Facts, State, With};
 use profile::{Cond, Profile};
 
 /// The conditions that a node says to be met, each marked at its place: a profile has at most 8,192 rules of at most six
-/// conditions.
+/// conditions. Without a node none is.
 #[derive(Clone, Copy)]
 pub(crate) struct Mets<'t, 'a> {
-    pub(crate) node: NodeView<'a>,
+    pub(crate) node: Option<NodeView<'a>>,
     marked: &'t [bool; 49152],
-    ghost whole: { AreMetMarked (says node).met marked.now },
+    ghost whole: { AreMetMarked (mets_of node) marked.now },
 }
 
 // No condition is marked.
@@ -57,15 +58,15 @@ pub(crate) fn mark_mets(node: &NodeView<'_>, marked: &mut [bool; 49152])
 impl<'t, 'a> Mets<'t, 'a> {
     ghost use Rattle.std.specs.Prelude.{◌≡◌, ◌↔◌, ◌<◌, [], ℕ, Contains, IsTrue};
     ghost use Rattle.cert_form.specs.Views.{says};
+    ghost use Rattle.cert_check.specs.inner.Claimed.{mets_of};
     ghost use Rattle.cert_check.specs.inner.Marked.{AreMetMarked};
 
-    /// Of a node that says no condition to be met.
-    pub(crate) fn none(node: &NodeView<'a>) -> Mets<'t, 'a>
-        requires { (says node.now).met ≡ [] }
-        ensures { result.node ≡ node.now }
+    /// No condition is said to be met.
+    pub(crate) fn none() -> Mets<'t, 'a>
+        ensures { mets_of result.node ≡ [] }
     {
         Mets {
-            node: *node,
+            node: None,
             marked: NO_CONDITION,
         }
     }
@@ -73,10 +74,10 @@ impl<'t, 'a> Mets<'t, 'a> {
     /// The conditions that a node says to be met, by its table.
     pub(crate) fn of(node: &NodeView<'a>, marked: &'t [bool; 49152]) -> Mets<'t, 'a>
         requires { AreMetMarked (says node.now).met marked.now }
-        ensures { result.node ≡ node.now }
+        ensures { mets_of result.node ≡ (says node.now).met }
     {
         Mets {
-            node: *node,
+            node: Some(*node),
             marked,
         }
     }
@@ -85,7 +86,7 @@ impl<'t, 'a> Mets<'t, 'a> {
     pub(crate) fn has(&self, rule: usize, own: usize) -> bool
         requires rule { rule < 8192 }
         requires own { own < 6 }
-        ensures { IsTrue result ↔ Contains (says self.now.node).met (rule, own) }
+        ensures { IsTrue result ↔ Contains (mets_of self.now.node) (rule, own) }
     {
         self.marked[6 * rule + own]
     }
@@ -93,7 +94,7 @@ impl<'t, 'a> Mets<'t, 'a> {
     /// Whether some condition of the rule at a place is.
     pub(crate) fn has_some(&self, rule: usize) -> bool
         requires { rule < 8192 }
-        ensures { IsTrue result ↔ ((own : ℕ) × (own < 6) × Contains (says self.now.node).met (rule, own)) }
+        ensures { IsTrue result ↔ ((own : ℕ) × (own < 6) × Contains (mets_of self.now.node) (rule, own)) }
     {
         for own in 0..6_usize {
             if self.has(rule, own) {
@@ -130,7 +131,7 @@ fn is_met<S: State>(
     here: &Mets<'_, '_>,
     place: (u32, u32),
 ) -> bool
-    ensures { IsTrue result ↔ IsMetBy profile.now (says here.now.node).met (S.known facts.now.state.now) place }
+    ensures { IsTrue result ↔ IsMetBy profile.now (mets_of here.now.node) (S.known facts.now.state.now) place }
 {
     let rules = profile.rules();
     let at = place.0 as usize;
@@ -155,7 +156,7 @@ fn all_are_met<S: State>(
     here: &Mets<'_, '_>,
     there: &NodeView<'_>,
 ) -> bool
-    ensures { IsTrue result ↔ All (IsMetBy profile.now (says here.now.node).met
+    ensures { IsTrue result ↔ All (IsMetBy profile.now (mets_of here.now.node)
         (S.known known.now.state.now ++ option_to_list known.now.more)) (says there.now).met }
 {
     let facts = Facts::of(known);
@@ -186,7 +187,7 @@ pub(crate) fn mets_follow(
         more: way.fact,
     };
     if has_no_met(node) {
-        return all_are_met(profile, &known, &Mets::none(node), there);
+        return all_are_met(profile, &known, &Mets::none(), there);
     }
     let mut marked = [false; 49152];
     mark_mets(node, &mut marked);

@@ -1,6 +1,7 @@
 //! The rules that a node says to be out, by their places in the profile's order, and whether they are out on the way to it.
 ghost use Rattle.std.specs.Prelude.{◌≡◌, ◌↔◌, ◌<◌, ◌⊎◌, [], ℕ, All, Bool as TheBool, Contains, IsTrue, false, replicate, slice_index_or, true, ◌++◌, Some, length, option_to_list, slice_get};
 ghost use Rattle.cert_form.specs.Views.{says};
+ghost use Rattle.cert_check.specs.inner.Claimed.{outs_of};
 ghost use Rattle.cert_check.specs.inner.Marked.{AreMarked};
 ghost use Rattle.profile.specs.declared.rules.Rule.{Rule as TheRule};
 ghost use Rattle.cert_check.specs.Agree.{IsRefuted, SomeIsNo};
@@ -15,12 +16,12 @@ use cert_form::NodeView;
 use cert_state::{Facts, Lit, State, With};
 use profile::{Profile, Rule};
 
-/// The rules that a node says to be out, each marked at its place: a profile has at most 8,192 rules.
+/// The rules that a node says to be out, each marked at its place: a profile has at most 8,192 rules. Without a node none is.
 #[derive(Clone, Copy)]
 pub(crate) struct Outs<'t, 'a> {
-    pub(crate) node: NodeView<'a>,
+    pub(crate) node: Option<NodeView<'a>>,
     marked: &'t [bool; 8192],
-    ghost whole: { AreMarked (says node).out marked.now },
+    ghost whole: { AreMarked (outs_of node) marked.now },
 }
 
 // No rule is marked.
@@ -52,15 +53,15 @@ pub(crate) fn mark_outs(node: &NodeView<'_>, marked: &mut [bool; 8192])
 impl<'t, 'a> Outs<'t, 'a> {
     ghost use Rattle.std.specs.Prelude.{◌≡◌, ◌↔◌, ◌<◌, [], Contains, IsTrue};
     ghost use Rattle.cert_form.specs.Views.{says};
+    ghost use Rattle.cert_check.specs.inner.Claimed.{outs_of};
     ghost use Rattle.cert_check.specs.inner.Marked.{AreMarked};
 
-    /// Of a node that says no rule to be out.
-    pub(crate) fn none(node: &NodeView<'a>) -> Outs<'t, 'a>
-        requires { (says node.now).out ≡ [] }
-        ensures { result.node ≡ node.now }
+    /// No rule is said to be out.
+    pub(crate) fn none() -> Outs<'t, 'a>
+        ensures { outs_of result.node ≡ [] }
     {
         Outs {
-            node: *node,
+            node: None,
             marked: NO_RULE,
         }
     }
@@ -68,10 +69,10 @@ impl<'t, 'a> Outs<'t, 'a> {
     /// The rules that a node says to be out, by its table.
     pub(crate) fn of(node: &NodeView<'a>, marked: &'t [bool; 8192]) -> Outs<'t, 'a>
         requires { AreMarked (says node.now).out marked.now }
-        ensures { result.node ≡ node.now }
+        ensures { outs_of result.node ≡ (says node.now).out }
     {
         Outs {
-            node: *node,
+            node: Some(*node),
             marked,
         }
     }
@@ -79,7 +80,7 @@ impl<'t, 'a> Outs<'t, 'a> {
     /// Whether the rule at a place is said to be out.
     pub(crate) fn has(&self, place: usize) -> bool
         requires { place < 8192 }
-        ensures { IsTrue result ↔ Contains (says self.now.node).out place }
+        ensures { IsTrue result ↔ Contains (outs_of self.now.node) place }
     {
         self.marked[place]
     }
@@ -135,7 +136,7 @@ fn refutes<S: State>(facts: &Facts<'_, S>, rule: &Rule, conds: Judged) -> bool
 // Whether a rule at a place is said to be out by the one node and not by the other.
 fn is_new(here: &Outs<'_, '_>, there: &Outs<'_, '_>, place: usize) -> bool
     requires { place < 8192 }
-    ensures { IsTrue result ↔ Contains (says there.now.node).out place × (Contains (says here.now.node).out place → ⊥) }
+    ensures { IsTrue result ↔ Contains (outs_of there.now.node) place × (Contains (outs_of here.now.node) place → ⊥) }
 {
     if here.has(place) {
         return false;
@@ -151,7 +152,7 @@ fn all_are_out<S: State>(
     there: &Outs<'_, '_>,
 ) -> bool
     ensures { IsTrue result ↔ ((k : ℕ) (rule : TheRule) → slice_get profile.now.rules k ≡ Some rule
-        → IsOutThen (says here.now.node).out (says there.now.node).out (S.known known.now.state.now ++ option_to_list known.now.more) k rule) }
+        → IsOutThen (outs_of here.now.node) (outs_of there.now.node) (S.known known.now.state.now ++ option_to_list known.now.more) k rule) }
 {
     let facts = Facts::of(known);
     let mut last = Answered {
@@ -194,7 +195,7 @@ pub(crate) fn outs_follow(
     mark_outs(there, &mut newly);
     let there = Outs::of(there, &newly);
     if has_none(node) {
-        return all_are_out(profile, &known, &Outs::none(node), &there);
+        return all_are_out(profile, &known, &Outs::none(), &there);
     }
     let mut marked = [false; 8192];
     mark_outs(node, &mut marked);

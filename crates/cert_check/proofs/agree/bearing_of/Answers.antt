@@ -1,6 +1,6 @@
 use Rattle.std.proofs.Common.{sym, subst, inl, inr}
 use Rattle.std.proofs.lemmas.Bool.{eqb-true, eqb-false}
-use Rattle.cert_form.specs.Views.{says}
+use Rattle.cert_check.specs.inner.Claimed.{mets_of}
 use Rattle.cert_check.specs.Agree.{IsYesRule, IsNoRule}
 use Rattle.cert_check.specs.inner.Judged.{IsJudged}
 use Rattle.cert_check.proofs.agree.bearing_of.Goals as goal
@@ -8,7 +8,7 @@ use Rattle.cert_check.proofs.agree.bearing_of.Goals as goal
 pub returns-in-No-judged : goal.returns-in-No-judged
 returns-in-No-judged g c =
     let known = g.S.State.known c.args.facts.now.state.now in
-    let met = (says c.args.mets.now.node).met in
+    let met = mets_of c.args.mets.now.node in
     let place = c.args.place in
     let rule = c.args.rule.now in
     let fails = subst (IsJudged (IsYesRule met known place rule) (IsNoRule met known place rule)) c.in-No-judged.is c.requires in
@@ -17,7 +17,7 @@ returns-in-No-judged g c =
 pub returns-in-Yes : goal.returns-in-Yes
 returns-in-Yes g c =
     let known = g.S.State.known c.args.facts.now.state.now in
-    let met = (says c.args.mets.now.node).met in
+    let met = mets_of c.args.mets.now.node in
     let place = c.args.place in
     let rule = c.args.rule.now in
     let holds = subst (IsJudged (IsYesRule met known place rule) (IsNoRule met known place rule)) c.in-Yes.is c.requires in
@@ -26,7 +26,7 @@ returns-in-Yes g c =
 pub returns-in-No : goal.returns-in-No
 returns-in-No g c =
     let known = g.S.State.known c.args.facts.now.state.now in
-    let met = (says c.args.mets.now.node).met in
+    let met = mets_of c.args.mets.now.node in
     let place = c.args.place in
     let rule = c.args.rule.now in
     let fails = subst (IsJudged (IsYesRule met known place rule) (IsNoRule met known place rule)) c.in-No.is c.requires in
@@ -35,7 +35,7 @@ returns-in-No g c =
 pub returns-in-Open : goal.returns-in-Open
 returns-in-Open g c =
     let known = g.S.State.known c.args.facts.now.state.now in
-    let met = (says c.args.mets.now.node).met in
+    let met = mets_of c.args.mets.now.node in
     let place = c.args.place in
     let rule = c.args.rule.now in
     let neither = subst (IsJudged (IsYesRule met known place rule) (IsNoRule met known place rule)) c.in-Open.is c.requires in
@@ -44,7 +44,7 @@ returns-in-Open g c =
 pub returns-in-Yes-judged : goal.returns-in-Yes-judged
 returns-in-Yes-judged g c =
     let known = g.S.State.known c.args.facts.now.state.now in
-    let met = (says c.args.mets.now.node).met in
+    let met = mets_of c.args.mets.now.node in
     let place = c.args.place in
     let rule = c.args.rule.now in
     let holds = subst (IsJudged (IsYesRule met known place rule) (IsNoRule met known place rule)) c.in-Yes-judged.is c.requires in
@@ -53,7 +53,7 @@ returns-in-Yes-judged g c =
 pub returns-in-Open-judged : goal.returns-in-Open-judged
 returns-in-Open-judged g c =
     let known = g.S.State.known c.args.facts.now.state.now in
-    let met = (says c.args.mets.now.node).met in
+    let met = mets_of c.args.mets.now.node in
     let place = c.args.place in
     let rule = c.args.rule.now in
     let neither = subst (IsJudged (IsYesRule met known place rule) (IsNoRule met known place rule)) c.in-Open-judged.is c.requires in

@@ -4,7 +4,7 @@ use Rattle.std.proofs.lemmas.List.{get_or-replicate}
 use Rattle.std.proofs.lemmas.Bool.{eqb-true, eq-eqb}
 use Rattle.std.proofs.lemmas.Option.{slice_get-get_or}
 use Rattle.profile.specs.declared.rules.Rule.{Rule}
-use Rattle.cert_form.specs.Views.{says}
+use Rattle.cert_check.specs.inner.Claimed.{mets_of, outs_of}
 use Rattle.cert_check.specs.Agree.{IsLeft}
 use Rattle.cert_check.specs.inner.Judged.{AreKnownNumbers, Bears, IsAnswered, IsKnownNumber, RulesSoFar}
 use Rattle.cert_check.specs.declared.judged.Number.{Number}
@@ -40,8 +40,8 @@ is_left-requires g c =
 pub returns-in-Settles : goal.returns-in-Settles
 returns-in-Settles g c =
     let rule = c.rule-item.result in
-    let out = (says c.args.outs.now.node).out in
-    let met = (says c.args.mets.now.node).met in
+    let out = outs_of c.args.outs.now.node in
+    let met = mets_of c.args.mets.now.node in
     let n = c.loop-rule.rule-index in
     let here : slice_get c.rules-rule-items.result.now n ≡ Some rule =
     slice_get-get_or c.rules-rule-items.result.now n rule c.loop-rule-test.true ∙ ap Some (sym c.rule-item.is) in
@@ -57,8 +57,8 @@ returns-in-Settles g c =
 pub loop-rule-preserved : goal.loop-rule-preserved
 loop-rule-preserved g c =
     let known = g.S.State.known c.args.facts.now.state.now in
-    let out = (says c.args.outs.now.node).out in
-    let met = (says c.args.mets.now.node).met in
+    let out = outs_of c.args.outs.now.node in
+    let met = mets_of c.args.mets.now.node in
     let rules = c.rules-rule-items.result.now in
     let n = c.loop-rule.rule-index in
     let rule = c.rule-item.result in
@@ -100,8 +100,8 @@ loop-rule-preserved g c =
 pub returns-then-others : goal.returns-then-others
 returns-then-others g c =
     let known = g.S.State.known c.args.facts.now.state.now in
-    let out = (says c.args.outs.now.node).out in
-    let met = (says c.args.mets.now.node).met in
+    let out = outs_of c.args.outs.now.node in
+    let met = mets_of c.args.mets.now.node in
     let policy = c.args.profile.now in
     let same = c.rules-rule-items.ensures.rules in
     let size = ap length same in
@@ -115,8 +115,8 @@ returns-then-others g c =
 pub returns : goal.returns
 returns g c =
     let known = g.S.State.known c.args.facts.now.state.now in
-    let out = (says c.args.outs.now.node).out in
-    let met = (says c.args.mets.now.node).met in
+    let out = outs_of c.args.outs.now.node in
+    let met = mets_of c.args.mets.now.node in
     let policy = c.args.profile.now in
     let same = c.rules-rule-items.ensures.rules in
     let size = ap length same in

@@ -1,11 +1,11 @@
 use Rattle.std.proofs.Common.{◌≡◌}
-use Rattle.cert_form.specs.Views.{says}
+use Rattle.cert_check.specs.inner.Claimed.{mets_of, outs_of}
 use Rattle.cert_check.specs.inner.Judged.{AreKnownNumbers, IsAnswered, RulesSoFar}
 use Rattle.cert_check.proofs.agree.rules_agree.Given as goal
 
 abbrev pub invariant-loop-rule : goal.invariant-loop-rule
 invariant-loop-rule g l = record {
-  rules : RulesSoFar (says l.outs.node).out (says l.mets.node).met (g.S.State.known l.facts.state.now) l.word l.arch l.rule-items l.rule-index l.others;
+  rules : RulesSoFar (outs_of l.outs.node) (mets_of l.mets.node) (g.S.State.known l.facts.state.now) l.word l.arch l.rule-items l.rule-index l.others;
   place : l.place ≡ l.rule-index;
   numbers : AreKnownNumbers (g.S.State.known l.facts.state.now) l.numbers;
   last : IsAnswered (g.S.State.known l.facts.state.now) l.last;

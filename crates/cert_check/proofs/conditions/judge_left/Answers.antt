@@ -1,7 +1,7 @@
 use Rattle.std.proofs.Common.{◌≡◌, ◌+◌, true, false, refl, sym, subst, ap, ◌∙◌, arith}
 use Rattle.std.specs.Prelude.{Some}
 use Rattle.std.proofs.lemmas.Option.{slice_get-get_or}
-use Rattle.cert_form.specs.Views.{says}
+use Rattle.cert_check.specs.inner.Claimed.{mets_of}
 use Rattle.cert_check.specs.inner.Judged.{IsNoNorMet, IsYesOrMet, LeftSoFar}
 use Rattle.cert_check.proofs.RulesLaws.{each_at}
 use Rattle.cert_check.proofs.SoFar.{left_is_yes, left_is_open}
@@ -25,7 +25,7 @@ judge_unless_met-requires-clause-own g c =
 pub returns-in-No : goal.returns-in-No
 returns-in-No g c =
     let known = g.S.State.known c.args.facts.now.state.now in
-    let met = (says c.args.mets.now.node).met in
+    let met = mets_of c.args.mets.now.node in
     let conds = c.args.conds.now in
     let n = c.loop-cond.cond-index in
     let no = subst (λ k. IsNoNorMet met known c.args.place k c.cond-item.result) c.loop-cond.invariant.own c.in-No.ensures in
@@ -40,7 +40,7 @@ returns-in-No g c =
 pub loop-cond-preserved : goal.loop-cond-preserved
 loop-cond-preserved g c =
     let known = g.S.State.known c.args.facts.now.state.now in
-    let met = (says c.args.mets.now.node).met in
+    let met = mets_of c.args.mets.now.node in
     let conds = c.args.conds.now in
     let n = c.loop-cond.cond-index in
     let so = c.loop-cond.invariant.conditions in
@@ -68,7 +68,7 @@ loop-cond-preserved g c =
 pub returns-else-all_yes : goal.returns-else-all_yes
 returns-else-all_yes g c =
     let known = g.S.State.known c.args.facts.now.state.now in
-    let met = (says c.args.mets.now.node).met in
+    let met = mets_of c.args.mets.now.node in
     let so = c.loop-cond.invariant.conditions in (
       so.not_all c.if-all_yes.false,
       λ one. each_at (λ k x. IsNoNorMet met known c.args.place k x → ⊥) c.args.conds.now c.loop-cond.cond-index one.own one.cond
@@ -78,7 +78,7 @@ returns-else-all_yes g c =
 pub returns-then-all_yes : goal.returns-then-all_yes
 returns-then-all_yes g c =
     let known = g.S.State.known c.args.facts.now.state.now in
-    let met = (says c.args.mets.now.node).met in
+    let met = mets_of c.args.mets.now.node in
     let so = c.loop-cond.invariant.conditions in
     λ own cond stands. each_at (λ k x. IsYesOrMet met known c.args.place k x) c.args.conds.now c.loop-cond.cond-index own cond
     (omega (arith, c.loop-cond-test.false)) stands (so.yes_so_far c.if-all_yes.true)

@@ -3,7 +3,7 @@ use Rattle.std.specs.Prelude.{Some, slice_get}
 use Rattle.std.proofs.lemmas.Option.{slice_get-get_or, slice_get_within, same_Some}
 use Rattle.profile.specs.declared.conditions.Cond.{Cond}
 use Rattle.profile.specs.declared.rules.Rule.{Rule}
-use Rattle.cert_form.specs.Views.{says}
+use Rattle.cert_check.specs.inner.Claimed.{mets_of}
 use Rattle.cert_check.proofs.Elements.{element_at}
 use Rattle.cert_check.proofs.MetsLaws.{met_by}
 use Rattle.cert_check.proofs.claims.mets.is_met.Goals as goal
@@ -35,7 +35,7 @@ returns-then-own-conds g c =
 pub returns-then-has : goal.returns-then-has
 returns-then-has g c =
     let known = g.S.State.known c.args.facts.now.state.now in
-    let met = (says c.args.here.now.node).met in
+    let met = mets_of c.args.here.now.node in
     let place = c.args.place in
     let rule = c.index-rules-at.result in
     let rules = c.rules-rules.result.now in
@@ -49,7 +49,7 @@ returns-then-has g c =
 pub returns : goal.returns
 returns g c =
     let known = g.S.State.known c.args.facts.now.state.now in
-    let met = (says c.args.here.now.node).met in
+    let met = mets_of c.args.here.now.node in
     let place = c.args.place in
     let rule = c.index-rules-at.result in
     let rules = c.rules-rules.result.now in

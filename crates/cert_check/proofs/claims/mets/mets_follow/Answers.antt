@@ -1,4 +1,4 @@
-use Rattle.std.proofs.Common.{ℕ, refl, sym, subst}
+use Rattle.std.proofs.Common.{ℕ, refl, sym, subst, ◌∙◌}
 use Rattle.std.specs.Prelude.{All}
 use Rattle.std.proofs.lemmas.List.Elements.{All-nil}
 use Rattle.cert_form.specs.Views.{says}
@@ -12,7 +12,8 @@ returns-then-has_no_met c =
     (λ _. subst (All P) (sym (c.if-has_no_met.ensures.0 refl)) (All-nil P), λ _. refl)
 
 pub returns-then-has_no_met-2 : goal.returns-then-has_no_met-2
-returns-then-has_no_met-2 c = simp c.none.ensures at c.all_are_met.ensures
+returns-then-has_no_met-2 c =
+    let none = c.none.ensures ∙ sym (c.if-has_no_met-2.ensures.0 refl) in simp none at c.all_are_met.ensures
 
 pub returns : goal.returns
 returns c = simp c.of.ensures at c.all_are_met-2.ensures

@@ -3,7 +3,7 @@ use Rattle.std.specs.Prelude.{Some, slice_get, option_to_list, Contains}
 use Rattle.std.proofs.lemmas.Option.{slice_get-get_or}
 use Rattle.profile.specs.declared.conditions.Cond.{Cond}
 use Rattle.profile.specs.declared.rules.Rule.{Rule}
-use Rattle.cert_form.specs.Views.{says}
+use Rattle.cert_check.specs.inner.Claimed.{outs_of}
 use Rattle.cert_check.specs.Agree.{SomeIsNo}
 use Rattle.cert_check.specs.inner.Judged.{AreOutSoFar, AreYes, IsAnswered, IsJudged, IsOutThen}
 use Rattle.cert_check.proofs.OutsLaws.{not_new}
@@ -43,8 +43,8 @@ returns-then-not-refutes g c = (
   λ t. let e : false ≡ true = t in cc,
   λ all.
       let rule = c.rule-item.result in
-      let here = (says c.args.here.now.node).out in
-      let there = (says c.args.there.now.node).out in
+      let here = outs_of c.args.here.now.node in
+      let there = outs_of c.args.there.now.node in
       let n = c.loop-rule.rule-index in
       let place = c.loop-rule.invariant.place in
       let at : slice_get c.rules-rule-items.result.now n ≡ Some rule =
@@ -60,8 +60,8 @@ returns-then-not-refutes g c = (
 pub loop-rule-preserved : goal.loop-rule-preserved
 loop-rule-preserved g c =
     let known = g.S.State.known c.args.known.now.state.now ++ option_to_list c.args.known.now.more in
-    let here = (says c.args.here.now.node).out in
-    let there = (says c.args.there.now.node).out in
+    let here = outs_of c.args.here.now.node in
+    let there = outs_of c.args.there.now.node in
     let rules = c.rules-rule-items.result.now in
     let n = c.loop-rule.rule-index in
     let rule = c.rule-item.result in
@@ -88,8 +88,8 @@ loop-rule-preserved g c =
 pub returns : goal.returns
 returns g c =
     let known = g.S.State.known c.args.known.now.state.now ++ option_to_list c.args.known.now.more in
-    let here = (says c.args.here.now.node).out in
-    let there = (says c.args.there.now.node).out in
+    let here = outs_of c.args.here.now.node in
+    let there = outs_of c.args.there.now.node in
     let n = c.loop-rule.rule-index in
     let same = c.rules-rule-items.ensures.rules in
     let size = ap length same in

@@ -1,4 +1,4 @@
-use Rattle.std.proofs.Common.{◌≡◌, ◌<◌, ℕ, true, false, length, refl, sym, subst, ap}
+use Rattle.std.proofs.Common.{◌≡◌, ◌<◌, ℕ, true, false, length, refl, sym, subst, ap, ◌∙◌}
 use Rattle.std.specs.Prelude.{All}
 use Rattle.std.proofs.lemmas.List.Elements.{All-nil}
 use Rattle.cert_form.specs.Views.{says}
@@ -30,7 +30,8 @@ returns-then-has_none-2 c =
     let n = says c.args.node.now in
     let e = edge_of c.args.way.now in
     let m = says c.args.there.now in
-    let told = simp (c.none.ensures, c.of-there.ensures) at c.all_are_out.ensures in
+    let none = c.none.ensures ∙ sym (c.if-has_none-2.ensures.0 refl) in
+    let told = simp (none, c.of-there.ensures) at c.all_are_out.ensures in
     (λ t. all_out policy n e m below (told.0 t), λ all. told.1 (out_of_each policy n e m all))
 
 pub returns : goal.returns

@@ -1,0 +1,18 @@
+//! What is settled by what is known alone.
+ghost use Rattle.std.specs.Prelude.{◌↔◌, [], IsTrue};
+ghost use Rattle.cert_check.specs.Agree.{Agrees};
+
+use crate::agree::agrees;
+use crate::claims::{Mets, Outs};
+use call_record::Word;
+use cert_state::{Facts, State};
+use profile::Profile;
+
+/// Whether the profile says a word of each record of which a state knows: the rule of returns, where no rule is said to be
+/// out and no condition to be met.
+pub fn is_settled<S: State>(profile: &Profile, state: &S, word: Word) -> bool
+    ensures { IsTrue result ↔ Agrees profile.now [] [] (S.known state.now) word }
+{
+    let facts = Facts::of(state);
+    agrees(profile, &Outs::none(), &Mets::none(), &facts, word)
+}
