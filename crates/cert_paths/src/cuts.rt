@@ -120,7 +120,7 @@ fn cut_of_rule(known: &Known<'_>, rule: &Rule) -> Option<Cut> {
     if entails(known, &Lit::NotBits(NUMBER, u32::MAX, rule.nr)) {
         return None;
     }
-    for cond in &rule.conds {
+    for cond in rule.conds.as_slice() {
         if let Some(cut) = cut_of_condition(known, cond) {
             return Some(cut);
         }
