@@ -1,1 +1,3 @@
 pub mod ChainFacts
+pub mod NodeLaws
+pub mod GrowLaws
