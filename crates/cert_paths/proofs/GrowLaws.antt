@@ -39,6 +39,17 @@ pub longer_back : {X : Type 0} (xs ys : List X) (k : ℕ) (x : X) → IsLonger x
     → slice_get xs k ≡ Some x
 longer_back xs ys k x (m, e) low there = sym (slice_get_left xs m k low) ∙ ap (λ zs. slice_get zs k) (sym e) ∙ there
 
+-- what stands in a list with one element more
+pub at_push : {X : Type 0} (xs : List X) (y : X) (j : ℕ) (x : X) → slice_get (xs ++ y ∷ []) j ≡ Some x
+    → (slice_get xs j ≡ Some x) ⊎ ((j ≡ length xs) × (y ≡ x))
+at_push [] y zero x h = inr (refl, same_Some y x h)
+at_push [] y (suc j) x h = cc
+at_push (z ∷ xs) y zero x h = inl h
+at_push (z ∷ xs) y (suc j) x h = ⊎_elim
+    (λ (old : slice_get xs j ≡ Some x). inl old)
+    (λ (new : (j ≡ length xs) × (y ≡ x)). inr (ap suc new.0, new.1))
+    (at_push xs y j x h)
+
 -- what holds of each element holds of the one at a place
 pub all_at : {X : Type 0} (P : X → Type 0) (xs : List X) (k : ℕ) (x : X) → All P xs → slice_get xs k ≡ Some x → P x
 all_at P xs k x all there = All-contains P xs x all (contains_at xs k x there)
@@ -158,13 +169,3 @@ kept_push policy p s t from kind kept here keeps es ps ks k place does there don
       λ ns at. subst (λ es. Keeps policy p ns k (node_of es place does)) (sym es)
           (keeps ns (subst (λ xs. AreAt ns s.entries.items xs) ps (subst (λ xs. AreAt ns xs t.places.items) es at))),
     )
-
-    at_push : {X : Type 0} (xs : List X) (y : X) (j : ℕ) (x : X) → slice_get (xs ++ y ∷ []) j ≡ Some x
-        → (slice_get xs j ≡ Some x) ⊎ ((j ≡ length xs) × (y ≡ x))
-    at_push [] y zero x h = inr (refl, same_Some y x h)
-    at_push [] y (suc j) x h = cc
-    at_push (z ∷ xs) y zero x h = inl h
-    at_push (z ∷ xs) y (suc j) x h = ⊎_elim
-        (λ (old : slice_get xs j ≡ Some x). inl old)
-        (λ (new : (j ≡ length xs) × (y ≡ x)). inr (ap suc new.0, new.1))
-        (at_push xs y j x h)

@@ -1,3 +1,4 @@
 pub mod ChainFacts
 pub mod NodeLaws
 pub mod GrowLaws
+pub mod PathLaws

@@ -5,7 +5,7 @@ ghost use Rattle.profile.specs.Policy.{Policy};
 ghost use Rattle.cert_state.specs.Literals.{IsLit, IsValue};
 ghost use Rattle.cert_paths.specs.Fault.{IsSize};
 ghost use Rattle.cert_paths.specs.Kept.{IsValidCertificate};
-ghost use Rattle.cert_paths.specs.inner.Places.{AreInside, AreKept, ArePaths, IsAdded, IsLearned, IsPlace};
+ghost use Rattle.cert_paths.specs.inner.Places.{AreInside, AreKept, AreNodes, ArePaths, IsAdded, IsLearned, IsPlace};
 ghost use Rattle.std.specs.Prelude.{List};
 
 use crate::chain::{Known, regs};
@@ -110,7 +110,9 @@ impl Paths {
     }
 
     // The nodes of all places.
-    fn nodes(&self, alloc: Global) -> Result<Vec<ChainNode>, AllocError> {
+    fn nodes(&self, alloc: Global) -> Result<Vec<ChainNode>, AllocError>
+        ensures { IfOk result (λ nodes. AreNodes self.now.places.items self.now.kinds.items nodes.items) }
+    {
         let mut nodes = Vec::new(alloc);
         for (place, kind) in self.places.iter().zip(self.kinds.iter()) {
             nodes.push(ChainNode {
