@@ -2,3 +2,5 @@ pub mod ChainFacts
 pub mod NodeLaws
 pub mod GrowLaws
 pub mod PathLaws
+pub mod ListedLaws
+pub mod WholeLaws
