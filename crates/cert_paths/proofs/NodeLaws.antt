@@ -1,11 +1,10 @@
 -- The nodes of places keep the rules.
-use Rattle.std.proofs.Common.{◌≡◌, ℕ, suc, zero, ◌+◌, ◌/◌, ◌<◌, true, false, List, [], ◌∷◌, ◌++◌, length, get_or}
-use Rattle.std.proofs.Common.{sym, refl, ap, subst, ◌∙◌, arith, inl, inr, ◌⊎◌, ⊎_elim}
+use Rattle.std.proofs.Common.{◌≡◌, ℕ, ◌+◌, ◌/◌, ◌<◌, true, false, List, [], ◌∷◌, ◌++◌, get_or}
+use Rattle.std.proofs.Common.{sym, refl, ap, subst, ◌∙◌, inl, inr, ⊎_elim}
 use Rattle.std.specs.Prelude.{Option, Some, None, slice_get, slice_index_or, Contains, option_to_list, All, bit_and}
 use Rattle.std.proofs.lemmas.Option.{same_Some, get_or_from_slice_get}
 use Rattle.std.proofs.lemmas.List.Elements.{All-cons, All-nil, Contains-append_left, Contains-append_right, Contains-append_cases}
 use Rattle.bpf_insn.specs.declared.code.Arithmetic.TheVariants.{And}
-use Rattle.bpf_insn.specs.declared.code.Operation.{Operation}
 use Rattle.bpf_insn.specs.declared.code.Operation.TheVariants.{LoadWord, ReturnK, Jump, Branch, Compute}
 use Rattle.bpf_insn.specs.declared.code.Operand.TheVariants.{K}
 use Rattle.bpf_insn.specs.declared.code.Test.{Test}
@@ -14,11 +13,11 @@ use Rattle.bpf_insn.specs.Code.{operation_of}
 use Rattle.profile.specs.Policy.{Policy}
 use Rattle.cert_state.specs.declared.literal.Lit.{Lit}
 use Rattle.cert_state.specs.declared.literal.AVal.{AVal}
-use Rattle.cert_state.specs.declared.literal.AVal.TheVariants.{Unknown, Const, Masked}
+use Rattle.cert_state.specs.declared.literal.AVal.TheVariants.{Unknown, Masked}
 use Rattle.cert_state.specs.declared.literal.Regs.{Regs}
 use Rattle.cert_state.specs.Literals.{all_bits}
 use Rattle.cert_state.specs.Entailment.{Entails, IsDead}
-use Rattle.cert_state.specs.Transfer.{edge_fact, transfer, transfer_if}
+use Rattle.cert_state.specs.Transfer.{edge_fact, transfer_if}
 use Rattle.cert_form.specs.declared.node.Kind.{Kind}
 use Rattle.cert_form.specs.declared.node.Kind.TheVariants.{Step, Split, Return, Dead}
 use Rattle.cert_form.specs.Nodes.{PlainNode}

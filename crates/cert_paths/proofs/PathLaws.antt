@@ -1,20 +1,19 @@
 -- Places and entries stay such as they are added.
-use Rattle.std.proofs.Common.{◌≡◌, ℕ, suc, zero, ◌+◌, ◌<◌, ◌≤◌, ◌^◌, List, [], ◌∷◌, ◌++◌, length}
-use Rattle.std.proofs.Common.{sym, refl, ap, subst, ◌∙◌, arith, inl, inr, ◌⊎◌, ⊎_elim}
-use Rattle.std.specs.Prelude.{Option, Some, None, slice_get, option_to_list, All}
+use Rattle.std.proofs.Common.{◌≡◌, ℕ, ◌+◌, ◌<◌, List, [], ◌∷◌, ◌++◌, length}
+use Rattle.std.proofs.Common.{sym, ap, subst, ◌∙◌, arith, ⊎_elim}
+use Rattle.std.specs.Prelude.{Some, slice_get, All}
 use Rattle.std.proofs.lemmas.List.{length-append}
-use Rattle.std.proofs.lemmas.List.Elements.{All-push, All-weaker, All-replicate}
+use Rattle.std.proofs.lemmas.List.Elements.{All-push, All-weaker}
 use Rattle.cert_state.specs.declared.literal.Lit.{Lit}
-use Rattle.cert_state.specs.declared.literal.AVal.TheVariants.{Unknown}
 use Rattle.cert_state.specs.Literals.{IsLit, IsValue}
 use Rattle.cert_form.specs.Nodes.{literals}
 use Rattle.cert_form.specs.Writing.{AreLiteralEntries, IsLiteralEntry}
 use Rattle.cert_paths.specs.declared.paths.Paths.{Paths}
 use Rattle.cert_paths.specs.declared.place.Next.{Next}
 use Rattle.cert_paths.specs.declared.place.Place.{Place}
-use Rattle.cert_paths.specs.inner.Places.{ArePaths, IsLearned, IsPlace, known_at, first_place}
+use Rattle.cert_paths.specs.inner.Places.{ArePaths, IsLearned, IsPlace, first_place}
 use Rattle.cert_paths.proofs.ChainFacts.{literals_push}
-use Rattle.cert_paths.proofs.GrowLaws.{at_push, longer_at, longer_length, place_more}
+use Rattle.cert_paths.proofs.GrowLaws.{at_push, longer_at, place_more}
 
 -- one entry more
 pub learned_one : (s t : Paths) (from : Place) (l : Lit) (count : ℕ) → ArePaths s → IsPlace s.entries.items from → IsLit l

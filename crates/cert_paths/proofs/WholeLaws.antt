@@ -1,27 +1,26 @@
 -- What follows each path keeps each rule.
-use Rattle.std.proofs.Common.{◌≡◌, ℕ, suc, zero, ◌+◌, ◌<◌, ◌≤◌, ◌^◌, List, [], ◌∷◌, ◌++◌, length, get_or, min}
+use Rattle.std.proofs.Common.{◌≡◌, ℕ, ◌<◌, ◌^◌, List, length, get_or}
 use Rattle.std.proofs.Common.{sym, refl, ap, subst, ◌∙◌, arith}
-use Rattle.std.specs.Prelude.{Option, Some, None, slice_get, map, All}
+use Rattle.std.specs.Prelude.{Some, slice_get, map, All}
 use Rattle.std.specs.Option.{option_map}
 use Rattle.std.proofs.lemmas.Option.{same_Some, slice_get-map, slice_get_within}
 use Rattle.std.proofs.lemmas.List.{length-map}
 use Rattle.std.proofs.lemmas.List.Elements.{All-replicate}
 use Rattle.bpf_insn.specs.declared.instruction.Insn.{Insn}
 use Rattle.profile.specs.Policy.{Policy}
-use Rattle.cert_state.specs.declared.literal.Lit.{Lit}
 use Rattle.cert_state.specs.declared.literal.AVal.{AVal}
 use Rattle.cert_state.specs.declared.literal.AVal.TheVariants.{Unknown}
 use Rattle.cert_state.specs.declared.literal.Regs.{Regs}
 use Rattle.cert_state.specs.Literals.{AreValues, IsValue}
 use Rattle.cert_form.specs.declared.node.ChainNode.{ChainNode}
 use Rattle.cert_form.specs.declared.node.Kind.{Kind}
-use Rattle.cert_form.specs.Nodes.{PlainNode, literals, said_plainly}
+use Rattle.cert_form.specs.Nodes.{PlainNode, said_plainly}
 use Rattle.cert_form.specs.Writing.{AreMeant, IsChainMeant}
 use Rattle.cert_check.specs.Rules.{IsValid, Keeps}
-use Rattle.cert_check.proofs.Elements.{contains_at, each_of, element_at}
+use Rattle.cert_check.proofs.Elements.{element_at}
 use Rattle.cert_paths.specs.declared.paths.Paths.{Paths}
 use Rattle.cert_paths.specs.declared.place.Place.{Place}
-use Rattle.cert_paths.specs.inner.Places.{AreAt, AreKept, AreNodes, ArePaths, IsPlace, StandsAt, chain_node_of, first_place, known_at, node_of}
+use Rattle.cert_paths.specs.inner.Places.{AreAt, AreKept, AreNodes, ArePaths, IsPlace, chain_node_of, first_place, node_of}
 use Rattle.cert_paths.specs.inner.Places.{regs_of}
 use Rattle.cert_paths.proofs.ChainFacts.{literals_none}
 use Rattle.cert_paths.proofs.GrowLaws.{all_at}

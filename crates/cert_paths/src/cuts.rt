@@ -183,7 +183,8 @@ fn cut_of_word(known: &Known<'_>, word: u8) -> Option<Cut>
 
 // Where one of the words is cut.
 fn cut_of_words(known: &Known<'_>) -> Option<Cut>
-    ensures { (result ≡ None) → (w : ℕ) → w < 16 → (u : ℕ) × Contains (literals known.now.entries.now known.now.number) (Bits w all_bits u) }
+    ensures { (result ≡ None) → (w : ℕ) → w < 16
+        → (u : ℕ) × Contains (literals known.now.entries.now known.now.number) (Bits w all_bits u) }
 {
     for word in 0..16 {
         if let Some(cut) = cut_of_word(known, word) {
@@ -196,7 +197,8 @@ fn cut_of_words(known: &Known<'_>) -> Option<Cut>
 /// Where what is known is cut in two: where a machine, a rule or a condition is not settled, and else anywhere. There is no such
 /// place only where each word of the record is stated.
 pub(crate) fn next_cut(profile: &Profile, known: &Known<'_>) -> Option<Cut>
-    ensures { (result ≡ None) → (w : ℕ) → w < 16 → (u : ℕ) × Contains (literals known.now.entries.now known.now.number) (Bits w all_bits u) }
+    ensures { (result ≡ None) → (w : ℕ) → w < 16
+        → (u : ℕ) × Contains (literals known.now.entries.now known.now.number) (Bits w all_bits u) }
 {
     match cut_of_profile(profile, known) {
         Some(cut) => Some(cut),

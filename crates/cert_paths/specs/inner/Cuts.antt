@@ -1,4 +1,4 @@
--- What is said of two literals of which one holds is so or not.
+-- That a cut is one is a fact.
 use Rattle.std.proofs.Props.{props}
 use Rattle.cert_state.specs.declared.literal.Lit.{Lit}
 use Rattle.cert_state.specs.declared.literal.Lit.TheVariants.{In, Bits, NotBits}
@@ -12,11 +12,5 @@ IsLit-prop (NotBits w m d) = hlevel props
 
 pub Covers-prop : (l m : Lit) → IsProp (Covers l m)
 Covers-prop (In w a b) (In v c d) = hlevel props
-Covers-prop (In w a b) (Bits v n e) = hlevel props
-Covers-prop (In w a b) (NotBits v n e) = hlevel props
-Covers-prop (Bits w m d) (In v c e) = hlevel props
-Covers-prop (Bits w m d) (Bits v n e) = hlevel props
 Covers-prop (Bits w m d) (NotBits v n e) = hlevel props
-Covers-prop (NotBits w m d) (In v c e) = hlevel props
-Covers-prop (NotBits w m d) (Bits v n e) = hlevel props
-Covers-prop (NotBits w m d) (NotBits v n e) = hlevel props
+Covers-prop _ _ = hlevel props

@@ -1,5 +1,4 @@
-use Rattle.std.proofs.Common.{rules, ◌≡◌, ◌≢◌, ◌<◌, ◌≤◌, ◌^◌, ℕ, ◌⊎◌, ⊎_elim, arith, bit_and}
-use Rattle.cert_state.specs.Literals.{all_bits}
+use Rattle.std.proofs.Common.{rules, ◌<◌, ◌≤◌, ◌^◌, ⊎_elim, arith}
 use Rattle.cert_state.proofs.BitLaws.{and_all}
 use Rattle.cert_paths.proofs.cuts.cut_of_word.Goals as goal
 

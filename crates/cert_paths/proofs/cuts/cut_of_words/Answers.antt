@@ -1,4 +1,4 @@
-use Rattle.std.proofs.Common.{rules, ◌≡◌, ◌<◌, ℕ, Contains, None, sym, subst, arith, ⊎_elim}
+use Rattle.std.proofs.Common.{rules, ◌≡◌, ℕ, Contains, None, sym, subst, arith, ⊎_elim}
 use Rattle.std.proofs.lemmas.Bool.{cases_eq}
 use Rattle.cert_form.specs.Nodes.{literals}
 use Rattle.cert_state.specs.declared.literal.Lit.TheVariants.{Bits}

@@ -1,4 +1,4 @@
-use Rattle.std.proofs.Common.{rules, ◌≡◌, ◌<◌, ◌^◌, ◌++◌, ◌∷◌, [], ◌∙◌, ap, subst, sym, length, arith, refl, min, List}
+use Rattle.std.proofs.Common.{rules, ◌≡◌, ◌<◌, ◌^◌, ◌++◌, ◌∷◌, [], ◌∙◌, ap, subst, sym, length, arith, min}
 use Rattle.std.proofs.lemmas.List.{length-append}
 use Rattle.std.proofs.lemmas.Option.{slice_get_within}
 use Rattle.std.proofs.lemmas.List.Elements.{All-push}
@@ -17,7 +17,8 @@ loop-place-preserved c =
     let at = c.in-Some.place.now in
     let does = c.in-Some.kind.now in
     let turn = zip_turn places kinds c.loop-place.yielded c.into_iter-place-iterator.result c.loop-place.place-iterator c.next.new.self
-    c.next.result (search rules) (search rules) c.loop-place.yielded_by (c.in-Some.place, c.in-Some.kind) c.in-Some.is c.next.ensures.steps in
+    c.next.result (search rules) (search rules) c.loop-place.yielded_by (c.in-Some.place, c.in-Some.kind) c.in-Some.is
+    c.next.ensures.steps in
     let grown : c.push.new.self.items ≡ nodes ++ chain_node_of at does ∷ [] =
     c.in_ok-push.ensures.items ∙ ap (λ x. nodes ++ x ∷ []) c.node.ensures.node in
     let low : at.pc < 2 ^ 16 = subst (λ (x : ChainNode). x.pc < 2 ^ 16) c.node.ensures.node c.node.ensures.small in
@@ -42,6 +43,6 @@ returns-clause-each c =
     record {
       many = long ∙ end;
       each = λ k place kind there told.
-        c.loop-place.invariant.each k place kind
-        (omega (arith, end, slice_get_within places k place there, slice_get_within kinds k kind told)) there told;
+          c.loop-place.invariant.each k place kind
+          (omega (arith, end, slice_get_within places k place there, slice_get_within kinds k kind told)) there told;
     }

@@ -1,4 +1,4 @@
-use Rattle.std.proofs.Common.{◌≡◌, ℕ, List, subst, length}
+use Rattle.std.proofs.Common.{ℕ, List, subst}
 use Rattle.std.specs.Prelude.{map}
 use Rattle.cert_state.specs.declared.literal.Lit.{Lit}
 use Rattle.cert_form.specs.declared.node.ChainNode.{ChainNode}
