@@ -1,5 +1,5 @@
 -- Errors that tell of no path: a limit of the format, or memory.
-use Rattle.std.specs.Prelude.{⊤, ⊥}
+use Rattle.std.specs.Prelude.{⊤}
 use Rattle.cert_paths.specs.declared.fault.PathsError.{PathsError}
 use Rattle.cert_paths.specs.declared.fault.PathsError.TheVariants.{Unsettled, TooLarge, OutOfMemory}
 

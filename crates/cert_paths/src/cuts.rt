@@ -1,9 +1,10 @@
 //! Where what is known is cut in two.
-ghost use Rattle.std.specs.Prelude.{◌≡◌, ◌<◌, ℕ, Contains, None};
+ghost use Rattle.std.specs.Prelude.{◌≡◌, ◌≢◌, ◌<◌, ◌≤◌, ◌⊎◌, ℕ, Contains, None, bit_and};
 ghost use Rattle.cert_form.specs.Nodes.{literals};
 ghost use Rattle.cert_state.specs.declared.literal.Lit.TheVariants.{Bits};
 ghost use Rattle.cert_state.specs.Literals.{IsLit, all_bits};
 ghost use Rattle.cert_check.specs.Rules.{Covers};
+ghost use Rattle.cert_paths.specs.inner.Cuts.{Covers-prop, IsLit-prop};
 
 use crate::chain::Known;
 use call_tables::Arch;
@@ -15,9 +16,9 @@ use profile::{Cond, Op, Profile, Rule};
 pub(crate) struct Cut {
     pub(crate) one: Lit,
     pub(crate) other: Lit,
-    ghost one_is: { IsLit one },
-    ghost other_is: { IsLit other },
-    ghost covers: { Covers one other },
+    ghost one_is: { IsLit one } by { IsLit-prop one },
+    ghost other_is: { IsLit other } by { IsLit-prop other },
+    ghost covers: { Covers one other } by { Covers-prop one other },
 }
 
 // The words of a record that hold the call's number and the machine's token.
@@ -27,7 +28,9 @@ const TOKEN: u8 = 1;
 
 impl Cut {
     // A word is below a number, or at least this. It is always at least 0.
-    fn below(word: u8, number: u32) -> Option<Cut> {
+    fn below(word: u8, number: u32) -> Option<Cut>
+        ensures { (result ≡ None) → (16 ≤ word) ⊎ (number ≡ 0) }
+    {
         if word >= 16 || number == 0 {
             return None;
         }
@@ -38,7 +41,9 @@ impl Cut {
     }
 
     // A word is this under a mask, or is not. No word has a bit outside the mask.
-    fn bits(word: u8, mask: u32, datum: u32) -> Option<Cut> {
+    fn bits(word: u8, mask: u32, datum: u32) -> Option<Cut>
+        ensures { (result ≡ None) → (16 ≤ word) ⊎ (bit_and datum mask ≢ datum) }
+    {
         if word >= 16 || datum & mask != datum {
             return None;
         }
@@ -120,7 +125,7 @@ fn cut_of_rule(known: &Known<'_>, rule: &Rule) -> Option<Cut> {
     if entails(known, &Lit::NotBits(NUMBER, u32::MAX, rule.nr)) {
         return None;
     }
-    for cond in &rule.conds {
+    for cond in rule.conds.as_slice() {
         if let Some(cut) = cut_of_condition(known, cond) {
             return Some(cut);
         }
@@ -178,7 +183,8 @@ fn cut_of_word(known: &Known<'_>, word: u8) -> Option<Cut>
 
 // Where one of the words is cut.
 fn cut_of_words(known: &Known<'_>) -> Option<Cut>
-    ensures { (result ≡ None) → (w : ℕ) → w < 16 → (u : ℕ) × Contains (literals known.now.entries.now known.now.number) (Bits w all_bits u) }
+    ensures { (result ≡ None) → (w : ℕ) → w < 16
+        → (u : ℕ) × Contains (literals known.now.entries.now known.now.number) (Bits w all_bits u) }
 {
     for word in 0..16 {
         if let Some(cut) = cut_of_word(known, word) {
@@ -191,7 +197,8 @@ fn cut_of_words(known: &Known<'_>) -> Option<Cut>
 /// Where what is known is cut in two: where a machine, a rule or a condition is not settled, and else anywhere. There is no such
 /// place only where each word of the record is stated.
 pub(crate) fn next_cut(profile: &Profile, known: &Known<'_>) -> Option<Cut>
-    ensures { (result ≡ None) → (w : ℕ) → w < 16 → (u : ℕ) × Contains (literals known.now.entries.now known.now.number) (Bits w all_bits u) }
+    ensures { (result ≡ None) → (w : ℕ) → w < 16
+        → (u : ℕ) × Contains (literals known.now.entries.now known.now.number) (Bits w all_bits u) }
 {
     match cut_of_profile(profile, known) {
         Some(cut) => Some(cut),

@@ -1,6 +1,6 @@
 //! Why there is no certificate that follows each path.
 
-use std::alloc::AllocError;
+use std::alloc::{AllocError, AllocFailed};
 
 /// Why there is no certificate that follows each path.
 #[derive(Clone, Copy, Debug, PartialEq, Eq)]
@@ -20,6 +20,17 @@ impl From<AllocError> for PathsError {
     ghost from_gives = { λ _ e. e ≡ OutOfMemory };
 
     fn from(_error: AllocError) -> PathsError {
+        PathsError::OutOfMemory
+    }
+}
+
+impl<T: Drop> From<AllocFailed<T>> for PathsError {
+    ghost use Rattle.std.specs.Prelude.{◌≡◌};
+    ghost use Rattle.cert_paths.specs.declared.fault.PathsError.TheVariants.{OutOfMemory};
+
+    ghost from_gives = { λ _ e. e ≡ OutOfMemory };
+
+    fn from(_error: AllocFailed<T>) -> PathsError {
         PathsError::OutOfMemory
     }
 }

@@ -1,11 +1,11 @@
 //! The places of all paths, and what their nodes do.
-ghost use Rattle.std.specs.Prelude.{◌≡◌, ◌<◌, ◌++◌, ◌∷◌, [], IfErr, IfOk, IfSome, OnOk, length};
+ghost use Rattle.std.specs.Prelude.{◌≡◌, ◌<◌, ◌^◌, ◌++◌, ◌∷◌, [], All, IfErr, IfOk, IfSome, OnOk, length};
 ghost use Rattle.bpf_insn.specs.declared.instruction.Insn.{Insn as TheInsn};
 ghost use Rattle.profile.specs.Policy.{Policy};
 ghost use Rattle.cert_state.specs.Literals.{IsLit, IsValue};
 ghost use Rattle.cert_paths.specs.Fault.{IsSize};
 ghost use Rattle.cert_paths.specs.Kept.{IsValidCertificate};
-ghost use Rattle.cert_paths.specs.inner.Places.{AreInside, AreKept, ArePaths, IsAdded, IsLearned, IsPlace};
+ghost use Rattle.cert_paths.specs.inner.Places.{AreInside, AreKept, AreNodes, ArePaths, IsAdded, IsLearned, IsPlace, chain_node_of};
 ghost use Rattle.std.specs.Prelude.{List};
 
 use crate::chain::{Known, regs};
@@ -31,6 +31,19 @@ fn refused(error: FormError) -> PathsError
     match error {
         FormError::OutOfMemory => PathsError::OutOfMemory,
         _ => PathsError::TooLarge,
+    }
+}
+
+// The node of a place that does this.
+fn node(place: Place, kind: Kind) -> ChainNode
+    ensures node { result ≡ chain_node_of place kind }
+    ensures small { result.pc < 2 ^ 16 }
+{
+    ChainNode {
+        kind,
+        pc: place.pc,
+        regs: regs(place.a),
+        chain: place.chain,
     }
 }
 
@@ -110,15 +123,13 @@ impl Paths {
     }
 
     // The nodes of all places.
-    fn nodes(&self, alloc: Global) -> Result<Vec<ChainNode>, AllocError> {
+    fn nodes(&self, alloc: Global) -> Result<Vec<ChainNode>, AllocError>
+        ensures each { IfOk result (λ nodes. AreNodes self.now.places.items self.now.kinds.items nodes.items) }
+        ensures small { IfOk result (λ nodes. All (λ node. node.pc < 2 ^ 16) nodes.items) }
+    {
         let mut nodes = Vec::new(alloc);
         for (place, kind) in self.places.iter().zip(self.kinds.iter()) {
-            nodes.push(ChainNode {
-                kind: *kind,
-                pc: place.pc,
-                regs: regs(place.a),
-                chain: place.chain,
-            })?;
+            nodes.push(node(*place, *kind))?;
         }
         Ok(nodes)
     }

@@ -1,5 +1,5 @@
 -- The places of all paths as they are found, and their nodes, which keep the rules wherever the rest leads.
-use Rattle.std.specs.Prelude.{◌≡◌, ℕ, ◌+◌, ◌<◌, ◌≤◌, List, [], ◌∷◌, ◌++◌, false, length, Option, Some, slice_get, option_to_list}
+use Rattle.std.specs.Prelude.{◌≡◌, ℕ, ◌+◌, ◌<◌, ◌≤◌, List, [], ◌∷◌, ◌++◌, false, length, min, Option, Some, slice_get, option_to_list}
 use Rattle.std.specs.List.{All}
 use Rattle.bpf_insn.specs.declared.instruction.Insn.{Insn}
 use Rattle.profile.specs.Policy.{Policy}
@@ -8,6 +8,7 @@ use Rattle.cert_state.specs.declared.literal.AVal.TheVariants.{Const}
 use Rattle.cert_state.specs.declared.literal.Lit.{Lit}
 use Rattle.cert_state.specs.declared.literal.Regs.{Regs}
 use Rattle.cert_state.specs.Literals.{IsValue}
+use Rattle.cert_form.specs.declared.node.ChainNode.{ChainNode}
 use Rattle.cert_form.specs.declared.node.Kind.{Kind}
 use Rattle.cert_form.specs.Nodes.{PlainNode, literals}
 use Rattle.cert_form.specs.Spelling.{IsKind, nothing_stated}
@@ -85,6 +86,16 @@ pub record IsAdded (old new : Paths) (from : Place) (next : Next) (number : ℕ)
 abbrev pub node_of : List (ℕ × Lit) → Place → Kind → PlainNode
 node_of es place kind =
     record { kind = kind; pc = place.pc; regs = regs_of place.a; known = known_at es place; out = []; met = []; sharp = false }
+
+-- the same as a maker states it
+abbrev pub chain_node_of : Place → Kind → ChainNode
+chain_node_of place kind = record { kind = kind; pc = place.pc; regs = regs_of place.a; chain = place.chain }
+
+-- nodes in order, each of its place and of what it does
+pub record AreNodes (places : List Place) (kinds : List Kind) (nodes : List ChainNode) : Type 0 where
+  pub many : length nodes ≡ min (length places) (length kinds)
+  pub each : (k : ℕ) (place : Place) (kind : Kind) → slice_get places k ≡ Some place → slice_get kinds k ≡ Some kind
+      → slice_get nodes k ≡ Some (chain_node_of place kind)
 
 -- a node stands at the number of a place, and says what the place says
 pub record StandsAt (ns : List PlainNode) (at : ℕ) (pc : ℕ) (a : AVal) (known : List Lit) : Type 0 where

@@ -1,0 +1,135 @@
+-- What follows each path keeps each rule.
+use Rattle.std.proofs.Common.{◌≡◌, ℕ, ◌<◌, ◌^◌, List, length, get_or}
+use Rattle.std.proofs.Common.{sym, refl, ap, subst, ◌∙◌, arith}
+use Rattle.std.specs.Prelude.{Some, slice_get, map, All}
+use Rattle.std.specs.Option.{option_map}
+use Rattle.std.proofs.lemmas.Option.{same_Some, slice_get-map, slice_get_within}
+use Rattle.std.proofs.lemmas.List.{length-map}
+use Rattle.std.proofs.lemmas.List.Elements.{All-replicate}
+use Rattle.bpf_insn.specs.declared.instruction.Insn.{Insn}
+use Rattle.profile.specs.Policy.{Policy}
+use Rattle.cert_state.specs.declared.literal.AVal.{AVal}
+use Rattle.cert_state.specs.declared.literal.AVal.TheVariants.{Unknown}
+use Rattle.cert_state.specs.declared.literal.Regs.{Regs}
+use Rattle.cert_state.specs.Literals.{AreValues, IsValue}
+use Rattle.cert_form.specs.declared.node.ChainNode.{ChainNode}
+use Rattle.cert_form.specs.declared.node.Kind.{Kind}
+use Rattle.cert_form.specs.Nodes.{PlainNode, said_plainly}
+use Rattle.cert_form.specs.Writing.{AreMeant, IsChainMeant}
+use Rattle.cert_check.specs.Rules.{IsValid, Keeps}
+use Rattle.cert_check.proofs.Elements.{element_at}
+use Rattle.cert_paths.specs.declared.paths.Paths.{Paths}
+use Rattle.cert_paths.specs.declared.place.Place.{Place}
+use Rattle.cert_paths.specs.inner.Places.{AreAt, AreKept, AreNodes, ArePaths, IsPlace, chain_node_of, first_place, node_of}
+use Rattle.cert_paths.specs.inner.Places.{regs_of}
+use Rattle.cert_paths.proofs.ChainFacts.{literals_none}
+use Rattle.cert_paths.proofs.GrowLaws.{all_at}
+
+values : (a : AVal) → IsValue a → AreValues (regs_of a)
+values a is = record { a = is; x = omega arith; sixteen = refl; scratch = All-replicate IsValue 16 Unknown tt }
+
+module _ (s : Paths) (nodes : List ChainNode) (policy : Policy) (p : List Insn) (are : ArePaths s)
+    (all : length s.kinds.items ≡ length s.places.items) (made : AreNodes s.places.items s.kinds.items nodes)
+    (small : All (λ (node : ChainNode). node.pc < 2 ^ 16) nodes) (kept : AreKept policy p s) where
+  abbrev said : List PlainNode
+  said = map (said_plainly s.entries.items) nodes
+
+  -- a place has a kind, and its node says what it does
+  record HasNode (k : ℕ) (place : Place) : Type 0 where
+    kind : Kind
+    does : slice_get s.kinds.items k ≡ Some kind
+    node : slice_get nodes k ≡ Some (chain_node_of place kind)
+
+  has_node : (k : ℕ) (place : Place) → slice_get s.places.items k ≡ Some place → HasNode k place
+  has_node k place there =
+      let low : k < length s.kinds.items = omega (arith, slice_get_within s.places.items k place there, all) in
+      let does = element_at s.kinds.items k low in
+      record { kind = does.0; does = does.1; node = made.each k place does.0 there does.1 }
+
+  said_at : (k : ℕ) (node : ChainNode) → slice_get nodes k ≡ Some node → slice_get said k ≡ Some (said_plainly s.entries.items node)
+  said_at k node there =
+      slice_get-map (said_plainly s.entries.items) nodes k ∙ ap (option_map (said_plainly s.entries.items)) there
+
+  are_at : AreAt said s.entries.items s.places.items
+  are_at k place there =
+      let has = has_node k place there in
+      record {
+        node = node_of s.entries.items place has.kind;
+        there = said_at k (chain_node_of place has.kind) has.node;
+        pc_is = refl;
+        regs_are = refl;
+        known_is = refl;
+        none_out = refl;
+        none_met = refl;
+      }
+
+  -- a node is that of a place
+  record IsOf (k : ℕ) (node : ChainNode) : Type 0 where
+    place : Place
+    there : slice_get s.places.items k ≡ Some place
+    has : HasNode k place
+    is : chain_node_of place has.kind ≡ node
+
+  is_of : (k : ℕ) (node : ChainNode) → slice_get nodes k ≡ Some node → IsOf k node
+  is_of k node found =
+      let many = made.many in
+      let low : k < length s.places.items = omega (arith, slice_get_within nodes k node found, many, all) in
+      let place = element_at s.places.items k low in
+      let has = has_node k place.0 place.1 in
+      record {
+        place = place.0;
+        there = place.1;
+        has = has;
+        is = same_Some (chain_node_of place.0 has.kind) node (sym has.node ∙ found);
+      }
+
+  meant_at : (k : ℕ) (node : ChainNode) → slice_get nodes k ≡ Some node → IsChainMeant s.entries.items node
+  meant_at k node found =
+      let of = is_of k node found in
+      let place = of.place in
+      let is : IsPlace s.entries.items of.place = all_at (IsPlace s.entries.items) s.places.items k of.place are.places of.there in
+      let low : of.place.pc < 2 ^ 16 =
+      subst (λ (n : ChainNode). n.pc < 2 ^ 16) (sym of.is) (all_at (λ (n : ChainNode). n.pc < 2 ^ 16) nodes k node small found) in
+      subst (IsChainMeant s.entries.items) of.is (record {
+        kind = (kept k of.place of.has.kind of.there of.has.does).0;
+        pc = low;
+        values = values of.place.a is.value;
+        chain = is.chain;
+        few = let depth = is.depth in let few = is.few in omega (arith, depth, few);
+      })
+
+  pub meant : AreMeant s.entries.items nodes
+  meant = record {
+    entries = are.entries;
+    nodes = λ k d lt. meant_at k (get_or nodes k d) (Rattle.std.proofs.lemmas.Option.slice_get-get_or nodes k d lt);
+  }
+
+  keeps_at : (k : ℕ) (n : PlainNode) → slice_get said k ≡ Some n → Keeps policy p said k n
+  keeps_at k n found =
+      let low : k < length nodes =
+      omega (arith, slice_get_within said k n found, length-map nodes (said_plainly s.entries.items)) in
+      let node = element_at nodes k low in
+      let of = is_of k node.0 node.1 in
+      let same : node_of s.entries.items of.place of.has.kind ≡ n =
+      ap (said_plainly s.entries.items) of.is
+      ∙ same_Some (said_plainly s.entries.items node.0) n (sym (said_at k node.0 node.1) ∙ found) in
+      subst (Keeps policy p said k) same ((kept k of.place of.has.kind of.there of.has.does).1 said are_at)
+
+  pub valid : IsValid policy p said
+  valid =
+      let at = are_at 0 first_place are.first in
+      record {
+        root = record {
+          root = at.node;
+          first = at.there;
+          at_first = at.pc_is;
+          nothing = at.known_is ∙ literals_none s.entries.items;
+          none_out = at.none_out;
+          none_met = at.none_met;
+          a_is_zero = ap (λ (r : Regs). r.a) at.regs_are;
+          x_is_zero = ap (λ (r : Regs). r.x) at.regs_are;
+          none_stated = subst (λ (r : Regs). All (λ (v : AVal). v ≡ Unknown) r.scratch) (sym at.regs_are)
+              (All-replicate (λ (v : AVal). v ≡ Unknown) 16 Unknown refl);
+        };
+        each = keeps_at;
+      }
