@@ -17,6 +17,16 @@ use call_tables::{Arch, Numbers};
 use cert_state::{Facts, Lit, State};
 use profile::{Cond, Op, Profile, Rule};
 
+/// What a word is judged by: the profile, what a node says of its rules, and what is known of the record.
+#[derive(Drop)]
+pub(crate) struct Agreement<'a, S: State> {
+    pub(crate) profile: &'a Profile,
+    pub(crate) outs: Outs<'a, 'a>,
+    pub(crate) mets: Mets<'a, 'a>,
+    pub(crate) facts: &'a Facts<'a, S>,
+    pub(crate) word: Word,
+}
+
 // The words of a record that hold the call's number and the machine's token.
 pub(crate) const NUMBER: u8 = 0;
 
@@ -108,173 +118,11 @@ pub(crate) fn answer_of<'a, S: State>(
     }
 }
 
-// The answer to the conditions of the rule at a place, and the last answer to conditions of which none was said to be
-// met: that is no answer for a rule with conditions that are.
-fn answer_at<'a, S: State>(
-    facts: &Facts<'_, S>,
-    mets: &Mets<'_, '_>,
-    place: usize,
-    rule: &'a Rule,
-    last: Answered<'a>,
-) -> (Judged, Answered<'a>)
-    requires place { place < 8192 }
-    requires last { IsAnswered (S.known facts.now.state.now) last }
-    ensures judged { let met = mets_of mets.now.node in let known = S.known facts.now.state.now in
-        IsJudged (AllAreYes met known place rule.now.conds.items) (OneIsNo met known place rule.now.conds.items) result.0 }
-    ensures answer { IsAnswered (S.known facts.now.state.now) result.1 }
-{
-    let conds = rule.conds.as_slice();
-    if mets.has_some(place) {
-        return (judge_left(facts, mets, place, conds), last);
-    }
-    let answer = answer_of(facts, rule, last);
-    (answer.judged, answer)
-}
-
-// Whether a rule of the record's machine is settled, by the answers to its number and to its conditions.
-fn judge_rule<S: State>(
-    facts: &Facts<'_, S>,
-    mets: &Mets<'_, '_>,
-    place: usize,
-    rule: &Rule,
-    number: Number,
-    conds: Judged,
-) -> Judged
-    requires number { IsKnownNumber (S.known facts.now.state.now) rule.now.nr number }
-    requires conds { let met = mets_of mets.now.node in let known = S.known facts.now.state.now in
-        IsJudged (AllAreYes met known place rule.now.conds.items) (OneIsNo met known place rule.now.conds.items) conds }
-    ensures { let met = mets_of mets.now.node in let known = S.known facts.now.state.now in
-        IsJudged (IsYesRule met known place rule.now) (IsNoRule met known place rule.now) result }
-{
-    match conds {
-        Judged::No => Judged::No,
-        Judged::Yes => {
-            if number.own {
-                return Judged::Yes;
-            }
-            if number.other {
-                Judged::No
-            } else {
-                Judged::Open
-            }
-        }
-        Judged::Open => {
-            if number.other {
-                return Judged::No;
-            }
-            Judged::Open
-        }
-    }
-}
-
-// How a rule of the record's machine bears on a word, by whether it is settled.
-fn bearing_of<S: State>(
-    facts: &Facts<'_, S>,
-    mets: &Mets<'_, '_>,
-    place: usize,
-    rule: &Rule,
-    word: Word,
-    judged: Judged,
-) -> Bearing
-    requires { let met = mets_of mets.now.node in let known = S.known facts.now.state.now in
-        IsJudged (IsYesRule met known place rule.now) (IsNoRule met known place rule.now) judged }
-    ensures { Bears (mets_of mets.now.node) (S.known facts.now.state.now) word place rule.now result }
-{
-    if rule.word == word {
-        match judged {
-            Judged::Yes => Bearing::Settles,
-            Judged::No => Bearing::Agrees,
-            Judged::Open => Bearing::Agrees,
-        }
-    } else {
-        match judged {
-            Judged::Yes => Bearing::Differs,
-            Judged::No => Bearing::Agrees,
-            Judged::Open => Bearing::Differs,
-        }
-    }
-}
-
 // Whether a rule is for the machine.
 fn is_for(rule: &Rule, arch: Arch) -> bool
     ensures { IsTrue result ↔ (token_of rule.now.arch ≡ token_of arch) }
 {
     rule.arch.token() == arch.token()
-}
-
-// Whether a rule at a place is for the machine, and is not said to be out.
-fn is_left(outs: &Outs<'_, '_>, place: usize, rule: &Rule, arch: Arch) -> bool
-    requires { place < 8192 }
-    ensures { IsTrue result ↔ IsLeft (outs_of outs.now.node) arch place rule.now }
-{
-    if !is_for(rule, arch) {
-        return false;
-    }
-    !outs.has(place)
-}
-
-// How the rule of the record's machine at a place bears on a word, with the last answer to conditions. That of a rule of
-// another number is not asked for.
-fn weigh<'a, S: State>(
-    facts: &Facts<'_, S>,
-    mets: &Mets<'_, '_>,
-    place: usize,
-    rule: &'a Rule,
-    word: Word,
-    number: Number,
-    last: Answered<'a>,
-) -> (Bearing, Answered<'a>)
-    requires place { place < 8192 }
-    requires number { IsKnownNumber (S.known facts.now.state.now) rule.now.nr number }
-    requires last { IsAnswered (S.known facts.now.state.now) last }
-    ensures bearing { Bears (mets_of mets.now.node) (S.known facts.now.state.now) word place rule.now result.0 }
-    ensures answer { IsAnswered (S.known facts.now.state.now) result.1 }
-{
-    if number.other {
-        if !number.own {
-            return (Bearing::Agrees, last);
-        }
-    }
-    let (conds, answer) = answer_at(facts, mets, place, rule, last);
-    let judged = judge_rule(facts, mets, place, rule, number, conds);
-    (bearing_of(facts, mets, place, rule, word, judged), answer)
-}
-
-// Whether the rules that are left for a machine agree with a word.
-fn rules_agree<S: State>(
-    profile: &Profile,
-    outs: &Outs<'_, '_>,
-    mets: &Mets<'_, '_>,
-    facts: &Facts<'_, S>,
-    word: Word,
-    arch: Arch,
-) -> bool
-    ensures { IsTrue result ↔ RulesAgree profile.now (outs_of outs.now.node) (mets_of mets.now.node) (S.known facts.now.state.now) word arch }
-{
-    let mut others = false;
-    let mut place = 0_usize;
-    let mut numbers = [None; 512];
-    let mut last = Answered {
-        conds: &[],
-        judged: Judged::Yes,
-    };
-    for rule in profile.rules() {
-        if is_left(outs, place, rule, arch) {
-            let number = number_of(facts, &mut numbers, rule.nr);
-            let (bearing, answer) = weigh(facts, mets, place, rule, word, number, last);
-            last = answer;
-            match bearing {
-                Bearing::Settles => return true,
-                Bearing::Agrees => {}
-                Bearing::Differs => others = true,
-            }
-        }
-        place += 1;
-    }
-    if others {
-        return false;
-    }
-    profile.default_word() == word
 }
 
 // Whether the number is known to be one of some.
@@ -284,77 +132,6 @@ fn is_among<S: State>(facts: &Facts<'_, S>, all: &[Numbers]) -> bool
     all.iter().any(|numbers| facts.entails(&Lit::In(NUMBER, numbers.first, numbers.last)))
 }
 
-// Whether no foreign number with the machine's token is possible, or such a one gets its word.
-fn foreign_numbers_agree<S: State>(facts: &Facts<'_, S>, word: Word, arch: Arch) -> bool
-    ensures { IsTrue result ↔ ForeignNumbersAgree (S.known facts.now.state.now) word arch }
-{
-    if arch.other_numbers().is_empty() {
-        return true;
-    }
-    if word == Word::KILL_THREAD {
-        return true;
-    }
-    let own = arch.own_numbers();
-    is_among(facts, own)
-}
-
-// Whether a machine agrees with a word.
-fn machine_agrees<S: State>(
-    profile: &Profile,
-    outs: &Outs<'_, '_>,
-    mets: &Mets<'_, '_>,
-    facts: &Facts<'_, S>,
-    word: Word,
-    arch: Arch,
-) -> bool
-    ensures { IsTrue result ↔ MachineAgrees profile.now (outs_of outs.now.node) (mets_of mets.now.node) (S.known facts.now.state.now) word arch }
-{
-    if !foreign_numbers_agree(facts, word, arch) {
-        return false;
-    }
-    let others = arch.other_numbers();
-    if is_among(facts, others) {
-        return true;
-    }
-    rules_agree(profile, outs, mets, facts, word, arch)
-}
-
-// Whether a listed machine is another than the record's, or agrees with a word.
-fn listed_agrees<S: State>(
-    profile: &Profile,
-    outs: &Outs<'_, '_>,
-    mets: &Mets<'_, '_>,
-    facts: &Facts<'_, S>,
-    word: Word,
-    arch: Arch,
-) -> bool
-    ensures { IsTrue result ↔ ListedAgrees profile.now (outs_of outs.now.node) (mets_of mets.now.node) (S.known facts.now.state.now) word arch }
-{
-    if facts.entails(&Lit::NotBits(TOKEN, u32::MAX, arch.token())) {
-        return true;
-    }
-    machine_agrees(profile, outs, mets, facts, word, arch)
-}
-
-// Whether each listed machine does.
-fn all_agree<S: State>(
-    profile: &Profile,
-    outs: &Outs<'_, '_>,
-    mets: &Mets<'_, '_>,
-    facts: &Facts<'_, S>,
-    word: Word,
-    machines: &[Arch],
-) -> bool
-    ensures { IsTrue result ↔ All (ListedAgrees profile.now (outs_of outs.now.node) (mets_of mets.now.node) (S.known facts.now.state.now) word) machines.now }
-{
-    for arch in machines {
-        if !listed_agrees(profile, outs, mets, facts, word, *arch) {
-            return false;
-        }
-    }
-    true
-}
-
 // Whether the record is known to be of one of the machines.
 fn is_listed<S: State>(facts: &Facts<'_, S>, machines: &[Arch]) -> bool
     ensures { IsTrue result ↔ Any (λ arch. Entails (S.known facts.now.state.now) (Bits 1 all_bits (token_of arch))) machines.now }
@@ -362,30 +139,219 @@ fn is_listed<S: State>(facts: &Facts<'_, S>, machines: &[Arch]) -> bool
     machines.iter().any(|arch| facts.entails(&Lit::Bits(TOKEN, u32::MAX, arch.token())))
 }
 
-// Whether a foreign record is impossible, or gets its word.
-fn foreign_agrees<S: State>(profile: &Profile, facts: &Facts<'_, S>, word: Word) -> bool
-    ensures { IsTrue result ↔ ((arch : TheArch) × Contains profile.now.machines arch
-        × Entails (S.known facts.now.state.now) (Bits 1 all_bits (token_of arch))) ⊎ (word ≡ 0) }
-{
-    if word == Word::KILL_THREAD {
-        return true;
+impl<S: State> Agreement<'_, S> {
+    // The answer to the conditions of the rule at a place, and the last answer to conditions of which none was said to be
+    // met: that is no answer for a rule with conditions that are.
+    fn answer_at<'r>(
+        &self,
+        place: usize,
+        rule: &'r Rule,
+        last: Answered<'r>,
+    ) -> (Judged, Answered<'r>)
+        requires place { place < 8192 }
+        requires last { IsAnswered (S.known self.now.facts.now.state.now) last }
+        ensures judged { let met = mets_of self.now.mets.node in let known = S.known self.now.facts.now.state.now in
+            IsJudged (AllAreYes met known place rule.now.conds.items) (OneIsNo met known place rule.now.conds.items) result.0 }
+        ensures answer { IsAnswered (S.known self.now.facts.now.state.now) result.1 }
+    {
+        let conds = rule.conds.as_slice();
+        if self.mets.has_some(place) {
+            return (judge_left(self.facts, &self.mets, place, conds), last);
+        }
+        let answer = answer_of(self.facts, rule, last);
+        (answer.judged, answer)
     }
-    is_listed(facts, profile.machines())
-}
 
-/// Whether the profile says this word of each record of which this is known, and also that no rule matches that is out
-/// and that the conditions are met that are said to be.
-pub(crate) fn agrees<S: State>(
-    profile: &Profile,
-    outs: &Outs<'_, '_>,
-    mets: &Mets<'_, '_>,
-    facts: &Facts<'_, S>,
-    word: Word,
-) -> bool
-    ensures { IsTrue result ↔ Agrees profile.now (outs_of outs.now.node) (mets_of mets.now.node) (S.known facts.now.state.now) word }
-{
-    if !foreign_agrees(profile, facts, word) {
-        return false;
+    // Whether a rule of the record's machine is settled, by the answers to its number and to its conditions.
+    fn judge_rule(&self, place: usize, rule: &Rule, number: Number, conds: Judged) -> Judged
+        requires number { IsKnownNumber (S.known self.now.facts.now.state.now) rule.now.nr number }
+        requires conds { let met = mets_of self.now.mets.node in let known = S.known self.now.facts.now.state.now in
+            IsJudged (AllAreYes met known place rule.now.conds.items) (OneIsNo met known place rule.now.conds.items) conds }
+        ensures { let met = mets_of self.now.mets.node in let known = S.known self.now.facts.now.state.now in
+            IsJudged (IsYesRule met known place rule.now) (IsNoRule met known place rule.now) result }
+    {
+        match conds {
+            Judged::No => Judged::No,
+            Judged::Yes => {
+                if number.own {
+                    return Judged::Yes;
+                }
+                if number.other {
+                    Judged::No
+                } else {
+                    Judged::Open
+                }
+            }
+            Judged::Open => {
+                if number.other {
+                    return Judged::No;
+                }
+                Judged::Open
+            }
+        }
     }
-    all_agree(profile, outs, mets, facts, word, profile.machines())
+
+    // How a rule of the record's machine bears on the word, by whether it is settled.
+    fn bearing_of(&self, place: usize, rule: &Rule, judged: Judged) -> Bearing
+        requires { let met = mets_of self.now.mets.node in let known = S.known self.now.facts.now.state.now in
+            IsJudged (IsYesRule met known place rule.now) (IsNoRule met known place rule.now) judged }
+        ensures { Bears (mets_of self.now.mets.node) (S.known self.now.facts.now.state.now) self.now.word place rule.now result }
+    {
+        if rule.word == self.word {
+            match judged {
+                Judged::Yes => Bearing::Settles,
+                Judged::No => Bearing::Agrees,
+                Judged::Open => Bearing::Agrees,
+            }
+        } else {
+            match judged {
+                Judged::Yes => Bearing::Differs,
+                Judged::No => Bearing::Agrees,
+                Judged::Open => Bearing::Differs,
+            }
+        }
+    }
+
+    // How the rule of the record's machine at a place bears on the word, with the last answer to conditions. That of a rule
+    // of another number is not asked for.
+    fn weigh<'r>(
+        &self,
+        place: usize,
+        rule: &'r Rule,
+        number: Number,
+        last: Answered<'r>,
+    ) -> (Bearing, Answered<'r>)
+        requires place { place < 8192 }
+        requires number { IsKnownNumber (S.known self.now.facts.now.state.now) rule.now.nr number }
+        requires last { IsAnswered (S.known self.now.facts.now.state.now) last }
+        ensures bearing { Bears (mets_of self.now.mets.node) (S.known self.now.facts.now.state.now) self.now.word place rule.now result.0 }
+        ensures answer { IsAnswered (S.known self.now.facts.now.state.now) result.1 }
+    {
+        if number.other {
+            if !number.own {
+                return (Bearing::Agrees, last);
+            }
+        }
+        let (conds, answer) = self.answer_at(place, rule, last);
+        let judged = self.judge_rule(place, rule, number, conds);
+        (self.bearing_of(place, rule, judged), answer)
+    }
+
+    // Whether a rule at a place is for the machine, and is not said to be out.
+    fn is_left(&self, place: usize, rule: &Rule, arch: Arch) -> bool
+        requires { place < 8192 }
+        ensures { IsTrue result ↔ IsLeft (outs_of self.now.outs.node) arch place rule.now }
+    {
+        if !is_for(rule, arch) {
+            return false;
+        }
+        !self.outs.has(place)
+    }
+
+    // Whether the rules that are left for a machine agree with the word.
+    fn rules_agree(&self, arch: Arch) -> bool
+        ensures { let a = self.now in IsTrue result
+            ↔ RulesAgree a.profile.now (outs_of a.outs.node) (mets_of a.mets.node) (S.known a.facts.now.state.now) a.word arch }
+    {
+        let mut others = false;
+        let mut place = 0_usize;
+        let mut numbers = [None; 512];
+        let mut last = Answered {
+            conds: &[],
+            judged: Judged::Yes,
+        };
+        for rule in self.profile.rules() {
+            if self.is_left(place, rule, arch) {
+                let number = number_of(self.facts, &mut numbers, rule.nr);
+                let (bearing, answer) = self.weigh(place, rule, number, last);
+                last = answer;
+                match bearing {
+                    Bearing::Settles => return true,
+                    Bearing::Agrees => {}
+                    Bearing::Differs => others = true,
+                }
+            }
+            place += 1;
+        }
+        if others {
+            return false;
+        }
+        self.profile.default_word() == self.word
+    }
+
+    // Whether no foreign number with the machine's token is possible, or such a one gets its word.
+    fn foreign_numbers_agree(&self, arch: Arch) -> bool
+        ensures { IsTrue result ↔ ForeignNumbersAgree (S.known self.now.facts.now.state.now) self.now.word arch }
+    {
+        if arch.other_numbers().is_empty() {
+            return true;
+        }
+        if self.word == Word::KILL_THREAD {
+            return true;
+        }
+        let own = arch.own_numbers();
+        is_among(self.facts, own)
+    }
+
+    // Whether a machine agrees with the word.
+    fn machine_agrees(&self, arch: Arch) -> bool
+        ensures { let a = self.now in IsTrue result
+            ↔ MachineAgrees a.profile.now (outs_of a.outs.node) (mets_of a.mets.node) (S.known a.facts.now.state.now) a.word arch }
+    {
+        if !self.foreign_numbers_agree(arch) {
+            return false;
+        }
+        let others = arch.other_numbers();
+        if is_among(self.facts, others) {
+            return true;
+        }
+        self.rules_agree(arch)
+    }
+
+    // Whether a listed machine is another than the record's, or agrees with the word.
+    fn listed_agrees(&self, arch: Arch) -> bool
+        ensures { let a = self.now in IsTrue result
+            ↔ ListedAgrees a.profile.now (outs_of a.outs.node) (mets_of a.mets.node) (S.known a.facts.now.state.now) a.word arch }
+    {
+        if self.facts.entails(&Lit::NotBits(TOKEN, u32::MAX, arch.token())) {
+            return true;
+        }
+        self.machine_agrees(arch)
+    }
+
+    // Whether each listed machine does.
+    fn all_agree(&self, machines: &[Arch]) -> bool
+        ensures { let a = self.now in IsTrue result
+            ↔ All (ListedAgrees a.profile.now (outs_of a.outs.node) (mets_of a.mets.node) (S.known a.facts.now.state.now) a.word) machines.now }
+    {
+        for arch in machines {
+            if !self.listed_agrees(*arch) {
+                return false;
+            }
+        }
+        true
+    }
+
+    // Whether a foreign record is impossible, or gets its word.
+    fn foreign_agrees(&self) -> bool
+        ensures { let a = self.now in IsTrue result ↔ ((arch : TheArch) × Contains a.profile.now.machines arch
+            × Entails (S.known a.facts.now.state.now) (Bits 1 all_bits (token_of arch))) ⊎ (a.word ≡ 0) }
+    {
+        if self.word == Word::KILL_THREAD {
+            return true;
+        }
+        is_listed(self.facts, self.profile.machines())
+    }
+
+    /// Whether the profile says the word of each record of which this is known, and also that no rule matches that is out
+    /// and that the conditions are met that are said to be.
+    pub(crate) fn agrees(&self) -> bool
+        ensures { let a = self.now in IsTrue result
+            ↔ Agrees a.profile.now (outs_of a.outs.node) (mets_of a.mets.node) (S.known a.facts.now.state.now) a.word }
+    {
+        if !self.foreign_agrees() {
+            return false;
+        }
+        self.all_agree(self.profile.machines())
+    }
 }

@@ -8,7 +8,7 @@ ghost use Rattle.cert_check.specs.Rules.{word_by};
 ghost use Rattle.cert_check.specs.inner.Broken.{ReturnsAt};
 ghost use Rattle.cert_check.specs.inner.Claimed.{outs_of};
 
-use crate::agree::agrees;
+use crate::agree::Agreement;
 use crate::claims::{Mets, Outs, has_no_met, has_none, mark_mets, mark_outs};
 use bpf_insn::{Insn, Operation};
 use call_record::Word;
@@ -40,7 +40,15 @@ fn agrees_by_mets(profile: &Profile, node: &NodeView<'_>, outs: &Outs<'_, '_>, w
     let facts = Facts::of(node);
     let mut marked = [false; 49152];
     mark_mets(node, &mut marked);
-    agrees(profile, outs, &Mets::of(node, &marked), &facts, word)
+    let mets = Mets::of(node, &marked);
+    let agreement = Agreement {
+        profile,
+        outs: *outs,
+        mets,
+        facts: &facts,
+        word,
+    };
+    agreement.agrees()
 }
 
 // Whether the profile says a word of all that a node knows, of which these rules are out.
@@ -50,7 +58,14 @@ fn agrees_but_for(profile: &Profile, node: &NodeView<'_>, outs: &Outs<'_, '_>, w
 {
     if has_no_met(node) {
         let facts = Facts::of(node);
-        return agrees(profile, outs, &Mets::none(), &facts, word);
+        let agreement = Agreement {
+            profile,
+            outs: *outs,
+            mets: Mets::none(),
+            facts: &facts,
+            word,
+        };
+        return agreement.agrees();
     }
     agrees_by_mets(profile, node, outs, word)
 }

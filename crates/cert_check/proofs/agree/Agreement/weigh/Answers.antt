@@ -1,5 +1,5 @@
 use Rattle.std.proofs.Common.{◌≡◌, Bool, true, false, not, inl}
-use Rattle.cert_check.proofs.agree.weigh.Goals as goal
+use Rattle.cert_check.proofs.agree.Agreement.weigh.Goals as goal
 
 -- a test has one answer
 apart : (b : Bool) → not b ≡ true → b ≡ true → ⊥

@@ -2,12 +2,12 @@ use Rattle.std.proofs.Common.{◌≡◌, true, false, sym, subst, ◌∙◌, inl
 use Rattle.cert_check.specs.inner.Claimed.{mets_of}
 use Rattle.cert_check.specs.Agree.{AllAreYes, OneIsNo}
 use Rattle.cert_check.specs.inner.Judged.{IsJudged}
-use Rattle.cert_check.proofs.agree.judge_rule.Goals as goal
+use Rattle.cert_check.proofs.agree.Agreement.judge_rule.Goals as goal
 
 pub returns-in-No : goal.returns-in-No
 returns-in-No g c =
-    let known = g.S.State.known c.args.facts.now.state.now in
-    let met = mets_of c.args.mets.now.node in
+    let known = g.S.State.known c.args.self.now.facts.now.state.now in
+    let met = mets_of c.args.self.now.mets.node in
     let conds = c.args.rule.now.conds.items in
     let some = subst (IsJudged (AllAreYes met known c.args.place conds) (OneIsNo met known c.args.place conds)) c.in-No.is c.requires.conds in (
       inr some,
@@ -16,16 +16,16 @@ returns-in-No g c =
 
 pub returns-then-number : goal.returns-then-number
 returns-then-number g c =
-    let known = g.S.State.known c.args.facts.now.state.now in
-    let met = mets_of c.args.mets.now.node in
+    let known = g.S.State.known c.args.self.now.facts.now.state.now in
+    let met = mets_of c.args.self.now.mets.node in
     let conds = c.args.rule.now.conds.items in
     let all = subst (IsJudged (AllAreYes met known c.args.place conds) (OneIsNo met known c.args.place conds)) c.in-Yes.is c.requires.conds in
     (c.requires.number.0.0 c.if-number.true, all)
 
 pub returns-else-number-2 : goal.returns-else-number-2
 returns-else-number-2 g c =
-    let known = g.S.State.known c.args.facts.now.state.now in
-    let met = mets_of c.args.mets.now.node in
+    let known = g.S.State.known c.args.self.now.facts.now.state.now in
+    let met = mets_of c.args.self.now.mets.node in
     let conds = c.args.rule.now.conds.items in
     let all = subst (IsJudged (AllAreYes met known c.args.place conds) (OneIsNo met known c.args.place conds)) c.in-Yes.is c.requires.conds in (
       λ holds. let e : false ≡ true = sym c.if-number.false ∙ c.requires.number.0.1 holds.0 in cc,
@@ -37,16 +37,16 @@ returns-else-number-2 g c =
 
 pub returns-then-number-3 : goal.returns-then-number-3
 returns-then-number-3 g c =
-    let known = g.S.State.known c.args.facts.now.state.now in
-    let met = mets_of c.args.mets.now.node in
+    let known = g.S.State.known c.args.self.now.facts.now.state.now in
+    let met = mets_of c.args.self.now.mets.node in
     let conds = c.args.rule.now.conds.items in
     let neither = subst (IsJudged (AllAreYes met known c.args.place conds) (OneIsNo met known c.args.place conds)) c.in-Open.is c.requires.conds in
     (inl (c.requires.number.1.0 c.if-number-3.true), λ holds. neither.0 holds.1)
 
 pub returns-else-number-3 : goal.returns-else-number-3
 returns-else-number-3 g c =
-    let known = g.S.State.known c.args.facts.now.state.now in
-    let met = mets_of c.args.mets.now.node in
+    let known = g.S.State.known c.args.self.now.facts.now.state.now in
+    let met = mets_of c.args.self.now.mets.node in
     let conds = c.args.rule.now.conds.items in
     let neither = subst (IsJudged (AllAreYes met known c.args.place conds) (OneIsNo met known c.args.place conds)) c.in-Open.is c.requires.conds in (
       λ holds. neither.0 holds.1,
