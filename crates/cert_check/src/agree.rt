@@ -5,7 +5,7 @@ ghost use Rattle.call_tables.specs.declared.arch.Arch.{Arch as TheArch};
 ghost use Rattle.cert_state.specs.declared.literal.Lit.TheVariants.{Bits};
 ghost use Rattle.cert_state.specs.Literals.{all_bits};
 ghost use Rattle.cert_state.specs.Entailment.{Entails};
-ghost use Rattle.cert_check.specs.inner.Claimed.{mets_of, outs_of};
+ghost use Rattle.cert_check.specs.inner.Asked.{known_of, met_of, out_of};
 ghost use Rattle.cert_check.specs.Agree.{Agrees, AllAreYes, ForeignNumbersAgree, IsAmong, IsLeft, IsNoRule, IsYesRule, ListedAgrees, MachineAgrees, OneIsNo, RulesAgree};
 ghost use Rattle.cert_check.specs.inner.Judged.{AreKnownNumbers, Bears, IsAnswered, IsJudged, IsKnownNumber};
 
@@ -149,10 +149,10 @@ impl<S: State> Agreement<'_, S> {
         last: Answered<'r>,
     ) -> (Judged, Answered<'r>)
         requires place { place < 8192 }
-        requires last { IsAnswered (S.known self.now.facts.now.state.now) last }
-        ensures judged { let met = mets_of self.now.mets.node in let known = S.known self.now.facts.now.state.now in
+        requires last { IsAnswered (known_of self.now) last }
+        ensures judged { let met = met_of self.now in let known = known_of self.now in
             IsJudged (AllAreYes met known place rule.now.conds.items) (OneIsNo met known place rule.now.conds.items) result.0 }
-        ensures answer { IsAnswered (S.known self.now.facts.now.state.now) result.1 }
+        ensures answer { IsAnswered (known_of self.now) result.1 }
     {
         let conds = rule.conds.as_slice();
         if self.mets.has_some(place) {
@@ -164,10 +164,10 @@ impl<S: State> Agreement<'_, S> {
 
     // Whether a rule of the record's machine is settled, by the answers to its number and to its conditions.
     fn judge_rule(&self, place: usize, rule: &Rule, number: Number, conds: Judged) -> Judged
-        requires number { IsKnownNumber (S.known self.now.facts.now.state.now) rule.now.nr number }
-        requires conds { let met = mets_of self.now.mets.node in let known = S.known self.now.facts.now.state.now in
+        requires number { IsKnownNumber (known_of self.now) rule.now.nr number }
+        requires conds { let met = met_of self.now in let known = known_of self.now in
             IsJudged (AllAreYes met known place rule.now.conds.items) (OneIsNo met known place rule.now.conds.items) conds }
-        ensures { let met = mets_of self.now.mets.node in let known = S.known self.now.facts.now.state.now in
+        ensures { let met = met_of self.now in let known = known_of self.now in
             IsJudged (IsYesRule met known place rule.now) (IsNoRule met known place rule.now) result }
     {
         match conds {
@@ -193,9 +193,9 @@ impl<S: State> Agreement<'_, S> {
 
     // How a rule of the record's machine bears on the word, by whether it is settled.
     fn bearing_of(&self, place: usize, rule: &Rule, judged: Judged) -> Bearing
-        requires { let met = mets_of self.now.mets.node in let known = S.known self.now.facts.now.state.now in
+        requires { let met = met_of self.now in let known = known_of self.now in
             IsJudged (IsYesRule met known place rule.now) (IsNoRule met known place rule.now) judged }
-        ensures { Bears (mets_of self.now.mets.node) (S.known self.now.facts.now.state.now) self.now.word place rule.now result }
+        ensures { Bears (met_of self.now) (known_of self.now) self.now.word place rule.now result }
     {
         if rule.word == self.word {
             match judged {
@@ -222,10 +222,10 @@ impl<S: State> Agreement<'_, S> {
         last: Answered<'r>,
     ) -> (Bearing, Answered<'r>)
         requires place { place < 8192 }
-        requires number { IsKnownNumber (S.known self.now.facts.now.state.now) rule.now.nr number }
-        requires last { IsAnswered (S.known self.now.facts.now.state.now) last }
-        ensures bearing { Bears (mets_of self.now.mets.node) (S.known self.now.facts.now.state.now) self.now.word place rule.now result.0 }
-        ensures answer { IsAnswered (S.known self.now.facts.now.state.now) result.1 }
+        requires number { IsKnownNumber (known_of self.now) rule.now.nr number }
+        requires last { IsAnswered (known_of self.now) last }
+        ensures bearing { Bears (met_of self.now) (known_of self.now) self.now.word place rule.now result.0 }
+        ensures answer { IsAnswered (known_of self.now) result.1 }
     {
         if number.other {
             if !number.own {
@@ -240,7 +240,7 @@ impl<S: State> Agreement<'_, S> {
     // Whether a rule at a place is for the machine, and is not said to be out.
     fn is_left(&self, place: usize, rule: &Rule, arch: Arch) -> bool
         requires { place < 8192 }
-        ensures { IsTrue result ↔ IsLeft (outs_of self.now.outs.node) arch place rule.now }
+        ensures { IsTrue result ↔ IsLeft (out_of self.now) arch place rule.now }
     {
         if !is_for(rule, arch) {
             return false;
@@ -250,8 +250,7 @@ impl<S: State> Agreement<'_, S> {
 
     // Whether the rules that are left for a machine agree with the word.
     fn rules_agree(&self, arch: Arch) -> bool
-        ensures { let a = self.now in IsTrue result
-            ↔ RulesAgree a.profile.now (outs_of a.outs.node) (mets_of a.mets.node) (S.known a.facts.now.state.now) a.word arch }
+        ensures { let a = self.now in IsTrue result ↔ RulesAgree a.profile.now (out_of a) (met_of a) (known_of a) a.word arch }
     {
         let mut others = false;
         let mut place = 0_usize;
@@ -281,7 +280,7 @@ impl<S: State> Agreement<'_, S> {
 
     // Whether no foreign number with the machine's token is possible, or such a one gets its word.
     fn foreign_numbers_agree(&self, arch: Arch) -> bool
-        ensures { IsTrue result ↔ ForeignNumbersAgree (S.known self.now.facts.now.state.now) self.now.word arch }
+        ensures { IsTrue result ↔ ForeignNumbersAgree (known_of self.now) self.now.word arch }
     {
         if arch.other_numbers().is_empty() {
             return true;
@@ -295,8 +294,7 @@ impl<S: State> Agreement<'_, S> {
 
     // Whether a machine agrees with the word.
     fn machine_agrees(&self, arch: Arch) -> bool
-        ensures { let a = self.now in IsTrue result
-            ↔ MachineAgrees a.profile.now (outs_of a.outs.node) (mets_of a.mets.node) (S.known a.facts.now.state.now) a.word arch }
+        ensures { let a = self.now in IsTrue result ↔ MachineAgrees a.profile.now (out_of a) (met_of a) (known_of a) a.word arch }
     {
         if !self.foreign_numbers_agree(arch) {
             return false;
@@ -310,10 +308,12 @@ impl<S: State> Agreement<'_, S> {
 
     // Whether a listed machine is another than the record's, or agrees with the word.
     fn listed_agrees(&self, arch: Arch) -> bool
-        ensures { let a = self.now in IsTrue result
-            ↔ ListedAgrees a.profile.now (outs_of a.outs.node) (mets_of a.mets.node) (S.known a.facts.now.state.now) a.word arch }
+        ensures { let a = self.now in IsTrue result ↔ ListedAgrees a.profile.now (out_of a) (met_of a) (known_of a) a.word arch }
     {
-        if self.facts.entails(&Lit::NotBits(TOKEN, u32::MAX, arch.token())) {
+        if self
+            .facts
+            .entails(&Lit::NotBits(TOKEN, u32::MAX, arch.token()))
+        {
             return true;
         }
         self.machine_agrees(arch)
@@ -321,8 +321,7 @@ impl<S: State> Agreement<'_, S> {
 
     // Whether each listed machine does.
     fn all_agree(&self, machines: &[Arch]) -> bool
-        ensures { let a = self.now in IsTrue result
-            ↔ All (ListedAgrees a.profile.now (outs_of a.outs.node) (mets_of a.mets.node) (S.known a.facts.now.state.now) a.word) machines.now }
+        ensures { let a = self.now in IsTrue result ↔ All (ListedAgrees a.profile.now (out_of a) (met_of a) (known_of a) a.word) machines.now }
     {
         for arch in machines {
             if !self.listed_agrees(*arch) {
@@ -335,7 +334,7 @@ impl<S: State> Agreement<'_, S> {
     // Whether a foreign record is impossible, or gets its word.
     fn foreign_agrees(&self) -> bool
         ensures { let a = self.now in IsTrue result ↔ ((arch : TheArch) × Contains a.profile.now.machines arch
-            × Entails (S.known a.facts.now.state.now) (Bits 1 all_bits (token_of arch))) ⊎ (a.word ≡ 0) }
+            × Entails (known_of a) (Bits 1 all_bits (token_of arch))) ⊎ (a.word ≡ 0) }
     {
         if self.word == Word::KILL_THREAD {
             return true;
@@ -346,8 +345,7 @@ impl<S: State> Agreement<'_, S> {
     /// Whether the profile says the word of each record of which this is known, and also that no rule matches that is out
     /// and that the conditions are met that are said to be.
     pub(crate) fn agrees(&self) -> bool
-        ensures { let a = self.now in IsTrue result
-            ↔ Agrees a.profile.now (outs_of a.outs.node) (mets_of a.mets.node) (S.known a.facts.now.state.now) a.word }
+        ensures { let a = self.now in IsTrue result ↔ Agrees a.profile.now (out_of a) (met_of a) (known_of a) a.word }
     {
         if !self.foreign_agrees() {
             return false;
