@@ -1,13 +1,13 @@
 //! Whether what is known of a record settles the word that a profile says of it.
-ghost use Rattle.std.specs.Prelude.{◌≡◌, ◌<◌, ◌↔◌, ◌⊎◌, IsTrue, All, Any, Contains};
+ghost use Rattle.std.specs.Prelude.{◌≡◌, ◌<◌, ◌↔◌, ◌⊎◌, ℕ, IsTrue, All, Any, Contains};
 ghost use Rattle.call_tables.specs.Arch.{token_of};
 ghost use Rattle.call_tables.specs.declared.arch.Arch.{Arch as TheArch};
 ghost use Rattle.cert_state.specs.declared.literal.Lit.TheVariants.{Bits};
 ghost use Rattle.cert_state.specs.Literals.{all_bits};
 ghost use Rattle.cert_state.specs.Entailment.{Entails};
 ghost use Rattle.cert_check.specs.inner.Asked.{known_of, met_of, out_of};
-ghost use Rattle.cert_check.specs.Agree.{Agrees, AllAreYes, ForeignNumbersAgree, IsAmong, IsLeft, IsNoRule, IsYesRule, ListedAgrees, MachineAgrees, OneIsNo, RulesAgree};
-ghost use Rattle.cert_check.specs.inner.Judged.{AreKnownNumbers, Bears, IsAnswered, IsJudged, IsKnownNumber};
+ghost use Rattle.cert_check.specs.Agree.{Agrees, ForeignNumbersAgree, IsAmong, IsLeft, ListedAgrees, MachineAgrees, RulesAgree};
+ghost use Rattle.cert_check.specs.inner.Judged.{AreJudgedAt, AreKnownNumbers, Bears, IsAnswered, IsJudgedAt, IsKnownNumber, IsRuleJudged};
 
 use crate::claims::{Mets, Outs};
 use crate::conditions::{judge_conditions, judge_left};
@@ -139,6 +139,31 @@ fn is_listed<S: State>(facts: &Facts<'_, S>, machines: &[Arch]) -> bool
     machines.iter().any(|arch| facts.entails(&Lit::Bits(TOKEN, u32::MAX, arch.token())))
 }
 
+// Whether a rule of the record's machine is settled, by the answers to its number and to its conditions.
+fn judge_rule(number: Number, conds: Judged) -> Judged
+    ensures { IsRuleJudged number conds result }
+{
+    match conds {
+        Judged::No => Judged::No,
+        Judged::Yes => {
+            if number.own {
+                return Judged::Yes;
+            }
+            if number.other {
+                Judged::No
+            } else {
+                Judged::Open
+            }
+        }
+        Judged::Open => {
+            if number.other {
+                return Judged::No;
+            }
+            Judged::Open
+        }
+    }
+}
+
 impl<S: State> Agreement<'_, S> {
     // The answer to the conditions of the rule at a place, and the last answer to conditions of which none was said to be
     // met: that is no answer for a rule with conditions that are.
@@ -150,8 +175,7 @@ impl<S: State> Agreement<'_, S> {
     ) -> (Judged, Answered<'r>)
         requires place { place < 8192 }
         requires last { IsAnswered (known_of self.now) last }
-        ensures judged { let met = met_of self.now in let known = known_of self.now in
-            IsJudged (AllAreYes met known place rule.now.conds.items) (OneIsNo met known place rule.now.conds.items) result.0 }
+        ensures judged { AreJudgedAt (met_of self.now) (known_of self.now) place rule.now.conds.items result.0 }
         ensures answer { IsAnswered (known_of self.now) result.1 }
     {
         let conds = rule.conds.as_slice();
@@ -162,40 +186,10 @@ impl<S: State> Agreement<'_, S> {
         (answer.judged, answer)
     }
 
-    // Whether a rule of the record's machine is settled, by the answers to its number and to its conditions.
-    fn judge_rule(&self, place: usize, rule: &Rule, number: Number, conds: Judged) -> Judged
-        requires number { IsKnownNumber (known_of self.now) rule.now.nr number }
-        requires conds { let met = met_of self.now in let known = known_of self.now in
-            IsJudged (AllAreYes met known place rule.now.conds.items) (OneIsNo met known place rule.now.conds.items) conds }
-        ensures { let met = met_of self.now in let known = known_of self.now in
-            IsJudged (IsYesRule met known place rule.now) (IsNoRule met known place rule.now) result }
-    {
-        match conds {
-            Judged::No => Judged::No,
-            Judged::Yes => {
-                if number.own {
-                    return Judged::Yes;
-                }
-                if number.other {
-                    Judged::No
-                } else {
-                    Judged::Open
-                }
-            }
-            Judged::Open => {
-                if number.other {
-                    return Judged::No;
-                }
-                Judged::Open
-            }
-        }
-    }
-
     // How a rule of the record's machine bears on the word, by whether it is settled.
-    fn bearing_of(&self, place: usize, rule: &Rule, judged: Judged) -> Bearing
-        requires { let met = met_of self.now in let known = known_of self.now in
-            IsJudged (IsYesRule met known place rule.now) (IsNoRule met known place rule.now) judged }
-        ensures { Bears (met_of self.now) (known_of self.now) self.now.word place rule.now result }
+    fn bearing_of(&self, rule: &Rule, judged: Judged) -> Bearing
+        ensures { (place : ℕ) → IsJudgedAt (met_of self.now) (known_of self.now) place rule.now judged
+            → Bears (met_of self.now) (known_of self.now) self.now.word place rule.now result }
     {
         if rule.word == self.word {
             match judged {
@@ -233,8 +227,8 @@ impl<S: State> Agreement<'_, S> {
             }
         }
         let (conds, answer) = self.answer_at(place, rule, last);
-        let judged = self.judge_rule(place, rule, number, conds);
-        (self.bearing_of(place, rule, judged), answer)
+        let judged = judge_rule(number, conds);
+        (self.bearing_of(rule, judged), answer)
     }
 
     // Whether a rule at a place is for the machine, and is not said to be out.

@@ -1,13 +1,13 @@
 use Rattle.std.proofs.Common.{refl, sym, subst}
 use Rattle.std.specs.Prelude.{All}
-use Rattle.cert_check.specs.inner.Claimed.{mets_of, outs_of}
+use Rattle.cert_check.specs.inner.Asked.{known_of, met_of, out_of}
 use Rattle.cert_check.specs.Agree.{ListedAgrees}
 use Rattle.cert_check.proofs.agree.Agreement.agrees.Goals as goal
 
 pub returns : goal.returns
 returns g c =
-    let known = g.S.State.known c.args.self.now.facts.now.state.now in
-    let P = ListedAgrees c.args.self.now.profile.now (outs_of c.args.self.now.outs.node) (mets_of c.args.self.now.mets.node) known c.args.self.now.word in
+    let known = known_of c.args.self.now in
+    let P = ListedAgrees c.args.self.now.profile.now (out_of c.args.self.now) (met_of c.args.self.now) known c.args.self.now.word in
     let same = c.machines.ensures.machines in (
       λ t. record { foreign = c.if-not-foreign_agrees.ensures.0 refl; machines = subst (All P) same (c.all_agree.ensures.0 t) },
       λ h. c.all_agree.ensures.1 (subst (All P) (sym same) h.machines),

@@ -1,12 +1,12 @@
 use Rattle.std.proofs.Common.{◌≡◌, true, false, refl, arith}
-use Rattle.cert_check.specs.inner.Claimed.{mets_of, outs_of}
+use Rattle.cert_check.specs.inner.Asked.{known_of, met_of, out_of}
 use Rattle.cert_check.specs.Agree.{ListedAgrees}
 use Rattle.cert_check.proofs.SoFar.{one_more_at}
 use Rattle.cert_check.proofs.agree.Agreement.all_agree.Goals as goal
 
 pub loop-arch-preserved : goal.loop-arch-preserved
 loop-arch-preserved g c =
-    let P = ListedAgrees c.args.self.now.profile.now (outs_of c.args.self.now.outs.node) (mets_of c.args.self.now.mets.node) (g.S.State.known c.args.self.now.facts.now.state.now) c.args.self.now.word in
+    let P = ListedAgrees c.args.self.now.profile.now (out_of c.args.self.now) (met_of c.args.self.now) (known_of c.args.self.now) c.args.self.now.word in
     one_more_at P c.args.machines.now c.loop-arch.arch-index _ c.loop-arch-test.true c.loop-arch.invariant (c.if-not-listed_agrees.ensures.0 refl)
 
 pub returns-then-not-listed_agrees : goal.returns-then-not-listed_agrees

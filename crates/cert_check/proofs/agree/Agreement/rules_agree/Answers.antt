@@ -4,7 +4,7 @@ use Rattle.std.proofs.lemmas.List.{get_or-replicate}
 use Rattle.std.proofs.lemmas.Bool.{eqb-true, eq-eqb}
 use Rattle.std.proofs.lemmas.Option.{slice_get-get_or}
 use Rattle.profile.specs.declared.rules.Rule.{Rule}
-use Rattle.cert_check.specs.inner.Claimed.{mets_of, outs_of}
+use Rattle.cert_check.specs.inner.Asked.{known_of, met_of, out_of}
 use Rattle.cert_check.specs.Agree.{IsLeft}
 use Rattle.cert_check.specs.inner.Judged.{AreKnownNumbers, Bears, IsAnswered, IsKnownNumber, RulesSoFar}
 use Rattle.cert_check.specs.declared.judged.Number.{Number}
@@ -15,7 +15,7 @@ use Rattle.cert_check.proofs.agree.Agreement.rules_agree.Goals.{then-is_left+in-
 
 pub loop-rule-init : goal.loop-rule-init
 loop-rule-init g c =
-    let known = g.S.State.known c.args.self.now.facts.now.state.now in
+    let known = known_of c.args.self.now in
     record {
       rules = record {
         none_sure = λ k d lt. absurd (omega (arith, lt));
@@ -40,14 +40,14 @@ is_left-requires g c =
 pub returns-in-Settles : goal.returns-in-Settles
 returns-in-Settles g c =
     let rule = c.rule-item.result in
-    let out = outs_of c.args.self.now.outs.node in
-    let met = mets_of c.args.self.now.mets.node in
+    let out = out_of c.args.self.now in
+    let met = met_of c.args.self.now in
     let n = c.loop-rule.rule-index in
     let here : slice_get c.rules-rule-items.result.now n ≡ Some rule =
     slice_get-get_or c.rules-rule-items.result.now n rule c.loop-rule-test.true ∙ ap Some (sym c.rule-item.is) in
     let stands = subst (λ (rules : List Rule). slice_get rules n ≡ Some rule) c.rules-rule-items.ensures.rules here in
     let left = subst (λ k. IsLeft out c.args.arch k rule) c.loop-rule.invariant.place (c.if-is_left.ensures.0 refl) in
-    let known = g.S.State.known c.args.self.now.facts.now.state.now in
+    let known = known_of c.args.self.now in
     let bears = subst (λ k. Bears met known c.args.self.now.word k rule c.weigh-bearing.result.0) c.loop-rule.invariant.place c.weigh-bearing.ensures.bearing in
     let settles = subst (Bears met known c.args.self.now.word n rule) c.in-Settles.is bears in (
       λ _. inl (record { place = n; rule = rule; is_of = record { stands = stands; left = left }; is_yes = settles.0; word = settles.1 }),
@@ -56,9 +56,9 @@ returns-in-Settles g c =
 
 pub loop-rule-preserved : goal.loop-rule-preserved
 loop-rule-preserved g c =
-    let known = g.S.State.known c.args.self.now.facts.now.state.now in
-    let out = outs_of c.args.self.now.outs.node in
-    let met = mets_of c.args.self.now.mets.node in
+    let known = known_of c.args.self.now in
+    let out = out_of c.args.self.now in
+    let met = met_of c.args.self.now in
     let rules = c.rules-rule-items.result.now in
     let n = c.loop-rule.rule-index in
     let rule = c.rule-item.result in
@@ -99,9 +99,9 @@ loop-rule-preserved g c =
 
 pub returns-then-others : goal.returns-then-others
 returns-then-others g c =
-    let known = g.S.State.known c.args.self.now.facts.now.state.now in
-    let out = outs_of c.args.self.now.outs.node in
-    let met = mets_of c.args.self.now.mets.node in
+    let known = known_of c.args.self.now in
+    let out = out_of c.args.self.now in
+    let met = met_of c.args.self.now in
     let policy = c.args.self.now.profile.now in
     let same = c.rules-rule-items.ensures.rules in
     let size = ap length same in
@@ -114,9 +114,9 @@ returns-then-others g c =
 
 pub returns : goal.returns
 returns g c =
-    let known = g.S.State.known c.args.self.now.facts.now.state.now in
-    let out = outs_of c.args.self.now.outs.node in
-    let met = mets_of c.args.self.now.mets.node in
+    let known = known_of c.args.self.now in
+    let out = out_of c.args.self.now in
+    let met = met_of c.args.self.now in
     let policy = c.args.self.now.profile.now in
     let same = c.rules-rule-items.ensures.rules in
     let size = ap length same in
