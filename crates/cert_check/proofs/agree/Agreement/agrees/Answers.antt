@@ -6,8 +6,8 @@ use Rattle.cert_check.proofs.agree.Agreement.agrees.Goals as goal
 
 pub returns : goal.returns
 returns g c =
-    let known = known_of c.args.self.now in
-    let P = ListedAgrees c.args.self.now.profile.now (out_of c.args.self.now) (met_of c.args.self.now) known c.args.self.now.word in
+    let a = c.args.self.now in
+    let P = ListedAgrees a.profile.now (out_of a) (met_of a) (known_of a) a.word in
     let same = c.machines.ensures.machines in (
       λ t. record { foreign = c.if-not-foreign_agrees.ensures.0 refl; machines = subst (All P) same (c.all_agree.ensures.0 t) },
       λ h. c.all_agree.ensures.1 (subst (All P) (sym same) h.machines),

@@ -6,7 +6,8 @@ use Rattle.cert_check.proofs.agree.Agreement.all_agree.Goals as goal
 
 pub loop-arch-preserved : goal.loop-arch-preserved
 loop-arch-preserved g c =
-    let P = ListedAgrees c.args.self.now.profile.now (out_of c.args.self.now) (met_of c.args.self.now) (known_of c.args.self.now) c.args.self.now.word in
+    let a = c.args.self.now in
+    let P = ListedAgrees a.profile.now (out_of a) (met_of a) (known_of a) a.word in
     one_more_at P c.args.machines.now c.loop-arch.arch-index _ c.loop-arch-test.true c.loop-arch.invariant (c.if-not-listed_agrees.ensures.0 refl)
 
 pub returns-then-not-listed_agrees : goal.returns-then-not-listed_agrees
