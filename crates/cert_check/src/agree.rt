@@ -304,10 +304,8 @@ impl<S: State> Agreement<'_, S> {
     fn listed_agrees(&self, arch: Arch) -> bool
         ensures { let a = self.now in IsTrue result ↔ ListedAgrees a.profile.now (out_of a) (met_of a) (known_of a) a.word arch }
     {
-        if self
-            .facts
-            .entails(&Lit::NotBits(TOKEN, u32::MAX, arch.token()))
-        {
+        let token = arch.token();
+        if self.facts.entails(&Lit::NotBits(TOKEN, u32::MAX, token)) {
             return true;
         }
         self.machine_agrees(arch)

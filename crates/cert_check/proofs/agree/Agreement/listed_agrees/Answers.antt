@@ -8,14 +8,14 @@ use Rattle.cert_check.proofs.agree.Agreement.listed_agrees.Goals as goal
 pub returns-then-entails : goal.returns-then-entails
 returns-then-entails g c =
     let P : ℕ → Type 0 = λ token. Entails (known_of c.args.self.now) (NotBits 1 all_bits token) in
-    (λ _. inl (subst P c.token.ensures (c.if-entails.ensures.0 refl)), λ _. refl)
+    (λ _. inl (subst P c.token-token.ensures (c.if-entails.ensures.0 refl)), λ _. refl)
 
 pub returns : goal.returns
 returns g c =
     let P : ℕ → Type 0 = λ token. Entails (known_of c.args.self.now) (NotBits 1 all_bits token) in (
       λ t. inr (c.machine_agrees.ensures.0 t),
       λ h. elim h [
-        | inl another ↦ absurd (let e : false ≡ true = c.if-entails.ensures.1 (subst P (sym c.token.ensures) another) in cc)
+        | inl another ↦ absurd (let e : false ≡ true = c.if-entails.ensures.1 (subst P (sym c.token-token.ensures) another) in cc)
         | inr agrees ↦ c.machine_agrees.ensures.1 agrees
       ],
     )

@@ -1,9 +1,11 @@
-use Rattle.std.proofs.Common.{◌≡◌, ◌+◌, List, true, false, sym, subst, refl, ◌∙◌, inl, arith, length, ap}
+use Rattle.std.proofs.Common.{◌≡◌, ◌+◌, ℕ, List, true, false, sym, subst, refl, ◌∙◌, inl, arith, length, ap}
 use Rattle.std.specs.Prelude.{IfSome, None, Option, Some, slice_get}
 use Rattle.std.proofs.lemmas.List.{get_or-replicate}
 use Rattle.std.proofs.lemmas.Bool.{eqb-true, eq-eqb}
 use Rattle.std.proofs.lemmas.Option.{slice_get-get_or}
+use Rattle.call_tables.specs.declared.arch.Arch.{Arch}
 use Rattle.profile.specs.declared.rules.Rule.{Rule}
+use Rattle.cert_state.specs.declared.literal.Lit.{Lit}
 use Rattle.cert_check.specs.inner.Asked.{known_of, met_of, out_of}
 use Rattle.cert_check.specs.Agree.{IsLeft}
 use Rattle.cert_check.specs.inner.Judged.{AreKnownNumbers, Bears, IsAnswered, IsKnownNumber, RulesSoFar}
@@ -13,15 +15,21 @@ use Rattle.cert_check.proofs.RulesLaws.{none_agree, default_agrees}
 use Rattle.cert_check.proofs.agree.Agreement.rules_agree.Goals as goal
 use Rattle.cert_check.proofs.agree.Agreement.rules_agree.Goals.{then-is_left+in-Agrees, then-is_left+in-Differs, else-is_left}
 
+-- before the first rule none is left
+before_the_first : (out : List ℕ) (met : List (ℕ × ℕ)) (known : List Lit) (v : ℕ) (arch : Arch) (rules : List Rule)
+    → RulesSoFar out met known v arch rules 0 false
+before_the_first out met known v arch rules = record {
+  none_sure = λ k d lt. absurd (omega (arith, lt));
+  settled = λ _ k d lt. absurd (omega (arith, lt));
+  another = λ e. absurd (let untrue : false ≡ true = e in cc);
+}
+
 pub loop-rule-init : goal.loop-rule-init
 loop-rule-init g c =
-    let known = known_of c.args.self.now in
+    let a = c.args.self.now in
+    let known = known_of a in
     record {
-      rules = record {
-        none_sure = λ k d lt. absurd (omega (arith, lt));
-        settled = λ _ k d lt. absurd (omega (arith, lt));
-        another = λ e. absurd (let untrue : false ≡ true = e in cc);
-      };
+      rules = before_the_first (out_of a) (met_of a) known a.word c.args.arch c.rules-rule-items.result.now;
       place = refl;
       numbers = λ n d lt. subst (λ (o : Option Number). IfSome o (IsKnownNumber known n)) (sym (get_or-replicate 512 n None d lt)) tt;
       last = λ cond has. absurd (omega (arith, has.1));
