@@ -313,7 +313,8 @@ impl<S: State> Agreement<'_, S> {
 
     // Whether each listed machine does.
     fn all_agree(&self, machines: &[Arch]) -> bool
-        ensures { let a = self.now in IsTrue result ↔ All (ListedAgrees a.profile.now (out_of a) (met_of a) (known_of a) a.word) machines.now }
+        ensures { let a = self.now in IsTrue result
+            ↔ All (ListedAgrees a.profile.now (out_of a) (met_of a) (known_of a) a.word) machines.now }
     {
         for arch in machines {
             if !self.listed_agrees(*arch) {
