@@ -2,6 +2,7 @@
 pub mod Judged
 pub mod Marked
 pub mod Claimed
+pub mod Asked
 pub mod Ways
 pub mod Broken
 pub mod Among

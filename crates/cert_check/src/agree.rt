@@ -1,13 +1,13 @@
 //! Whether what is known of a record settles the word that a profile says of it.
-ghost use Rattle.std.specs.Prelude.{◌≡◌, ◌<◌, ◌↔◌, ◌⊎◌, IsTrue, All, Any, Contains};
+ghost use Rattle.std.specs.Prelude.{◌≡◌, ◌<◌, ◌↔◌, ◌⊎◌, ℕ, IsTrue, All, Any, Contains};
 ghost use Rattle.call_tables.specs.Arch.{token_of};
 ghost use Rattle.call_tables.specs.declared.arch.Arch.{Arch as TheArch};
 ghost use Rattle.cert_state.specs.declared.literal.Lit.TheVariants.{Bits};
 ghost use Rattle.cert_state.specs.Literals.{all_bits};
 ghost use Rattle.cert_state.specs.Entailment.{Entails};
-ghost use Rattle.cert_check.specs.inner.Claimed.{mets_of, outs_of};
-ghost use Rattle.cert_check.specs.Agree.{Agrees, AllAreYes, ForeignNumbersAgree, IsAmong, IsLeft, IsNoRule, IsYesRule, ListedAgrees, MachineAgrees, OneIsNo, RulesAgree};
-ghost use Rattle.cert_check.specs.inner.Judged.{AreKnownNumbers, Bears, IsAnswered, IsJudged, IsKnownNumber};
+ghost use Rattle.cert_check.specs.inner.Asked.{known_of, met_of, out_of};
+ghost use Rattle.cert_check.specs.Agree.{Agrees, ForeignNumbersAgree, IsAmong, IsLeft, ListedAgrees, MachineAgrees, RulesAgree};
+ghost use Rattle.cert_check.specs.inner.Judged.{AreJudgedAt, AreKnownNumbers, Bears, IsAnswered, IsJudgedAt, IsKnownNumber, IsRuleJudged};
 
 use crate::claims::{Mets, Outs};
 use crate::conditions::{judge_conditions, judge_left};
@@ -16,6 +16,16 @@ use call_record::Word;
 use call_tables::{Arch, Numbers};
 use cert_state::{Facts, Lit, State};
 use profile::{Cond, Op, Profile, Rule};
+
+/// What a word is judged by: the profile, what a node says of its rules, and what is known of the record.
+#[derive(Drop)]
+pub(crate) struct Agreement<'a, S: State> {
+    pub(crate) profile: &'a Profile,
+    pub(crate) outs: Outs<'a, 'a>,
+    pub(crate) mets: Mets<'a, 'a>,
+    pub(crate) facts: &'a Facts<'a, S>,
+    pub(crate) word: Word,
+}
 
 // The words of a record that hold the call's number and the machine's token.
 pub(crate) const NUMBER: u8 = 0;
@@ -108,43 +118,30 @@ pub(crate) fn answer_of<'a, S: State>(
     }
 }
 
-// The answer to the conditions of the rule at a place, and the last answer to conditions of which none was said to be
-// met: that is no answer for a rule with conditions that are.
-fn answer_at<'a, S: State>(
-    facts: &Facts<'_, S>,
-    mets: &Mets<'_, '_>,
-    place: usize,
-    rule: &'a Rule,
-    last: Answered<'a>,
-) -> (Judged, Answered<'a>)
-    requires place { place < 8192 }
-    requires last { IsAnswered (S.known facts.now.state.now) last }
-    ensures judged { let met = mets_of mets.now.node in let known = S.known facts.now.state.now in
-        IsJudged (AllAreYes met known place rule.now.conds.items) (OneIsNo met known place rule.now.conds.items) result.0 }
-    ensures answer { IsAnswered (S.known facts.now.state.now) result.1 }
+// Whether a rule is for the machine.
+fn is_for(rule: &Rule, arch: Arch) -> bool
+    ensures { IsTrue result ↔ (token_of rule.now.arch ≡ token_of arch) }
 {
-    let conds = rule.conds.as_slice();
-    if mets.has_some(place) {
-        return (judge_left(facts, mets, place, conds), last);
-    }
-    let answer = answer_of(facts, rule, last);
-    (answer.judged, answer)
+    rule.arch.token() == arch.token()
+}
+
+// Whether the number is known to be one of some.
+fn is_among<S: State>(facts: &Facts<'_, S>, all: &[Numbers]) -> bool
+    ensures { IsTrue result ↔ IsAmong (S.known facts.now.state.now) all.now }
+{
+    all.iter().any(|numbers| facts.entails(&Lit::In(NUMBER, numbers.first, numbers.last)))
+}
+
+// Whether the record is known to be of one of the machines.
+fn is_listed<S: State>(facts: &Facts<'_, S>, machines: &[Arch]) -> bool
+    ensures { IsTrue result ↔ Any (λ arch. Entails (S.known facts.now.state.now) (Bits 1 all_bits (token_of arch))) machines.now }
+{
+    machines.iter().any(|arch| facts.entails(&Lit::Bits(TOKEN, u32::MAX, arch.token())))
 }
 
 // Whether a rule of the record's machine is settled, by the answers to its number and to its conditions.
-fn judge_rule<S: State>(
-    facts: &Facts<'_, S>,
-    mets: &Mets<'_, '_>,
-    place: usize,
-    rule: &Rule,
-    number: Number,
-    conds: Judged,
-) -> Judged
-    requires number { IsKnownNumber (S.known facts.now.state.now) rule.now.nr number }
-    requires conds { let met = mets_of mets.now.node in let known = S.known facts.now.state.now in
-        IsJudged (AllAreYes met known place rule.now.conds.items) (OneIsNo met known place rule.now.conds.items) conds }
-    ensures { let met = mets_of mets.now.node in let known = S.known facts.now.state.now in
-        IsJudged (IsYesRule met known place rule.now) (IsNoRule met known place rule.now) result }
+fn judge_rule(number: Number, conds: Judged) -> Judged
+    ensures { IsRuleJudged number conds result }
 {
     match conds {
         Judged::No => Judged::No,
@@ -167,225 +164,185 @@ fn judge_rule<S: State>(
     }
 }
 
-// How a rule of the record's machine bears on a word, by whether it is settled.
-fn bearing_of<S: State>(
-    facts: &Facts<'_, S>,
-    mets: &Mets<'_, '_>,
-    place: usize,
-    rule: &Rule,
-    word: Word,
-    judged: Judged,
-) -> Bearing
-    requires { let met = mets_of mets.now.node in let known = S.known facts.now.state.now in
-        IsJudged (IsYesRule met known place rule.now) (IsNoRule met known place rule.now) judged }
-    ensures { Bears (mets_of mets.now.node) (S.known facts.now.state.now) word place rule.now result }
-{
-    if rule.word == word {
-        match judged {
-            Judged::Yes => Bearing::Settles,
-            Judged::No => Bearing::Agrees,
-            Judged::Open => Bearing::Agrees,
+impl<S: State> Agreement<'_, S> {
+    // The answer to the conditions of the rule at a place, and the last answer to conditions of which none was said to be
+    // met: that is no answer for a rule with conditions that are.
+    fn answer_at<'r>(
+        &self,
+        place: usize,
+        rule: &'r Rule,
+        last: Answered<'r>,
+    ) -> (Judged, Answered<'r>)
+        requires place { place < 8192 }
+        requires last { IsAnswered (known_of self.now) last }
+        ensures judged { AreJudgedAt (met_of self.now) (known_of self.now) place rule.now.conds.items result.0 }
+        ensures answer { IsAnswered (known_of self.now) result.1 }
+    {
+        let conds = rule.conds.as_slice();
+        if self.mets.has_some(place) {
+            return (judge_left(self.facts, &self.mets, place, conds), last);
         }
-    } else {
-        match judged {
-            Judged::Yes => Bearing::Differs,
-            Judged::No => Bearing::Agrees,
-            Judged::Open => Bearing::Differs,
-        }
+        let answer = answer_of(self.facts, rule, last);
+        (answer.judged, answer)
     }
-}
 
-// Whether a rule is for the machine.
-fn is_for(rule: &Rule, arch: Arch) -> bool
-    ensures { IsTrue result ↔ (token_of rule.now.arch ≡ token_of arch) }
-{
-    rule.arch.token() == arch.token()
-}
-
-// Whether a rule at a place is for the machine, and is not said to be out.
-fn is_left(outs: &Outs<'_, '_>, place: usize, rule: &Rule, arch: Arch) -> bool
-    requires { place < 8192 }
-    ensures { IsTrue result ↔ IsLeft (outs_of outs.now.node) arch place rule.now }
-{
-    if !is_for(rule, arch) {
-        return false;
-    }
-    !outs.has(place)
-}
-
-// How the rule of the record's machine at a place bears on a word, with the last answer to conditions. That of a rule of
-// another number is not asked for.
-fn weigh<'a, S: State>(
-    facts: &Facts<'_, S>,
-    mets: &Mets<'_, '_>,
-    place: usize,
-    rule: &'a Rule,
-    word: Word,
-    number: Number,
-    last: Answered<'a>,
-) -> (Bearing, Answered<'a>)
-    requires place { place < 8192 }
-    requires number { IsKnownNumber (S.known facts.now.state.now) rule.now.nr number }
-    requires last { IsAnswered (S.known facts.now.state.now) last }
-    ensures bearing { Bears (mets_of mets.now.node) (S.known facts.now.state.now) word place rule.now result.0 }
-    ensures answer { IsAnswered (S.known facts.now.state.now) result.1 }
-{
-    if number.other {
-        if !number.own {
-            return (Bearing::Agrees, last);
-        }
-    }
-    let (conds, answer) = answer_at(facts, mets, place, rule, last);
-    let judged = judge_rule(facts, mets, place, rule, number, conds);
-    (bearing_of(facts, mets, place, rule, word, judged), answer)
-}
-
-// Whether the rules that are left for a machine agree with a word.
-fn rules_agree<S: State>(
-    profile: &Profile,
-    outs: &Outs<'_, '_>,
-    mets: &Mets<'_, '_>,
-    facts: &Facts<'_, S>,
-    word: Word,
-    arch: Arch,
-) -> bool
-    ensures { IsTrue result ↔ RulesAgree profile.now (outs_of outs.now.node) (mets_of mets.now.node) (S.known facts.now.state.now) word arch }
-{
-    let mut others = false;
-    let mut place = 0_usize;
-    let mut numbers = [None; 512];
-    let mut last = Answered {
-        conds: &[],
-        judged: Judged::Yes,
-    };
-    for rule in profile.rules() {
-        if is_left(outs, place, rule, arch) {
-            let number = number_of(facts, &mut numbers, rule.nr);
-            let (bearing, answer) = weigh(facts, mets, place, rule, word, number, last);
-            last = answer;
-            match bearing {
-                Bearing::Settles => return true,
-                Bearing::Agrees => {}
-                Bearing::Differs => others = true,
+    // How a rule of the record's machine bears on the word, by whether it is settled.
+    fn bearing_of(&self, rule: &Rule, judged: Judged) -> Bearing
+        ensures { (place : ℕ) → IsJudgedAt (met_of self.now) (known_of self.now) place rule.now judged
+            → Bears (met_of self.now) (known_of self.now) self.now.word place rule.now result }
+    {
+        if rule.word == self.word {
+            match judged {
+                Judged::Yes => Bearing::Settles,
+                Judged::No => Bearing::Agrees,
+                Judged::Open => Bearing::Agrees,
+            }
+        } else {
+            match judged {
+                Judged::Yes => Bearing::Differs,
+                Judged::No => Bearing::Agrees,
+                Judged::Open => Bearing::Differs,
             }
         }
-        place += 1;
     }
-    if others {
-        return false;
-    }
-    profile.default_word() == word
-}
 
-// Whether the number is known to be one of some.
-fn is_among<S: State>(facts: &Facts<'_, S>, all: &[Numbers]) -> bool
-    ensures { IsTrue result ↔ IsAmong (S.known facts.now.state.now) all.now }
-{
-    all.iter().any(|numbers| facts.entails(&Lit::In(NUMBER, numbers.first, numbers.last)))
-}
+    // How the rule of the record's machine at a place bears on the word, with the last answer to conditions. That of a rule
+    // of another number is not asked for.
+    fn weigh<'r>(
+        &self,
+        place: usize,
+        rule: &'r Rule,
+        number: Number,
+        last: Answered<'r>,
+    ) -> (Bearing, Answered<'r>)
+        requires place { place < 8192 }
+        requires number { IsKnownNumber (known_of self.now) rule.now.nr number }
+        requires last { IsAnswered (known_of self.now) last }
+        ensures bearing { Bears (met_of self.now) (known_of self.now) self.now.word place rule.now result.0 }
+        ensures answer { IsAnswered (known_of self.now) result.1 }
+    {
+        if number.other {
+            if !number.own {
+                return (Bearing::Agrees, last);
+            }
+        }
+        let (conds, answer) = self.answer_at(place, rule, last);
+        let judged = judge_rule(number, conds);
+        (self.bearing_of(rule, judged), answer)
+    }
 
-// Whether no foreign number with the machine's token is possible, or such a one gets its word.
-fn foreign_numbers_agree<S: State>(facts: &Facts<'_, S>, word: Word, arch: Arch) -> bool
-    ensures { IsTrue result ↔ ForeignNumbersAgree (S.known facts.now.state.now) word arch }
-{
-    if arch.other_numbers().is_empty() {
-        return true;
-    }
-    if word == Word::KILL_THREAD {
-        return true;
-    }
-    let own = arch.own_numbers();
-    is_among(facts, own)
-}
-
-// Whether a machine agrees with a word.
-fn machine_agrees<S: State>(
-    profile: &Profile,
-    outs: &Outs<'_, '_>,
-    mets: &Mets<'_, '_>,
-    facts: &Facts<'_, S>,
-    word: Word,
-    arch: Arch,
-) -> bool
-    ensures { IsTrue result ↔ MachineAgrees profile.now (outs_of outs.now.node) (mets_of mets.now.node) (S.known facts.now.state.now) word arch }
-{
-    if !foreign_numbers_agree(facts, word, arch) {
-        return false;
-    }
-    let others = arch.other_numbers();
-    if is_among(facts, others) {
-        return true;
-    }
-    rules_agree(profile, outs, mets, facts, word, arch)
-}
-
-// Whether a listed machine is another than the record's, or agrees with a word.
-fn listed_agrees<S: State>(
-    profile: &Profile,
-    outs: &Outs<'_, '_>,
-    mets: &Mets<'_, '_>,
-    facts: &Facts<'_, S>,
-    word: Word,
-    arch: Arch,
-) -> bool
-    ensures { IsTrue result ↔ ListedAgrees profile.now (outs_of outs.now.node) (mets_of mets.now.node) (S.known facts.now.state.now) word arch }
-{
-    if facts.entails(&Lit::NotBits(TOKEN, u32::MAX, arch.token())) {
-        return true;
-    }
-    machine_agrees(profile, outs, mets, facts, word, arch)
-}
-
-// Whether each listed machine does.
-fn all_agree<S: State>(
-    profile: &Profile,
-    outs: &Outs<'_, '_>,
-    mets: &Mets<'_, '_>,
-    facts: &Facts<'_, S>,
-    word: Word,
-    machines: &[Arch],
-) -> bool
-    ensures { IsTrue result ↔ All (ListedAgrees profile.now (outs_of outs.now.node) (mets_of mets.now.node) (S.known facts.now.state.now) word) machines.now }
-{
-    for arch in machines {
-        if !listed_agrees(profile, outs, mets, facts, word, *arch) {
+    // Whether a rule at a place is for the machine, and is not said to be out.
+    fn is_left(&self, place: usize, rule: &Rule, arch: Arch) -> bool
+        requires { place < 8192 }
+        ensures { IsTrue result ↔ IsLeft (out_of self.now) arch place rule.now }
+    {
+        if !is_for(rule, arch) {
             return false;
         }
+        !self.outs.has(place)
     }
-    true
-}
 
-// Whether the record is known to be of one of the machines.
-fn is_listed<S: State>(facts: &Facts<'_, S>, machines: &[Arch]) -> bool
-    ensures { IsTrue result ↔ Any (λ arch. Entails (S.known facts.now.state.now) (Bits 1 all_bits (token_of arch))) machines.now }
-{
-    machines.iter().any(|arch| facts.entails(&Lit::Bits(TOKEN, u32::MAX, arch.token())))
-}
-
-// Whether a foreign record is impossible, or gets its word.
-fn foreign_agrees<S: State>(profile: &Profile, facts: &Facts<'_, S>, word: Word) -> bool
-    ensures { IsTrue result ↔ ((arch : TheArch) × Contains profile.now.machines arch
-        × Entails (S.known facts.now.state.now) (Bits 1 all_bits (token_of arch))) ⊎ (word ≡ 0) }
-{
-    if word == Word::KILL_THREAD {
-        return true;
+    // Whether the rules that are left for a machine agree with the word.
+    fn rules_agree(&self, arch: Arch) -> bool
+        ensures { let a = self.now in IsTrue result ↔ RulesAgree a.profile.now (out_of a) (met_of a) (known_of a) a.word arch }
+    {
+        let mut others = false;
+        let mut place = 0_usize;
+        let mut numbers = [None; 512];
+        let mut last = Answered {
+            conds: &[],
+            judged: Judged::Yes,
+        };
+        for rule in self.profile.rules() {
+            if self.is_left(place, rule, arch) {
+                let number = number_of(self.facts, &mut numbers, rule.nr);
+                let (bearing, answer) = self.weigh(place, rule, number, last);
+                last = answer;
+                match bearing {
+                    Bearing::Settles => return true,
+                    Bearing::Agrees => {}
+                    Bearing::Differs => others = true,
+                }
+            }
+            place += 1;
+        }
+        if others {
+            return false;
+        }
+        self.profile.default_word() == self.word
     }
-    is_listed(facts, profile.machines())
-}
 
-/// Whether the profile says this word of each record of which this is known, and also that no rule matches that is out
-/// and that the conditions are met that are said to be.
-pub(crate) fn agrees<S: State>(
-    profile: &Profile,
-    outs: &Outs<'_, '_>,
-    mets: &Mets<'_, '_>,
-    facts: &Facts<'_, S>,
-    word: Word,
-) -> bool
-    ensures { IsTrue result ↔ Agrees profile.now (outs_of outs.now.node) (mets_of mets.now.node) (S.known facts.now.state.now) word }
-{
-    if !foreign_agrees(profile, facts, word) {
-        return false;
+    // Whether no foreign number with the machine's token is possible, or such a one gets its word.
+    fn foreign_numbers_agree(&self, arch: Arch) -> bool
+        ensures { IsTrue result ↔ ForeignNumbersAgree (known_of self.now) self.now.word arch }
+    {
+        if arch.other_numbers().is_empty() {
+            return true;
+        }
+        if self.word == Word::KILL_THREAD {
+            return true;
+        }
+        let own = arch.own_numbers();
+        is_among(self.facts, own)
     }
-    all_agree(profile, outs, mets, facts, word, profile.machines())
+
+    // Whether a machine agrees with the word.
+    fn machine_agrees(&self, arch: Arch) -> bool
+        ensures { let a = self.now in IsTrue result ↔ MachineAgrees a.profile.now (out_of a) (met_of a) (known_of a) a.word arch }
+    {
+        if !self.foreign_numbers_agree(arch) {
+            return false;
+        }
+        let others = arch.other_numbers();
+        if is_among(self.facts, others) {
+            return true;
+        }
+        self.rules_agree(arch)
+    }
+
+    // Whether a listed machine is another than the record's, or agrees with the word.
+    fn listed_agrees(&self, arch: Arch) -> bool
+        ensures { let a = self.now in IsTrue result ↔ ListedAgrees a.profile.now (out_of a) (met_of a) (known_of a) a.word arch }
+    {
+        let token = arch.token();
+        if self.facts.entails(&Lit::NotBits(TOKEN, u32::MAX, token)) {
+            return true;
+        }
+        self.machine_agrees(arch)
+    }
+
+    // Whether each listed machine does.
+    fn all_agree(&self, machines: &[Arch]) -> bool
+        ensures { let a = self.now in IsTrue result
+            ↔ All (ListedAgrees a.profile.now (out_of a) (met_of a) (known_of a) a.word) machines.now }
+    {
+        for arch in machines {
+            if !self.listed_agrees(*arch) {
+                return false;
+            }
+        }
+        true
+    }
+
+    // Whether a foreign record is impossible, or gets its word.
+    fn foreign_agrees(&self) -> bool
+        ensures { let a = self.now in IsTrue result ↔ ((arch : TheArch) × Contains a.profile.now.machines arch
+            × Entails (known_of a) (Bits 1 all_bits (token_of arch))) ⊎ (a.word ≡ 0) }
+    {
+        if self.word == Word::KILL_THREAD {
+            return true;
+        }
+        is_listed(self.facts, self.profile.machines())
+    }
+
+    /// Whether the profile says the word of each record of which this is known, and also that no rule matches that is out
+    /// and that the conditions are met that are said to be.
+    pub(crate) fn agrees(&self) -> bool
+        ensures { let a = self.now in IsTrue result ↔ Agrees a.profile.now (out_of a) (met_of a) (known_of a) a.word }
+    {
+        if !self.foreign_agrees() {
+            return false;
+        }
+        self.all_agree(self.profile.machines())
+    }
 }

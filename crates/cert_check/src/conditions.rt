@@ -2,8 +2,8 @@
 ghost use Rattle.std.specs.Prelude.{◌≡◌, ◌↔◌, ◌<◌, ◌≤◌, ◌+◌, ◌*◌, ◌/◌, ◌%◌, ◌^◌, ◌⊎◌, IsTrue, MatchOption, length, true, false};
 ghost use Rattle.cert_state.specs.Points.{HasNoPoint};
 ghost use Rattle.cert_check.specs.inner.Claimed.{mets_of};
-ghost use Rattle.cert_check.specs.Agree.{AllAreYes, AtBothEnds, HasBits, IsNo, IsYes, LacksBits, OneIsNo, SomeIsNo};
-ghost use Rattle.cert_check.specs.inner.Judged.{AreEnds, AreYes, IsJudged, IsNoNorMet, IsOrder, IsYesOrMet};
+ghost use Rattle.cert_check.specs.Agree.{AtBothEnds, HasBits, IsNo, IsYes, LacksBits, SomeIsNo};
+ghost use Rattle.cert_check.specs.inner.Judged.{AreEnds, AreJudgedAt, AreYes, IsJudged, IsNoNorMet, IsOrder, IsYesOrMet};
 
 use crate::claims::Mets;
 use crate::judged::Judged;
@@ -181,8 +181,7 @@ pub(crate) fn judge_left<S: State>(
 ) -> Judged
     requires place { place < 8192 }
     requires few { length conds.now ≤ 6 }
-    ensures { let met = mets_of mets.now.node in let known = S.known facts.now.state.now in
-        IsJudged (AllAreYes met known place conds.now) (OneIsNo met known place conds.now) result }
+    ensures { AreJudgedAt (mets_of mets.now.node) (S.known facts.now.state.now) place conds.now result }
 {
     let mut all_yes = true;
     let mut own = 0_usize;

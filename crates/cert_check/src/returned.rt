@@ -8,7 +8,7 @@ ghost use Rattle.cert_check.specs.Rules.{word_by};
 ghost use Rattle.cert_check.specs.inner.Broken.{ReturnsAt};
 ghost use Rattle.cert_check.specs.inner.Claimed.{outs_of};
 
-use crate::agree::agrees;
+use crate::agree::Agreement;
 use crate::claims::{Mets, Outs, has_no_met, has_none, mark_mets, mark_outs};
 use bpf_insn::{Insn, Operation};
 use call_record::Word;
@@ -33,24 +33,38 @@ fn word_of(insn: &Insn, regs: &Regs) -> Option<u32>
 // The same by a table of the conditions that the node says to be met. A table is made in a function of its own, and where
 // the node names something alone: so no other return makes room for it.
 #[inline(never)]
-fn agrees_by_mets(profile: &Profile, node: &NodeView<'_>, outs: &Outs<'_, '_>, word: Word) -> bool
-    requires { outs_of outs.now.node ≡ (says node.now).out }
+fn agrees_by_mets(profile: &Profile, node: &NodeView<'_>, outs: Outs<'_, '_>, word: Word) -> bool
+    requires { outs_of outs.node ≡ (says node.now).out }
     ensures { let n = says node.now in IsTrue result ↔ Agrees profile.now n.out n.met n.known word }
 {
     let facts = Facts::of(node);
     let mut marked = [false; 49152];
     mark_mets(node, &mut marked);
-    agrees(profile, outs, &Mets::of(node, &marked), &facts, word)
+    let agreement = Agreement {
+        profile,
+        outs,
+        mets: Mets::of(node, &marked),
+        facts: &facts,
+        word,
+    };
+    agreement.agrees()
 }
 
 // Whether the profile says a word of all that a node knows, of which these rules are out.
-fn agrees_but_for(profile: &Profile, node: &NodeView<'_>, outs: &Outs<'_, '_>, word: Word) -> bool
-    requires { outs_of outs.now.node ≡ (says node.now).out }
+fn agrees_but_for(profile: &Profile, node: &NodeView<'_>, outs: Outs<'_, '_>, word: Word) -> bool
+    requires { outs_of outs.node ≡ (says node.now).out }
     ensures { let n = says node.now in IsTrue result ↔ Agrees profile.now n.out n.met n.known word }
 {
     if has_no_met(node) {
         let facts = Facts::of(node);
-        return agrees(profile, outs, &Mets::none(), &facts, word);
+        let agreement = Agreement {
+            profile,
+            outs,
+            mets: Mets::none(),
+            facts: &facts,
+            word,
+        };
+        return agreement.agrees();
     }
     agrees_by_mets(profile, node, outs, word)
 }
@@ -62,7 +76,7 @@ fn agrees_by_outs(profile: &Profile, node: &NodeView<'_>, word: Word) -> bool
 {
     let mut marked = [false; 8192];
     mark_outs(node, &mut marked);
-    agrees_but_for(profile, node, &Outs::of(node, &marked), word)
+    agrees_but_for(profile, node, Outs::of(node, &marked), word)
 }
 
 // Whether the instruction returns a word that is known, and the profile's on all that the node knows.
@@ -73,7 +87,7 @@ fn returns(profile: &Profile, insn: &Insn, node: &NodeView<'_>) -> bool
         return false;
     };
     if has_none(node) {
-        return agrees_but_for(profile, node, &Outs::none(), Word(word));
+        return agrees_but_for(profile, node, Outs::none(), Word(word));
     }
     agrees_by_outs(profile, node, Word(word))
 }

@@ -2,7 +2,7 @@
 ghost use Rattle.std.specs.Prelude.{◌↔◌, [], IsTrue};
 ghost use Rattle.cert_check.specs.Agree.{Agrees};
 
-use crate::agree::agrees;
+use crate::agree::Agreement;
 use crate::claims::{Mets, Outs};
 use call_record::Word;
 use cert_state::{Facts, State};
@@ -14,5 +14,12 @@ pub fn is_settled<S: State>(profile: &Profile, state: &S, word: Word) -> bool
     ensures { IsTrue result ↔ Agrees profile.now [] [] (S.known state.now) word }
 {
     let facts = Facts::of(state);
-    agrees(profile, &Outs::none(), &Mets::none(), &facts, word)
+    let agreement = Agreement {
+        profile,
+        outs: Outs::none(),
+        mets: Mets::none(),
+        facts: &facts,
+        word,
+    };
+    agreement.agrees()
 }

@@ -11,7 +11,7 @@ use Rattle.cert_state.specs.declared.literal.Lit.TheVariants.{Bits, NotBits}
 use Rattle.cert_state.specs.Literals.{all_bits}
 use Rattle.cert_state.specs.Points.{IsRange}
 use Rattle.cert_state.specs.Entailment.{Entails}
-use Rattle.cert_check.specs.Agree.{IsYes, IsNo, IsYesRule, IsNoRule, IsRefuted, IsLeft, SomeIsNo, AllAreYes}
+use Rattle.cert_check.specs.Agree.{IsYes, IsNo, IsYesRule, IsNoRule, IsRefuted, IsLeft, SomeIsNo, AllAreYes, OneIsNo}
 use Rattle.cert_check.specs.declared.judged.Judged.{Judged}
 use Rattle.cert_check.specs.declared.judged.Judged.TheVariants.{Yes, No, Open}
 use Rattle.cert_check.specs.declared.judged.Number.{Number}
@@ -78,6 +78,20 @@ AreKnownNumbers known numbers = (n : ℕ) (d : Option Number) → n < 512 → If
 -- the answer is that to the conditions
 abbrev pub IsAnswered : List Lit → Answered → Type 0
 IsAnswered known answered = IsJudged (AreYes known answered.conds.now) (SomeIsNo known answered.conds.now) answered.judged
+
+-- the answer is that to the conditions of the rule at a place
+abbrev pub AreJudgedAt : List (ℕ × ℕ) → List Lit → ℕ → List Cond → Judged → Type 0
+AreJudgedAt met known place conds answer = IsJudged (AllAreYes met known place conds) (OneIsNo met known place conds) answer
+
+-- the answer is that to the rule at a place
+abbrev pub IsJudgedAt : List (ℕ × ℕ) → List Lit → ℕ → Rule → Judged → Type 0
+IsJudgedAt met known place rule answer = IsJudged (IsYesRule met known place rule) (IsNoRule met known place rule) answer
+
+-- it follows from those to the rule's number and to its conditions, whatever is known
+abbrev pub IsRuleJudged : Number → Judged → Judged → Type 0
+IsRuleJudged number conds answer =
+    (met : List (ℕ × ℕ)) (known : List Lit) (place : ℕ) (rule : Rule) → IsKnownNumber known rule.nr number
+    → AreJudgedAt met known place rule.conds.items conds → IsJudgedAt met known place rule answer
 
 -- a rule at a place says another word than v, and is not no
 abbrev pub IsOther : List (ℕ × ℕ) → List Lit → ℕ → ℕ → Rule → Type 0

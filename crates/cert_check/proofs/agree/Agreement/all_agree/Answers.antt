@@ -1,12 +1,13 @@
 use Rattle.std.proofs.Common.{◌≡◌, true, false, refl, arith}
-use Rattle.cert_check.specs.inner.Claimed.{mets_of, outs_of}
+use Rattle.cert_check.specs.inner.Asked.{known_of, met_of, out_of}
 use Rattle.cert_check.specs.Agree.{ListedAgrees}
 use Rattle.cert_check.proofs.SoFar.{one_more_at}
-use Rattle.cert_check.proofs.agree.all_agree.Goals as goal
+use Rattle.cert_check.proofs.agree.Agreement.all_agree.Goals as goal
 
 pub loop-arch-preserved : goal.loop-arch-preserved
 loop-arch-preserved g c =
-    let P = ListedAgrees c.args.profile.now (outs_of c.args.outs.now.node) (mets_of c.args.mets.now.node) (g.S.State.known c.args.facts.now.state.now) c.args.word in
+    let a = c.args.self.now in
+    let P = ListedAgrees a.profile.now (out_of a) (met_of a) (known_of a) a.word in
     one_more_at P c.args.machines.now c.loop-arch.arch-index _ c.loop-arch-test.true c.loop-arch.invariant (c.if-not-listed_agrees.ensures.0 refl)
 
 pub returns-then-not-listed_agrees : goal.returns-then-not-listed_agrees

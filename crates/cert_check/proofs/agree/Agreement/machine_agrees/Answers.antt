@@ -1,7 +1,8 @@
 use Rattle.std.proofs.Common.{◌≡◌, true, false, List, refl, inl, inr, sym, subst}
 use Rattle.call_tables.specs.declared.numbers.Numbers.{Numbers}
+use Rattle.cert_check.specs.inner.Asked.{known_of}
 use Rattle.cert_check.specs.Agree.{IsAmong}
-use Rattle.cert_check.proofs.agree.machine_agrees.Goals as goal
+use Rattle.cert_check.proofs.agree.Agreement.machine_agrees.Goals as goal
 
 pub returns-then-not-foreign_numbers_agree : goal.returns-then-not-foreign_numbers_agree
 returns-then-not-foreign_numbers_agree g c = (
@@ -11,7 +12,7 @@ returns-then-not-foreign_numbers_agree g c = (
 
 pub returns-then-is_among : goal.returns-then-is_among
 returns-then-is_among g c =
-    let P : List Numbers → Type 0 = IsAmong (g.S.State.known c.args.facts.now.state.now) in (
+    let P : List Numbers → Type 0 = IsAmong (known_of c.args.self.now) in (
       λ _. record {
         foreign = c.if-not-foreign_numbers_agree.ensures.0 refl;
         rules = inl (subst P c.other_numbers-others.ensures (c.if-is_among.ensures.0 refl));
@@ -21,7 +22,7 @@ returns-then-is_among g c =
 
 pub returns : goal.returns
 returns g c =
-    let P : List Numbers → Type 0 = IsAmong (g.S.State.known c.args.facts.now.state.now) in (
+    let P : List Numbers → Type 0 = IsAmong (known_of c.args.self.now) in (
       λ t. record { foreign = c.if-not-foreign_numbers_agree.ensures.0 refl; rules = inr (c.rules_agree.ensures.0 t) },
       λ h. elim h.rules [
         | inl among ↦ absurd (let e : false ≡ true = c.if-is_among.ensures.1 (subst P (sym c.other_numbers-others.ensures) among) in cc)
