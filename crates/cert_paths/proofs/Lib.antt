@@ -4,3 +4,11 @@ pub mod GrowLaws
 pub mod PathLaws
 pub mod ListedLaws
 pub mod WholeLaws
+pub mod EndLaws
+pub mod FactLaws
+pub mod LedLaws
+pub mod StatedLaws
+pub mod LitLaws
+pub mod WayLaws
+pub mod FollowLaws
+pub mod SoundLaws

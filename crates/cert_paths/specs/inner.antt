@@ -2,3 +2,5 @@ pub mod Chains
 pub mod Cuts
 pub mod Led
 pub mod Places
+pub mod Actions
+pub mod Follow

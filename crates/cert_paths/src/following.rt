@@ -1,25 +1,31 @@
 //! The paths of a filter, from where it begins on.
-ghost use Rattle.std.specs.Prelude.{◌≡◌, ◌<◌, ◌≤◌, ◌+◌, ◌^◌, ℕ, Some, IfErr, IfOk, OnOk, length, slice_get};
+ghost use Rattle.std.specs.Prelude.{◌≡◌, ◌<◌, ◌≤◌, ◌+◌, ◌/◌, ◌^◌, ◌⊎◌, Some, false, IfErr, IfOk, IfSome, IsTrue, OnOk, length, slice_get};
 ghost use Rattle.bpf_insn.specs.Causes.{IsPlain};
-ghost use Rattle.kernel_check.specs.Lent.{accepted_insns};
 ghost use Rattle.bpf_insn.specs.Code.{operation_of};
 ghost use Rattle.bpf_insn.specs.declared.code.Operand.TheVariants.{K};
-ghost use Rattle.bpf_insn.specs.declared.code.Operation.TheVariants.{Branch, ReturnK};
-ghost use Rattle.profile.specs.Policy.{IsClear};
+ghost use Rattle.bpf_insn.specs.declared.code.Operation.TheVariants.{Branch};
+ghost use Rattle.kernel_check.specs.Lent.{accepted_insns};
+ghost use Rattle.profile.specs.Policy.{IsProfile};
 ghost use Rattle.rule_compile.specs.Steady.{IsSteady, Nothing};
+ghost use Rattle.cert_state.specs.Entailment.{IsDead};
+ghost use Rattle.cert_state.specs.declared.literal.AVal.TheVariants.{Masked};
+ghost use Rattle.cert_state.specs.Literals.{IsLit, IsValue, all_bits};
 ghost use Rattle.cert_check.specs.Right.{IsRight};
+ghost use Rattle.cert_check.specs.Settled.{StatedIsSettled};
 ghost use Rattle.cert_paths.specs.Fault.{IsSize};
 ghost use Rattle.cert_paths.specs.Kept.{IsValidCertificate};
-ghost use Rattle.cert_paths.specs.inner.Led.{AreLed, IsLed};
-ghost use Rattle.cert_paths.specs.inner.Places.{AreInside, AreKept, ArePaths, IsGrown, KeepsAt, known_at};
+ghost use Rattle.cert_paths.specs.inner.Follow.{AreSound, AreTwo, HoldsNoWord, IsCut, IsFollowed, IsFork, IsGiven, IsMasked, IsReturn, IsStep, IsUnlike, IsUntold};
+ghost use Rattle.cert_paths.specs.inner.Led.{AreLed};
+ghost use Rattle.cert_paths.specs.inner.Places.{AreInside, ArePaths, IsPlace, known_at};
 
-use crate::cuts::next_cut;
+use crate::action::{Action, action_of};
+use crate::cuts::{Cut, next_cut};
 use crate::fault::PathsError;
 use crate::paths::Paths;
 use crate::place::{Next, Place};
-use bpf_insn::{Arithmetic, Insn, Operand, Operation, Test};
+use bpf_insn::{Insn, Test};
 use call_record::Word;
-use cert_check::is_settled;
+use cert_check::{is_settled, stated_is_settled};
 use cert_form::{Kind, MAX_NODES};
 use cert_state::{AVal, dead, edge_fact};
 use kernel_check::Accepted;
@@ -38,7 +44,9 @@ fn after(pc: u16, skip: u32) -> u16
 }
 
 // Whether a comparison of what A holds tells all that it asks: by order only of a whole word.
-fn tells(test: Test, a: AVal) -> bool {
+fn tells(test: Test, a: AVal) -> bool
+    ensures { IsTrue result ⊎ IsUntold test a }
+{
     match (test, a) {
         (Test::Equal | Test::AnyBit, AVal::Masked(_, _)) => true,
         (Test::AtLeast | Test::Greater, AVal::Masked(_, mask)) => mask == u32::MAX,
@@ -46,8 +54,24 @@ fn tells(test: Test, a: AVal) -> bool {
     }
 }
 
+// What is known in full settles a profile.
+fn settles(profile: &Profile)
+    ensures settled { StatedIsSettled }
+    ensures is_profile { IsProfile profile.now }
+{
+    stated_is_settled();
+    profile.rules();
+}
+
 // The node of a place from which a path goes on at one position.
-fn step(paths: &mut Paths, from: Place, pc: u16, a: AVal) -> Result<Kind, PathsError> {
+fn step(paths: &mut Paths, from: Place, pc: u16, a: AVal) -> Result<Kind, PathsError>
+    requires paths { ArePaths paths.old }
+    requires from { IsPlace paths.old.entries.items from }
+    requires value { IsValue a }
+    ensures paths { OnOk result (ArePaths paths.new) }
+    ensures step { IfOk result (IsStep paths.old paths.new from pc a) }
+    ensures size { IfErr result IsSize }
+{
     let next = Next {
         pc,
         a,
@@ -56,33 +80,70 @@ fn step(paths: &mut Paths, from: Place, pc: u16, a: AVal) -> Result<Kind, PathsE
     Ok(Kind::Step(paths.add(from, next)?, NO_NODE))
 }
 
+// Adds two places, one after the other.
+fn add_two(paths: &mut Paths, from: Place, one: Next, other: Next) -> Result<(u32, u32), PathsError>
+    requires paths { ArePaths paths.old }
+    requires from { IsPlace paths.old.entries.items from }
+    requires one { IfSome one.learned IsLit × IsValue one.a }
+    requires other { IfSome other.learned IsLit × IsValue other.a }
+    ensures paths { OnOk result (ArePaths paths.new) }
+    ensures two { IfOk result (λ two. AreTwo paths.old paths.new from one other two.0 two.1) }
+    ensures size { IfErr result IsSize }
+{
+    let first = paths.add(from, one)?;
+    let second = paths.add(from, other)?;
+    Ok((first, second))
+}
+
+// The node of a place where what is known is cut in two.
+fn split(paths: &mut Paths, from: Place, cut: Cut) -> Result<Kind, PathsError>
+    requires paths { ArePaths paths.old }
+    requires from { IsPlace paths.old.entries.items from }
+    ensures paths { OnOk result (ArePaths paths.new) }
+    ensures cut { IfOk result (IsCut paths.old paths.new from) }
+    ensures size { IfErr result IsSize }
+{
+    let (one, other) = (cut.one, cut.other);
+    let (first, second) = add_two(paths, from, from.knowing(one), from.knowing(other))?;
+    Ok(Kind::Split(one, other, first, second))
+}
+
 // The node of a place at a return: what is known is cut until the profile is settled.
 fn at_return(
     paths: &mut Paths,
     profile: &Profile,
     from: Place,
     word: u32,
-) -> Result<Kind, PathsError> {
+) -> Result<Kind, PathsError>
+    requires paths { ArePaths paths.old }
+    requires from { IsPlace paths.old.entries.items from }
+    requires alive { IsDead (known_at paths.old.entries.items from) → ⊥ }
+    ensures paths { OnOk result (ArePaths paths.new) }
+    ensures done { IfOk result (λ kind. IsReturn profile.now paths.old paths.new from word kind ⊎ IsCut paths.old paths.new from kind) }
+    ensures unlike { IfErr result (λ e. IsSize e ⊎ IsUnlike profile.now (known_at paths.old.entries.items from) word) }
+{
     let known = paths.known(from);
     if is_settled(profile, &known, Word(word)) {
         return Ok(Kind::Return);
     }
     let Some(cut) = next_cut(profile, &known) else {
+        settles(profile);
         return Err(PathsError::Unsettled(u32::from(from.pc)));
     };
-    let (one, other) = (cut.one, cut.other);
-    let first = paths.add(from, from.knowing(one))?;
-    let second = paths.add(from, from.knowing(other))?;
-    Ok(Kind::Split(one, other, first, second))
+    split(paths, from, cut)
 }
 
 // The node of a place at a comparison.
-fn at_branch(
-    paths: &mut Paths,
-    from: Place,
-    insn: &Insn,
-    test: Test,
-) -> Result<Kind, PathsError> {
+fn at_branch(paths: &mut Paths, from: Place, insn: Insn, test: Test) -> Result<Kind, PathsError>
+    requires paths { ArePaths paths.old }
+    requires from { IsPlace paths.old.entries.items from }
+    requires is { operation_of insn.code ≡ Some (Branch test K) }
+    requires taken { from.pc + 1 + insn.jt < 2 ^ 16 }
+    requires not_taken { from.pc + 1 + insn.jf < 2 ^ 16 }
+    ensures paths { OnOk result (ArePaths paths.new) }
+    ensures fork { IfOk result (IsFork paths.old paths.new from insn) }
+    ensures untold { IfErr result (λ e. IsSize e ⊎ IsUntold test from.a) }
+{
     if !tells(test, from.a) {
         return Err(PathsError::Unsettled(u32::from(from.pc)));
     }
@@ -90,16 +151,79 @@ fn at_branch(
     let taken = Next {
         pc: after(from.pc, u32::from(insn.jt)),
         a: from.a,
-        learned: edge_fact(&known, insn, true),
+        learned: edge_fact(&known, &insn, true),
     };
     let not_taken = Next {
         pc: after(from.pc, u32::from(insn.jf)),
         a: from.a,
-        learned: edge_fact(&known, insn, false),
+        learned: edge_fact(&known, &insn, false),
     };
-    let first = paths.add(from, taken)?;
-    let second = paths.add(from, not_taken)?;
+    let (first, second) = add_two(paths, from, taken, not_taken)?;
     Ok(Kind::Step(first, second))
+}
+
+// The node of a place at a load: A holds a whole word.
+fn at_load(paths: &mut Paths, from: Place, insn: Insn) -> Result<Kind, PathsError>
+    requires paths { ArePaths paths.old }
+    requires from { IsPlace paths.old.entries.items from }
+    requires word { insn.k / 4 < 16 }
+    requires inside { from.pc + 1 + 0 < 2 ^ 16 }
+    ensures paths { OnOk result (ArePaths paths.new) }
+    ensures step { IfOk result (IsStep paths.old paths.new from (from.pc + 1 + 0) (Masked (insn.k / 4) all_bits)) }
+    ensures size { IfErr result IsSize }
+{
+    let a = AVal::Masked((insn.k / 4) as u8, u32::MAX);
+    step(paths, from, after(from.pc, 0), a)
+}
+
+// The node of a place where some bits are taken of what A holds.
+fn at_mask(paths: &mut Paths, from: Place, insn: Insn) -> Result<Kind, PathsError>
+    requires paths { ArePaths paths.old }
+    requires from { IsPlace paths.old.entries.items from }
+    requires inside { from.pc + 1 + 0 < 2 ^ 16 }
+    ensures paths { OnOk result (ArePaths paths.new) }
+    ensures masked { IfOk result (IsMasked paths.old paths.new from insn.k) }
+    ensures no_word { IfErr result (λ e. IsSize e ⊎ HoldsNoWord from.a) }
+{
+    let AVal::Masked(word, mask) = from.a else {
+        return Err(PathsError::Unsettled(u32::from(from.pc)));
+    };
+    step(
+        paths,
+        from,
+        after(from.pc, 0),
+        AVal::Masked(word, mask & insn.k),
+    )
+}
+
+// What the node of a place does that is not dead, by the instruction there.
+fn at_insn(
+    paths: &mut Paths,
+    profile: &Profile,
+    program: &Accepted<'_>,
+    from: Place,
+    insn: Insn,
+) -> Result<Kind, PathsError>
+    requires paths { ArePaths paths.old }
+    requires inside { AreInside (accepted_insns program.now) paths.old }
+    requires from { slice_get paths.old.places.items (length paths.old.kinds.items) ≡ Some from }
+    requires place { IsPlace paths.old.entries.items from }
+    requires alive { IsDead (known_at paths.old.entries.items from) → ⊥ }
+    requires found { slice_get (accepted_insns program.now) from.pc ≡ Some insn }
+    requires plain { IsPlain insn }
+    ensures paths { OnOk result (ArePaths paths.new) }
+    ensures followed { IfOk result (IsFollowed profile.now (accepted_insns program.now) paths.old paths.new from) }
+    ensures never { AreLed (accepted_insns program.now) paths.old → IsRight profile.now (accepted_insns program.now)
+        → IfErr result IsSize }
+{
+    match action_of(insn) {
+        Action::Ends => at_return(paths, profile, from, insn.k),
+        Action::Jumps => step(paths, from, after(from.pc, insn.k), from.a),
+        Action::Loads => at_load(paths, from, insn),
+        Action::Masks => at_mask(paths, from, insn),
+        Action::Compares(test) => at_branch(paths, from, insn, test),
+        Action::Other => Err(PathsError::Unsettled(u32::from(from.pc))),
+    }
 }
 
 // What a place's node does. The places that it leads to are added.
@@ -113,34 +237,54 @@ fn follow(
     requires inside { AreInside (accepted_insns program.now) paths.old }
     requires from { slice_get paths.old.places.items (length paths.old.kinds.items) ≡ Some from }
     ensures paths { OnOk result (ArePaths paths.new) }
-    ensures inside { OnOk result (AreInside (accepted_insns program.now) paths.new) }
-    ensures grown { OnOk result (IsGrown paths.old paths.new) }
-    ensures kept { IfOk result (KeepsAt profile.now (accepted_insns program.now) paths.new (length paths.old.kinds.items) from) }
-    ensures led { AreLed (accepted_insns program.now) paths.old → OnOk result (AreLed (accepted_insns program.now) paths.new) }
+    ensures followed { IfOk result (IsFollowed profile.now (accepted_insns program.now) paths.old paths.new from) }
     ensures never { AreLed (accepted_insns program.now) paths.old → IsRight profile.now (accepted_insns program.now)
         → IfErr result IsSize }
 {
     if dead(&paths.known(from)) {
         return Ok(Kind::Dead);
     }
-    let unsettled = PathsError::Unsettled(u32::from(from.pc));
     let Some(insn) = program.insn_at(from.pc) else {
-        return Err(unsettled);
+        return Err(PathsError::Unsettled(u32::from(from.pc)));
     };
-    match (insn.operation(), from.a) {
-        (Some(Operation::ReturnK), _) => at_return(paths, profile, from, insn.k),
-        (Some(Operation::Jump), a) => step(paths, from, after(from.pc, insn.k), a),
-        (Some(Operation::LoadWord), _) => {
-            let a = AVal::Masked((insn.k / 4) as u8, u32::MAX);
-            step(paths, from, after(from.pc, 0), a)
-        }
-        (Some(Operation::Compute(Arithmetic::And, Operand::K)), AVal::Masked(word, mask)) => {
-            let a = AVal::Masked(word, mask & insn.k);
-            step(paths, from, after(from.pc, 0), a)
-        }
-        (Some(Operation::Branch(test, Operand::K)), _) => at_branch(paths, from, &insn, test),
-        _ => Err(unsettled),
-    }
+    at_insn(paths, profile, program, from, insn)
+}
+
+// The first place that has no node yet.
+fn next_place(paths: &Paths) -> Option<Place>
+    ensures { result ≡ slice_get paths.now.places.items (length paths.now.kinds.items) }
+{
+    paths.places.get(paths.kinds.len()).copied()
+}
+
+// Gives a node to the first place that has none.
+fn give(paths: &mut Paths, kind: Kind) -> Result<(), PathsError>
+    ensures given { OnOk result (IsGiven paths.old paths.new kind) }
+    ensures size { IfErr result IsSize }
+{
+    paths.kinds.push(kind)?;
+    Ok(())
+}
+
+// Follows the first place that has no node yet. The result is false where each has one.
+fn follow_next(
+    paths: &mut Paths,
+    profile: &Profile,
+    program: &Accepted<'_>,
+) -> Result<bool, PathsError>
+    requires sound { AreSound profile.now (accepted_insns program.now) paths.old }
+    ensures sound { OnOk result (AreSound profile.now (accepted_insns program.now) paths.new) }
+    ensures all { IfOk result (λ more. more ≡ false → length paths.new.kinds.items ≡ length paths.new.places.items) }
+    ensures led { AreLed (accepted_insns program.now) paths.old → OnOk result (AreLed (accepted_insns program.now) paths.new) }
+    ensures never { AreLed (accepted_insns program.now) paths.old → IsRight profile.now (accepted_insns program.now)
+        → IfErr result IsSize }
+{
+    let Some(from) = next_place(paths) else {
+        return Ok(false);
+    };
+    let kind = follow(paths, profile, program, from)?;
+    give(paths, kind)?;
+    Ok(true)
 }
 
 // Follows each path to its end.
@@ -149,26 +293,16 @@ fn follow_all(
     profile: &Profile,
     program: &Accepted<'_>,
 ) -> Result<(), PathsError>
-    requires paths { ArePaths paths.old }
-    requires inside { AreInside (accepted_insns program.now) paths.old }
-    requires kept { AreKept profile.now (accepted_insns program.now) paths.old }
-    requires some { length paths.old.kinds.items ≤ length paths.old.places.items }
-    ensures paths { OnOk result (ArePaths paths.new) }
-    ensures inside { OnOk result (AreInside (accepted_insns program.now) paths.new) }
-    ensures kept { OnOk result (AreKept profile.now (accepted_insns program.now) paths.new) }
+    requires sound { AreSound profile.now (accepted_insns program.now) paths.old }
+    ensures sound { OnOk result (AreSound profile.now (accepted_insns program.now) paths.new) }
     ensures all { OnOk result (length paths.new.kinds.items ≡ length paths.new.places.items) }
     ensures never { AreLed (accepted_insns program.now) paths.old → IsRight profile.now (accepted_insns program.now)
         → IfErr result IsSize }
 {
-    for _ in 0..MAX_NODES {
-        let Some(from) = paths.places.get(paths.kinds.len()).copied() else {
+    for _ in 0..=MAX_NODES {
+        if !follow_next(paths, profile, program)? {
             return Ok(());
-        };
-        let kind = follow(paths, profile, program, from)?;
-        paths.kinds.push(kind)?;
-    }
-    if paths.kinds.len() == paths.places.len() {
-        return Ok(());
+        }
     }
     Err(PathsError::TooLarge)
 }

@@ -7,6 +7,7 @@
 //! It grows with the number of paths, so it is made only where no smaller one was found.
 #![tactic(auto)]
 
+mod action;
 mod chain;
 mod cuts;
 mod fault;

@@ -1,5 +1,5 @@
 -- The runs that come to a place: each record of which is true what the place knows.
-use Rattle.std.specs.Prelude.{◌≡◌, ◌<◌, ⊤, ℕ, List, All}
+use Rattle.std.specs.Prelude.{◌≡◌, ⊤, ℕ, List, All}
 use Rattle.std.specs.Option.{option_map}
 use Rattle.call_record.specs.Words.{IsRecord}
 use Rattle.bpf_insn.specs.declared.instruction.Insn.{Insn}

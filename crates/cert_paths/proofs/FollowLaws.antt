@@ -1,0 +1,316 @@
+-- What the node of a place does: it keeps the rules, and each place that is added is led to.
+use Rattle.std.proofs.Common.{◌≡◌, ℕ, ◌+◌, ◌/◌, ◌^◌, ◌<◌, true, false, List, [], ◌∷◌, ◌++◌, length, get_or, refl, ap, sym, ◌∙◌, arith, subst}
+use Rattle.std.proofs.Common.{length-append}
+use Rattle.std.specs.Prelude.{All, Option, Some, None, slice_get, option_to_list, bit_and}
+use Rattle.std.proofs.lemmas.List.Elements.{All-push}
+use Rattle.std.proofs.lemmas.Option.{slice_get-get_or, slice_get_within}
+use Rattle.bpf_insn.specs.declared.code.Operand.TheVariants.{K}
+use Rattle.bpf_insn.specs.declared.code.Test.{Test}
+use Rattle.bpf_insn.specs.declared.code.Arithmetic.TheVariants.{And}
+use Rattle.bpf_insn.specs.declared.code.Operation.{Operation}
+use Rattle.bpf_insn.specs.declared.code.Operation.TheVariants.{Branch, Compute, Jump, LoadWord, ReturnK}
+use Rattle.bpf_insn.specs.declared.instruction.Insn.{Insn}
+use Rattle.bpf_insn.specs.Causes.{IsPlain}
+use Rattle.bpf_insn.specs.Code.{operation_of}
+use Rattle.kernel_check.specs.Accepted.{IsAccepted}
+use Rattle.profile.specs.Policy.{Policy}
+use Rattle.cert_state.specs.declared.literal.AVal.{AVal}
+use Rattle.cert_state.specs.declared.literal.AVal.TheVariants.{Masked}
+use Rattle.cert_state.specs.declared.literal.Lit.{Lit}
+use Rattle.cert_state.specs.Entailment.{IsDead}
+use Rattle.cert_state.specs.Literals.{all_bits}
+use Rattle.cert_state.specs.Transfer.{edge_fact}
+use Rattle.cert_form.specs.declared.node.Kind.{Kind}
+use Rattle.cert_form.specs.declared.node.Kind.TheVariants.{Step, Split, Return, Dead}
+use Rattle.cert_form.specs.Nodes.{PlainNode}
+use Rattle.cert_form.specs.Spelling.{IsKind}
+use Rattle.cert_check.specs.Right.{IsRight}
+use Rattle.cert_check.specs.Rules.{Keeps, no_node}
+use Rattle.rule_compile.specs.Steady.{Held, Nothing, Whole, Part, IsOfWord}
+use Rattle.cert_paths.specs.declared.action.Action.TheVariants.{Ends, Jumps, Loads, Masks, Compares, Other}
+use Rattle.cert_paths.specs.declared.paths.Paths.{Paths}
+use Rattle.cert_paths.specs.declared.place.Next.{Next}
+use Rattle.cert_paths.specs.declared.place.Place.{Place}
+use Rattle.cert_paths.specs.inner.Actions.{action_by}
+use Rattle.cert_paths.specs.inner.Follow.{AreTwo, HoldsNoWord, IsCut, IsFollowed, IsFork, IsReturn, IsStep, IsUnlike, IsUntold, way}
+use Rattle.cert_paths.specs.inner.Led.{AreLed, IsHeld, IsLed}
+use Rattle.cert_paths.specs.inner.Places.{AreInside, ArePaths, IsAdded, IsGrown, KeepsAt, StandsAt, known_at, node_of, regs_of}
+use Rattle.cert_paths.proofs.GrowLaws.{all_at, grown_added, grown_same, grown_than, inside_added, known_grown, stands_added}
+use Rattle.cert_paths.proofs.LedLaws.{led_and, led_branch, led_jump, led_load, led_more, led_return, steadily}
+use Rattle.cert_paths.proofs.NodeLaws.{own_node, and_keeps, dead_keeps, fork_keeps, jump_keeps, load_keeps, return_keeps, split_keeps}
+use Rattle.cert_paths.proofs.WayLaws.{jump_inside, next_inside, other_inside, taken_inside}
+
+-- ---- a place more is led to
+
+pub led_added : (p : List Insn) (s t : Paths) (from : Place) (next : Next) (number : ℕ) → ArePaths s → IsAdded s t from next number
+    → IsLed p next.pc next.a (option_to_list next.learned ++ known_at s.entries.items from) → AreLed p s → AreLed p t
+led_added p s t from next number is added led all =
+    let Led : Place → Type 0 = λ place. IsLed p place.pc place.a (known_at t.entries.items place) in
+    let before : All Led s.places.items =
+    λ k d low.
+    let x : Place = get_or s.places.items k d in
+    let there : slice_get s.places.items k ≡ Some x = slice_get-get_or s.places.items k d low in
+    subst (λ ls. IsLed p x.pc x.a ls) (sym (known_grown s t is (grown_added s t from next number added) k x there)) (all k d low) in
+    let new : Led added.place =
+    subst (λ pc. IsLed p pc added.place.a (known_at t.entries.items added.place)) (sym added.pc_is)
+    (subst (λ a. IsLed p next.pc a (known_at t.entries.items added.place)) (sym added.a_is)
+    (subst (λ ls. IsLed p next.pc next.a ls) (sym added.known_is) led)) in
+    subst (All Led) (sym added.places) (All-push Led s.places.items added.place before new)
+
+-- ---- in general
+
+module _ (policy : Policy) (p : List Insn) (old : Paths) (is_old : ArePaths old) (inside : AreInside p old) (from : Place)
+    (here : slice_get old.places.items (length old.kinds.items) ≡ Some from) where
+  at : ℕ
+  at = length old.kinds.items
+
+  known : List Lit
+  known = known_at old.entries.items from
+
+  pub from_led : AreLed p old → IsLed p from.pc from.a (known_at old.entries.items from)
+  from_led led = all_at (λ (place : Place). IsLed p place.pc place.a (known_at old.entries.items place)) old.places.items (length old.kinds.items) from led here
+
+  pub from_inside : from.pc < length p
+  from_inside = all_at (λ (place : Place). place.pc < length p) old.places.items (length old.kinds.items) from inside here
+
+  known_stays : (t : Paths) → IsGrown old t → known_at t.entries.items from ≡ known_at old.entries.items from
+  known_stays t grown = known_grown old t is_old grown (length old.kinds.items) from here
+
+  -- the node as it was is the node as it is
+  keeps_now : (t : Paths) (kind : Kind) (ns : List PlainNode) → IsGrown old t
+      → Keeps policy p ns (length old.kinds.items) (own_node from.pc from.a (known_at old.entries.items from) kind)
+      → Keeps policy p ns (length old.kinds.items) (node_of t.entries.items from kind)
+  keeps_now t kind ns grown keeps =
+      subst (λ ls. Keeps policy p ns (length old.kinds.items) (own_node from.pc from.a ls kind)) (sym (known_stays t grown)) keeps
+
+  -- nothing was added
+  pub end_followed : (kind : Kind) → IsKind kind
+      → ((ns : List PlainNode) → Keeps policy p ns (length old.kinds.items) (own_node from.pc from.a (known_at old.entries.items from) kind))
+      → IsFollowed policy p old old from kind
+  end_followed kind is keeps = record {
+    inside = inside;
+    grown = grown_same old;
+    kept = (is, λ ns _. keeps ns);
+    led = λ led. led;
+  }
+
+  -- one place was added
+  pub one_followed : (new : Paths) → ArePaths new → (pc : ℕ) (a : AVal) (kind : Kind) → IsStep old new from pc a kind → pc < length p
+      → ((ns : List PlainNode) (to : ℕ) → length old.kinds.items < to → StandsAt ns to pc a (known_at old.entries.items from)
+      → Keeps policy p ns (length old.kinds.items) (own_node from.pc from.a (known_at old.entries.items from) (Step to no_node)))
+      → (IsLed p from.pc from.a (known_at old.entries.items from) → IsLed p pc a (known_at old.entries.items from))
+      → IsFollowed policy p old new from kind
+  one_followed new is_new pc a kind step low keeps led =
+      let next : Next = record { pc = pc; a = a; learned = None } in
+      let grown = grown_added old new from next step.to step.added in
+      let later : length old.kinds.items < step.to =
+      (let e = step.added.number_is in let l = slice_get_within old.places.items (length old.kinds.items) from here in omega (arith, e, l)) in
+      let small : step.to < 2 ^ 32 =
+      (let e = step.added.number_is in let few = is_old.few in omega (arith, e, few)) in
+      record {
+        inside = inside_added p old new from next step.to step.added inside low;
+        grown = grown;
+        kept = subst (KeepsAt policy p new (length old.kinds.items) from) (sym step.kind_is) (
+          (small, omega arith),
+          λ ns all. keeps_now new (Step step.to no_node) ns grown
+              (keeps ns step.to later (stands_added old new new from next step.to step.added is_new (grown_same new) ns all)),
+        );
+        led = λ all. led_added p old new from next step.to is_old step.added (led (from_led all)) all;
+      }
+
+  -- two places were added
+  pub two_followed : (new : Paths) → ArePaths new → (one other : Next) (kind : Kind) (first second : ℕ)
+      → AreTwo old new from one other first second → one.pc < length p → other.pc < length p
+      → (first < 2 ^ 32 → second < 2 ^ 32 → IsKind kind)
+      → ((ns : List PlainNode) → length old.kinds.items < first → length old.kinds.items < second
+      → StandsAt ns first one.pc one.a (option_to_list one.learned ++ known_at old.entries.items from)
+      → StandsAt ns second other.pc other.a (option_to_list other.learned ++ known_at old.entries.items from)
+      → Keeps policy p ns (length old.kinds.items) (own_node from.pc from.a (known_at old.entries.items from) kind))
+      → (IsLed p from.pc from.a (known_at old.entries.items from)
+      → IsLed p one.pc one.a (option_to_list one.learned ++ known_at old.entries.items from))
+      → (IsLed p from.pc from.a (known_at old.entries.items from)
+      → IsLed p other.pc other.a (option_to_list other.learned ++ known_at old.entries.items from))
+      → IsFollowed policy p old new from kind
+  two_followed new is_new one other kind first second two low also is_kind keeps led led_other =
+      let middle = two.middle in
+      let to_middle = grown_added old middle from one first two.first_is in
+      let to_new = grown_added middle new from other second two.second_is in
+      let grown = grown_than old middle new to_middle to_new in
+      let same = known_stays middle to_middle in
+      let l = slice_get_within old.places.items (length old.kinds.items) from here in
+      let e = two.first_is.number_is in
+      let f = two.second_is.number_is in
+      let few = two.are_paths.few in
+      let more : length middle.places.items ≡ length old.places.items + 1 =
+      ap length two.first_is.places ∙ length-append old.places.items (two.first_is.place ∷ []) in
+      record {
+        inside = inside_added p middle new from other second two.second_is
+            (inside_added p old middle from one first two.first_is inside low) also;
+        grown = grown;
+        kept = (
+          is_kind (omega (arith, e, few, more)) (omega (arith, f, few)),
+          λ ns all. keeps_now new kind ns grown (keeps ns (omega (arith, e, l)) (omega (arith, f, l, more))
+              (stands_added old middle new from one first two.first_is two.are_paths to_new ns all)
+              (subst (λ ls. StandsAt ns second other.pc other.a (option_to_list other.learned ++ ls)) same
+              (stands_added middle new new from other second two.second_is is_new (grown_same new) ns all))),
+        );
+        led = λ all.
+            led_added p middle new from other second two.are_paths two.second_is
+            (subst (λ ls. IsLed p other.pc other.a (option_to_list other.learned ++ ls)) (sym same) (led_other (from_led all)))
+            (led_added p old middle from one first is_old two.first_is (led (from_led all)) all);
+      }
+
+  -- ---- by the instruction
+
+  pub no_insn : Insn
+  no_insn = record { code = 0; jt = 0; jf = 0; k = 0 }
+
+  pub dead_followed : IsDead (known_at old.entries.items from) → IsFollowed policy p old old from Dead
+  dead_followed dead =
+      end_followed Dead tt (λ ns. dead_keeps policy p ns (length old.kinds.items) (get_or p from.pc no_insn) from.pc from.a (known_at old.entries.items from)
+      (slice_get-get_or p from.pc no_insn from_inside) dead)
+
+  module _ (i : Insn) (found : slice_get p from.pc ≡ Some i) (accepted : IsAccepted p) (new : Paths) (is_new : ArePaths new) (kind : Kind) where
+    pub return_followed : operation_of i.code ≡ Some ReturnK → IsReturn policy old new from i.k kind → IsFollowed policy p old new from kind
+    return_followed is done =
+        subst (λ (t : Paths). IsFollowed policy p old t from kind) (sym done.same)
+        (subst (IsFollowed policy p old old from) (sym done.kind_is)
+        (end_followed Return tt (λ ns.
+        return_keeps policy p ns (length old.kinds.items) i from.pc from.a (known_at old.entries.items from) found is done.agrees)))
+
+    pub cut_followed : IsCut old new from kind → IsFollowed policy p old new from kind
+    cut_followed cut =
+        subst (IsFollowed policy p old new from) (sym cut.kind_is)
+        (two_followed new is_new (record { pc = from.pc; a = from.a; learned = Some cut.one })
+        (record { pc = from.pc; a = from.a; learned = Some cut.other }) (Split cut.one cut.other cut.first cut.second) cut.first cut.second
+        cut.two from_inside from_inside
+        (λ low also. (cut.one_is, cut.other_is, low, also))
+        (λ ns low also one other.
+        split_keeps policy p ns (length old.kinds.items) i from.pc from.a (known_at old.entries.items from) found cut.one cut.other
+        cut.first cut.second cut.covers low also one other)
+        (λ led. led_more p from.pc from.a cut.one (known_at old.entries.items from) led)
+        (λ led. led_more p from.pc from.a cut.other (known_at old.entries.items from) led))
+
+    pub jump_followed : operation_of i.code ≡ Some Jump → IsStep old new from (from.pc + 1 + i.k) from.a kind
+        → IsFollowed policy p old new from kind
+    jump_followed is step =
+        one_followed new is_new (from.pc + 1 + i.k) from.a kind step (jump_inside p from.pc i found accepted is)
+        (λ ns to later stands.
+        jump_keeps policy p ns (length old.kinds.items) i from.pc from.a (known_at old.entries.items from) found is to (from.pc + 1 + i.k) refl
+        later stands)
+        (λ led. led_jump p from.pc i found from.a (known_at old.entries.items from) led is)
+
+    pub load_followed : IsPlain i → operation_of i.code ≡ Some LoadWord
+        → IsStep old new from (from.pc + 1 + 0) (Masked (i.k / 4) all_bits) kind
+        → IsFollowed policy p old new from kind
+    load_followed plain is step =
+        one_followed new is_new (from.pc + 1 + 0) (Masked (i.k / 4) all_bits) kind step
+        (let l = next_inside p from.pc i found accepted LoadWord is (λ e. cc) (λ e. cc) in omega (arith, l))
+        (λ ns to later stands.
+        load_keeps policy p ns (length old.kinds.items) i from.pc from.a (known_at old.entries.items from) found is to (from.pc + 1 + 0)
+        (Masked (i.k / 4) all_bits) (omega arith) refl later stands)
+        (λ led. led_load p from.pc i found from.a (known_at old.entries.items from) led plain is)
+
+    pub and_followed : (w m : ℕ) → operation_of i.code ≡ Some (Compute And K) → from.a ≡ Masked w m
+        → IsStep old new from (from.pc + 1 + 0) (Masked w (bit_and m i.k)) kind
+        → IsFollowed policy p old new from kind
+    and_followed w m is held step =
+        one_followed new is_new (from.pc + 1 + 0) (Masked w (bit_and m i.k)) kind step
+        (let l = next_inside p from.pc i found accepted (Compute And K) is (λ e. cc) (λ e. cc) in omega (arith, l))
+        (λ ns to later stands.
+        and_keeps policy p ns (length old.kinds.items) i from.pc from.a (known_at old.entries.items from) found is w m held to
+        (from.pc + 1 + 0) (Masked w (bit_and m i.k)) (omega arith) refl later stands)
+        (λ led. led_and p from.pc i found w m (known_at old.entries.items from)
+        (subst (λ a. IsLed p from.pc a (known_at old.entries.items from)) held led) is)
+
+    pub fork_followed : (test : Test) → operation_of i.code ≡ Some (Branch test K) → IsFork old new from i kind
+        → IsFollowed policy p old new from kind
+    fork_followed test is fork =
+        let l = edge_fact (regs_of from.a) i true in
+        let m = edge_fact (regs_of from.a) i false in
+        subst (IsFollowed policy p old new from) (sym fork.kind_is)
+        (two_followed new is_new (way from i i.jt l) (way from i i.jf m) (Step fork.first fork.second) fork.first fork.second fork.two
+        (taken_inside p from.pc i found accepted test is) (other_inside p from.pc i found accepted test is)
+        (λ low also. (low, also))
+        (λ ns low also one other.
+        fork_keeps policy p ns (length old.kinds.items) i from.pc from.a (known_at old.entries.items from) found test is
+        fork.first fork.second (from.pc + 1 + i.jt) (from.pc + 1 + i.jf) l m refl refl refl refl low also one other)
+        (λ led. led_branch p from.pc i found from.a (known_at old.entries.items from) led test is true)
+        (λ led. led_branch p from.pc i found from.a (known_at old.entries.items from) led test is false))
+
+  -- ---- what can not be, where the place is led to
+
+  module _ (i : Insn) (found : slice_get p from.pc ≡ Some i) (led : AreLed p old) where
+    pub never_unlike : IsRight policy p → operation_of i.code ≡ Some ReturnK → IsUnlike policy (known_at old.entries.items from) i.k → ⊥
+    never_unlike right is un =
+        un.unlike ((right un.record_of un.is_record i.k).0
+        (led_return p from.pc i found from.a (known_at old.entries.items from) (from_led led) is un.record_of un.is_record un.all_hold))
+
+    pub never_untold : (test : Test) → operation_of i.code ≡ Some (Branch test K) → IsUntold test from.a → ⊥
+    never_untold test is untold =
+        let here = from_led led in
+        untold here.held here.is_held (steadily p from.pc i found from.a (known_at old.entries.items from) here (Some (Branch test K)) is).0
+
+    of_word : (h : Held) (a : AVal) → IsHeld h a → IsOfWord h → ((w m : ℕ) → a ≡ Masked w m → ⊥) → ⊥
+    of_word Nothing a is some none = some
+    of_word Whole a is some none = none is.0 all_bits is.1
+    of_word Part a is some none = none is.0 is.1 is.2
+
+    pub never_masked : operation_of i.code ≡ Some (Compute And K) → HoldsNoWord from.a → ⊥
+    never_masked is none =
+        let here = from_led led in
+        of_word here.held from.a here.is_held
+        (steadily p from.pc i found from.a (known_at old.entries.items from) here (Some (Compute And K)) is).0 none
+
+    by_operation : (o : Option Operation) → operation_of i.code ≡ o → action_by o ≡ Other → ⊥
+    by_operation (Some ReturnK) is e = cc
+    by_operation (Some Jump) is e = cc
+    by_operation (Some LoadWord) is e = cc
+    by_operation (Some (Compute And K)) is e = cc
+    by_operation (Some (Branch test K)) is e = cc
+    by_operation o is e = steadily p from.pc i found from.a (known_at old.entries.items from) (from_led led) o is
+
+    pub never_other : action_by (operation_of i.code) ≡ Other → ⊥
+    never_other e = by_operation (operation_of i.code) refl e
+
+-- ---- the operation, by what it does
+
+pub ends_is : (o : Option Operation) → action_by o ≡ Ends → o ≡ Some ReturnK
+ends_is (Some ReturnK) e = refl
+ends_is (Some Jump) e = cc
+ends_is (Some LoadWord) e = cc
+ends_is (Some (Compute And K)) e = cc
+ends_is (Some (Branch test K)) e = cc
+ends_is _ e = cc
+
+pub jumps_is : (o : Option Operation) → action_by o ≡ Jumps → o ≡ Some Jump
+jumps_is (Some ReturnK) e = cc
+jumps_is (Some Jump) e = refl
+jumps_is (Some LoadWord) e = cc
+jumps_is (Some (Compute And K)) e = cc
+jumps_is (Some (Branch test K)) e = cc
+jumps_is _ e = cc
+
+pub loads_is : (o : Option Operation) → action_by o ≡ Loads → o ≡ Some LoadWord
+loads_is (Some ReturnK) e = cc
+loads_is (Some Jump) e = cc
+loads_is (Some LoadWord) e = refl
+loads_is (Some (Compute And K)) e = cc
+loads_is (Some (Branch test K)) e = cc
+loads_is _ e = cc
+
+pub masks_is : (o : Option Operation) → action_by o ≡ Masks → o ≡ Some (Compute And K)
+masks_is (Some ReturnK) e = cc
+masks_is (Some Jump) e = cc
+masks_is (Some LoadWord) e = cc
+masks_is (Some (Compute And K)) e = refl
+masks_is (Some (Branch test K)) e = cc
+masks_is _ e = cc
+
+pub compares_is : (o : Option Operation) (test : Test) → action_by o ≡ Compares test → o ≡ Some (Branch test K)
+compares_is (Some ReturnK) test e = cc
+compares_is (Some Jump) test e = cc
+compares_is (Some LoadWord) test e = cc
+compares_is (Some (Compute And K)) test e = cc
+compares_is (Some (Branch own K)) test e = let same : own ≡ test = cc in ap (λ t. Some (Branch t K)) same
+compares_is _ test e = cc

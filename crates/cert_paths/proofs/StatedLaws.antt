@@ -1,0 +1,232 @@
+-- Where each word of a record is stated and what is known is not dead, it is true of the record of those words.
+use Rattle.std.proofs.Common.{◌≡◌, ◌≢◌, ℕ, zero, suc, ◌^◌, ◌<◌, ◌≤◌, cond, List, [], ◌∷◌, length, map, refl, ap, sym}
+use Rattle.std.proofs.Common.{◌∙◌, arith, subst, inl, inr, ◌⊎◌, ⊎_elim}
+use Rattle.std.specs.Prelude.{All, Contains, bit_and, bit_or, bit_xor, slice_index}
+use Rattle.std.specs.Int.{bit_at}
+use Rattle.std.specs.Int.Bits.{and_mask}
+use Rattle.std.specs.List.{range_with_len}
+use Rattle.std.proofs.lemmas.Bool.{cases_eq, cases_lt, eq-eqb, ne_eqb}
+use Rattle.std.proofs.lemmas.List.Elements.{All-contains, All-contains_itself, All-weaker}
+use Rattle.std.proofs.lemmas.List.FromFn.{get_or-map-range_with_len, length-map-range_with_len}
+use Rattle.std.proofs.lemmas.Nat.Bits.{bit_at_and, bit_at_or, bit_at_xor, bit_at-lt, bit_at-zero, same_from_bits}
+use Rattle.call_record.specs.Words.{IsRecord, word}
+use Rattle.cert_state.specs.declared.literal.Lit.{Lit}
+use Rattle.cert_state.specs.declared.literal.Lit.TheVariants.{In, Bits, NotBits}
+use Rattle.cert_state.specs.Literals.{Holds, IsLit, Meets, all_bits, index_of}
+use Rattle.cert_state.specs.Points.{IsPoint, IsWhole, IsWithin, datum_of, mask_of, union_of}
+use Rattle.cert_state.specs.Entailment.{IsDead, IsDeadAt, IsExcluded, IsTornAt}
+use Rattle.cert_state.proofs.BitLaws.{and_all}
+use Rattle.cert_state.proofs.ListLaws.{first_or_later, contains_here, contains_later}
+
+-- a bit of a union is one of its parts
+module _ (w i : ℕ) (part : ℕ → ℕ → ℕ) where
+  more_bits : (l : Lit) (ls : List Lit) → bit_at (union_of part ls w) i ≤ bit_at (union_of part (l ∷ ls) w) i
+  more_bits (In v lo hi) ls = omega arith
+  more_bits (NotBits v m d) ls = omega arith
+  more_bits (Bits v m d) ls = ⊎_elim
+      (λ (e : v ≡ w). rw (eq-eqb v w e) (omega (arith, bit_at_or (part m d) (union_of part ls w) i)))
+      (λ (ne : v ≡ w → ⊥). rw (ne_eqb v w ne) (omega arith))
+      (cases_eq v w)
+
+  own_bits : (m d : ℕ) (ls : List Lit) → bit_at (part m d) i ≤ bit_at (union_of part (Bits w m d ∷ ls) w) i
+  own_bits m d ls = rw (eq-eqb w w refl) (omega (arith, bit_at_or (part m d) (union_of part ls w) i))
+
+  bit_from : (m d : ℕ) (ls : List Lit) → Contains ls (Bits w m d) → bit_at (part m d) i ≤ bit_at (union_of part ls w) i
+  bit_from m d [] (j, lt, is) = absurd (omega arith)
+  bit_from m d (l ∷ ls) has = elim (first_or_later l (Bits w m d) ls has) [
+    | inl is ↦ subst (λ k. bit_at (part m d) i ≤ bit_at (union_of part (k ∷ ls) w) i) (sym is) (own_bits m d ls)
+    | inr later ↦ (let there = bit_from m d ls later in let more = more_bits l ls in omega (arith, there, more))
+  ]
+
+  bit_found : (ls : List Lit) → bit_at (union_of part ls w) i ≡ 1
+      → (m : ℕ) × (d : ℕ) × Contains ls (Bits w m d) × (bit_at (part m d) i ≡ 1)
+  bit_found [] h = absurd (omega (arith, bit_at-zero i, h))
+  bit_found (In v lo hi ∷ ls) h =
+      let (m, d, has, set) = bit_found ls h in (m, d, contains_later (In v lo hi) _ ls refl (Bits w m d) has, set)
+  bit_found (NotBits v n e ∷ ls) h =
+      let (m, d, has, set) = bit_found ls h in (m, d, contains_later (NotBits v n e) _ ls refl (Bits w m d) has, set)
+  bit_found (Bits v n e ∷ ls) h = ⊎_elim
+      (λ (at : v ≡ w).
+      let k : bit_at (bit_or (part n e) (union_of part ls w)) i ≡ 1 =
+      subst (λ b. bit_at (cond b (bit_or (part n e) (union_of part ls w)) (union_of part ls w)) i ≡ 1) (eq-eqb v w at) h in
+      ⊎_elim
+      (λ (own : bit_at (part n e) i ≡ 1). (n, e, contains_here (Bits v n e) _ ls refl (Bits w n e) (ap (λ x. Bits x n e) at), own))
+      (λ (other : bit_at (part n e) i ≡ 1 → ⊥).
+      let bits = bit_at_or (part n e) (union_of part ls w) i in
+      let low = bit_at-lt (part n e) i in
+      let (m, d, has, set) = bit_found ls (omega (arith, k, bits, low)) in
+      (m, d, contains_later (Bits v n e) _ ls refl (Bits w m d) has, set))
+      (cases_eq (bit_at (part n e) i) 1))
+      (λ (ne : v ≡ w → ⊥).
+      let k = subst (λ b. bit_at (cond b (bit_or (part n e) (union_of part ls w)) (union_of part ls w)) i ≡ 1) (ne_eqb v w ne) h in
+      let (m, d, has, set) = bit_found ls k in
+      (m, d, contains_later (Bits v n e) _ ls refl (Bits w m d) has, set))
+      (cases_eq v w)
+
+-- a literal of a word whose number is stated
+module _ (known : List Lit) (lits : All IsLit known) (w u : ℕ) (stated : Contains known (Bits w all_bits u)) (alive : IsDeadAt known w → ⊥) where
+  -- the number has 32 bits
+  u_is : bit_and u all_bits ≡ u
+  u_is = (All-contains IsLit known (Bits w all_bits u) lits stated).2
+
+  pub u_small : u < 2 ^ 32
+  u_small = omega (arith, and_mask u 32, u_is)
+
+  -- what another Bits says of a bit, it says of this number
+  agree : (m d : ℕ) → Contains known (Bits w m d) → bit_and (bit_and all_bits m) (bit_xor u d) ≡ 0
+  agree m d has = ⊎_elim
+      (λ (same : bit_and (bit_and all_bits m) (bit_xor u d) ≡ 0). same)
+      (λ (differ : bit_and (bit_and all_bits m) (bit_xor u d) ≡ 0 → ⊥).
+      let torn : IsTornAt known w =
+      record { mask = all_bits; datum = u; other_mask = m; other_datum = d; one = stated; other = has; differ = differ } in
+      absurd (alive (inr (inl torn))))
+      (cases_eq (bit_and (bit_and all_bits m) (bit_xor u d)) 0)
+
+  meets_bits : (m d : ℕ) → m < 2 ^ 32 → bit_and d m ≡ d → Contains known (Bits w m d) → bit_and u m ≡ d
+  meets_bits m d small inside has = same_from_bits _ _ (λ i. omega (
+    arith,
+    bit_at_and u m i,
+    ap (λ n. bit_at n i) (agree m d has),
+    bit_at-zero i,
+    bit_at_and (bit_and all_bits m) (bit_xor u d) i,
+    bit_at_and all_bits m i,
+    bit_at_xor u d i,
+    ap (λ n. bit_at n i) inside,
+    bit_at_and d m i,
+    ap (λ n. bit_at n i) (and_all m small),
+    bit_at_and m all_bits i,
+    bit_at-lt m i,
+    bit_at-lt d i,
+    bit_at-lt u i,
+    bit_at-lt all_bits i,
+  ))
+
+  -- a point of the word is its number
+  point_is : (v : ℕ) → IsPoint known w v → v ≡ u
+  point_is v point =
+      sym (and_all v point.0)
+      ∙ All-contains (λ l. index_of l ≡ w → IsWhole l → Meets l v) known (Bits w all_bits u) point.1 stated refl refl
+
+  meets_in : (lo hi : ℕ) → Contains known (In w lo hi) → (lo ≤ u) × (u ≤ hi)
+  meets_in lo hi has = ⊎_elim
+      (λ (below : u < lo). absurd (alive (inl (λ v point.
+      let m = All-contains (λ l. index_of l ≡ w → IsWhole l → Meets l v) known (In w lo hi) point.1 has refl tt in
+      let e = point_is v point in
+      omega (arith, m.0, m.1, e, below)))))
+      (λ (from : lo ≤ u). ⊎_elim
+      (λ (above : hi < u). absurd (alive (inl (λ v point.
+      let m = All-contains (λ l. index_of l ≡ w → IsWhole l → Meets l v) known (In w lo hi) point.1 has refl tt in
+      let e = point_is v point in
+      omega (arith, m.0, m.1, e, above)))))
+      (λ (to : u ≤ hi). (from, to))
+      (cases_lt hi u))
+      (cases_lt u lo)
+
+  -- the union of all data is the number
+  datum_is : datum_of known w ≡ u
+  datum_is = same_from_bits _ _ (λ i. ⊎_elim
+      (λ (set : bit_at (datum_of known w) i ≡ 1). by_bit i set (bit_found w i (λ m d. d) known set))
+      (λ (unset : bit_at (datum_of known w) i ≡ 1 → ⊥).
+      let low = bit_at-lt (datum_of known w) i in
+      let own = bit_from w i (λ m d. d) all_bits u known stated in
+      omega (arith, low, own, unset))
+      (cases_eq (bit_at (datum_of known w) i) 1))
+    where
+      by_bit : (i : ℕ) → bit_at (datum_of known w) i ≡ 1
+          → ((m : ℕ) × (d : ℕ) × Contains known (Bits w m d) × (bit_at d i ≡ 1))
+          → bit_at (datum_of known w) i ≡ bit_at u i
+      by_bit i set (m, d, has, is) =
+          let lit = All-contains IsLit known (Bits w m d) lits has in
+          let met = meets_bits m d lit.1 lit.2 has in
+          omega (arith, set, is, ap (λ n. bit_at n i) met, bit_at_and u m i, bit_at-lt u i, bit_at-lt m i)
+
+  mask_is : (m : ℕ) → m < 2 ^ 32 → IsWithin m (mask_of known w)
+  mask_is m small = same_from_bits _ _ (λ i. omega (
+    arith,
+    bit_at_and m (mask_of known w) i,
+    bit_from w i (λ m d. m) all_bits u known stated,
+    ap (λ n. bit_at n i) (and_all m small),
+    bit_at_and m all_bits i,
+    bit_at-lt m i,
+    bit_at-lt (mask_of known w) i,
+    bit_at-lt all_bits i,
+  ))
+
+  meets_not : (m d : ℕ) → m < 2 ^ 32 → Contains known (NotBits w m d) → bit_and u m ≢ d
+  meets_not m d small has is =
+      let excluded : IsExcluded known w (mask_of known w) (datum_of known w) =
+      record { mask = m; datum = d; stated = has; within = mask_is m small; same = ap (λ n. bit_and n m) datum_is ∙ is } in
+      alive (inr (inr (inr excluded)))
+
+  pub meets_at : (l : Lit) → Contains known l → index_of l ≡ w → Meets l u
+  meets_at (In v lo hi) has is = meets_in lo hi (subst (λ x. Contains known (In x lo hi)) is has)
+  meets_at (Bits v m d) has is =
+      let lit = All-contains IsLit known (Bits v m d) lits has in
+      meets_bits m d lit.1 lit.2 (subst (λ x. Contains known (Bits x m d)) is has)
+  meets_at (NotBits v m d) has is =
+      let lit = All-contains IsLit known (NotBits v m d) lits has in
+      meets_not m d lit.1 (subst (λ x. Contains known (NotBits x m d)) is has)
+
+index_small : (l : Lit) → IsLit l → index_of l < 16
+index_small (In w lo hi) is = is.0
+index_small (Bits w m d) is = is.0
+index_small (NotBits w m d) is = is.0
+
+-- the record of the stated words
+pub record IsStatedBy (known : List Lit) (r : List ℕ) : Type 0 where
+  pub is_record : IsRecord r
+  pub all_hold : All (λ l. Holds l r) known
+  pub stated : (w : ℕ) → w < 16 → Contains known (Bits w all_bits (word r w))
+
+module _ (known : List Lit) (lits : All IsLit known) (words : (w : ℕ) → w < 16 → (u : ℕ) × Contains known (Bits w all_bits u))
+    (alive : IsDead known → ⊥) where
+  number_by : (w : ℕ) → ((w < 16) ⊎ (16 ≤ w)) → ℕ
+  number_by w (inl below) = (words w below).0
+  number_by w (inr above) = 0
+
+  number : ℕ → ℕ
+  number w = number_by w (cases_lt w 16)
+
+  stated_by : (w : ℕ) (s : (w < 16) ⊎ (16 ≤ w)) → w < 16 → Contains known (Bits w all_bits (number_by w s))
+  unfolding number_by
+  stated_by w (inl below) is = (words w below).1
+  stated_by w (inr above) is = absurd (omega arith)
+
+  pub the_record : List ℕ
+  the_record = map number (range_with_len 0 16)
+
+  word_is : (w : ℕ) → w < 16 → word the_record w ≡ number w
+  unfolding the_record
+  word_is w below = get_or-map-range_with_len number 0 16 w w 0 below (omega arith)
+
+  stated : (w : ℕ) → w < 16 → Contains known (Bits w all_bits (word the_record w))
+  unfolding number
+  stated w below = subst (λ u. Contains known (Bits w all_bits u)) (sym (word_is w below)) (stated_by w (cases_lt w 16) below)
+
+  alive_at : (w : ℕ) → w < 16 → IsDeadAt known w → ⊥
+  alive_at w below dead = alive (w, below, dead)
+
+  has_length : length the_record ≡ 16
+  unfolding the_record
+  has_length = length-map-range_with_len number 0 16
+
+  pub stated_by_record : IsStatedBy known the_record
+  stated_by_record = record {
+    is_record = record {
+      length_is = has_length;
+      words = λ w. ⊎_elim
+          (λ (below : w < 16). u_small known lits w (word the_record w) (stated w below) (alive_at w below))
+          (λ (above : 16 ≤ w). let e = past the_record w (omega (arith, has_length, above)) in omega (arith, e))
+          (cases_lt w 16);
+    };
+    all_hold = All-weaker (Contains known) (λ l. Holds l the_record)
+        (λ l has.
+        let below = index_small l (All-contains IsLit known l lits has) in
+        meets_at known lits (index_of l) (word the_record (index_of l)) (stated (index_of l) below) (alive_at (index_of l) below) l has refl)
+        known (All-contains_itself known);
+    stated = stated;
+  } where
+    past : (xs : List ℕ) (k : ℕ) → length xs ≤ k → slice_index xs k ≡ 0
+    past [] k h = refl
+    past (x ∷ xs) zero h = absurd (omega arith)
+    past (x ∷ xs) (suc k) h = past xs k (omega arith)

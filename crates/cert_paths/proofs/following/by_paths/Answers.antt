@@ -1,0 +1,17 @@
+use Rattle.std.proofs.lemmas.Result.{err_from_is_err_and}
+use Rattle.kernel_check.specs.Lent.{accepted_insns}
+use Rattle.cert_paths.proofs.SoundLaws.{first_led, first_sound}
+use Rattle.cert_paths.proofs.WayLaws.{accepted_is}
+use Rattle.cert_paths.proofs.following.by_paths.Goals as goal
+
+pub follow_all-requires : goal.follow_all-requires
+follow_all-requires c = record {
+  sound = first_sound c.args.profile.now (accepted_insns c.args.program.now) c.in_ok-paths.paths (accepted_is c.args.program.now)
+      c.in_ok-paths.ensures.paths c.in_ok-paths.ensures.places c.in_ok-paths.ensures.kinds;
+}
+
+pub returns-in_err-follow_all-clause-never : goal.returns-in_err-follow_all-clause-never
+returns-in_err-follow_all-clause-never c = λ steady right.
+    let p = err_from_is_err_and c.from_residual-in_err-follow_all.result c.from_residual-in_err-follow_all.ensures.1 in
+    rw (p.1, p.2) (c.in_err-follow_all.ensures.never
+    (first_led (accepted_insns c.args.program.now) c.in_ok-paths.paths steady c.in_ok-paths.ensures.places) right)

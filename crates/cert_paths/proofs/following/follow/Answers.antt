@@ -1,0 +1,39 @@
+use Rattle.std.proofs.Common.{◌≡◌, ap, sym, subst, ◌∙◌, IsTrue, length}
+use Rattle.std.proofs.lemmas.Option.{slice_get-get_or, none-some}
+use Rattle.kernel_check.specs.Lent.{accepted_insns}
+use Rattle.cert_state.specs.Entailment.{IsDead}
+use Rattle.cert_form.specs.Nodes.{literals}
+use Rattle.cert_paths.specs.inner.Places.{IsPlace, known_at}
+use Rattle.cert_paths.proofs.FollowLaws.{dead_followed, from_inside}
+use Rattle.cert_paths.proofs.GrowLaws.{all_at}
+use Rattle.cert_paths.proofs.following.follow.Goals as goal
+
+pub returns-then-dead-clause-followed : goal.returns-then-dead-clause-followed
+returns-then-dead-clause-followed c =
+    let es = c.args.paths.now.entries.items in
+    let state = c.known.result in
+    let same : literals state.entries.now state.number ≡ known_at es c.args.from =
+    ap (λ xs. literals xs state.number) c.known.ensures.entries ∙ ap (λ n. literals es n) c.known.ensures.number in
+    let is : IsDead (known_at es c.args.from) = subst IsDead same (c.dead.ensures.0 c.if-dead.true) in
+    dead_followed c.args.profile.now (accepted_insns c.args.program.now) c.args.paths.now c.requires.paths c.requires.inside c.args.from
+    c.requires.from is
+
+pub returns-in_default-clause-never : goal.returns-in_default-clause-never
+returns-in_default-clause-never c = λ led right.
+    let p = accepted_insns c.args.program.now in
+    let low = from_inside c.args.profile.now p c.args.paths.now c.requires.paths c.requires.inside c.args.from c.requires.from in
+    none-some _ (sym c.in_default.ensures ∙ slice_get-get_or p c.args.from.pc (record { code = 0; jt = 0; jf = 0; k = 0 }) low)
+
+pub at_insn-requires-clause-place : goal.at_insn-requires-clause-place
+at_insn-requires-clause-place c =
+    all_at (IsPlace c.args.paths.now.entries.items) c.args.paths.now.places.items (length c.args.paths.now.kinds.items) c.args.from
+    c.requires.paths.places c.requires.from
+
+pub at_insn-requires-clause-alive : goal.at_insn-requires-clause-alive
+at_insn-requires-clause-alive c = λ is.
+    let es = c.args.paths.now.entries.items in
+    let state = c.known.result in
+    let same : literals state.entries.now state.number ≡ known_at es c.args.from =
+    ap (λ xs. literals xs state.number) c.known.ensures.entries ∙ ap (λ n. literals es n) c.known.ensures.number in
+    let yes : IsTrue c.dead.result = c.dead.ensures.1 (subst IsDead (sym same) is) in
+    cc

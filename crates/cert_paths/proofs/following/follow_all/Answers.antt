@@ -1,0 +1,13 @@
+use Rattle.std.proofs.lemmas.Result.{err_from_is_err_and}
+use Rattle.cert_paths.proofs.following.follow_all.Goals as goal
+
+pub loop-preserved : goal.loop-preserved
+loop-preserved c = record {
+  sound = c.in_ok-follow_next.ensures.sound;
+  led = λ first. c.in_ok-follow_next.ensures.led (c.loop.invariant.led first);
+}
+
+pub returns-in_err-follow_next-clause-never : goal.returns-in_err-follow_next-clause-never
+returns-in_err-follow_next-clause-never c = λ first right.
+    let p = err_from_is_err_and c.from_residual.result c.from_residual.ensures.1 in
+    rw (p.1, p.2) (c.in_err-follow_next.ensures.never (c.loop.invariant.led first) right)
