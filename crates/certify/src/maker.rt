@@ -1,5 +1,5 @@
 //! The maker of certificates.
-ghost use Rattle.std.specs.Prelude.{◌≡◌, ◌↔◌, [], All, IfErr, IfOk, IsTrue, OnOk};
+ghost use Rattle.std.specs.Prelude.{◌≡◌, ◌↔◌, [], All, IfErr, IfOk, IfSome, IsTrue, None, OnOk};
 ghost use Rattle.bpf_insn.specs.Program.{insns};
 ghost use Rattle.kernel_check.specs.Accepted.{IsAccepted};
 ghost use Rattle.rule_compile.specs.Shape.{IsCallFilter, IsPlain};
@@ -12,7 +12,7 @@ ghost use Rattle.certify.specs.Own.{IsOfSize, IsOwnWork};
 use crate::own::with_conditions;
 use crate::plain::plain_certificate;
 use bpf_insn::Program;
-use cert_check::check;
+use cert_check::{CheckError, check};
 use cert_paths::{PathsError, by_paths};
 use cert_walk::{CertifyError, walk_through};
 use kernel_check::accept;
@@ -54,11 +54,18 @@ fn certified(
     }
 }
 
-// Whether the checker says yes to a certificate.
-fn is_checked(alloc: Global, profile: &Profile, program: &Program<'_>, bytes: &[u8]) -> bool
-    ensures { IsTrue result → IsOwnWork profile.now (insns program.now) bytes.now }
+// The first rule of the checker that a certificate breaks, or that memory was refused.
+fn broken(
+    alloc: Global,
+    profile: &Profile,
+    program: &Program<'_>,
+    bytes: &[u8],
+) -> Option<CheckError>
+    ensures none { result ≡ None → IsOwnWork profile.now (insns program.now) bytes.now }
+    ensures some { IsAccepted (insns program.now) → IsOwnWork profile.now (insns program.now) bytes.now
+        → IfSome result (λ e. e ≡ CheckError.OutOfMemory) }
 {
-    check(alloc, profile, program.bytes(), bytes).is_ok()
+    check(alloc, profile, program.bytes(), bytes).err()
 }
 
 // Why there is no certificate that follows each path.
@@ -85,10 +92,29 @@ fn followed(
 {
     match accept(program) {
         Ok(accepted) => match by_paths(alloc, profile, &accepted) {
-            Ok(bytes) => Ok(bytes),
+            Ok(certificate) => Ok(certificate),
             Err(error) => Err(told(error)),
         },
         Err(refused) => Err(CertifyError::Undecided(refused.pc)),
+    }
+}
+
+// The certificate, where the checker says yes to it, and else the one that follows each path.
+fn once_checked(
+    alloc: Global,
+    profile: &Profile,
+    program: &Program<'_>,
+    bytes: Vec<u8>,
+) -> Result<Vec<u8>, CertifyError>
+    requires accepted { IsAccepted (insns program.now) }
+    ensures valid { IfOk result (λ made. IsOwnWork profile.now (insns program.now) made.items) }
+    ensures sure { IsRight profile.now (insns program.now) → IsSteady (insns program.now) 0 Nothing → IfErr result IsOfSize }
+    ensures never { IsOwnWork profile.now (insns program.now) bytes.items → IfErr result (λ e. e ≡ OutOfMemory) }
+{
+    match broken(alloc, profile, program, &bytes) {
+        None => Ok(bytes),
+        Some(CheckError::OutOfMemory) => Err(CertifyError::OutOfMemory),
+        Some(_) => followed(alloc, profile, program),
     }
 }
 
@@ -107,10 +133,7 @@ pub fn certify(
     ensures never { IsPlain profile.now → IsCallFilter profile.now (insns program.now) → IfErr result (λ e. e ≡ OutOfMemory) }
 {
     let bytes = certified(alloc, profile, program, None)?;
-    if is_checked(alloc, profile, program, &bytes) {
-        return Ok(bytes);
-    }
-    followed(alloc, profile, program)
+    once_checked(alloc, profile, program, bytes)
 }
 
 /// The same of the filter that the compiler made of the profile, with its outline. Of a right filter that compares steadily, as
@@ -128,12 +151,7 @@ pub fn certify_made(
     ensures never { IsPlain profile.now → IsCallFilter profile.now (insns program.now) → IfErr result (λ e. e ≡ OutOfMemory) }
 {
     match certified(alloc, profile, program, Some(outline)) {
-        Ok(bytes) => {
-            if is_checked(alloc, profile, program, &bytes) {
-                return Ok(bytes);
-            }
-            followed(alloc, profile, program)
-        }
+        Ok(bytes) => once_checked(alloc, profile, program, bytes),
         Err(CertifyError::OutOfMemory) => Err(CertifyError::OutOfMemory),
         Err(_) => followed(alloc, profile, program),
     }
