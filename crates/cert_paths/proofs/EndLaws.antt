@@ -34,7 +34,8 @@ given_goes p pc i s r skip t found e =
     ∙ after_one_word (ending p (pc + 1 + skip) t r)
 
 -- what is asked of the rest may be less
-steady_less : (o : Option Operation) (i : Insn) (h : Held) (rest less : ℕ → Held → Type 0) → ((skip : ℕ) (now : Held) → rest skip now → less skip now)
+steady_less : (o : Option Operation) (i : Insn) (h : Held) (rest less : ℕ → Held → Type 0) → ((skip : ℕ) (now : Held) → rest skip now
+    → less skip now)
     → steady_by o i h rest → steady_by o i h less
 steady_less (Some ReturnK) i h rest less f s = tt
 steady_less (Some Jump) i h rest less f s = f i.k h s
@@ -52,6 +53,7 @@ steady_at (x ∷ p) zero i h found s =
     (λ skip now rest. let e : suc skip ≡ 0 + 1 + skip = omega arith in subst (λ k. IsSteady (x ∷ p) k now) e rest)
     (subst (λ y. steady_by (operation_of y.code) y h (λ skip now. IsSteady p skip now)) (same_Some x i found) s)
 steady_at (x ∷ p) (suc pc) i h found s =
-    steady_less (operation_of i.code) i h (λ skip now. IsSteady p (pc + 1 + skip) now) (λ skip now. IsSteady (x ∷ p) (suc pc + 1 + skip) now)
+    steady_less (operation_of i.code) i h (λ skip now. IsSteady p (pc + 1 + skip) now) (λ skip now. IsSteady (x ∷ p) (suc pc + 1 + skip)
+    now)
     (λ skip now rest. let e : suc (pc + 1 + skip) ≡ suc pc + 1 + skip = omega arith in subst (λ k. IsSteady (x ∷ p) k now) e rest)
     (steady_at p pc i h found s)

@@ -82,12 +82,14 @@ module _ (r : List ℕ) (w m c a : ℕ) (is_r : IsRecord r) (is_a : a ≡ bit_an
   greater_out all true tell =
       let is = is_whole all in
       let part : Tell (cond (eqb c all_bits) (Some false_literal) (Some (In w (c + 1) all_bits))) =
-      subst (λ b. Tell (cond b (cond (eqb c all_bits) (Some false_literal) (Some (In w (c + 1) all_bits))) None)) (eq-eqb m all_bits all) tell in
+      subst (λ b. Tell (cond b (cond (eqb c all_bits) (Some false_literal) (Some (In w (c + 1) all_bits))) None)) (eq-eqb m all_bits all)
+      tell in
       ⊎_elim
       (λ (most : eqb c all_bits ≡ true).
       absurd (never_false r (subst (λ b. Tell (cond b (Some false_literal) (Some (In w (c + 1) all_bits)))) most part)))
       (λ (less : eqb c all_bits ≡ false).
-      let h : (c + 1 ≤ word r w) × (word r w ≤ all_bits) = subst (λ b. Tell (cond b (Some false_literal) (Some (In w (c + 1) all_bits)))) less part in
+      let h : (c + 1 ≤ word r w) × (word r w ≤ all_bits) =
+      subst (λ b. Tell (cond b (Some false_literal) (Some (In w (c + 1) all_bits)))) less part in
       lt-ltb c a (omega (arith, is, h.0)))
       (cases_Bool (eqb c all_bits))
   greater_out all false tell =
@@ -98,14 +100,16 @@ module _ (r : List ℕ) (w m c a : ℕ) (is_r : IsRecord r) (is_a : a ≡ bit_an
   least_out : m ≡ all_bits → (taken : Bool) → Tell (masked_fact AtLeast w m c taken) → nat_le c a ≡ taken
   least_out all true tell =
       let is = is_whole all in
-      let h : (c ≤ word r w) × (word r w ≤ all_bits) = subst (λ b. Tell (cond b (Some (In w c all_bits)) None)) (eq-eqb m all_bits all) tell in
+      let h : (c ≤ word r w) × (word r w ≤ all_bits) =
+      subst (λ b. Tell (cond b (Some (In w c all_bits)) None)) (eq-eqb m all_bits all) tell in
       le-leb c a (omega (arith, is, h.0))
   least_out all false tell =
       let is = is_whole all in
       let part : Tell (cond (eqb c 0) (Some false_literal) (Some (In w 0 (c - 1)))) =
       subst (λ b. Tell (cond b (cond (eqb c 0) (Some false_literal) (Some (In w 0 (c - 1)))) None)) (eq-eqb m all_bits all) tell in
       ⊎_elim
-      (λ (none : eqb c 0 ≡ true). absurd (never_false r (subst (λ b. Tell (cond b (Some false_literal) (Some (In w 0 (c - 1))))) none part)))
+      (λ (none : eqb c 0 ≡ true). absurd
+      (never_false r (subst (λ b. Tell (cond b (Some false_literal) (Some (In w 0 (c - 1))))) none part)))
       (λ (some : eqb c 0 ≡ false).
       let h : (0 ≤ word r w) × (word r w ≤ c - 1) = subst (λ b. Tell (cond b (Some false_literal) (Some (In w 0 (c - 1))))) some part in
       let positive = eqb-false c 0 some in

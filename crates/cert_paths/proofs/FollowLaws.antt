@@ -1,5 +1,6 @@
 -- What the node of a place does: it keeps the rules, and each place that is added is led to.
-use Rattle.std.proofs.Common.{◌≡◌, ℕ, ◌+◌, ◌/◌, ◌^◌, ◌<◌, true, false, List, [], ◌∷◌, ◌++◌, length, get_or, refl, ap, sym, ◌∙◌, arith, subst}
+use Rattle.std.proofs.Common.{◌≡◌, ℕ, ◌+◌, ◌/◌, ◌^◌, ◌<◌, true, false, List, [], ◌∷◌, ◌++◌, length, get_or, refl, ap, sym, ◌∙◌, arith}
+use Rattle.std.proofs.Common.{subst}
 use Rattle.std.proofs.Common.{length-append}
 use Rattle.std.specs.Prelude.{All, Option, Some, None, slice_get, option_to_list, bit_and}
 use Rattle.std.proofs.lemmas.List.Elements.{All-push}
@@ -16,7 +17,6 @@ use Rattle.kernel_check.specs.Accepted.{IsAccepted}
 use Rattle.profile.specs.Policy.{Policy}
 use Rattle.cert_state.specs.declared.literal.AVal.{AVal}
 use Rattle.cert_state.specs.declared.literal.AVal.TheVariants.{Masked}
-use Rattle.cert_state.specs.declared.literal.Lit.{Lit}
 use Rattle.cert_state.specs.Entailment.{IsDead}
 use Rattle.cert_state.specs.Literals.{all_bits}
 use Rattle.cert_state.specs.Transfer.{edge_fact}
@@ -27,7 +27,7 @@ use Rattle.cert_form.specs.Spelling.{IsKind}
 use Rattle.cert_check.specs.Right.{IsRight}
 use Rattle.cert_check.specs.Rules.{Keeps, no_node}
 use Rattle.rule_compile.specs.Steady.{Held, Nothing, Whole, Part, IsOfWord}
-use Rattle.cert_paths.specs.declared.action.Action.TheVariants.{Ends, Jumps, Loads, Masks, Compares, Other}
+use Rattle.cert_paths.specs.declared.action.Action.TheVariants.{Other}
 use Rattle.cert_paths.specs.declared.paths.Paths.{Paths}
 use Rattle.cert_paths.specs.declared.place.Next.{Next}
 use Rattle.cert_paths.specs.declared.place.Place.{Place}
@@ -61,14 +61,10 @@ led_added p s t from next number is added led all =
 
 module _ (policy : Policy) (p : List Insn) (old : Paths) (is_old : ArePaths old) (inside : AreInside p old) (from : Place)
     (here : slice_get old.places.items (length old.kinds.items) ≡ Some from) where
-  at : ℕ
-  at = length old.kinds.items
-
-  known : List Lit
-  known = known_at old.entries.items from
-
   pub from_led : AreLed p old → IsLed p from.pc from.a (known_at old.entries.items from)
-  from_led led = all_at (λ (place : Place). IsLed p place.pc place.a (known_at old.entries.items place)) old.places.items (length old.kinds.items) from led here
+  from_led led =
+      all_at (λ (place : Place). IsLed p place.pc place.a (known_at old.entries.items place)) old.places.items
+      (length old.kinds.items) from led here
 
   pub from_inside : from.pc < length p
   from_inside = all_at (λ (place : Place). place.pc < length p) old.places.items (length old.kinds.items) from inside here
@@ -85,7 +81,8 @@ module _ (policy : Policy) (p : List Insn) (old : Paths) (is_old : ArePaths old)
 
   -- nothing was added
   pub end_followed : (kind : Kind) → IsKind kind
-      → ((ns : List PlainNode) → Keeps policy p ns (length old.kinds.items) (own_node from.pc from.a (known_at old.entries.items from) kind))
+      → ((ns : List PlainNode)
+      → Keeps policy p ns (length old.kinds.items) (own_node from.pc from.a (known_at old.entries.items from) kind))
       → IsFollowed policy p old old from kind
   end_followed kind is keeps = record {
     inside = inside;
@@ -104,7 +101,8 @@ module _ (policy : Policy) (p : List Insn) (old : Paths) (is_old : ArePaths old)
       let next : Next = record { pc = pc; a = a; learned = None } in
       let grown = grown_added old new from next step.to step.added in
       let later : length old.kinds.items < step.to =
-      (let e = step.added.number_is in let l = slice_get_within old.places.items (length old.kinds.items) from here in omega (arith, e, l)) in
+      (let e = step.added.number_is in let l = slice_get_within old.places.items (length old.kinds.items) from here in omega (arith, e, l))
+      in
       let small : step.to < 2 ^ 32 =
       (let e = step.added.number_is in let few = is_old.few in omega (arith, e, few)) in
       record {
@@ -167,76 +165,79 @@ module _ (policy : Policy) (p : List Insn) (old : Paths) (is_old : ArePaths old)
 
   pub dead_followed : IsDead (known_at old.entries.items from) → IsFollowed policy p old old from Dead
   dead_followed dead =
-      end_followed Dead tt (λ ns. dead_keeps policy p ns (length old.kinds.items) (get_or p from.pc no_insn) from.pc from.a (known_at old.entries.items from)
+      end_followed Dead tt (λ ns. dead_keeps policy p ns (length old.kinds.items) (get_or p from.pc no_insn) from.pc from.a
+      (known_at old.entries.items from)
       (slice_get-get_or p from.pc no_insn from_inside) dead)
 
-  module _ (i : Insn) (found : slice_get p from.pc ≡ Some i) (accepted : IsAccepted p) (new : Paths) (is_new : ArePaths new) (kind : Kind) where
-    pub return_followed : operation_of i.code ≡ Some ReturnK → IsReturn policy old new from i.k kind → IsFollowed policy p old new from kind
-    return_followed is done =
-        subst (λ (t : Paths). IsFollowed policy p old t from kind) (sym done.same)
-        (subst (IsFollowed policy p old old from) (sym done.kind_is)
-        (end_followed Return tt (λ ns.
-        return_keeps policy p ns (length old.kinds.items) i from.pc from.a (known_at old.entries.items from) found is done.agrees)))
+  module _ (i : Insn) (found : slice_get p from.pc ≡ Some i) (accepted : IsAccepted p) (new : Paths) (is_new : ArePaths new) (kind : Kind)
+    where
+      pub return_followed : operation_of i.code ≡ Some ReturnK → IsReturn policy old new from i.k kind → IsFollowed policy p old new from kind
+      return_followed is done =
+          subst (λ (t : Paths). IsFollowed policy p old t from kind) (sym done.same)
+          (subst (IsFollowed policy p old old from) (sym done.kind_is)
+          (end_followed Return tt (λ ns.
+          return_keeps policy p ns (length old.kinds.items) i from.pc from.a (known_at old.entries.items from) found is done.agrees)))
 
-    pub cut_followed : IsCut old new from kind → IsFollowed policy p old new from kind
-    cut_followed cut =
-        subst (IsFollowed policy p old new from) (sym cut.kind_is)
-        (two_followed new is_new (record { pc = from.pc; a = from.a; learned = Some cut.one })
-        (record { pc = from.pc; a = from.a; learned = Some cut.other }) (Split cut.one cut.other cut.first cut.second) cut.first cut.second
-        cut.two from_inside from_inside
-        (λ low also. (cut.one_is, cut.other_is, low, also))
-        (λ ns low also one other.
-        split_keeps policy p ns (length old.kinds.items) i from.pc from.a (known_at old.entries.items from) found cut.one cut.other
-        cut.first cut.second cut.covers low also one other)
-        (λ led. led_more p from.pc from.a cut.one (known_at old.entries.items from) led)
-        (λ led. led_more p from.pc from.a cut.other (known_at old.entries.items from) led))
+      pub cut_followed : IsCut old new from kind → IsFollowed policy p old new from kind
+      cut_followed cut =
+          subst (IsFollowed policy p old new from) (sym cut.kind_is)
+          (two_followed new is_new (record { pc = from.pc; a = from.a; learned = Some cut.one })
+          (record { pc = from.pc; a = from.a; learned = Some cut.other }) (Split cut.one cut.other cut.first cut.second) cut.first cut.second
+          cut.two from_inside from_inside
+          (λ low also. (cut.one_is, cut.other_is, low, also))
+          (λ ns low also one other.
+          split_keeps policy p ns (length old.kinds.items) i from.pc from.a (known_at old.entries.items from) found cut.one cut.other
+          cut.first cut.second cut.covers low also one other)
+          (λ led. led_more p from.pc from.a cut.one (known_at old.entries.items from) led)
+          (λ led. led_more p from.pc from.a cut.other (known_at old.entries.items from) led))
 
-    pub jump_followed : operation_of i.code ≡ Some Jump → IsStep old new from (from.pc + 1 + i.k) from.a kind
-        → IsFollowed policy p old new from kind
-    jump_followed is step =
-        one_followed new is_new (from.pc + 1 + i.k) from.a kind step (jump_inside p from.pc i found accepted is)
-        (λ ns to later stands.
-        jump_keeps policy p ns (length old.kinds.items) i from.pc from.a (known_at old.entries.items from) found is to (from.pc + 1 + i.k) refl
-        later stands)
-        (λ led. led_jump p from.pc i found from.a (known_at old.entries.items from) led is)
+      pub jump_followed : operation_of i.code ≡ Some Jump → IsStep old new from (from.pc + 1 + i.k) from.a kind
+          → IsFollowed policy p old new from kind
+      jump_followed is step =
+          one_followed new is_new (from.pc + 1 + i.k) from.a kind step (jump_inside p from.pc i found accepted is)
+          (λ ns to later stands.
+          jump_keeps policy p ns (length old.kinds.items) i from.pc from.a (known_at old.entries.items from) found is to (from.pc + 1 + i.k)
+          refl
+          later stands)
+          (λ led. led_jump p from.pc i found from.a (known_at old.entries.items from) led is)
 
-    pub load_followed : IsPlain i → operation_of i.code ≡ Some LoadWord
-        → IsStep old new from (from.pc + 1 + 0) (Masked (i.k / 4) all_bits) kind
-        → IsFollowed policy p old new from kind
-    load_followed plain is step =
-        one_followed new is_new (from.pc + 1 + 0) (Masked (i.k / 4) all_bits) kind step
-        (let l = next_inside p from.pc i found accepted LoadWord is (λ e. cc) (λ e. cc) in omega (arith, l))
-        (λ ns to later stands.
-        load_keeps policy p ns (length old.kinds.items) i from.pc from.a (known_at old.entries.items from) found is to (from.pc + 1 + 0)
-        (Masked (i.k / 4) all_bits) (omega arith) refl later stands)
-        (λ led. led_load p from.pc i found from.a (known_at old.entries.items from) led plain is)
+      pub load_followed : IsPlain i → operation_of i.code ≡ Some LoadWord
+          → IsStep old new from (from.pc + 1 + 0) (Masked (i.k / 4) all_bits) kind
+          → IsFollowed policy p old new from kind
+      load_followed plain is step =
+          one_followed new is_new (from.pc + 1 + 0) (Masked (i.k / 4) all_bits) kind step
+          (let l = next_inside p from.pc i found accepted LoadWord is (λ e. cc) (λ e. cc) in omega (arith, l))
+          (λ ns to later stands.
+          load_keeps policy p ns (length old.kinds.items) i from.pc from.a (known_at old.entries.items from) found is to (from.pc + 1 + 0)
+          (Masked (i.k / 4) all_bits) (omega arith) refl later stands)
+          (λ led. led_load p from.pc i found from.a (known_at old.entries.items from) led plain is)
 
-    pub and_followed : (w m : ℕ) → operation_of i.code ≡ Some (Compute And K) → from.a ≡ Masked w m
-        → IsStep old new from (from.pc + 1 + 0) (Masked w (bit_and m i.k)) kind
-        → IsFollowed policy p old new from kind
-    and_followed w m is held step =
-        one_followed new is_new (from.pc + 1 + 0) (Masked w (bit_and m i.k)) kind step
-        (let l = next_inside p from.pc i found accepted (Compute And K) is (λ e. cc) (λ e. cc) in omega (arith, l))
-        (λ ns to later stands.
-        and_keeps policy p ns (length old.kinds.items) i from.pc from.a (known_at old.entries.items from) found is w m held to
-        (from.pc + 1 + 0) (Masked w (bit_and m i.k)) (omega arith) refl later stands)
-        (λ led. led_and p from.pc i found w m (known_at old.entries.items from)
-        (subst (λ a. IsLed p from.pc a (known_at old.entries.items from)) held led) is)
+      pub and_followed : (w m : ℕ) → operation_of i.code ≡ Some (Compute And K) → from.a ≡ Masked w m
+          → IsStep old new from (from.pc + 1 + 0) (Masked w (bit_and m i.k)) kind
+          → IsFollowed policy p old new from kind
+      and_followed w m is held step =
+          one_followed new is_new (from.pc + 1 + 0) (Masked w (bit_and m i.k)) kind step
+          (let l = next_inside p from.pc i found accepted (Compute And K) is (λ e. cc) (λ e. cc) in omega (arith, l))
+          (λ ns to later stands.
+          and_keeps policy p ns (length old.kinds.items) i from.pc from.a (known_at old.entries.items from) found is w m held to
+          (from.pc + 1 + 0) (Masked w (bit_and m i.k)) (omega arith) refl later stands)
+          (λ led. led_and p from.pc i found w m (known_at old.entries.items from)
+          (subst (λ a. IsLed p from.pc a (known_at old.entries.items from)) held led) is)
 
-    pub fork_followed : (test : Test) → operation_of i.code ≡ Some (Branch test K) → IsFork old new from i kind
-        → IsFollowed policy p old new from kind
-    fork_followed test is fork =
-        let l = edge_fact (regs_of from.a) i true in
-        let m = edge_fact (regs_of from.a) i false in
-        subst (IsFollowed policy p old new from) (sym fork.kind_is)
-        (two_followed new is_new (way from i i.jt l) (way from i i.jf m) (Step fork.first fork.second) fork.first fork.second fork.two
-        (taken_inside p from.pc i found accepted test is) (other_inside p from.pc i found accepted test is)
-        (λ low also. (low, also))
-        (λ ns low also one other.
-        fork_keeps policy p ns (length old.kinds.items) i from.pc from.a (known_at old.entries.items from) found test is
-        fork.first fork.second (from.pc + 1 + i.jt) (from.pc + 1 + i.jf) l m refl refl refl refl low also one other)
-        (λ led. led_branch p from.pc i found from.a (known_at old.entries.items from) led test is true)
-        (λ led. led_branch p from.pc i found from.a (known_at old.entries.items from) led test is false))
+      pub fork_followed : (test : Test) → operation_of i.code ≡ Some (Branch test K) → IsFork old new from i kind
+          → IsFollowed policy p old new from kind
+      fork_followed test is fork =
+          let l = edge_fact (regs_of from.a) i true in
+          let m = edge_fact (regs_of from.a) i false in
+          subst (IsFollowed policy p old new from) (sym fork.kind_is)
+          (two_followed new is_new (way from i i.jt l) (way from i i.jf m) (Step fork.first fork.second) fork.first fork.second fork.two
+          (taken_inside p from.pc i found accepted test is) (other_inside p from.pc i found accepted test is)
+          (λ low also. (low, also))
+          (λ ns low also one other.
+          fork_keeps policy p ns (length old.kinds.items) i from.pc from.a (known_at old.entries.items from) found test is
+          fork.first fork.second (from.pc + 1 + i.jt) (from.pc + 1 + i.jf) l m refl refl refl refl low also one other)
+          (λ led. led_branch p from.pc i found from.a (known_at old.entries.items from) led test is true)
+          (λ led. led_branch p from.pc i found from.a (known_at old.entries.items from) led test is false))
 
   -- ---- what can not be, where the place is led to
 
@@ -272,45 +273,3 @@ module _ (policy : Policy) (p : List Insn) (old : Paths) (is_old : ArePaths old)
 
     pub never_other : action_by (operation_of i.code) ≡ Other → ⊥
     never_other e = by_operation (operation_of i.code) refl e
-
--- ---- the operation, by what it does
-
-pub ends_is : (o : Option Operation) → action_by o ≡ Ends → o ≡ Some ReturnK
-ends_is (Some ReturnK) e = refl
-ends_is (Some Jump) e = cc
-ends_is (Some LoadWord) e = cc
-ends_is (Some (Compute And K)) e = cc
-ends_is (Some (Branch test K)) e = cc
-ends_is _ e = cc
-
-pub jumps_is : (o : Option Operation) → action_by o ≡ Jumps → o ≡ Some Jump
-jumps_is (Some ReturnK) e = cc
-jumps_is (Some Jump) e = refl
-jumps_is (Some LoadWord) e = cc
-jumps_is (Some (Compute And K)) e = cc
-jumps_is (Some (Branch test K)) e = cc
-jumps_is _ e = cc
-
-pub loads_is : (o : Option Operation) → action_by o ≡ Loads → o ≡ Some LoadWord
-loads_is (Some ReturnK) e = cc
-loads_is (Some Jump) e = cc
-loads_is (Some LoadWord) e = refl
-loads_is (Some (Compute And K)) e = cc
-loads_is (Some (Branch test K)) e = cc
-loads_is _ e = cc
-
-pub masks_is : (o : Option Operation) → action_by o ≡ Masks → o ≡ Some (Compute And K)
-masks_is (Some ReturnK) e = cc
-masks_is (Some Jump) e = cc
-masks_is (Some LoadWord) e = cc
-masks_is (Some (Compute And K)) e = refl
-masks_is (Some (Branch test K)) e = cc
-masks_is _ e = cc
-
-pub compares_is : (o : Option Operation) (test : Test) → action_by o ≡ Compares test → o ≡ Some (Branch test K)
-compares_is (Some ReturnK) test e = cc
-compares_is (Some Jump) test e = cc
-compares_is (Some LoadWord) test e = cc
-compares_is (Some (Compute And K)) test e = cc
-compares_is (Some (Branch own K)) test e = let same : own ≡ test = cc in ap (λ t. Some (Branch t K)) same
-compares_is _ test e = cc

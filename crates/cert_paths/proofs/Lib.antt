@@ -12,3 +12,4 @@ pub mod LitLaws
 pub mod WayLaws
 pub mod FollowLaws
 pub mod SoundLaws
+pub mod ActionLaws

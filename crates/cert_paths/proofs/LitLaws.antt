@@ -107,7 +107,8 @@ fact_lit a i taken test is value fits =
 -- the literals of a chain are such
 chain_lits : (es : List (ℕ × Lit)) → AreLiteralEntries es → (fuel n : ℕ) → n ≤ fuel → All IsLit (literals es n)
 chain_lits es are zero n le =
-    let none : n ≡ 0 = omega arith in subst (λ k. All IsLit (literals es k)) (sym none) (subst (All IsLit) (sym (literals_none es)) (All-nil IsLit))
+    let none : n ≡ 0 =
+    omega arith in subst (λ k. All IsLit (literals es k)) (sym none) (subst (All IsLit) (sym (literals_none es)) (All-nil IsLit))
 chain_lits es are (suc fuel) zero le = subst (All IsLit) (sym (literals_none es)) (All-nil IsLit)
 chain_lits es are (suc fuel) (suc j) le = ⊎_elim
     (λ (inside : j < length es).

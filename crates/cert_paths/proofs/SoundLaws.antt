@@ -58,7 +58,8 @@ module _ (policy : Policy) (p : List Insn) (old now new : Paths) (from : Place) 
         (subst (All (IsPlace now.entries.items)) (sym given.places) are.places);
     first = ap (λ xs. slice_get xs 0) given.places ∙ are.first;
     few = let few = are.few in let e = ap length given.places in omega (arith, few, e);
-    few_entries = let few = are.few_entries in let e = ap length given.places in let f = ap length given.entries in omega (arith, few, e, f);
+    few_entries = let few = are.few_entries in let e = ap length given.places in let f = ap length given.entries in omega
+        (arith, few, e, f);
   }
 
   there : slice_get now.places.items (length now.kinds.items) ≡ Some from

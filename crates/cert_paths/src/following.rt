@@ -14,7 +14,8 @@ ghost use Rattle.cert_check.specs.Right.{IsRight};
 ghost use Rattle.cert_check.specs.Settled.{StatedIsSettled};
 ghost use Rattle.cert_paths.specs.Fault.{IsSize};
 ghost use Rattle.cert_paths.specs.Kept.{IsValidCertificate};
-ghost use Rattle.cert_paths.specs.inner.Follow.{AreSound, AreTwo, HoldsNoWord, IsCut, IsFollowed, IsFork, IsGiven, IsMasked, IsReturn, IsStep, IsUnlike, IsUntold};
+ghost use Rattle.cert_paths.specs.inner.Follow.{AreSound, AreTwo, HoldsNoWord, IsCut, IsFollowed, IsFork};
+ghost use Rattle.cert_paths.specs.inner.Follow.{IsMasked, IsReturn, IsStep, IsUnlike, IsUntold};
 ghost use Rattle.cert_paths.specs.inner.Led.{AreLed};
 ghost use Rattle.cert_paths.specs.inner.Places.{AreInside, ArePaths, IsPlace, known_at};
 
@@ -250,22 +251,6 @@ fn follow(
     at_insn(paths, profile, program, from, insn)
 }
 
-// The first place that has no node yet.
-fn next_place(paths: &Paths) -> Option<Place>
-    ensures { result ≡ slice_get paths.now.places.items (length paths.now.kinds.items) }
-{
-    paths.places.get(paths.kinds.len()).copied()
-}
-
-// Gives a node to the first place that has none.
-fn give(paths: &mut Paths, kind: Kind) -> Result<(), PathsError>
-    ensures given { OnOk result (IsGiven paths.old paths.new kind) }
-    ensures size { IfErr result IsSize }
-{
-    paths.kinds.push(kind)?;
-    Ok(())
-}
-
 // Follows the first place that has no node yet. The result is false where each has one.
 fn follow_next(
     paths: &mut Paths,
@@ -279,11 +264,11 @@ fn follow_next(
     ensures never { AreLed (accepted_insns program.now) paths.old → IsRight profile.now (accepted_insns program.now)
         → IfErr result IsSize }
 {
-    let Some(from) = next_place(paths) else {
+    let Some(from) = paths.next_place() else {
         return Ok(false);
     };
     let kind = follow(paths, profile, program, from)?;
-    give(paths, kind)?;
+    paths.give(kind)?;
     Ok(true)
 }
 

@@ -1,10 +1,11 @@
 //! The places of all paths, and what their nodes do.
-ghost use Rattle.std.specs.Prelude.{◌≡◌, ◌<◌, ◌^◌, ◌++◌, ◌∷◌, [], All, IfErr, IfOk, IfSome, OnOk, length};
+ghost use Rattle.std.specs.Prelude.{◌≡◌, ◌<◌, ◌^◌, ◌++◌, ◌∷◌, [], All, IfErr, IfOk, IfSome, OnOk, length, slice_get};
 ghost use Rattle.bpf_insn.specs.declared.instruction.Insn.{Insn as TheInsn};
 ghost use Rattle.profile.specs.Policy.{Policy};
 ghost use Rattle.cert_state.specs.Literals.{IsLit, IsValue};
 ghost use Rattle.cert_paths.specs.Fault.{IsSize};
 ghost use Rattle.cert_paths.specs.Kept.{IsValidCertificate};
+ghost use Rattle.cert_paths.specs.inner.Follow.{IsGiven};
 ghost use Rattle.cert_paths.specs.inner.Places.{AreInside, AreKept, AreNodes, ArePaths, IsAdded, IsLearned, IsPlace, chain_node_of};
 ghost use Rattle.std.specs.Prelude.{List};
 
@@ -132,6 +133,22 @@ impl Paths {
             nodes.push(node(*place, *kind))?;
         }
         Ok(nodes)
+    }
+
+    /// The first place that has no node yet.
+    pub(crate) fn next_place(&self) -> Option<Place>
+        ensures { result ≡ slice_get self.now.places.items (length self.now.kinds.items) }
+    {
+        self.places.get(self.kinds.len()).copied()
+    }
+
+    /// Gives a node to the first place that has none.
+    pub(crate) fn give(&mut self, kind: Kind) -> Result<(), PathsError>
+        ensures given { OnOk result (IsGiven self.old self.new kind) }
+        ensures size { IfErr result IsSize }
+    {
+        self.kinds.push(kind)?;
+        Ok(())
     }
 
     /// The certificate, once each place has a node.

@@ -12,8 +12,11 @@ add_two-requires-clause-one c =
     let a = c.args.from.a in
     let small : i.k < 2 ^ 32 = search rules in
     let same : c.edge_fact.result ≡ edge_fact (regs_of a) i true =
-    c.edge_fact.ensures ∙ ap (λ b. edge_fact (regs_of b) i true) c.known-known.ensures.a in
-    (subst (λ o. IfSome o IsLit) (sym same) (fact_lit a i true c.args.test c.requires.is c.requires.from.value small), c.requires.from.value)
+    c.edge_fact.ensures ∙ ap (λ b. edge_fact (regs_of b) i true) c.known-known.ensures.a in (
+      subst (λ o. IfSome o IsLit) (sym same)
+          (fact_lit a i true c.args.test c.requires.is c.requires.from.value small),
+      c.requires.from.value,
+    )
 
 pub add_two-requires-clause-other : goal.add_two-requires-clause-other
 add_two-requires-clause-other c =
@@ -21,5 +24,8 @@ add_two-requires-clause-other c =
     let a = c.args.from.a in
     let small : i.k < 2 ^ 32 = search rules in
     let same : c.edge_fact-2.result ≡ edge_fact (regs_of a) i false =
-    c.edge_fact-2.ensures ∙ ap (λ b. edge_fact (regs_of b) i false) c.known-known.ensures.a in
-    (subst (λ o. IfSome o IsLit) (sym same) (fact_lit a i false c.args.test c.requires.is c.requires.from.value small), c.requires.from.value)
+    c.edge_fact-2.ensures ∙ ap (λ b. edge_fact (regs_of b) i false) c.known-known.ensures.a in (
+      subst (λ o. IfSome o IsLit) (sym same)
+          (fact_lit a i false c.args.test c.requires.is c.requires.from.value small),
+      c.requires.from.value,
+    )

@@ -14,8 +14,9 @@ use Rattle.cert_paths.specs.declared.paths.Paths.{Paths}
 use Rattle.cert_paths.specs.Fault.{IsSize}
 use Rattle.cert_paths.specs.inner.Follow.{IsCut, IsFollowed, IsReturn, IsStep}
 use Rattle.cert_paths.specs.inner.Places.{ArePaths}
-use Rattle.cert_paths.proofs.FollowLaws.{and_followed, compares_is, cut_followed, ends_is, fork_followed, jump_followed, jumps_is, load_followed}
-use Rattle.cert_paths.proofs.FollowLaws.{loads_is, masks_is, never_masked, never_other, never_unlike, never_untold, return_followed}
+use Rattle.cert_paths.proofs.ActionLaws.{compares_is, ends_is, jumps_is, loads_is, masks_is}
+use Rattle.cert_paths.proofs.FollowLaws.{and_followed, cut_followed, fork_followed, jump_followed, load_followed}
+use Rattle.cert_paths.proofs.FollowLaws.{never_masked, never_other, never_unlike, never_untold, return_followed}
 use Rattle.cert_paths.proofs.WayLaws.{accepted_is, jump_inside, next_inside, other_inside, taken_inside}
 use Rattle.cert_paths.proofs.following.at_insn.Goals as goal
 
@@ -44,7 +45,8 @@ returns-in-Ends-clause-followed c =
     let from = c.args.from in
     let policy = c.args.profile.now in
     let is : operation_of i.code ≡ Some ReturnK = ends_is (operation_of i.code) (sym c.action_of.ensures ∙ c.in-Ends.is) in
-    on_ok c.at_return.result new (λ kind. IsReturn policy old new from i.k kind ⊎ IsCut old new from kind) (IsFollowed policy p old new from)
+    on_ok c.at_return.result new (λ kind. IsReturn policy old new from i.k kind ⊎ IsCut old new from kind) (IsFollowed policy p old new
+    from)
     c.at_return.ensures.paths c.at_return.ensures.done
     (λ kind are done. ⊎_elim
     (λ (r : IsReturn policy old new from i.k kind).
@@ -61,7 +63,8 @@ returns-in-Ends-clause-never c = λ led right.
     let i = c.args.insn in
     let is : operation_of i.code ≡ Some ReturnK = ends_is (operation_of i.code) (sym c.action_of.ensures ∙ c.in-Ends.is) in
     on_err c.at_return.result _ c.at_return.ensures.unlike
-    (never_unlike c.args.profile.now p c.args.paths.now c.requires.paths c.requires.inside c.args.from c.requires.from i c.requires.found led
+    (never_unlike c.args.profile.now p c.args.paths.now c.requires.paths c.requires.inside c.args.from c.requires.from i c.requires.found
+    led
     right is)
 
 pub after-requires : goal.after-requires
@@ -142,7 +145,8 @@ returns-in-Masks-clause-never c = λ led right.
     let i = c.args.insn in
     let is : operation_of i.code ≡ Some (Compute And K) = masks_is (operation_of i.code) (sym c.action_of.ensures ∙ c.in-Masks.is) in
     on_err c.at_mask.result _ c.at_mask.ensures.no_word
-    (never_masked c.args.profile.now p c.args.paths.now c.requires.paths c.requires.inside c.args.from c.requires.from i c.requires.found led is)
+    (never_masked c.args.profile.now p c.args.paths.now c.requires.paths c.requires.inside c.args.from c.requires.from i c.requires.found
+    led is)
 
 pub at_branch-requires-clause-is : goal.at_branch-requires-clause-is
 at_branch-requires-clause-is c = compares_is (operation_of c.args.insn.code) c.in-Compares.test (sym c.action_of.ensures ∙ c.in-Compares.is)
@@ -180,11 +184,13 @@ returns-in-Compares-clause-never c = λ led right.
     let i = c.args.insn in
     let is = compares_is (operation_of i.code) c.in-Compares.test (sym c.action_of.ensures ∙ c.in-Compares.is) in
     on_err c.at_branch.result _ c.at_branch.ensures.untold
-    (never_untold c.args.profile.now p c.args.paths.now c.requires.paths c.requires.inside c.args.from c.requires.from i c.requires.found led
+    (never_untold c.args.profile.now p c.args.paths.now c.requires.paths c.requires.inside c.args.from c.requires.from i c.requires.found
+    led
     c.in-Compares.test is)
 
 pub returns-in-Other-clause-never : goal.returns-in-Other-clause-never
 returns-in-Other-clause-never c = λ led right.
     let p = accepted_insns c.args.program.now in
-    never_other c.args.profile.now p c.args.paths.now c.requires.paths c.requires.inside c.args.from c.requires.from c.args.insn c.requires.found
+    never_other c.args.profile.now p c.args.paths.now c.requires.paths c.requires.inside c.args.from c.requires.from c.args.insn
+    c.requires.found
     led (sym c.action_of.ensures ∙ c.in-Other.is)

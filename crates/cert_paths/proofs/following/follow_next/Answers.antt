@@ -8,12 +8,13 @@ pub returns-clause-sound : goal.returns-clause-sound
 returns-clause-sound c =
     let old = c.args.paths.now in
     let here : slice_get old.places.items (length old.kinds.items) ≡ Some c.in-Some.from = sym c.next_place.ensures ∙ c.in-Some.is in
-    next_sound c.args.profile.now (accepted_insns c.args.program.now) old c.follow.new.paths c.give.new.paths c.in-Some.from c.in_ok-kind.kind
+    next_sound c.args.profile.now (accepted_insns c.args.program.now) old c.follow.new.paths c.give.new.self c.in-Some.from
+    c.in_ok-kind.kind
     c.requires.sound here c.in_ok-kind.ensures.paths c.in_ok-kind.ensures.followed c.in_ok-give.ensures.given
 
 pub returns-clause-led : goal.returns-clause-led
 returns-clause-led c =
     let old = c.args.paths.now in
     let here : slice_get old.places.items (length old.kinds.items) ≡ Some c.in-Some.from = sym c.next_place.ensures ∙ c.in-Some.is in
-    next_led c.args.profile.now (accepted_insns c.args.program.now) old c.follow.new.paths c.give.new.paths c.in-Some.from c.in_ok-kind.kind
+    next_led c.args.profile.now (accepted_insns c.args.program.now) old c.follow.new.paths c.give.new.self c.in-Some.from c.in_ok-kind.kind
     c.requires.sound here c.in_ok-kind.ensures.paths c.in_ok-kind.ensures.followed c.in_ok-give.ensures.given
