@@ -13,11 +13,12 @@ pub(crate) struct AskedCall {
     pub(crate) parts: Vec<Vec<u32>>,
 }
 
-/// A rule that may hold, and which of its conditions are met, by bits.
+/// A rule that may hold: by bits, which of its conditions are met, and of which the low half decides.
 #[derive(Clone, Copy, PartialEq, Eq)]
 pub(crate) struct LeftRule {
     pub(crate) rule: u32,
     pub(crate) met: u32,
+    pub(crate) low: u32,
 }
 
 /// What is left to ask of a call.
@@ -29,13 +30,18 @@ pub(crate) struct Left {
     pub(crate) rules: Vec<LeftRule>,
     /// Whether the only one of them holds.
     pub(crate) holds: bool,
+    /// Whether arguments were asked for before it was known which call it is: then what is known of them is of all parts.
+    pub(crate) is_late: bool,
 }
 
 impl Item for Left {
     fn key(&self) -> u32 {
-        let mut key = mixed(bits(self.part), u32::from(self.holds));
+        let mut key = mixed(
+            bits(self.part),
+            u32::from(self.holds) + 2 * u32::from(self.is_late),
+        );
         for left in &self.rules {
-            key = mixed(key, mixed(left.rule, left.met));
+            key = mixed(key, mixed(left.rule, left.met ^ left.low << 8));
         }
         key
     }
@@ -48,6 +54,7 @@ impl Left {
             part: 0,
             rules: Vec::new(alloc),
             holds: false,
+            is_late: false,
         }
     }
 
@@ -59,6 +66,7 @@ impl Left {
             part: 0,
             rules,
             holds: true,
+            is_late: false,
         })
     }
 
@@ -75,13 +83,19 @@ impl Left {
 
 impl AskedCall {
     /// All rules of a part are left.
-    pub(crate) fn whole(&self, alloc: Global, part: usize) -> Result<Left, AllocError> {
+    pub(crate) fn whole(
+        &self,
+        alloc: Global,
+        part: usize,
+        is_late: bool,
+    ) -> Result<Left, AllocError> {
         let mut rules = Vec::new(alloc);
         if let Some(own) = self.parts.get(part) {
             for rule in own {
                 rules.push(LeftRule {
                     rule: *rule,
                     met: 0,
+                    low: 0,
                 })?;
             }
         }
@@ -89,6 +103,7 @@ impl AskedCall {
             part,
             rules,
             holds: false,
+            is_late,
         })
     }
 }

@@ -3,8 +3,8 @@
 //! Argument j stands in the words 4 + 2 j and 5 + 2 j of a record, the low half first.
 ghost use Rattle.std.specs.Prelude.{◌<◌};
 
-use crate::words::Words;
-use cert_state::{Facts, Lit, State};
+use crate::words::{Words, listed};
+use cert_state::{Lit, range};
 use profile::{Cond, Op};
 
 /// Two literals of a word, of which one holds of each record.
@@ -36,122 +36,240 @@ pub(crate) fn bits_of(cond: &Cond, is_high: bool) -> (u32, u32) {
     (low_mask, low)
 }
 
-// Whether the argument has the bits of which the condition asks, if that is known.
-fn by_bits<S: State>(facts: &Facts<'_, S>, cond: &Cond) -> Option<bool> {
-    let low = low_word(cond);
-    let high = low + 1;
-    let (high_mask, high_datum) = bits_of(cond, true);
-    let (low_mask, low_datum) = bits_of(cond, false);
-    if facts.entails(&Lit::NotBits(high, high_mask, high_datum)) {
+// Whether bits of a word are a datum, if that is known.
+fn answer_to_bits(known: &Words, word: u8, mask: u32, datum: u32) -> Option<bool> {
+    if known.entail(Lit::NotBits(word, mask, datum)) {
         return Some(false);
     }
-    if facts.entails(&Lit::NotBits(low, low_mask, low_datum)) {
-        return Some(false);
-    }
-    if !facts.entails(&Lit::Bits(high, high_mask, high_datum)) {
-        return None;
-    }
-    if facts.entails(&Lit::Bits(low, low_mask, low_datum)) {
+    if mask == 0 || known.entail(Lit::Bits(word, mask, datum)) {
         return Some(true);
     }
-    None
-}
-
-// Whether the condition holds at both ends of what its argument may be, or at none of them.
-fn by_order<S: State>(facts: &Facts<'_, S>, cond: &Cond) -> Option<bool> {
-    let low = low_word(cond);
-    let (least, greatest) = facts.range(low)?;
-    let (least_above, greatest_above) = facts.range(low + 1)?;
-    let at_low = cond.holds(u64::from(least_above) << 32 | u64::from(least));
-    let at_high = cond.holds(u64::from(greatest_above) << 32 | u64::from(greatest));
-    if at_low == at_high {
-        return Some(at_low);
+    for literal in &known.masked {
+        if let Lit::Bits(of, under, another) = *literal
+            && of == word
+            && under == mask
+            && another != datum
+        {
+            return Some(false);
+        }
     }
     None
 }
 
-/// Whether a condition holds, if that is known.
-pub(crate) fn answer<S: State>(facts: &Facts<'_, S>, cond: &Cond) -> Option<bool> {
+/// What is known of a condition.
+#[derive(Clone, Copy, PartialEq, Eq)]
+pub(crate) enum Answer {
+    Yes,
+    No,
+    /// The high half is the one that is asked for, so the low half decides.
+    Low,
+    Open,
+}
+
+impl Answer {
+    fn of(holds: bool) -> Answer {
+        if holds { Answer::Yes } else { Answer::No }
+    }
+
+    // What a comparison says of a condition that holds where this has the wanted outcome.
+    fn wanted(self, outcome: bool) -> Answer {
+        match (self, outcome) {
+            (Answer::Yes, false) => Answer::No,
+            (Answer::No, false) => Answer::Yes,
+            _ => self,
+        }
+    }
+}
+
+/// Whether the argument has the bits of which the condition asks.
+pub(crate) fn by_bits(known: &Words, cond: &Cond) -> Answer {
+    let low = low_word(cond);
+    let (mask, datum) = bits_of(cond, false);
+    let low_half = answer_to_bits(known, low, mask, datum);
+    let (mask, datum) = bits_of(cond, true);
+    let high_half = answer_to_bits(known, low + 1, mask, datum);
+    match (high_half, low_half) {
+        (Some(false), _) | (_, Some(false)) => Answer::No,
+        (Some(true), Some(true)) => Answer::Yes,
+        _ => Answer::Open,
+    }
+}
+
+// The least number that is not below an order's: an argument is at least this one, or is not, as the condition wants. There is none
+// for what is greater than the greatest.
+fn least_of(cond: &Cond) -> Option<u64> {
     match cond.op {
-        Op::Eq | Op::MaskedEq => by_bits(facts, cond),
-        Op::Ne => by_bits(facts, cond).map(|is| !is),
-        Op::Lt | Op::Le | Op::Ge | Op::Gt => by_order(facts, cond),
+        Op::Gt | Op::Le => cond.value.checked_add(1),
+        _ => Some(cond.value),
+    }
+}
+
+// Whether the condition holds where its comparison does: being the number, or at least the number.
+fn outcome_of(cond: &Cond) -> bool {
+    matches!(cond.op, Op::Eq | Op::Ge | Op::Gt | Op::MaskedEq)
+}
+
+fn is_equality(cond: &Cond) -> bool {
+    matches!(cond.op, Op::Eq | Op::Ne | Op::MaskedEq)
+}
+
+// Whether a word is at least a number, if that is known.
+fn is_at_least(known: &Words, word: u8, number: u32) -> Option<bool> {
+    let (low, high) = range(&listed(&known.whole), word)?;
+    if low >= number {
+        return Some(true);
+    }
+    if high < number {
+        return Some(false);
+    }
+    None
+}
+
+// By the high half, whether the argument is at least a number.
+fn by_high_order(known: &Words, word: u8, number: u64) -> Answer {
+    let (high, low) = halves(number);
+    if low == 0 {
+        return match is_at_least(known, word, high) {
+            Some(is) => Answer::of(is),
+            None => Answer::Open,
+        };
+    }
+    match range(&listed(&known.whole), word) {
+        Some((least, _)) if least > high => Answer::Yes,
+        Some((_, greatest)) if greatest < high => Answer::No,
+        Some((least, greatest)) if least == greatest => Answer::Low,
+        _ => Answer::Open,
+    }
+}
+
+/// By the high half of its argument, whether a condition holds that asks for no bits under a mask.
+pub(crate) fn by_high(known: &Words, cond: &Cond) -> Answer {
+    let word = low_word(cond) + 1;
+    let outcome = outcome_of(cond);
+    if is_equality(cond) {
+        return match answer_to_bits(known, word, u32::MAX, halves(cond.value).0) {
+            Some(true) => Answer::Low,
+            Some(false) => Answer::No.wanted(outcome),
+            None => Answer::Open,
+        };
+    }
+    match least_of(cond) {
+        Some(number) => by_high_order(known, word, number).wanted(outcome),
+        None => Answer::No.wanted(outcome),
+    }
+}
+
+/// The same by the low half, where the high one is the one that is asked for.
+pub(crate) fn by_low(known: &Words, cond: &Cond) -> Answer {
+    let word = low_word(cond);
+    let number = halves(least_of(cond).unwrap_or(cond.value)).1;
+    let is = if is_equality(cond) {
+        answer_to_bits(known, word, u32::MAX, number)
+    } else {
+        is_at_least(known, word, number)
+    };
+    match is {
+        Some(is) => Answer::of(is).wanted(outcome_of(cond)),
+        None => Answer::Open,
+    }
+}
+
+/// Whether a condition is known not to hold, by all that is known.
+pub(crate) fn is_refuted(known: &Words, cond: &Cond) -> bool {
+    if cond.op == Op::MaskedEq {
+        return by_bits(known, cond) == Answer::No;
+    }
+    match by_high(known, cond) {
+        Answer::Low => by_low(known, cond) == Answer::No,
+        answer => answer == Answer::No,
     }
 }
 
 // A cut, if none of the two literals is known already.
-fn if_open<S: State>(facts: &Facts<'_, S>, cut: Cut) -> Option<Cut> {
-    if facts.entails(&cut.0) || facts.entails(&cut.1) {
+fn if_open(known: &Words, cut: Cut) -> Option<Cut> {
+    if known.entail(cut.0) || known.entail(cut.1) {
         return None;
     }
     Some(cut)
 }
 
 /// A word is cut in front of a number.
-pub(crate) fn below<S: State>(facts: &Facts<'_, S>, word: u8, number: u32) -> Option<Cut> {
+pub(crate) fn below(known: &Words, word: u8, number: u32) -> Option<Cut> {
     let last = number.checked_sub(1)?;
     let cut = (Lit::In(word, 0, last), Lit::In(word, number, u32::MAX));
-    if_open(facts, cut)
+    if_open(known, cut)
 }
 
 /// A word is cut in front of a number, or else behind it.
-pub(crate) fn beside<S: State>(facts: &Facts<'_, S>, word: u8, number: u32) -> Option<Cut> {
-    match below(facts, word, number) {
+pub(crate) fn beside(known: &Words, word: u8, number: u32) -> Option<Cut> {
+    match below(known, word, number) {
         Some(cut) => Some(cut),
-        None => below(facts, word, number.checked_add(1)?),
+        None => below(known, word, number.checked_add(1)?),
     }
 }
 
-/// A word has these bits, or has them not. No word has a bit outside the mask.
-pub(crate) fn told_apart<S: State>(
-    facts: &Facts<'_, S>,
-    word: u8,
-    mask: u32,
-    datum: u32,
-) -> Option<Cut> {
-    if datum & mask != datum {
+/// A word has these bits, or has them not.
+pub(crate) fn told_apart(known: &Words, word: u8, mask: u32, datum: u32) -> Option<Cut> {
+    if answer_to_bits(known, word, mask, datum).is_some() {
         return None;
     }
     let cut = (
         Lit::Bits(word, mask, datum),
         Lit::NotBits(word, mask, datum),
     );
-    if_open(facts, cut)
+    if_open(known, cut)
 }
 
-// Where a half of the argument is cut.
-fn cut_of_half<S: State>(facts: &Facts<'_, S>, cond: &Cond, is_high: bool) -> Option<Cut> {
+// Where bits of a half are told apart for a condition. No word has a bit outside the mask.
+fn cut_of_bits(known: &Words, cond: &Cond, is_high: bool) -> Option<Cut> {
     let low = low_word(cond);
     let word = if is_high { low + 1 } else { low };
     let (mask, datum) = bits_of(cond, is_high);
-    match cond.op {
-        Op::Eq | Op::Ne | Op::MaskedEq => told_apart(facts, word, mask, datum),
-        Op::Lt | Op::Le | Op::Ge | Op::Gt => beside(facts, word, datum),
+    if datum & mask == datum {
+        return told_apart(known, word, mask, datum);
     }
+    None
 }
 
-/// Where the argument of a condition is cut, the high half first.
-pub(crate) fn cut_of<S: State>(facts: &Facts<'_, S>, cond: &Cond) -> Option<Cut> {
-    match cut_of_half(facts, cond, true) {
+// Where a half is cut of which a condition asks that asks for no bits under a mask.
+fn cut_of_half(known: &Words, cond: &Cond, is_high: bool) -> Option<Cut> {
+    if is_equality(cond) {
+        return cut_of_bits(known, cond, is_high);
+    }
+    let (high, low) = halves(least_of(cond)?);
+    if is_high {
+        return beside(known, low_word(cond) + 1, high);
+    }
+    below(known, low_word(cond), low)
+}
+
+/// Where the argument of a condition is cut that is not settled: at the half that decides.
+pub(crate) fn cut_of(known: &Words, cond: &Cond, is_low: bool) -> Option<Cut> {
+    if cond.op != Op::MaskedEq {
+        return cut_of_half(known, cond, !is_low);
+    }
+    match cut_of_bits(known, cond, true) {
         Some(cut) => Some(cut),
-        None => cut_of_half(facts, cond, false),
+        None => cut_of_bits(known, cond, false),
     }
 }
 
-/// The same, of halves of which something is known.
-pub(crate) fn cut_where_known<S: State>(
-    facts: &Facts<'_, S>,
-    known: &Words,
-    cond: &Cond,
-) -> Option<Cut> {
+/// The same, where something is known of the half.
+pub(crate) fn cut_where_known(known: &Words, cond: &Cond, is_low: bool) -> Option<Cut> {
     let low = low_word(cond);
-    if known.have(low + 1)
-        && let Some(cut) = cut_of_half(facts, cond, true)
-    {
+    let has_high = known.have(low + 1, bits_of(cond, true).0);
+    let has_low = known.have(low, bits_of(cond, false).0);
+    if cond.op != Op::MaskedEq {
+        if is_low && has_low || !is_low && has_high {
+            return cut_of_half(known, cond, !is_low);
+        }
+        return None;
+    }
+    if has_high && let Some(cut) = cut_of_bits(known, cond, true) {
         return Some(cut);
     }
-    if known.have(low) {
-        return cut_of_half(facts, cond, false);
+    if has_low {
+        return cut_of_bits(known, cond, false);
     }
     None
 }

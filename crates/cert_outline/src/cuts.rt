@@ -3,32 +3,25 @@
 use crate::asked::Left;
 use crate::conditions::{Cut, cut_of, cut_where_known};
 use crate::fault::OutlineError;
-use crate::learning::joined;
 use crate::maker::Maker;
 use crate::spot::{Spot, Which};
-use crate::words::{Words, listed};
-use cert_state::{Facts, Listed};
+use crate::words::Words;
 
 // Where the words of a record begin that hold arguments, in bytes.
 const ARGUMENTS: u32 = 16;
 
 impl<'a> Maker<'a> {
     // Where a condition of a rule that is left is not settled: that of which something is known, or any.
-    fn cut_of_rules(
-        &self,
-        facts: &Facts<'_, Listed<'_>>,
-        known: &Words,
-        left: &Left,
-        is_any: bool,
-    ) -> Option<Cut> {
+    fn cut_of_rules(&self, known: &Words, left: &Left, is_any: bool) -> Option<Cut> {
         for own in &left.rules {
             let rule = self.rule(own.rule)?;
             for (place, cond) in rule.conds.iter().enumerate() {
                 if own.met >> (place % 32) & 1 == 0 {
+                    let is_low = own.low >> (place % 32) & 1 == 1;
                     let cut = if is_any {
-                        cut_of(facts, cond)
+                        cut_of(known, cond, is_low)
                     } else {
-                        cut_where_known(facts, known, cond)
+                        cut_where_known(known, cond, is_low)
                     };
                     if cut.is_some() {
                         return cut;
@@ -48,8 +41,7 @@ impl<'a> Maker<'a> {
         if left.holds {
             return Ok(None);
         }
-        let facts = listed(&known.lits);
-        Ok(self.cut_of_rules(&Facts::of(&facts), known, left, is_any))
+        Ok(self.cut_of_rules(known, left, is_any))
     }
 
     // Where several calls are cut: at a return with a verdict, or at the load of an argument.
@@ -60,12 +52,9 @@ impl<'a> Maker<'a> {
         ) else {
             return Err(OutlineError::Unlike);
         };
-        let lits = joined(self.alloc, &numbers.lits, &arguments.lits)?;
-        let state = listed(&lits);
-        let facts = Facts::of(&state);
         Ok(match verdict {
-            Some(verdict) => self.cut_of_several(numbers, &facts, verdict)?,
-            None => self.cut_of_asked(numbers, &facts)?,
+            Some(verdict) => self.cut_of_several(numbers, arguments, verdict)?,
+            None => self.cut_of_asked(numbers)?,
         })
     }
 

@@ -1,14 +1,14 @@
 //! What is known behind a comparison, and what of it is forgotten.
 
 use crate::asked::{Left, LeftRule};
-use crate::conditions::{answer, bits_of, low_word};
+use crate::conditions::{Answer, bits_of, by_bits, by_high, by_low, low_word};
 use crate::fault::OutlineError;
 use crate::maker::Maker;
 use crate::numbers::NUMBER;
 use crate::spot::{Spot, Which};
 use crate::words::{Words, listed};
-use cert_state::{Facts, Listed, Lit, State, entails};
-use profile::{Cond, Rule};
+use cert_state::{Lit, dead};
+use profile::{Cond, Op, Rule};
 use std::alloc::{AllocError, Global};
 
 // The bit of a condition, by its place among those of its rule.
@@ -21,46 +21,85 @@ fn all_bits(rule: &Rule) -> u32 {
     bit_of(rule.conds.len()).saturating_sub(1)
 }
 
-// Whether a condition may have another answer now that something was learned of a word, or of the number.
-fn is_concerned(cond: &Cond, word: u8) -> bool {
+// What is known of a condition now that something was learned of a word: by the half that decides, if it is of this one.
+fn answer_of(known: &Words, cond: &Cond, is_low: bool, word: u8) -> Answer {
     let low = low_word(cond);
-    word <= NUMBER || word == low || word == low + 1
+    if cond.op == Op::MaskedEq {
+        if word == low || word == low + 1 {
+            return by_bits(known, cond);
+        }
+        return Answer::Open;
+    }
+    if is_low && word == low {
+        return by_low(known, cond);
+    }
+    if !is_low && word == low + 1 {
+        return by_high(known, cond);
+    }
+    Answer::Open
 }
 
-// The conditions of a rule that are met, by bits, or none where one of them is not.
-fn still_met<S: State>(facts: &Facts<'_, S>, rule: &Rule, met: u32, word: u8) -> Option<u32> {
-    let mut met = met;
+// What is left of a rule, if it may still hold, where a condition at a place has an answer.
+fn answered(left: LeftRule, place: usize, answer: Answer) -> Option<LeftRule> {
+    let LeftRule { rule, met, low } = left;
+    match answer {
+        Answer::Yes => Some(LeftRule {
+            rule,
+            met: met | bit_of(place),
+            low: low & (u32::MAX ^ bit_of(place)),
+        }),
+        Answer::Low => Some(LeftRule {
+            rule,
+            met,
+            low: low | bit_of(place),
+        }),
+        Answer::Open => Some(left),
+        Answer::No => None,
+    }
+}
+
+// What is left of a rule, if it may still hold, now that something was learned of a word.
+fn still_left(known: &Words, rule: &Rule, left: LeftRule, word: u8) -> Option<LeftRule> {
+    let mut left = left;
     for (place, cond) in rule.conds.iter().enumerate() {
-        if met & bit_of(place) == 0 && is_concerned(cond, word) {
-            match answer(facts, cond) {
-                Some(true) => met |= bit_of(place),
-                Some(false) => return None,
-                None => {}
-            }
+        if left.met & bit_of(place) == 0 {
+            let is_low = left.low & bit_of(place) != 0;
+            left = answered(left, place, answer_of(known, cond, is_low, word))?;
         }
     }
-    Some(met)
+    Some(left)
 }
 
-// Whether a condition asks for bits of a word as a literal tells them not to be.
-fn asks_for(cond: &Cond, word: u8, mask: u32, datum: u32) -> bool {
-    let low = low_word(cond);
-    if word == low {
-        return bits_of(cond, false) == (mask, datum);
+// The same, where all that is known was learned before.
+fn left_by_all(known: &Words, rule: &Rule, left: LeftRule) -> Option<LeftRule> {
+    let mut left = left;
+    for cond in rule.conds.iter() {
+        left = still_left(known, rule, left, low_word(cond) + 1)?;
+        left = still_left(known, rule, left, low_word(cond))?;
     }
-    word == low + 1 && bits_of(cond, true) == (mask, datum)
+    Some(left)
 }
 
-// Whether a condition that is not settled makes a literal worth knowing: it asks for the word, and of bits that are told not to be
-// some datum for just this.
-fn needs(cond: &Cond, literal: Lit) -> bool {
-    let word = literal.word();
+// Whether a condition asks for bits of a word under a mask, and for just a datum of them, if one is given. The low half is asked for
+// where it decides.
+fn asks_for(cond: &Cond, is_low: bool, word: u8, mask: u32, datum: Option<u32>) -> bool {
     let low = low_word(cond);
+    let is_asked = word == low + 1 || word == low && (is_low || cond.op == Op::MaskedEq);
+    let (under, asked) = bits_of(cond, word != low);
+    is_asked && under == mask && (datum.is_none() || datum == Some(asked))
+}
+
+// Whether a condition that is not settled makes a literal worth knowing: it asks for the word, or for the bits; and where these are
+// told not to be some datum, for just this.
+fn needs(cond: &Cond, is_low: bool, literal: Lit) -> bool {
     match literal {
-        Lit::In(_, _, _) | Lit::Bits(_, _, _) | Lit::NotBits(_, u32::MAX, _) => {
-            word == low || word == low + 1
+        Lit::NotBits(word, mask, datum) if mask != u32::MAX => {
+            asks_for(cond, is_low, word, mask, Some(datum))
         }
-        Lit::NotBits(_, mask, datum) => asks_for(cond, word, mask, datum),
+        Lit::In(word, _, _) => asks_for(cond, is_low, word, u32::MAX, None),
+        Lit::Bits(word, mask, _) | Lit::NotBits(word, mask, _) => {
+            asks_for(cond, is_low, word, mask, None)
+        }
     }
 }
 
@@ -71,25 +110,21 @@ impl<'a> Maker<'a> {
     }
 
     // The rules of a list that may still hold, now that something was learned of a word.
-    fn rules_left(
-        &self,
-        facts: &Facts<'_, Listed<'_>>,
-        left: &Left,
-        word: u8,
-    ) -> Result<Left, AllocError> {
+    fn rules_left(&self, known: &Words, left: &Left, word: u8) -> Result<Left, AllocError> {
         let mut rules = Vec::new(self.alloc);
         for own in &left.rules {
             let Some(rule) = self.rule(own.rule) else {
                 continue;
             };
-            let Some(met) = still_met(facts, rule, own.met, word) else {
+            let own = if word == NUMBER {
+                left_by_all(known, rule, *own)
+            } else {
+                still_left(known, rule, *own, word)
+            };
+            let Some(own) = own else {
                 continue;
             };
-            let own = LeftRule {
-                rule: own.rule,
-                met,
-            };
-            if met == all_bits(rule) {
+            if own.met == all_bits(rule) {
                 return Left::holding(self.alloc, own);
             }
             rules.push(own)?;
@@ -98,6 +133,7 @@ impl<'a> Maker<'a> {
             part: left.part,
             rules,
             holds: false,
+            is_late: left.is_late,
         })
     }
 
@@ -106,7 +142,8 @@ impl<'a> Maker<'a> {
         for own in &left.rules {
             if let Some(rule) = self.rule(own.rule) {
                 for (place, cond) in rule.conds.iter().enumerate() {
-                    if own.met & bit_of(place) == 0 && needs(cond, literal) {
+                    let is_low = own.low & bit_of(place) != 0;
+                    if own.met & bit_of(place) == 0 && needs(cond, is_low, literal) {
                         return true;
                     }
                 }
@@ -115,15 +152,23 @@ impl<'a> Maker<'a> {
         false
     }
 
-    // What is known, without what no rule that is left needs.
-    fn needed(&self, known: &Words, left: &Left) -> Result<Words, AllocError> {
-        let mut lits = Vec::new(self.alloc);
-        for literal in &known.lits {
+    // The literals of a list that some rule that is left needs.
+    fn needed_of(&self, lits: &[Lit], left: &Left) -> Result<Vec<Lit>, AllocError> {
+        let mut needed = Vec::new(self.alloc);
+        for literal in lits {
             if self.is_needed(left, *literal) {
-                lits.push(*literal)?;
+                needed.push(*literal)?;
             }
         }
-        Ok(Words { lits })
+        Ok(needed)
+    }
+
+    // What is known, without what no rule that is left needs.
+    fn needed(&self, known: &Words, left: &Left) -> Result<Words, AllocError> {
+        Ok(Words {
+            whole: self.needed_of(&known.whole, left)?,
+            masked: self.needed_of(&known.masked, left)?,
+        })
     }
 
     // What is left of the rules of a call, and what is known of its arguments as far as they need it. Where none is left of a
@@ -135,22 +180,36 @@ impl<'a> Maker<'a> {
         known: &Words,
         word: u8,
     ) -> Result<(Left, Words), AllocError> {
-        let rules = self.rules_left(&Facts::of(&listed(&known.lits)), left, word)?;
-        if rules.holds {
-            return Ok((rules, Words::none(self.alloc)));
+        let mut left = self.rules_left(known, left, word)?;
+        for _ in left.part..self.parts(call) {
+            if !left.rules.is_empty() {
+                break;
+            }
+            left = self.whole(call, left.part.saturating_add(1), left.is_late)?;
+            if !left.is_late {
+                return Ok((left, Words::none(self.alloc)));
+            }
+            left = self.rules_left(known, &left, NUMBER)?;
         }
-        if rules.rules.is_empty() {
-            let next = left.part.saturating_add(1);
-            return Ok((self.whole(call, next)?, Words::none(self.alloc)));
+        if left.holds {
+            return Ok((left, Words::none(self.alloc)));
         }
-        let needed = self.needed(known, &rules)?;
-        Ok((rules, needed))
+        let needed = self.needed(known, &left)?;
+        Ok((left, needed))
+    }
+
+    // In how many parts the rules of a call are asked.
+    fn parts(&self, call: usize) -> usize {
+        match self.calls.get(call) {
+            Some(call) => call.parts.len(),
+            None => 0,
+        }
     }
 
     // All rules of a part of a call.
-    fn whole(&self, call: usize, part: usize) -> Result<Left, AllocError> {
+    fn whole(&self, call: usize, part: usize, is_late: bool) -> Result<Left, AllocError> {
         match self.calls.get(call) {
-            Some(call) => call.whole(self.alloc, part),
+            Some(call) => call.whole(self.alloc, part, is_late),
             None => Ok(Left::nothing(self.alloc)),
         }
     }
@@ -178,11 +237,19 @@ impl<'a> Maker<'a> {
         let Some(words) = self.words.get(known) else {
             return Err(OutlineError::Unlike);
         };
-        if entails(&listed(&words.lits), &literal) {
+        if words.entail(literal) {
             return Ok(known);
         }
         let words = words.with(self.alloc, literal)?;
         Ok(self.words.place(words)?)
+    }
+
+    // Whether anything is known at a place of the table.
+    fn is_known(&self, place: usize) -> bool {
+        match self.words.get(place) {
+            Some(words) => !words.whole.is_empty() || !words.masked.is_empty(),
+            None => false,
+        }
     }
 
     // Learns something of the machine or the number. Where this is the first to tell which call it is, all its rules are left.
@@ -193,11 +260,22 @@ impl<'a> Maker<'a> {
         }
         spot.which = self.which(spot.numbers);
         if let Which::Asked(call) = spot.which {
-            let whole = self.whole(call, 0)?;
+            let is_late = self.is_known(spot.arguments);
+            let whole = self.whole(call, 0, is_late)?;
             spot.left = self.left.place(whole)?;
             self.settle(spot, NUMBER)?;
         }
         Ok(())
+    }
+
+    // Whether what is known at a place of the table contradicts itself.
+    fn is_dead(&self, place: usize) -> Result<bool, OutlineError> {
+        let Some(words) = self.words.get(place) else {
+            return Err(OutlineError::Unlike);
+        };
+        let mut lits = Vec::from_slice(self.alloc, &words.whole)?;
+        lits.extend_from_slice(&words.masked)?;
+        Ok(dead(&listed(&lits)))
     }
 
     /// Learns a literal.
@@ -211,13 +289,9 @@ impl<'a> Maker<'a> {
             return Ok(());
         }
         spot.arguments = known;
+        if self.is_dead(known)? {
+            return Ok(());
+        }
         self.settle(spot, word)
     }
-}
-
-/// The literals of two lists.
-pub(crate) fn joined(alloc: Global, one: &[Lit], other: &[Lit]) -> Result<Vec<Lit>, AllocError> {
-    let mut lits = Vec::from_slice(alloc, one)?;
-    lits.extend_from_slice(other)?;
-    Ok(lits)
 }

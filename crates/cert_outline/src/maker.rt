@@ -3,7 +3,6 @@
 use crate::asked::{AskedCall, Left, asked_calls};
 use crate::conditions::Cut;
 use crate::fault::OutlineError;
-use crate::learning::joined;
 use crate::listing::{NOBODY, listed_nodes};
 use crate::spot::{Spot, Which};
 use crate::table::Table;
@@ -211,7 +210,11 @@ impl<'a> Maker<'a> {
         ) else {
             return Err(OutlineError::Unlike);
         };
-        Ok(joined(self.alloc, &numbers.lits, &arguments.lits)?)
+        let mut lits = Vec::from_slice(self.alloc, &numbers.whole)?;
+        lits.extend_from_slice(&numbers.masked)?;
+        lits.extend_from_slice(&arguments.whole)?;
+        lits.extend_from_slice(&arguments.masked)?;
+        Ok(lits)
     }
 
     // What the node of a spot does.

@@ -1,11 +1,11 @@
 //! What is known of the machine and the number of a call.
 
-use crate::conditions::{Cut, answer, below, beside, told_apart};
+use crate::conditions::{Cut, below, beside, is_refuted, told_apart};
 use crate::maker::Maker;
 use crate::spot::Which;
 use crate::words::{Words, listed};
 use call_tables::Arch;
-use cert_state::{Facts, Listed, Lit, range};
+use cert_state::{Lit, range};
 use profile::Rule;
 use std::alloc::AllocError;
 
@@ -16,7 +16,7 @@ pub(crate) const TOKEN: u8 = 1;
 
 // The only number that a word may be.
 fn only(known: &Words, word: u8) -> Option<u32> {
-    let (low, high) = range(&listed(&known.lits), word)?;
+    let (low, high) = range(&listed(&known.whole), word)?;
     if low == high {
         return Some(low);
     }
@@ -52,19 +52,19 @@ impl<'a> Maker<'a> {
     }
 
     // Where listed machines are told apart.
-    fn cut_of_machines(&self, facts: &Facts<'_, Listed<'_>>) -> Option<Cut> {
+    fn cut_of_machines(&self, known: &Words) -> Option<Cut> {
         for machine in self.profile.machines() {
-            if let Some(cut) = told_apart(facts, TOKEN, u32::MAX, machine.token()) {
+            if let Some(cut) = told_apart(known, TOKEN, u32::MAX, machine.token()) {
                 return Some(cut);
             }
         }
         None
     }
 
-    // Whether a rule may hold of a call whose number is not known, by its conditions.
-    fn may_hold(&self, facts: &Facts<'_, Listed<'_>>, rule: &Rule) -> bool {
+    // Whether a rule may hold of a call whose number is not known, by what is known of arguments.
+    fn may_hold(&self, arguments: &Words, rule: &Rule) -> bool {
         for cond in rule.conds.iter() {
-            if answer(facts, cond) == Some(false) {
+            if is_refuted(arguments, cond) {
                 return false;
             }
         }
@@ -74,7 +74,8 @@ impl<'a> Maker<'a> {
     // Whether the number of a rule has to be told apart where a return gives a verdict.
     fn is_told(
         &self,
-        facts: &Facts<'_, Listed<'_>>,
+        known: &Words,
+        arguments: &Words,
         rule: &Rule,
         token: u32,
         verdict: u32,
@@ -85,19 +86,20 @@ impl<'a> Maker<'a> {
         if verdict == self.profile.default_word().0 && rule.word.0 == verdict {
             return false;
         }
-        !facts.entails(&Lit::NotBits(NUMBER, u32::MAX, rule.nr)) && self.may_hold(facts, rule)
+        !known.entail(Lit::NotBits(NUMBER, u32::MAX, rule.nr)) && self.may_hold(arguments, rule)
     }
 
     // The numbers of rules that have to be told apart where a return gives a verdict, in order.
     fn numbers_to_tell(
         &self,
-        facts: &Facts<'_, Listed<'_>>,
+        known: &Words,
+        arguments: &Words,
         token: u32,
         verdict: u32,
     ) -> Result<Vec<u32>, AllocError> {
         let mut numbers = Vec::new(self.alloc);
         for rule in self.profile.rules() {
-            if self.is_told(facts, rule, token, verdict) {
+            if self.is_told(known, arguments, rule, token, verdict) {
                 numbers.push(rule.nr)?;
             }
         }
@@ -107,16 +109,16 @@ impl<'a> Maker<'a> {
     }
 
     // Where foreign numbers are cut from a machine's own.
-    fn cut_of_foreign(&self, facts: &Facts<'_, Listed<'_>>, machine: Arch) -> Option<Cut> {
+    fn cut_of_foreign(&self, known: &Words, machine: Arch) -> Option<Cut> {
         for foreign in machine.other_numbers() {
-            if facts.entails(&Lit::In(NUMBER, foreign.first, foreign.last)) {
+            if known.entail(Lit::In(NUMBER, foreign.first, foreign.last)) {
                 return None;
             }
-            if let Some(cut) = below(facts, NUMBER, foreign.first) {
+            if let Some(cut) = below(known, NUMBER, foreign.first) {
                 return Some(cut);
             }
             if let Some(next) = foreign.last.checked_add(1)
-                && let Some(cut) = below(facts, NUMBER, next)
+                && let Some(cut) = below(known, NUMBER, next)
             {
                 return Some(cut);
             }
@@ -125,9 +127,9 @@ impl<'a> Maker<'a> {
     }
 
     // Whether all numbers that are known are foreign ones.
-    fn is_foreign(&self, facts: &Facts<'_, Listed<'_>>, machine: Arch) -> bool {
+    fn is_foreign(&self, known: &Words, machine: Arch) -> bool {
         for foreign in machine.other_numbers() {
-            if facts.entails(&Lit::In(NUMBER, foreign.first, foreign.last)) {
+            if known.entail(Lit::In(NUMBER, foreign.first, foreign.last)) {
                 return true;
             }
         }
@@ -138,50 +140,46 @@ impl<'a> Maker<'a> {
     pub(crate) fn cut_of_several(
         &self,
         known: &Words,
-        facts: &Facts<'_, Listed<'_>>,
+        arguments: &Words,
         verdict: u32,
     ) -> Result<Option<Cut>, AllocError> {
-        if let Some(cut) = self.cut_of_machines(facts) {
+        if let Some(cut) = self.cut_of_machines(known) {
             return Ok(Some(cut));
         }
         let Some(machine) = self.machine(known) else {
             return Ok(None);
         };
-        if self.is_foreign(facts, machine) {
+        if self.is_foreign(known, machine) {
             return Ok(None);
         }
-        let numbers = self.numbers_to_tell(facts, machine.token(), verdict)?;
+        let numbers = self.numbers_to_tell(known, arguments, machine.token(), verdict)?;
         if numbers.is_empty() && verdict == self.profile.default_word().0 && verdict == 0 {
             return Ok(None);
         }
-        if let Some(cut) = self.cut_of_foreign(facts, machine) {
+        if let Some(cut) = self.cut_of_foreign(known, machine) {
             return Ok(Some(cut));
         }
         match numbers.get(numbers.len() / 2) {
-            Some(number) => Ok(beside(facts, NUMBER, *number)),
+            Some(number) => Ok(beside(known, NUMBER, *number)),
             None => Ok(None),
         }
     }
 
     /// Where several calls are cut that come to the first load of an argument: at the number of one of which rules ask for it.
-    pub(crate) fn cut_of_asked(
-        &self,
-        known: &Words,
-        facts: &Facts<'_, Listed<'_>>,
-    ) -> Result<Option<Cut>, AllocError> {
+    pub(crate) fn cut_of_asked(&self, known: &Words) -> Result<Option<Cut>, AllocError> {
         let Some(token) = only(known, TOKEN) else {
             return Ok(None);
         };
         let mut numbers = Vec::new(self.alloc);
         for call in &self.calls {
-            let excluded = facts.entails(&Lit::NotBits(NUMBER, u32::MAX, call.number));
+            let excluded = known.entail(Lit::NotBits(NUMBER, u32::MAX, call.number));
             if call.token == token && !excluded {
                 numbers.push(call.number)?;
             }
         }
         numbers.sort()?;
         match numbers.get(numbers.len() / 2) {
-            Some(number) => Ok(beside(facts, NUMBER, *number)),
+            Some(number) => Ok(beside(known, NUMBER, *number)),
             None => Ok(None),
         }
     }

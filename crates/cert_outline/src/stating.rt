@@ -34,7 +34,10 @@ impl Claims {
     // Adds what is known of words.
     fn add_words(&mut self, words: Option<&Words>) {
         if let Some(words) = words {
-            for literal in &words.lits {
+            for literal in &words.whole {
+                self.add(Claim::Knows(*literal));
+            }
+            for literal in &words.masked {
                 self.add(Claim::Knows(*literal));
             }
         }

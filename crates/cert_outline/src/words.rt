@@ -1,7 +1,7 @@
 //! What is known of some words of a record, as literals.
 
 use crate::table::{Item, mixed};
-use cert_state::{AVal, Listed, Lit, Regs, range};
+use cert_state::{AVal, Listed, Lit, Regs, entails, range};
 use std::alloc::{AllocError, Global};
 
 const NO_REGS: Regs = Regs {
@@ -10,10 +10,12 @@ const NO_REGS: Regs = Regs {
     scratch: [AVal::Unknown; 16],
 };
 
-/// Literals, word by word.
+/// Literals of whole words, word by word, and of bits under masks. What is known of bits under one mask is not looked at for those
+/// under another, nor for the whole word: the compiler, too, asks for them apart.
 #[derive(PartialEq, Eq, Drop)]
 pub(crate) struct Words {
-    pub(crate) lits: Vec<Lit>,
+    pub(crate) whole: Vec<Lit>,
+    pub(crate) masked: Vec<Lit>,
 }
 
 /// Literals as a state, of which can be asked what follows.
@@ -25,17 +27,34 @@ pub(crate) fn listed(lits: &[Lit]) -> Listed<'_> {
     }
 }
 
-// Whether a literal of a word tells something where the word lies from one number to another.
-fn tells(literal: Lit, low: u32, high: u32) -> bool {
+// Whether a literal speaks of its whole word.
+fn is_whole(literal: Lit) -> bool {
     match literal {
-        Lit::In(_, _, _) => false,
-        Lit::NotBits(_, u32::MAX, number) => low < high && low <= number && number <= high,
-        Lit::NotBits(_, mask, datum) => low < high || low & mask == datum,
-        Lit::Bits(_, mask, datum) => low < high || low & mask != datum,
+        Lit::In(_, _, _) => true,
+        Lit::Bits(_, mask, _) | Lit::NotBits(_, mask, _) => mask == u32::MAX,
     }
 }
 
-// The literals of a word in short: where it lies, and what else they tell. Where they contradict each other they stay.
+// Whether two literals speak of the same bits.
+fn are_of_same_bits(one: Lit, other: Lit) -> bool {
+    match (one, other) {
+        (
+            Lit::Bits(word, mask, _) | Lit::NotBits(word, mask, _),
+            Lit::Bits(of, under, _) | Lit::NotBits(of, under, _),
+        ) => word == of && mask == under,
+        _ => false,
+    }
+}
+
+// Whether a literal tells something where its word lies from one number to another.
+fn tells(literal: Lit, low: u32, high: u32) -> bool {
+    match literal {
+        Lit::NotBits(_, _, number) => low < high && low <= number && number <= high,
+        Lit::In(_, _, _) | Lit::Bits(_, _, _) => false,
+    }
+}
+
+// The literals of a whole word in short: where it lies, and what is excluded. Where they contradict each other they stay.
 fn in_short(alloc: Global, own: &[Lit], word: u8) -> Result<Vec<Lit>, AllocError> {
     let Some((low, high)) = range(&listed(own), word) else {
         return Vec::from_slice(alloc, own);
@@ -54,47 +73,101 @@ fn in_short(alloc: Global, own: &[Lit], word: u8) -> Result<Vec<Lit>, AllocError
     Ok(kept)
 }
 
+// Adds the literals of a list that are of the words from one to another, which is none of them.
+fn add_words(lits: &mut Vec<Lit>, of: &[Lit], from: u8, to: u8) -> Result<(), AllocError> {
+    for literal in of {
+        if from <= literal.word() && literal.word() < to {
+            lits.push(*literal)?;
+        }
+    }
+    Ok(())
+}
+
 impl Words {
     /// Nothing is known.
     pub(crate) fn none(alloc: Global) -> Words {
         Words {
-            lits: Vec::new(alloc),
+            whole: Vec::new(alloc),
+            masked: Vec::new(alloc),
         }
     }
 
-    // Adds the literals of the words from one to another, which is none of them.
-    fn add_to(&self, lits: &mut Vec<Lit>, from: u8, to: u8) -> Result<(), AllocError> {
-        for literal in &self.lits {
-            if from <= literal.word() && literal.word() < to {
-                lits.push(*literal)?;
-            }
+    /// Whether a literal is known, by those of the same bits.
+    pub(crate) fn entail(&self, literal: Lit) -> bool {
+        if is_whole(literal) {
+            return entails(&listed(&self.whole), &literal);
         }
-        Ok(())
-    }
-
-    /// The same, with a literal more.
-    pub(crate) fn with(&self, alloc: Global, literal: Lit) -> Result<Words, AllocError> {
-        let word = literal.word();
-        let next = word.saturating_add(1);
-        let mut own = Vec::new(alloc);
-        self.add_to(&mut own, word, next)?;
-        own.push(literal)?;
-        let mut lits = Vec::new(alloc);
-        self.add_to(&mut lits, 0, word)?;
-        let kept = in_short(alloc, &own, word)?;
-        lits.extend_from_slice(&kept)?;
-        self.add_to(&mut lits, next, u8::MAX)?;
-        Ok(Words { lits })
-    }
-
-    /// Whether something is known of a word.
-    pub(crate) fn have(&self, word: u8) -> bool {
-        for literal in &self.lits {
-            if literal.word() == word {
+        for other in &self.masked {
+            if are_of_same_bits(*other, literal) && follows(*other, literal) {
                 return true;
             }
         }
         false
+    }
+
+    // The literals of whole words, with one more.
+    fn whole_with(&self, alloc: Global, literal: Lit) -> Result<Vec<Lit>, AllocError> {
+        let word = literal.word();
+        let next = word.saturating_add(1);
+        let mut own = Vec::new(alloc);
+        add_words(&mut own, &self.whole, word, next)?;
+        own.push(literal)?;
+        let kept = in_short(alloc, &own, word)?;
+        let mut lits = Vec::new(alloc);
+        add_words(&mut lits, &self.whole, 0, word)?;
+        lits.extend_from_slice(&kept)?;
+        add_words(&mut lits, &self.whole, next, u8::MAX)?;
+        Ok(lits)
+    }
+
+    // The literals of bits under masks, with one more. What bits are says more than what they are not.
+    fn masked_with(&self, alloc: Global, literal: Lit) -> Result<Vec<Lit>, AllocError> {
+        let mut lits = Vec::new(alloc);
+        for other in &self.masked {
+            if !are_of_same_bits(*other, literal) || !follows(literal, *other) {
+                lits.push(*other)?;
+            }
+        }
+        lits.push(literal)?;
+        Ok(lits)
+    }
+
+    /// The same, with a literal more.
+    pub(crate) fn with(&self, alloc: Global, literal: Lit) -> Result<Words, AllocError> {
+        if is_whole(literal) {
+            return Ok(Words {
+                whole: self.whole_with(alloc, literal)?,
+                masked: Vec::from_slice(alloc, &self.masked)?,
+            });
+        }
+        Ok(Words {
+            whole: Vec::from_slice(alloc, &self.whole)?,
+            masked: self.masked_with(alloc, literal)?,
+        })
+    }
+
+    /// Whether something is known of the bits of a word under a mask.
+    pub(crate) fn have(&self, word: u8, mask: u32) -> bool {
+        let wanted = Lit::Bits(word, mask, 0);
+        for literal in &self.masked {
+            if are_of_same_bits(*literal, wanted) {
+                return true;
+            }
+        }
+        for literal in &self.whole {
+            if mask == u32::MAX && literal.word() == word {
+                return true;
+            }
+        }
+        false
+    }
+}
+
+// Whether a literal follows from one of the same bits.
+fn follows(one: Lit, other: Lit) -> bool {
+    match (one, other) {
+        (Lit::Bits(_, _, datum), Lit::NotBits(_, _, another)) => datum != another,
+        _ => one == other,
     }
 }
 
@@ -109,7 +182,10 @@ fn key_of(literal: Lit) -> u32 {
 impl Item for Words {
     fn key(&self) -> u32 {
         let mut key = 0;
-        for literal in &self.lits {
+        for literal in &self.whole {
+            key = mixed(key, key_of(*literal));
+        }
+        for literal in &self.masked {
             key = mixed(key, key_of(*literal));
         }
         key
