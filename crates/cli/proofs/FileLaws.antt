@@ -1,15 +1,17 @@
 -- What is written of the bytes that are read of files is so of the files' own.
 use Rattle.std.proofs.Common.{◌≡◌, ◌⊎◌, ℕ, inl, inr, List, ap, length, subst, sym, ◌∙◌, arith}
-use Rattle.std.specs.Prelude.{Bool, Option, None, Result, Ok, Err}
+use Rattle.std.specs.Prelude.{◌≢◌, Bool, Option, None, Result, Ok, Err}
 use Rattle.bpf_insn.specs.Bytes.{view_fault}
 use Rattle.bpf_insn.specs.declared.fault.ViewError.TheVariants.{NotMultipleOf8}
 use Rattle.call_tables.specs.declared.arch.Arch.{Arch}
+use Rattle.cert_check.specs.declared.fault.CheckError.{CheckError}
 use Rattle.cert_check.specs.declared.fault.CheckError.TheVariants.{View}
+use Rattle.cert_check.specs.declared.fault.CheckError.TheVariants as error
 use Rattle.streams.specs.Failures.{Failures}
 use Rattle.streams.specs.declared.fault.WriteFault.{WriteFault}
 use Rattle.streams.specs.declared.fault.WriteFault.TheVariants as fault
 use Rattle.pipeline.specs.Answer.{IsAnswer, WritesAnswer}
-use Rattle.pipeline.specs.Certified.{AreJudged, Certifies, IsConvicted, IsOpen}
+use Rattle.pipeline.specs.Certified.{AreJudged, Certifies, IsConvicted, IsOfFilter, IsOpen}
 use Rattle.pipeline.specs.Finding.{IsFinding, TellsFinding, WritesFinding}
 use Rattle.pipeline.specs.declared.check.Finding.{Finding}
 use Rattle.pipeline.specs.declared.check.Finding.TheVariants.{Yes, No, NoProfile}
@@ -64,12 +66,15 @@ module _ (native : Arch) (bundle filter f : List ℕ) (enough : IsEnough 32768 f
     check_of_file cert (Err (fault.Write out)) h = told_of_file cert (Err (fault.Write out)) h
     check_of_file cert (Err fault.OutOfMemory) h = h
 
+    not_memory : (e : CheckError) → IsOfFilter e → e ≢ error.OutOfMemory
+    not_memory e of same = subst IsOfFilter same of
+
     open_of_file : (u : Unready) → IsOpen native bundle f u → IsOpen native bundle filter u
     open_of_file (Profile e) h = h
     open_of_file (Compile e) h = absurd h
     open_of_file (Certify e) h =
         (h.0, (h.1.0, subst (λ x. AreJudged native bundle x h.1.0) (whole_filter filter f enough h.1.1.program) h.1.1))
-    open_of_file (Check e) h = (h.0, (h.1.0, h.1.1, h.1.2, first_of_file filter f enough h.1.0 h.1.1 e h.0 h.1.3))
+    open_of_file (Check e) h = (h.0, (h.1.0, h.1.1, h.1.2, first_of_file filter f enough h.1.0 h.1.1 e (not_memory e h.0) h.1.3))
     open_of_file OutOfMemory h = absurd h
 
     pub certified_of_file : (result : Result Bool WriteFault) → Certifies held failures old new native bundle f result

@@ -1,6 +1,6 @@
 -- Lists side by side, and what was made of bundles in order.
 use Rattle.std.proofs.Common.{◌≡◌, ℕ, ◌+◌, ◌<◌, List, [], ◌∷◌, ◌++◌, length, take, drop, get_or, refl, ap, sym, subst, ◌∙◌, arith}
-use Rattle.std.proofs.Common.{append_assoc, add-one, true, false}
+use Rattle.std.proofs.Common.{add-one, true, false}
 use Rattle.std.proofs.Math.Seq.{drop-cons}
 use Rattle.std.proofs.lemmas.List.{take-append-drop, take_more}
 use Rattle.std.specs.Prelude.{Option, None, Some, Result, Ok, Err, is_err, is_ok, if◌then◌else◌, ◌≢◌}
@@ -11,7 +11,6 @@ use Rattle.session.specs.declared.bundles.Bundle.{Bundle}
 use Rattle.pipeline.specs.declared.unready.Unready.{Unready}
 use Rattle.pipeline.specs.declared.unready.Unready.TheVariants.{OutOfMemory}
 use Rattle.cli.specs.declared.run.Named.{Named}
-use Rattle.pipeline.specs.Exported.{IsUnready}
 use Rattle.cli.specs.Running.{FirstUnready, HasChecked, InTurn, IsBundleOf}
 use Rattle.cli.specs.inner.Made.{IsLent, IsMade, IsNamed, IsPreparedOf, MadeBefore}
 
@@ -62,63 +61,18 @@ ready native i [] (b ∷ bs) h = absurd h
 ready native i (t ∷ ts) [] h = absurd h
 ready native i (t ∷ ts) (b ∷ bs) h = All-cons (HasChecked native) t ts (b.checked, h.0.1) (ready native (i + 1) ts bs h.1)
 
--- the texts of some, of one and of those after it
-record Halves (native : Arch) (i : ℕ) (texts : List (List ℕ)) (some : List Named) (n : Named) : Type 0 where
-  pub before : List (List ℕ)
-  pub text : List ℕ
-  pub after : List (List ℕ)
-  pub split : texts ≡ before ++ text ∷ after
-  pub each : InTurn (IsNamed native) i before some
-  pub means : IsPreparedOf native text n.prepared
+-- each of some is made of its text
+made_of : (native : Arch) (i : ℕ) (texts : List (List ℕ)) (some : List Named) (n : Named) (rest : List Named)
+    → InTurn (IsNamed native) i texts (some ++ n ∷ rest) → (text : List ℕ) × IsPreparedOf native text n.prepared
+made_of native i [] [] n rest h = absurd h
+made_of native i (t ∷ ts) [] n rest h = (t, h.0.1)
+made_of native i [] (m ∷ some) n rest h = absurd h
+made_of native i (t ∷ ts) (m ∷ some) n rest h = made_of native (i + 1) ts some n rest h.1
 
-halves : (native : Arch) (i : ℕ) (texts : List (List ℕ)) (some : List Named) (n : Named) (rest : List Named)
-    → InTurn (IsNamed native) i texts (some ++ n ∷ rest) → Halves native i texts some n
-halves native i [] [] n rest h = absurd h
-halves native i (t ∷ ts) [] n rest h = record { before = []; text = t; after = ts; split = refl; each = tt; means = h.0.1 }
-halves native i [] (m ∷ some) n rest h = absurd h
-halves native i (t ∷ ts) (m ∷ some) n rest h =
-    let g = halves native (i + 1) ts some n rest h.1 in record {
-      before = t ∷ g.before;
-      text = g.text;
-      after = g.after;
-      split = ap (λ (l : List (List ℕ)). t ∷ l) g.split;
-      each = (h.0, g.each);
-      means = g.means;
-    }
-
--- one of them has no checked filter, and those before it have
-no_filter : (native : Arch) (texts : List (List ℕ)) (some : List Named) (n : Named) (rest : List Named) (bs : List Bundle) (u : Unready)
-    → InTurn (IsNamed native) 1 texts (some ++ n ∷ rest) → InTurn IsLent 1 some bs
-    → ((text : List ℕ) → IsPreparedOf native text n.prepared → IsUnready native text u) → FirstUnready native texts u
-no_filter native texts some n rest bs u h g why =
-    let parts = halves native 1 texts some n rest h in record {
-      before = parts.before;
-      text = parts.text;
-      after = parts.after;
-      split = parts.split;
-      ready = ready native 1 parts.before bs (lent native 1 parts.before some bs parts.each g);
-      is = why parts.text parts.means;
-    }
-
--- the same where a later text is refused
-longer : (native : Arch) (texts before : List (List ℕ)) (rest : List (List ℕ)) (u : Unready) → texts ≡ before ++ rest
-    → FirstUnready native before u → FirstUnready native texts u
-longer native texts before rest u e first = record {
-  before = first.before;
-  text = first.text;
-  after = first.after ++ rest;
-  split = e ∙ (ap (λ (l : List (List ℕ)). l ++ rest) first.split ∙ append_assoc first.before (first.text ∷ first.after) rest);
-  ready = first.ready;
-  is = first.is;
-}
-
-pub not_checked : (native : Arch) (texts : List (List ℕ)) (o : Option Unready) (some : List Named) (n : Named) (rest : List Named)
-    (bs : List Bundle) (u : Unready)
-    → IsMade native texts (some ++ n ∷ rest) o → InTurn IsLent 1 some bs
-    → ((text : List ℕ) → IsPreparedOf native text n.prepared → IsUnready native text u) → FirstUnready native texts u
-not_checked native texts None some n rest bs u h g why = no_filter native texts some n rest bs u h g why
-not_checked native texts (Some v) some n rest bs u h g why =
-    longer native texts h.before (h.text ∷ h.after) u h.split (no_filter native h.before some n rest bs u h.each g why)
+pub text_of : (native : Arch) (texts : List (List ℕ)) (o : Option Unready) (some : List Named) (n : Named) (rest : List Named)
+    → IsMade native texts (some ++ n ∷ rest) o → (text : List ℕ) × IsPreparedOf native text n.prepared
+text_of native texts None some n rest h = made_of native 1 texts some n rest h
+text_of native texts (Some v) some n rest h = made_of native 1 h.before some n rest h.each
 
 -- all that were made have checked filters, and a later text is refused
 pub not_made : (native : Arch) (texts : List (List ℕ)) (ns : List Named) (bs : List Bundle) (u : Unready) → MadeBefore native texts ns u

@@ -7,12 +7,11 @@ use Rattle.call_record.specs.Words.{IsRecord, words_of}
 use Rattle.bpf_insn.specs.declared.instruction.Insn.{Insn}
 use Rattle.bpf_insn.specs.Bytes.{insns_of, view_fault}
 use Rattle.bpf_insn.specs.declared.fault.ViewError.{ViewError}
-use Rattle.kernel_check.specs.Accepted.{IsRefusal}
+use Rattle.kernel_check.specs.Accepted.{IsAccepted, IsRefusal}
 use Rattle.kernel_check.specs.declared.fault.Refused.{Refused}
 use Rattle.cert_check.proofs.FirstLaws.{first_kernel, first_view}
 use Rattle.cert_check.specs.declared.fault.CheckError.TheVariants as error
-use Rattle.cert_check.specs.Certified.{IsFirst}
-use Rattle.cert_check.specs.declared.fault.CheckError.{CheckError}
+use Rattle.cert_check.proofs.Right.{right}
 use Rattle.cert_check.specs.Right.{IsRight}
 use Rattle.cert_walk.specs.declared.fault.CertifyError.{CertifyError}
 use Rattle.cert_walk.specs.declared.fault.CertifyError.TheVariants as maker
@@ -23,7 +22,7 @@ use Rattle.certify.proofs.OwnLaws.{accepted}
 use Rattle.streams.specs.Sink.{StopsAt, Writes, WritesMade}
 use Rattle.streams.specs.declared.fault.WriteFault.{WriteFault}
 use Rattle.streams.specs.declared.fault.WriteFault.TheVariants as fault
-use Rattle.profile.specs.Policy.{Policy}
+use Rattle.profile.specs.Policy.{IsClear, Policy}
 use Rattle.profile_json.specs.declared.fault.ProfileError.{ProfileError}
 use Rattle.profile_json.specs.declared.fault.ProfileError.TheVariants as refusal
 use Rattle.profile_json.specs.Breaks.{Breaks}
@@ -95,11 +94,11 @@ module _ (native : Arch) (bundle filter : List ℕ) where
   -- the bytes are no program, or one that the kernel refuses
   pub view_open : (policy : Policy) (e : ViewError) → IsBundle native bundle policy → view_fault filter ≡ Some e
       → IsOpen native bundle filter (unready.Check (error.View e))
-  view_open policy e means fault = (λ same. cc, (policy, [], means, first_view policy filter [] e fault))
+  view_open policy e means fault = (tt, (policy, [], means, first_view policy filter [] e fault))
 
   pub kernel_open : (policy : Policy) (e : Refused) → IsBundle native bundle policy → view_fault filter ≡ None
       → IsRefusal (insns_of filter) e → IsOpen native bundle filter (unready.Check (error.Kernel e))
-  kernel_open policy e means program refused = (λ same. cc, (policy, [], means, first_kernel policy filter [] program e refused))
+  kernel_open policy e means program refused = (tt, (policy, [], means, first_kernel policy filter [] program e refused))
 
 module _ {S : Type 0} (held : S → Option (List ℕ)) (failures : S → Failures) (old new : S) (native : Arch) (bundle filter : List ℕ) where
   pub certificate_written : (policy : Policy) (cert : List ℕ) → IsBundle native bundle policy → IsYes policy filter cert
@@ -140,6 +139,17 @@ module _ {S : Type 0} (held : S → Option (List ℕ)) (failures : S → Failure
   open_told u result why (inl h) = inr (inr (inl (record { unready = u; is = why h.0; written = h.1; told = h.2 })))
   open_told u result why (inr h) = inr (inr (inr h))
 
+-- with a valid certificate of an accepted filter the checker says yes
+pub yes_of_work : (policy : Policy) (p : List Insn) (filter cert : List ℕ) → IsClear policy.rules → p ≡ insns_of filter
+    → view_fault filter ≡ None → IsAccepted p → IsOwnWork policy p cert → IsYes policy filter cert
+yes_of_work policy p filter cert clear same whole taken own =
+    let here : IsAccepted (insns_of filter) = subst IsAccepted same taken in
+    let work : IsOwnWork policy (insns_of filter) cert = subst (λ (q : List Insn). IsOwnWork policy q cert) same own in record {
+      accepted = here;
+      right = right policy (insns_of filter) work.0 clear here work.2;
+      kept = accepted policy filter cert whole here work;
+    }
+
 -- where the filter is right it gives the profile's word
 right_is_not_convicted : (policy : Policy) (p : List Insn) (r : List ℕ) (given said : ℕ) → IsRight policy p → IsRecord r
     → Convicts policy p r given said → ⊥
@@ -164,17 +174,6 @@ module _ (native : Arch) (bundle filter : List ℕ) (policy : Policy) (own : IsO
       → (IsPlain policy → IsCallFilter policy p → e ≡ maker.OutOfMemory) → u ≡ unready.OutOfMemory
   own_certify p same e u (inl h) never = h.1
   own_certify p same e u (inr h) never = absurd (h.0 (never own_plain (subst (IsCallFilter policy) (sym same) own.shape)))
-
-  -- and so does the checker
-  pub own_check : (p : List Insn) → p ≡ insns_of filter → (cert : List ℕ) (e : CheckError) (u : Unready)
-      → IsToldAs unready.Check error.OutOfMemory e u
-      → (IsPlain policy → IsCallFilter policy p → IsOwnWork policy p cert) → (e ≢ error.OutOfMemory → IsFirst policy filter cert e)
-      → u ≡ unready.OutOfMemory
-  own_check p same cert e u (inl h) work first = h.1
-  own_check p same cert e u (inr h) work first =
-      let made = work own_plain (subst (IsCallFilter policy) (sym same) own.shape) in
-      let kept = accepted policy filter cert own.program own.shape (subst (λ (q : List Insn). IsOwnWork policy q cert) same made) in
-      absurd ((first h.0).broken (kept e))
 
   module _ {S : Type 0} (held : S → Option (List ℕ)) (failures : S → Failures) (old new : S) where
     -- a bundle that means a profile is refused for want of memory alone

@@ -1,5 +1,5 @@
 -- A bundle whose profile has no conditions is not refused for what is made of it.
-use Rattle.std.proofs.Common.{◌≡◌, ℕ, inl, inr, Bool, List, [], sym, ap, subst, ◌∙◌}
+use Rattle.std.proofs.Common.{◌≡◌, ℕ, inl, inr, Bool, List, [], refl, sym, ap, subst, ◌∙◌}
 use Rattle.std.specs.Prelude.{◌≢◌, Option, Some, None, Result, Ok, Err, IfErr, IfOk}
 use Rattle.std.specs.Result.{IsErrAnd}
 use Rattle.std.specs.List.{Contains}
@@ -11,7 +11,7 @@ use Rattle.call_tables.specs.Arch.{table_of}
 use Rattle.call_tables.specs.Table.{name_in}
 use Rattle.call_tables.proofs.ArchLaws.{table_of-inverse}
 use Rattle.profile.specs.declared.rules.Rule.{Rule}
-use Rattle.profile.specs.Policy.{Policy}
+use Rattle.profile.specs.Policy.{IsClear, Policy}
 use Rattle.profile.proofs.KeptLaws.{kept_in}
 use Rattle.profile_json.specs.Parts.{RuleParts, rule_parts}
 use Rattle.profile_json.specs.Rules.{rules_of, rules_of_entry, rules_under}
@@ -20,10 +20,15 @@ use Rattle.profile_json.proofs.clashing.Clashing.{IsUnder, under_back}
 use Rattle.profile_json.proofs.unbroken.Unbroken.{meaning_is_one, meaning_is_unbroken}
 use Rattle.rule_compile.specs.declared.fault.CompileError.{CompileError}
 use Rattle.rule_compile.specs.declared.fault.CompileError.TheVariants as compiler
+use Rattle.rule_compile.specs.Right.{IsRightFilter}
 use Rattle.rule_compile.specs.Shape.{IsCallFilter, IsPlain}
+use Rattle.cert_paths.specs.Steady.{IsSteady, Nothing}
+use Rattle.kernel_check.specs.Accepted.{IsAccepted}
+use Rattle.cert_check.specs.Right.{IsRight}
 use Rattle.cert_walk.specs.declared.fault.CertifyError.{CertifyError}
 use Rattle.cert_walk.specs.declared.fault.CertifyError.TheVariants as maker
-use Rattle.certify.specs.Own.{IsOwnWork}
+use Rattle.certify.specs.Own.{IsOfSize, IsOwnWork}
+use Rattle.certify.proofs.CompiledLaws.{compiled}
 use Rattle.certify.proofs.OwnLaws.{accepted}
 use Rattle.certify.proofs.TableLaws.{table_rule_is_plain}
 use Rattle.cert_check.specs.declared.fault.CheckError.{CheckError}
@@ -92,35 +97,26 @@ not_compiled : (policy : Policy) (e : CompileError) (u : Unready) → (IsPlain p
     → IsUnready native bundle u
 not_compiled policy e u never (inl h) native bundle is other = absurd (other h.1)
 not_compiled policy e u never (inr h) native bundle is other =
-    subst (IsUnready native bundle) (sym h.1) (h.0, has_conditions compiler.OutOfMemory e native bundle policy h.0 never is)
+    subst (IsUnready native bundle) (sym h.1)
+    (too_long e h.0, has_conditions compiler.OutOfMemory e native bundle policy h.0 never is) where
+      too_long : (e : CompileError) → e ≢ compiler.OutOfMemory → e ≡ compiler.TooLong
+      too_long compiler.TooLong other = refl
+      too_long compiler.OutOfMemory other = absurd (other refl)
 
-not_certified : (policy : Policy) (e : CertifyError) (u : Unready) → (IsPlain policy → e ≡ maker.OutOfMemory)
+-- of the profile that a bundle means, the maker of certificates tells of sizes alone
+abbrev pub IsSized : Policy → CertifyError → Type 0
+IsSized policy e = IsClear policy.rules → IsOfSize e
+
+not_certified : (policy : Policy) (e : CertifyError) (u : Unready) → (IsPlain policy → e ≡ maker.OutOfMemory) → IsSized policy e
     → IsToldAs Certify maker.OutOfMemory e u → (native : Arch) (bundle : List ℕ) → IsBundle native bundle policy → u ≢ OutOfMemory
     → IsUnready native bundle u
-not_certified policy e u never (inl h) native bundle is other = absurd (other h.1)
-not_certified policy e u never (inr h) native bundle is other =
-    subst (IsUnready native bundle) (sym h.1) (h.0, has_conditions maker.OutOfMemory e native bundle policy h.0 never is)
-
-not_checked : (policy : Policy) (filter cert : List ℕ) (e : CheckError) (u : Unready)
-    → (e ≢ error.OutOfMemory → IsFirst policy filter cert e)
-    → IsToldAs Check error.OutOfMemory e u → (native : Arch) (bundle : List ℕ) → IsPrepared native bundle policy filter cert
-    → u ≢ OutOfMemory → IsUnready native bundle u
-not_checked policy filter cert e u first (inl h) native bundle is other = absurd (other h.1)
-not_checked policy filter cert e u first (inr h) native bundle is other =
-    subst (IsUnready native bundle) (sym h.1) (
-      h.0,
-      (
-        policy,
-        is.means,
-        λ none. (first h.0).broken (is.own none e),
-        record {
-          filter = filter;
-          cert = cert;
-          taken = is.taken;
-          first = first h.0;
-        },
-      ),
-    )
+not_certified policy e u never sized (inl h) native bundle is other = absurd (other h.1)
+not_certified policy e u never sized (inr h) native bundle is other =
+    subst (IsUnready native bundle) (sym h.1)
+    (too_large (sized is.2.calls.clear), has_conditions maker.OutOfMemory e native bundle policy h.0 never is) where
+      too_large : IsOfSize e → e ≡ maker.TooLarge
+      too_large (inl large) = large
+      too_large (inr memory) = absurd (h.0 memory)
 
 -- what is told of a step that stops
 module _ {T : Type 0} (policy : Policy) (r : Result T Unready) where
@@ -134,24 +130,16 @@ module _ {T : Type 0} (policy : Policy) (r : Result T Unready) where
     at (Err u) told = not_compiled policy e u never told native bundle is
 
   pub told_certify : (e : CertifyError) → IsErrAnd r (IsToldAs Certify maker.OutOfMemory e)
-      → (IsPlain policy → e ≡ maker.OutOfMemory) → (native : Arch) (bundle : List ℕ) → IsBundle native bundle policy
+      → (IsPlain policy → e ≡ maker.OutOfMemory) → IsSized policy e → (native : Arch) (bundle : List ℕ) → IsBundle native bundle policy
       → IfErr r (λ u. u ≢ OutOfMemory → IsUnready native bundle u)
-  told_certify e told never native bundle is = at r told where
+  told_certify e told never sized native bundle is = at r told where
     at : (r : Result T Unready) → IsErrAnd r (IsToldAs Certify maker.OutOfMemory e)
         → IfErr r (λ u. u ≢ OutOfMemory → IsUnready native bundle u)
     at (Ok x) told = tt
-    at (Err u) told = not_certified policy e u never told native bundle is
+    at (Err u) told = not_certified policy e u never sized told native bundle is
 
   module _ (filter cert : List ℕ) (e : CheckError) (first : e ≢ error.OutOfMemory → IsFirst policy filter cert e)
       (told : IsErrAnd r (IsToldAs Check error.OutOfMemory e)) where
-    pub told_check : (native : Arch) (bundle : List ℕ) → IsPrepared native bundle policy filter cert
-        → IfErr r (λ u. u ≢ OutOfMemory → IsUnready native bundle u)
-    told_check native bundle is = at r told where
-      at : (r : Result T Unready) → IsErrAnd r (IsToldAs Check error.OutOfMemory e)
-          → IfErr r (λ u. u ≢ OutOfMemory → IsUnready native bundle u)
-      at (Ok x) told = tt
-      at (Err u) told = not_checked policy filter cert e u first told native bundle is
-
     -- where no rule is broken, memory was refused
     pub only_memory : IsUnbroken policy filter cert → IfErr r (λ u. u ≡ OutOfMemory)
     only_memory kept = at r told where
@@ -171,23 +159,31 @@ module _ (policy : Policy) (p : List Insn) (filter : List ℕ) (same : p ≡ ins
       → e ≡ maker.OutOfMemory
   certifies e never is = never is (seen is)
 
-  pub unbroken : (cert : List ℕ) → view_fault filter ≡ None → (IsPlain policy → IsCallFilter policy p → IsOwnWork policy p cert)
-      → IsPlain policy → IsUnbroken policy filter cert
-  unbroken cert view own is = accepted policy filter cert view (shape is)
-      (subst (λ (q : List Insn). IsOwnWork policy q cert) same (own is (seen is)))
+  -- a right filter that compares steadily has a certificate, but for want of memory and the limits of the format
+  pub sizes : (e : CertifyError) → IsRightFilter policy (insns_of filter) → IsSteady (insns_of filter) 0 Nothing
+      → (IsAccepted p → IsRight policy p → IsSteady p 0 Nothing → IsOfSize e) → IsSized policy e
+  sizes e right steady sure clear =
+      let told : IsAccepted (insns_of filter) → IsRight policy (insns_of filter) → IsSteady (insns_of filter) 0 Nothing → IsOfSize e =
+      subst (λ (q : List Insn). IsAccepted q → IsRight policy q → IsSteady q 0 Nothing → IsOfSize e) same sure in
+      told right.accepted (compiled policy (insns_of filter) clear right) steady
+
+-- a certificate that keeps each rule leaves none broken
+pub unbroken : (policy : Policy) (p : List Insn) (filter cert : List ℕ) → p ≡ insns_of filter → view_fault filter ≡ None → IsAccepted p
+    → IsOwnWork policy p cert → IsUnbroken policy filter cert
+unbroken policy p filter cert same whole taken own =
+    accepted policy filter cert whole (subst IsAccepted same taken) (subst (λ (q : List Insn). IsOwnWork policy q cert) same own)
 
 -- what is made of the profile that a bundle means
 pub prepared : (native : Arch) (bundle : List ℕ) (policy : Policy) (r : Result Prepared Unready) → IsBundle native bundle policy
     → IfOk r (λ made. made.profile ≡ policy) → IfOk r (λ made. IsTaken made.filter.items)
-    → (IsPlain policy → IfOk r (λ made. IsUnbroken policy made.filter.items made.certificate.items))
+    → IfOk r (λ made. IsUnbroken policy made.filter.items made.certificate.items)
     → IfOk r (λ made. IsPrepared native bundle made.profile made.filter.items made.certificate.items)
-prepared native bundle policy (Ok made) is same taken own = record {
+prepared native bundle policy (Ok made) is same taken unbroken = record {
   means = subst (IsBundle native bundle) (sym same) is;
   taken = taken;
-  own = λ none. subst (λ (p : Policy). IsUnbroken p made.filter.items made.certificate.items) (sym same)
-      (own (plain native bundle policy is (subst HasNoConditions same none)));
+  unbroken = subst (λ (p : Policy). IsUnbroken p made.filter.items made.certificate.items) (sym same) unbroken;
 }
-prepared native bundle policy (Err u) is same taken own = tt
+prepared native bundle policy (Err u) is same taken unbroken = tt
 
 -- ---- bundles without conditions
 
@@ -204,7 +200,7 @@ pub not_refused : (native : Arch) (bundle : List ℕ) (u : Unready) → IsPlainB
 not_refused native bundle (Profile e) (p, is, none) h = no_fault meaning_is_unbroken meaning_is_one native bundle p e is h.0 h.1
 not_refused native bundle (Compile e) is h = has_none native bundle h.1.0 is h.1.1 h.1.2
 not_refused native bundle (Certify e) is h = has_none native bundle h.1.0 is h.1.1 h.1.2
-not_refused native bundle (Check e) is h = has_none native bundle h.1.0 is h.1.1 h.1.2
+not_refused native bundle (Check e) is h = h
 not_refused native bundle OutOfMemory is h = h
 
 pub filter_is_written : {S : Type 0} (held : S → Option (List ℕ)) (failures : S → Failures) (old new : S) (native : Arch) (bundle : List ℕ)

@@ -25,11 +25,7 @@ use std::alloc::{AllocError, Global};
 use streams::{Sink, WriteFault, write_all};
 
 // The certificate that is made of a profile and a filter, to which the checker says yes.
-fn certified(
-    alloc: Global,
-    profile: &Profile,
-    program: &Program<'_>,
-) -> Result<Vec<u8>, Unready>
+fn certified(alloc: Global, profile: &Profile, program: &Program<'_>) -> Result<Vec<u8>, Unready>
     ensures ok { (filter : List ℕ) → view_fault filter ≡ None → insns program.now ≡ insns_of filter
         → IfOk result (λ cert. IsYes profile.now filter cert.items) }
     ensures err { (native : TheArch) (bundle filter : List ℕ) → AreJudged native bundle filter profile.now

@@ -1,20 +1,18 @@
-use Rattle.std.proofs.Common.{ℕ, List, subst}
-use Rattle.std.specs.Prelude.{◌≢◌}
+use Rattle.std.proofs.Common.{◌∙◌}
 use Rattle.bpf_insn.specs.Program.{insns}
-use Rattle.cert_check.specs.Certified.{IsFirst}
-use Rattle.cert_check.specs.declared.fault.CheckError.TheVariants.{OutOfMemory}
-use Rattle.pipeline.proofs.EvidenceLaws.{own_certify, own_check}
+use Rattle.pipeline.proofs.EvidenceLaws.{certify_open, own_certify, yes_of_work}
 use Rattle.pipeline.proofs.certifying.certified.Goals as goal
 
-pub returns-in-Err-clause-own : goal.returns-in-Err-clause-own
-returns-in-Err-clause-own c = λ native bundle own same.
-    own_certify native bundle c.args.filter.now c.args.profile.now own (insns c.args.program.now) same c.in-Err.error c.from.result
-    c.from.ensures c.in-Err.ensures.never
+pub returns-in-Ok-clause-ok : goal.returns-in-Ok-clause-ok
+returns-in-Ok-clause-ok c = λ filter whole same.
+    yes_of_work c.args.profile.now (insns c.args.program.now) filter c.in-Ok.certificate.items c.rules.ensures.is_profile.clear same whole
+    c.in-Ok.ensures.accepted c.in-Ok.ensures.valid
 
-pub returns-in-Err-check-clause-own : goal.returns-in-Err-check-clause-own
-returns-in-Err-check-clause-own c = λ native bundle own same.
-    let e = c.in-Err-check.error in
-    let Named : List ℕ → Type 0 = λ cert. e ≢ OutOfMemory → IsFirst c.args.profile.now c.args.filter.now cert e in
-    own_check native bundle c.args.filter.now c.args.profile.now own (insns c.args.program.now) same c.in-Ok.certificate.items e
-    c.from-in-Err-check.result c.from-in-Err-check.ensures c.in-Ok.ensures.own
-    (subst Named c.deref.ensures.value c.in-Err-check.ensures.first)
+pub returns-in-Err-clause-err : goal.returns-in-Err-clause-err
+returns-in-Err-clause-err c = λ native bundle filter judged.
+    certify_open native bundle filter c.args.profile.now c.in-Err.error c.from.result judged c.from.ensures
+
+pub returns-in-Err-clause-own : goal.returns-in-Err-clause-own
+returns-in-Err-clause-own c = λ native bundle filter own same.
+    own_certify native bundle filter c.args.profile.now own (insns c.args.program.now) same c.in-Err.error c.from.result
+    c.from.ensures c.in-Err.ensures.never

@@ -19,4 +19,4 @@ returns-in_err-export_form-in-Ok g c = λ native bundle means.
 pub returns-in-Err : goal.returns-in-Err
 returns-in-Err g c = λ native bundle means.
     refused g.S.Sink.held g.S.Sink.failures c.args.sink.now c.refuse.new.sink native bundle c.args.form c.in-Err.unready c.refuse.result
-    (c.in-Err.ensures.err native bundle means) c.refuse.ensures
+    (λ other. absurd (other (c.in-Err.ensures.own means.unbroken))) c.refuse.ensures

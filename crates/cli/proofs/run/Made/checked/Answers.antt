@@ -7,7 +7,7 @@ use Rattle.session.specs.declared.bundles.Bundle.{Bundle}
 use Rattle.cli.specs.declared.run.Named.{Named}
 use Rattle.cli.specs.Running.{InTurn}
 use Rattle.cli.specs.inner.Made.{IsLent, IsMade}
-use Rattle.cli.proofs.TurnLaws.{cut_at, in_turn_on, lent, not_checked, not_made, of_ok, taken_on}
+use Rattle.cli.proofs.TurnLaws.{cut_at, in_turn_on, lent, not_made, of_ok, taken_on, text_of}
 use Rattle.cli.proofs.run.Made.checked.Goals as goal
 
 pub returns-in-Err-clause-err : goal.returns-in-Err-clause-err
@@ -18,9 +18,9 @@ returns-in-Err-clause-err c = λ native texts made other.
     let same = c.deref-bundle-items.ensures.value in
     let at : n ≡ get_or ns i n = c.bundle-item.is ∙ ap (λ l. get_or l i n) same in
     let lt : i < length ns = omega (arith, c.loop-bundle-test.true, ap length same) in
-    not_checked native texts c.args.self.now.refused (take i ns) n (drop (i + 1) ns) c.loop-bundle.list.items c.in-Err.unready
-    (subst (λ (l : List Named). IsMade native texts l c.args.self.now.refused) (cut_at ns i n lt at) made)
-    c.loop-bundle.invariant.lent (λ text means. c.in-Err.ensures.err native text means other)
+    let from = text_of native texts c.args.self.now.refused (take i ns) n (drop (i + 1) ns)
+    (subst (λ (l : List Named). IsMade native texts l c.args.self.now.refused) (cut_at ns i n lt at) made) in
+    absurd (other (c.in-Err.ensures.own from.1.unbroken))
 
 pub loop-bundle-preserved : goal.loop-bundle-preserved
 loop-bundle-preserved c =

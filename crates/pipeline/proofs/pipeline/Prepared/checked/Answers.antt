@@ -1,9 +1,9 @@
 use Rattle.std.proofs.Common.{◌≡◌, ◌∙◌, ℕ, List, subst, sym}
 use Rattle.std.specs.Prelude.{None}
 use Rattle.bpf_insn.specs.Bytes.{insns_of, spelling, view_fault}
-use Rattle.pipeline.specs.Prepared.{IsPrepared, IsUnbroken}
+use Rattle.pipeline.specs.Prepared.{IsUnbroken}
 use Rattle.pipeline.proofs.ExportLaws.{is_checked}
-use Rattle.pipeline.proofs.PlainLaws.{only_memory, told_check}
+use Rattle.pipeline.proofs.PlainLaws.{only_memory}
 use Rattle.pipeline.proofs.pipeline.Prepared.checked.Goals as goal
 
 pub returns-in_err-check-clause-own : goal.returns-in_err-check-clause-own
@@ -20,11 +20,3 @@ returns-clause-ok c = λ native bundle is.
     is_checked native bundle c.args.self.now.profile c.deref-2.result.now c.deref-3.result.now c.in_ok-check.field-0 is.means done.profile
     done.filter done.cert (subst Spelled (c.deref.ensures.value ∙ sym c.deref-2.ensures.value) c.are_spelled.ensures)
     (record { accepted = done.accepted; right = done.right; kept = done.kept })
-
-pub returns-in_err-check-clause-err : goal.returns-in_err-check-clause-err
-returns-in_err-check-clause-err c = λ native bundle is.
-    let policy = c.args.self.now.profile in
-    let same : IsPrepared native bundle policy c.deref-2.result.now c.deref-3.result.now =
-    rw (c.deref-2.ensures.value, c.deref-3.ensures.value) is in
-    told_check policy c.from_residual.result c.deref-2.result.now c.deref-3.result.now c.in_err-check.field-0.0
-    c.in_err-check.ensures.first c.from_residual.ensures.1 native bundle same

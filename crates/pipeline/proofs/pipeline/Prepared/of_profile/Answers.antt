@@ -4,7 +4,7 @@ use Rattle.kernel_check.specs.Accepted.{IsAccepted}
 use Rattle.rule_compile.specs.declared.fault.CompileError.TheVariants as compiler
 use Rattle.cert_walk.specs.declared.fault.CertifyError.TheVariants as maker
 use Rattle.pipeline.specs.declared.unready.Unready.TheVariants.{Compile, Certify}
-use Rattle.pipeline.proofs.PlainLaws.{certifies, told_certify, told_compile, told_memory, unbroken}
+use Rattle.pipeline.proofs.PlainLaws.{certifies, sizes, told_certify, told_compile, told_memory, unbroken}
 use Rattle.pipeline.proofs.pipeline.Prepared.of_profile.Goals as goal
 
 pub returns-in_err-made-clause-never : goal.returns-in_err-made-clause-never
@@ -31,6 +31,8 @@ returns-in_err-certificate-clause-err c =
     c.from_residual-in_err-certificate.ensures.1
     (certifies c.args.profile _ c.in_ok-made.made.bytes.items same c.in_ok-made.ensures.shape c.in_err-certificate.field-0.0
     c.in_err-certificate.ensures.never)
+    (sizes c.args.profile _ c.in_ok-made.made.bytes.items same c.in_ok-made.ensures.shape c.in_err-certificate.field-0.0
+    c.in_ok-made.ensures.right ? c.in_err-certificate.ensures.sure)
 
 pub returns-clause-taken : goal.returns-clause-taken
 returns-clause-taken c = record {
@@ -38,8 +40,8 @@ returns-clause-taken c = record {
   accepted = subst IsAccepted (c.in-Ok.ensures.read ∙ ap insns_of c.deref.ensures.value) c.in_ok-certificate.ensures.accepted;
 }
 
-pub returns-clause-own : goal.returns-clause-own
-returns-clause-own c =
+pub returns-clause-unbroken : goal.returns-clause-unbroken
+returns-clause-unbroken c =
     let same = c.in-Ok.ensures.read ∙ ap insns_of c.deref.ensures.value in
-    unbroken c.args.profile _ c.in_ok-made.made.bytes.items same c.in_ok-made.ensures.shape c.in_ok-certificate.certificate.items
-    c.in_ok-made.ensures.program c.in_ok-certificate.ensures.own
+    unbroken c.args.profile _ c.in_ok-made.made.bytes.items c.in_ok-certificate.certificate.items same c.in_ok-made.ensures.program
+    c.in_ok-certificate.ensures.accepted c.in_ok-certificate.ensures.valid
