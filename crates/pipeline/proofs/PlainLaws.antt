@@ -22,7 +22,7 @@ use Rattle.rule_compile.specs.declared.fault.CompileError.{CompileError}
 use Rattle.rule_compile.specs.declared.fault.CompileError.TheVariants as compiler
 use Rattle.rule_compile.specs.Right.{IsRightFilter}
 use Rattle.rule_compile.specs.Shape.{IsCallFilter, IsPlain}
-use Rattle.cert_paths.specs.Steady.{IsSteady, Nothing}
+use Rattle.rule_compile.specs.Steady.{IsSteady, Nothing}
 use Rattle.kernel_check.specs.Accepted.{IsAccepted}
 use Rattle.cert_check.specs.Right.{IsRight}
 use Rattle.cert_walk.specs.declared.fault.CertifyError.{CertifyError}
