@@ -32,7 +32,7 @@ returns-in_err-certificate-clause-err c =
     (certifies c.args.profile _ c.in_ok-made.made.bytes.items same c.in_ok-made.ensures.shape c.in_err-certificate.field-0.0
     c.in_err-certificate.ensures.never)
     (sizes c.args.profile _ c.in_ok-made.made.bytes.items same c.in_ok-made.ensures.shape c.in_err-certificate.field-0.0
-    c.in_ok-made.ensures.right ? c.in_err-certificate.ensures.sure)
+    c.in_ok-made.ensures.right c.in_ok-made.ensures.steady c.in_err-certificate.ensures.sure)
 
 pub returns-clause-taken : goal.returns-clause-taken
 returns-clause-taken c = record {
