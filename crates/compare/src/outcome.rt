@@ -121,13 +121,12 @@ fn put_difference(
 fn put_differences(
     text: &mut String,
     alloc: Global,
-    mut list: &[Difference],
+    list: &[Difference],
 ) -> Result<(), AllocError>
-    ensures { IfOk result (λ _. string_bytes text.new ≡ string_bytes text.old ++ flat_map spec.line_of list.entry.now) }
+    ensures { IfOk result (λ _. string_bytes text.new ≡ string_bytes text.old ++ flat_map spec.line_of list.now) }
 {
-    while let [difference, rest @ ..] = list {
+    for difference in list {
         put_difference(text, alloc, difference)?;
-        list = rest;
     }
     Ok(())
 }

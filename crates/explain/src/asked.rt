@@ -23,13 +23,12 @@ fn any_has_space(words: &[&str]) -> bool
 }
 
 // Adds words, each behind a space.
-fn put_words(text: &mut String, mut words: &[&str]) -> Result<(), AllocError>
-    ensures { IfOk result (λ _. string_bytes text.new ≡ string_bytes text.old ++ flat_map (λ w. space ∷ w.now) words.entry.now) }
+fn put_words(text: &mut String, words: &[&str]) -> Result<(), AllocError>
+    ensures { IfOk result (λ _. string_bytes text.new ≡ string_bytes text.old ++ flat_map (λ w. space ∷ w.now) words.now) }
 {
-    while let [word, rest @ ..] = words {
+    for word in words {
         text.push_str(" ")?;
         text.push_str(word)?;
-        words = rest;
     }
     Ok(())
 }

@@ -62,12 +62,11 @@ fn put_number(text: &mut String, family: Family, token: u32, nr: u32) -> Result<
 }
 
 // Adds arguments, each behind a space.
-fn put_arguments(text: &mut String, mut args: &[u64]) -> Result<(), AllocError>
-    ensures { IfOk result (λ _. string_bytes text.new ≡ string_bytes text.old ++ spec.arguments_text args.entry.now) }
+fn put_arguments(text: &mut String, args: &[u64]) -> Result<(), AllocError>
+    ensures { IfOk result (λ _. string_bytes text.new ≡ string_bytes text.old ++ spec.arguments_text args.now) }
 {
-    while let [arg, rest @ ..] = args {
+    for arg in args {
         write!(text, " 0x{arg:x}")?;
-        args = rest;
     }
     Ok(())
 }

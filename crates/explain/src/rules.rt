@@ -41,12 +41,11 @@ fn put_condition(text: &mut String, cond: &Cond, args: &[u64; 6]) -> Result<(), 
 }
 
 // Adds the lines of conditions.
-fn put_conditions(text: &mut String, mut conds: &[Cond], args: &[u64; 6]) -> Result<(), AllocError>
-    ensures { IfOk result (λ _. string_bytes text.new ≡ string_bytes text.old ++ flat_map (spec.condition_line args.now) conds.entry.now) }
+fn put_conditions(text: &mut String, conds: &[Cond], args: &[u64; 6]) -> Result<(), AllocError>
+    ensures { IfOk result (λ _. string_bytes text.new ≡ string_bytes text.old ++ flat_map (spec.condition_line args.now) conds.now) }
 {
-    while let [cond, rest @ ..] = conds {
+    for cond in conds {
         put_condition(text, cond, args)?;
-        conds = rest;
     }
     Ok(())
 }
@@ -91,12 +90,8 @@ pub(crate) fn put_rules(
     ensures { IfOk result (λ _. string_bytes text.new ≡ string_bytes text.old
         ++ spec.lines_from 0 all.now.rules.items all.now.ends.items call.now) }
 {
-    let mut place = 0;
-    let mut left = all.rules.as_slice();
-    while let [rule, rest @ ..] = left {
+    for (place, rule) in all.rules.as_slice().iter().enumerate() {
         put_if_of(text, entry_at(all, place), rule, call)?;
-        place += 1;
-        left = rest;
     }
     Ok(())
 }
