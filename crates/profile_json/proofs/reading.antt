@@ -9,4 +9,3 @@ pub mod BundleLaws
 pub mod Looking
 pub mod Conditions
 pub mod NameLemmas
-pub mod Loops

@@ -83,15 +83,14 @@ fn arg_of(value: &Value, earlier: &ArrayVec<Cond, 6>) -> Result<Cond, ProfileErr
 }
 
 /// The conditions of an entry, each on an argument of its own.
-fn args_in(mut values: &[Value]) -> Result<ArrayVec<Cond, 6>, ProfileError>
-    ensures reading { Gives (λ v. map cond_parts v.items) result (spec.args_after [] (map view values.entry.now)) }
+fn args_in(values: &[Value]) -> Result<ArrayVec<Cond, 6>, ProfileError>
+    ensures reading { Gives (λ v. map cond_parts v.items) result (spec.args_after [] (map view values.now)) }
     ensures apart { IfOk result (λ v. are_distinct (map (λ c. c.index) v.items) ≡ true) }
 {
     let mut found = ArrayVec::new();
-    while let [first, rest @ ..] = values {
-        let cond = arg_of(first, &found)?;
+    for value in values {
+        let cond = arg_of(value, &found)?;
         found.push(cond);
-        values = rest;
     }
     Ok(found)
 }

@@ -40,14 +40,13 @@ fn arch_of(value: &Value, family: Family) -> Result<Arch, ProfileError>
     arch_named(family, name).ok_or(ProfileError::UnknownArch)
 }
 
-fn archs_in(alloc: Global, mut values: &[Value], family: Family) -> Result<Vec<Arch>, ProfileError>
-    ensures { GivesWithMemory (λ v. v.items) result (spec.each (spec.arch_of family) (map view values.entry.now)) }
+fn archs_in(alloc: Global, values: &[Value], family: Family) -> Result<Vec<Arch>, ProfileError>
+    ensures { GivesWithMemory (λ v. v.items) result (spec.each (spec.arch_of family) (map view values.now)) }
 {
     let mut found = Vec::new(alloc);
-    while let [first, rest @ ..] = values {
-        let arch = arch_of(first, family)?;
+    for value in values {
+        let arch = arch_of(value, family)?;
         found.push(arch)?;
-        values = rest;
     }
     Ok(found)
 }

@@ -51,16 +51,15 @@ fn name_of(value: &Value, family: Family) -> Result<&str, ProfileError>
 
 fn names_in<'a>(
     alloc: Global,
-    mut values: &'a [Value],
+    values: &'a [Value],
     family: Family,
 ) -> Result<Vec<&'a str>, ProfileError>
-    ensures { GivesWithMemory (λ v. map (λ n. n.now) v.items) result (spec.each (spec.name_of family) (map view values.entry.now)) }
+    ensures { GivesWithMemory (λ v. map (λ n. n.now) v.items) result (spec.each (spec.name_of family) (map view values.now)) }
 {
     let mut found = Vec::new(alloc);
-    while let [first, rest @ ..] = values {
-        let name = name_of(first, family)?;
+    for value in values {
+        let name = name_of(value, family)?;
         found.push(name)?;
-        values = rest;
     }
     Ok(found)
 }
@@ -96,16 +95,15 @@ fn entry_of<'a>(alloc: Global, value: &'a Value, family: Family) -> Result<Entry
 
 fn entries_in<'a>(
     alloc: Global,
-    mut values: &'a [Value],
+    values: &'a [Value],
     family: Family,
 ) -> Result<Vec<Entry<'a>>, ProfileError>
-    ensures { GivesWithMemory (λ v. map entry_parts v.items) result (spec.each (spec.entry_of family) (map view values.entry.now)) }
+    ensures { GivesWithMemory (λ v. map entry_parts v.items) result (spec.each (spec.entry_of family) (map view values.now)) }
 {
     let mut found = Vec::new(alloc);
-    while let [first, rest @ ..] = values {
-        let entry = entry_of(alloc, first, family)?;
+    for value in values {
+        let entry = entry_of(alloc, value, family)?;
         found.push(entry)?;
-        values = rest;
     }
     Ok(found)
 }

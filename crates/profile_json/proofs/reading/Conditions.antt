@@ -1,8 +1,8 @@
 -- Conditions on arguments of their own: there are at most six.
 use Rattle.std.proofs.Common.{◌≡◌, ℕ, zero, suc, ◌<◌, ◌≤◌, ◌==◌, List, [], ◌∷◌, ◌++◌, length, map, Bool, true, false, not, cond, refl}
-use Rattle.std.proofs.Common.{sym, ◌∙◌, ap, arith, inl, inr, length-append, ◌-◌, take, drop, get_or, Result, Ok}
+use Rattle.std.proofs.Common.{sym, ◌∙◌, ap, arith, inl, inr, length-append, ◌+◌, drop, get_or, Result, Ok}
 use Rattle.std.specs.List.{list_any, AllByRecursion}
-use Rattle.std.proofs.lemmas.List.{map-append, length-map, map_push, take_all}
+use Rattle.std.proofs.lemmas.List.{map-append, length-map, map_push, drop_more}
 use Rattle.std.proofs.lemmas.Bool.{cases_Bool, and_parts, or_parts, not-true}
 use Rattle.std.proofs.lemmas.Bool.Decides.{nat_tests, Decides-eqb}
 use Rattle.profile.specs.declared.conditions.Cond.{Cond}
@@ -118,17 +118,15 @@ room cs c h e =
     omega (arith, length-map (cs ++ c ∷ []) (λ d. d.index), length-append cs (c ∷ []))
 
 -- one more member of `args`
-pub args_step : (found : List Cond) (c : Cond) (new : List Cond) (values : List Value) (first : Value) (r : Result (List CondParts) Fault)
-    → 1 ≤ length values → first ≡ get_or values 0 first → new ≡ found ++ c ∷ []
-    → arg_of (map cond_parts found) (view first) ≡ Ok (cond_parts c) → args_after (map cond_parts found) (map view values) ≡ r
-    → args_after (map cond_parts new) (map view (take (length values - 1) (drop 1 values))) ≡ r
-args_step found c new [] first r some at is reads before = absurd (omega (arith, some))
-args_step found c new (v ∷ vs) first r some at is reads before =
-    let size : length (v ∷ vs) - 1 ≡ length vs = omega arith in
-    let rest : take (length (v ∷ vs) - 1) vs ≡ vs = ap (λ n. take n vs) size ∙ take_all (length vs) vs (omega arith) in
-    let read : arg_of (map cond_parts found) (view v) ≡ Ok (cond_parts c) = ap (λ x. arg_of (map cond_parts found) (view x)) (sym at)
-    ∙ reads in
+pub args_step : (found : List Cond) (c : Cond) (new : List Cond) (values : List Value) (n : ℕ) (value : Value)
+    → (r : Result (List CondParts) Fault)
+    → n < length values → value ≡ get_or values n value → new ≡ found ++ c ∷ []
+    → arg_of (map cond_parts found) (view value) ≡ Ok (cond_parts c) → args_after (map cond_parts found) (map view (drop n values)) ≡ r
+    → args_after (map cond_parts new) (map view (drop (n + 1) values)) ≡ r
+args_step found c new values n value r some at is reads before =
+    let vs = drop (n + 1) values in
+    let left : drop n values ≡ value ∷ vs = drop_more values n value some ∙ ap (λ v. v ∷ vs) (sym at) in
     let all : args_after (map cond_parts found ++ cond_parts c ∷ []) (map view vs) ≡ r =
-    ap (λ (o : Result CondParts Fault). o >>= (λ x. args_after (map cond_parts found ++ x ∷ []) (map view vs))) (sym read) ∙ before in
-    ap (λ xs. args_after (map cond_parts new) (map view xs)) rest ∙ ap (λ xs. args_after (map cond_parts xs) (map view vs)) is
-    ∙ ap (λ xs. args_after xs (map view vs)) (map_push cond_parts found c) ∙ all
+    ap (λ (o : Result CondParts Fault). o >>= (λ x. args_after (map cond_parts found ++ x ∷ []) (map view vs))) (sym reads)
+    ∙ ap (λ xs. args_after (map cond_parts found) (map view xs)) (sym left) ∙ before in
+    ap (λ xs. args_after (map cond_parts xs) (map view vs)) is ∙ ap (λ xs. args_after xs (map view vs)) (map_push cond_parts found c) ∙ all
