@@ -1,10 +1,9 @@
 -- What a list contains, and what lists made of it contain.
-use Rattle.std.proofs.Common.{◌≡◌, ℕ, zero, suc, ◌<◌, List, [], ◌∷◌, length, map, get_or, Option, Some, None, Bool, true, ◌||◌, ◌≤◌, ◌-◌}
-use Rattle.std.proofs.Common.{take, drop, Bor, ◌⊎◌, inl, inr, refl, sym, ◌∙◌, ap, subst, arith}
+use Rattle.std.proofs.Common.{◌≡◌, ℕ, zero, suc, ◌<◌, List, [], ◌∷◌, length, map, get_or, Option, Some, None, Bool, true, ◌||◌, ◌≤◌}
+use Rattle.std.proofs.Common.{drop, Bor, ◌⊎◌, inl, inr, refl, sym, ◌∙◌, ap, subst, arith}
 use Rattle.std.specs.List.{AllZip, Contains, flat_map, filter_map, cons_option, slice_get, list_any}
 use Rattle.std.specs.Str.{bytes_eq}
 use Rattle.std.proofs.lemmas.Slice.Eq.{bytes_eq-Decides}
-use Rattle.std.proofs.lemmas.List.{take_all}
 use Rattle.std.proofs.lemmas.List.Folds.{Any-from_list_any, list_any_at}
 use Rattle.std.proofs.lemmas.Option.{same_Some}
 use Rattle.std.proofs.lemmas.List.Elements.{Contains-append_left, Contains-append_right, Contains-append_cases}
@@ -158,28 +157,24 @@ has_names ns names name b same is =
     ∙ ap (λ xs. list_any (λ n. bytes_eq n name) (map (λ n. n.now) xs)) same in
     (λ t. named (map (λ n. n.now) names) name (sym all ∙ t), λ h. all ∙ named_back (map (λ n. n.now) names) name h)
 
-pub now_first : (ns : List (Bor (List ℕ))) (d : Bor (List ℕ)) → 1 ≤ length ns → Contains (map (λ n. n.now) ns) (get_or ns 0 d).now
-now_first [] d h = absurd (omega (arith, h))
-now_first (n ∷ ns) d h = contains_head n.now (map (λ m. m.now) ns)
+now_here : (ns : List (Bor (List ℕ))) (i : ℕ) (d : Bor (List ℕ)) → i < length ns → Contains (map (λ n. n.now) ns) (get_or ns i d).now
+now_here [] i d lt = absurd (omega (arith, lt))
+now_here (n ∷ ns) zero d lt = contains_head n.now (map (λ m. m.now) ns)
+now_here (n ∷ ns) (suc i) d lt = contains_tail n.now (map (λ m. m.now) ns) (get_or ns i d).now (now_here ns i d (omega (arith, lt)))
 
-rest_is : (n : Bor (List ℕ)) (ns : List (Bor (List ℕ))) → take (length (n ∷ ns) - 1) (drop 1 (n ∷ ns)) ≡ ns
-rest_is n ns = let size : length (n ∷ ns) - 1 ≡ length ns = omega arith in ap (λ k. take k ns) size ∙ take_all (length ns) ns (omega arith)
+pub now_at : (ns names : List (Bor (List ℕ))) (i : ℕ) (d : Bor (List ℕ)) → ns ≡ names → i < length ns
+    → Contains (map (λ n. n.now) names) (get_or ns i d).now
+now_at ns names i d same lt = subst (λ ms. Contains (map (λ m. m.now) ms) (get_or ns i d).now) same (now_here ns i d lt)
 
-pub now_split : (ns : List (Bor (List ℕ))) (d : Bor (List ℕ)) (name : List ℕ) → Contains (map (λ n. n.now) ns) name
-    → ((get_or ns 0 d).now ≡ name) ⊎ Contains (map (λ n. n.now) (take (length ns - 1) (drop 1 ns))) name
-now_split [] d name h = absurd (contains_nil name h)
-now_split (n ∷ ns) d name h =
-    elim (contains_cases n.now (map (λ m. m.now) ns) name h) [
-      | inl here ↦ inl here
-      | inr later ↦ inr (subst (λ ms. Contains (map (λ m. m.now) ms) name) (sym (rest_is n ns)) later)
-    ]
+pub now_split : (ns : List (Bor (List ℕ))) (i : ℕ) (d : Bor (List ℕ)) (name : List ℕ) → Contains (map (λ n. n.now) (drop i ns)) name
+    → ((get_or ns i d).now ≡ name) ⊎ Contains (map (λ n. n.now) (drop (suc i) ns)) name
+now_split [] zero d name h = absurd (contains_nil name h)
+now_split [] (suc i) d name h = absurd (contains_nil name h)
+now_split (n ∷ ns) zero d name h = contains_cases n.now (map (λ m. m.now) ns) name h
+now_split (n ∷ ns) (suc i) d name h = now_split ns i d name h
 
-pub now_rest : (ns : List (Bor (List ℕ))) (name : List ℕ) → 1 ≤ length ns
-    → Contains (map (λ n. n.now) (take (length ns - 1) (drop 1 ns))) name → Contains (map (λ n. n.now) ns) name
-now_rest [] name some h = absurd (omega (arith, some))
-now_rest (n ∷ ns) name some h = contains_tail n.now (map (λ m. m.now) ns) name
-    (subst (λ ms. Contains (map (λ m. m.now) ms) name) (rest_is n ns) h)
-
-pub now_none : (ns : List (Bor (List ℕ))) (name : List ℕ) → length ns < 1 → Contains (map (λ n. n.now) ns) name → ⊥
-now_none [] name short h = contains_nil name h
-now_none (n ∷ ns) name short h = omega (arith, short)
+pub now_none : (ns : List (Bor (List ℕ))) (i : ℕ) (name : List ℕ) → length ns ≤ i → Contains (map (λ n. n.now) (drop i ns)) name → ⊥
+now_none [] zero name all h = contains_nil name h
+now_none [] (suc i) name all h = contains_nil name h
+now_none (n ∷ ns) zero name all h = omega (arith, all)
+now_none (n ∷ ns) (suc i) name all h = now_none ns i name (omega (arith, all)) h

@@ -58,12 +58,10 @@ fn clash_of<'a>(first: &Entry, second: &Entry<'a>, machines: &[Arch]) -> Option<
     if first.word == second.word {
         return None;
     }
-    let mut left = second.names.as_slice();
-    while let [name, rest @ ..] = left {
+    for name in &second.names {
         if overlap_by_name(first, second, name, machines) {
             return Some(*name);
         }
-        left = rest;
     }
     None
 }

@@ -36,12 +36,10 @@ fn add_name(
     ensures { IfOk result (λ _. map rule_parts rules.new.items
         ≡ map rule_parts rules.old.items ++ spec.rules_under machines.now (entry_parts entry.now) name.now) }
 {
-    let mut left = machines;
-    while let [arch, rest @ ..] = left {
+    for arch in machines {
         if let Some(nr) = arch.number(name) {
             rules.push(rule_of(entry, *arch, nr))?;
         }
-        left = rest;
     }
     Ok(())
 }
@@ -51,10 +49,8 @@ fn add_entry(rules: &mut Vec<Rule>, entry: &Entry, machines: &[Arch]) -> Result<
     ensures { IfOk result (λ _. map rule_parts rules.new.items
         ≡ map rule_parts rules.old.items ++ spec.rules_of_entry machines.now (entry_parts entry.now)) }
 {
-    let mut left = entry.names.as_slice();
-    while let [name, rest @ ..] = left {
+    for name in &entry.names {
         add_name(rules, entry, name, machines)?;
-        left = rest;
     }
     Ok(())
 }
@@ -70,11 +66,9 @@ pub(crate) fn rules_of(
 {
     let mut list = Vec::new(alloc);
     let mut ends = Vec::new(alloc);
-    let mut left = entries;
-    while let [entry, rest @ ..] = left {
+    for entry in entries {
         add_entry(&mut list, entry, machines)?;
         ends.push(list.len())?;
-        left = rest;
     }
     Ok(Rules { list, ends })
 }

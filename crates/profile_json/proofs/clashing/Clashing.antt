@@ -1,6 +1,6 @@
 -- Entries whose rules give unlike words to one record.
-use Rattle.std.proofs.Common.{◌≡◌, ◌≢◌, ℕ, List, length, map, get_or, Option, Some, None, option_map, ◌-◌, take, drop, Bool, true, false}
-use Rattle.std.proofs.Common.{Bor, inl, inr, refl, sym, ◌∙◌, ap, subst}
+use Rattle.std.proofs.Common.{◌≡◌, ◌≢◌, ℕ, suc, List, map, get_or, Option, Some, None, option_map, ◌+◌, drop, Bool, true, false}
+use Rattle.std.proofs.Common.{Bor, inl, inr, refl, sym, ◌∙◌, ap, subst, arith}
 use Rattle.std.specs.List.{Contains, Any}
 use Rattle.std.proofs.lemmas.Option.{same_Some}
 use Rattle.call_tables.specs.declared.arch.Arch.{Arch}
@@ -111,17 +111,20 @@ must_clash machines x y a b order in_x in_y clash none =
     (ap (λ (s : RuleParts). s.word) p.is ∙ same ∙ sym (ap (λ (s : RuleParts). s.word) q.is)) in
     none unlike m.0 m.1 (subst (λ s. Contains y.names s) names n.1) (p.listed.0, p.arch, p.listed.1, p.listed.2, o)
 
--- a name that clashes is not the first of what is left, where that one was tried, so it comes later
-pub passed_step : (machines : List Arch) (x y : EntryParts) (left : List (Bor (List ℕ))) (d : Bor (List ℕ)) (name : List ℕ) (b : Bool)
-    → b ≡ false
-    → (Contains x.names (get_or left 0 d).now × Any (OverlapOn x y (get_or left 0 d).now) machines → b ≡ true)
-    → Contains x.names name → Any (OverlapOn x y name) machines → Contains (map (λ n. n.now) left) name
-    → Contains (map (λ n. n.now) (take (length left - 1) (drop 1 left))) name
-passed_step machines x y left d name b is tried in_x any at =
-    elim (now_split left d name at) [
+-- a name that clashes is not the one at i, where that one was tried, so it comes later
+pub passed_step : (machines : List Arch) (x y : EntryParts) (ns names : List (Bor (List ℕ))) (i : ℕ) (d : Bor (List ℕ)) (name : List ℕ)
+    (b : Bool) → ns ≡ names → b ≡ false
+    → (Contains x.names (get_or ns i d).now × Any (OverlapOn x y (get_or ns i d).now) machines → b ≡ true)
+    → Contains x.names name → Any (OverlapOn x y name) machines → Contains (map (λ n. n.now) (drop i names)) name
+    → Contains (map (λ n. n.now) (drop (i + 1) names)) name
+passed_step machines x y ns names i d name b same is tried in_x any at =
+    elim (now_split names i d name at) [
       | inl here ↦
           let P : List ℕ → Type 0 = λ n. Contains x.names n × Any (OverlapOn x y n) machines in
-          let yes-true : b ≡ true = tried (subst P (sym here) (in_x, any)) in
+          let this : (get_or ns i d).now ≡ name = ap (λ (ms : List (Bor (List ℕ))). (get_or ms i d).now) same ∙ here in
+          let yes-true : b ≡ true = tried (subst P (sym this) (in_x, any)) in
           absurd (let no : true ≡ false = sym yes-true ∙ is in cc)
-      | inr later ↦ later
+      | inr later ↦
+          let next : suc i ≡ i + 1 = omega arith in
+          subst (λ k. Contains (map (λ n. n.now) (drop k names)) name) next later
     ]
