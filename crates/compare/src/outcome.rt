@@ -118,11 +118,7 @@ fn put_difference(
 }
 
 // Adds the lines of differences.
-fn put_differences(
-    text: &mut String,
-    alloc: Global,
-    list: &[Difference],
-) -> Result<(), AllocError>
+fn put_differences(text: &mut String, alloc: Global, list: &[Difference]) -> Result<(), AllocError>
     ensures { IfOk result (λ _. string_bytes text.new ≡ string_bytes text.old ++ flat_map spec.line_of list.now) }
 {
     for difference in list {
