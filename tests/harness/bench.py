@@ -82,6 +82,8 @@ class Bench:
         """The same, of questions on the profile or the filter of an earlier row."""
         if word == "compiled":
             return library.is_certified(self.made["profile"])
+        if word == "followed":
+            return library.is_certified(self.made["profile"], "follow")
         if word == "filter":
             return library.is_filter(self.made["profile"], rest)
         if word == "program":

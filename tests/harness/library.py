@@ -150,12 +150,12 @@ def conforms(line):
     return (yield from agrees(line, filtered, near(told, calls_there)))
 
 
-def certified(line, filtered):
+def certified(line, filtered, maker="certify"):
     """How many nodes the certificate of a filter has, which the checker takes; or why there is none."""
     if not is_digits(filtered):
         return [filtered]
     both = [line, f"filter bytes {filtered}"]
-    *_, (cert,) = yield [*both, "profile certify"]
+    *_, (cert,) = yield [*both, f"profile {maker}"]
     if not is_digits(cert):
         return [cert]
     *_, (said,) = yield [*both, f"profile check {cert}"]
@@ -163,10 +163,10 @@ def certified(line, filtered):
     return [f"yes, {count} nodes" if said == "yes" else said]
 
 
-def is_certified(line):
-    """Whether the filter of a profile gets a certificate that the checker takes."""
+def is_certified(line, maker="certify"):
+    """Whether the filter of a profile gets a certificate that the checker takes, of `certify` or of `follow`."""
     _, filtered = yield from compiled(line)
-    (said,) = yield from certified(line, filtered)
+    (said,) = yield from certified(line, filtered, maker)
     return [said.partition(",")[0] if said.startswith("yes, ") else said]
 
 

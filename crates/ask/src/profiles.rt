@@ -1,7 +1,8 @@
 //! Questions on profiles: `bundle MACHINE TEXT` and `build NATIVE DEFAULT COUNT MACHINE .. COUNT RULE ..` make one and tell its
-//! parts, and `decide RECORD` asks for its word. Of it and the filter, `compile` makes the filter and `certify` the certificate,
-//! and both tell their bytes; `check CERTIFICATE` asks the checker, and `agrees` whether their words are alike on the records of
-//! the last `grid COUNT NUMBER .. COUNT ARGUMENTS ..`. `keep` has the three kept for containers.
+//! parts, and `decide RECORD` asks for its word. Of it and the filter, `compile` makes the filter, and `certify` the certificate,
+//! as does `follow`, which follows each path: these tell their bytes. `check CERTIFICATE` asks the checker, and `agrees` whether
+//! their words are alike on the records of the last `grid COUNT NUMBER .. COUNT ARGUMENTS ..`. `keep` has the three kept for
+//! containers.
 
 use crate::answers::Answers;
 use crate::desk::{Desk, Made};
@@ -10,6 +11,7 @@ use crate::question::Question;
 use crate::rules::rules_in;
 use bpf_insn::Program;
 use cert_check::check;
+use cert_paths::by_paths;
 use certify::certify;
 use kernel_check::accept;
 use profile::Profile;
@@ -96,6 +98,7 @@ impl Desk {
                 self.filter = self.out.tell_made(made);
             }
             "certify" => self.cert = certified(&mut self.out, profile, &self.filter),
+            "follow" => self.cert = followed(&mut self.out, profile, &self.filter),
             "check" => tell_check(&mut self.out, profile, &self.filter, question.word()),
             _ => tell_agreement(&mut self.out, profile, &self.filter, &self.grid),
         }
@@ -120,6 +123,28 @@ fn certified(out: &mut Answers, profile: &Profile, filter: &[u8]) -> Vec<u8> {
         }
         Err(_) => {
             out.fail();
+            Vec::new(out.alloc)
+        }
+    }
+}
+
+// The same of the certificate that follows each path of the filter.
+fn followed(out: &mut Answers, profile: &Profile, filter: &[u8]) -> Vec<u8> {
+    let Ok(program) = Program::view(filter) else {
+        out.fail();
+        return Vec::new(out.alloc);
+    };
+    let Ok(accepted) = accept(&program) else {
+        out.fail();
+        return Vec::new(out.alloc);
+    };
+    match by_paths(out.alloc, profile, &accepted) {
+        Ok(bytes) => {
+            out.tell_bytes(&bytes);
+            bytes
+        }
+        Err(e) => {
+            out.tell(format_args!("{e:?}"));
             Vec::new(out.alloc)
         }
     }
