@@ -3,27 +3,25 @@ ghost use Rattle.std.specs.Prelude.{◌≡◌, option_copied};
 ghost use Rattle.call_tables.specs.Table.{entries, number_in, name_in};
 
 /// The number beside the first such name.
-pub(crate) fn find_number(mut table: &[(&str, u32)], name: &str) -> Option<u32>
-    ensures { result ≡ number_in (entries table.entry.now) name.now }
+pub(crate) fn find_number(table: &[(&str, u32)], name: &str) -> Option<u32>
+    ensures { result ≡ number_in (entries table.now) name.now }
 {
-    while let [entry, rest @ ..] = table {
+    for entry in table {
         if entry.0 == name {
             return Some(entry.1);
         }
-        table = rest;
     }
     None
 }
 
 /// The name beside the first such number.
-pub(crate) fn find_name(mut table: &[(&'static str, u32)], number: u32) -> Option<&'static str>
-    ensures { option_copied result ≡ name_in (entries table.entry.now) number }
+pub(crate) fn find_name(table: &[(&'static str, u32)], number: u32) -> Option<&'static str>
+    ensures { option_copied result ≡ name_in (entries table.now) number }
 {
-    while let [entry, rest @ ..] = table {
+    for entry in table {
         if entry.1 == number {
             return Some(entry.0);
         }
-        table = rest;
     }
     None
 }

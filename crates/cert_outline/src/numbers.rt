@@ -5,7 +5,7 @@ use crate::maker::Maker;
 use crate::spot::Which;
 use crate::words::{Words, listed};
 use call_tables::Arch;
-use cert_state::{Lit, range};
+use cert_state::{Facts, Listed, Lit, range};
 use profile::Rule;
 use std::alloc::AllocError;
 
@@ -74,7 +74,7 @@ impl<'a> Maker<'a> {
     // Whether the number of a rule has to be told apart where a return gives a verdict.
     fn is_told(
         &self,
-        known: &Words,
+        known: &Facts<'_, Listed<'_>>,
         arguments: &Words,
         rule: &Rule,
         token: u32,
@@ -86,7 +86,10 @@ impl<'a> Maker<'a> {
         if verdict == self.profile.default_word().0 && rule.word.0 == verdict {
             return false;
         }
-        !known.entail(Lit::NotBits(NUMBER, u32::MAX, rule.nr)) && self.may_hold(arguments, rule)
+        if known.entails(&Lit::NotBits(NUMBER, u32::MAX, rule.nr)) {
+            return false;
+        }
+        self.may_hold(arguments, rule)
     }
 
     // The numbers of rules that have to be told apart where a return gives a verdict, in order.
@@ -97,9 +100,11 @@ impl<'a> Maker<'a> {
         token: u32,
         verdict: u32,
     ) -> Result<Vec<u32>, AllocError> {
+        let state = listed(&known.whole);
+        let facts = Facts::of(&state);
         let mut numbers = Vec::new(self.alloc);
         for rule in self.profile.rules() {
-            if self.is_told(known, arguments, rule, token, verdict) {
+            if self.is_told(&facts, arguments, rule, token, verdict) {
                 numbers.push(rule.nr)?;
             }
         }
@@ -170,9 +175,11 @@ impl<'a> Maker<'a> {
         let Some(token) = only(known, TOKEN) else {
             return Ok(None);
         };
+        let state = listed(&known.whole);
+        let facts = Facts::of(&state);
         let mut numbers = Vec::new(self.alloc);
         for call in &self.calls {
-            let excluded = known.entail(Lit::NotBits(NUMBER, u32::MAX, call.number));
+            let excluded = facts.entails(&Lit::NotBits(NUMBER, u32::MAX, call.number));
             if call.token == token && !excluded {
                 numbers.push(call.number)?;
             }

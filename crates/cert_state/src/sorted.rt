@@ -12,6 +12,8 @@ use crate::state::State;
 // Room for the literals of a node, and for one more.
 const ROOM: usize = 513;
 
+const NO_LITERAL: Lit = Lit::In(0, 0, 0);
+
 /// The literals of one word of a state.
 #[derive(Clone, Copy)]
 struct OfWord<'a, S: State> {
@@ -105,11 +107,28 @@ fn part_of<S: State>(state: &S, word: u8, lits: &[Lit; ROOM], from: usize, to: u
     }
 }
 
+// Copies the literals of a state, and tells how many there are, if there is room for them.
+fn copy_all<S: State>(state: &S, lits: &mut [Lit; ROOM]) -> Option<usize>
+    ensures { IfSome result (λ count. (count ≤ 513) × (slice_range lits.new 0 count ≡ S.known state.now)) }
+{
+    let mut count = 0;
+    let mut at = state.start();
+    while let Some((literal, next)) = state.next(at) {
+        if count == ROOM {
+            return None;
+        }
+        lits[count] = literal;
+        count += 1;
+        at = next;
+    }
+    Some(count)
+}
+
 // The literals of a state by their words.
-fn sort<S: State>(state: &S) -> Sorted
+fn by_words<S: State>(state: &S) -> Sorted
     ensures { result.all ≡ true → IsSorted (S.known state.now) result.lits result.parts }
 {
-    let mut lits = [Lit::In(0, 0, 0); ROOM];
+    let mut lits = [NO_LITERAL; ROOM];
     let mut parts = [NO_PART; 16];
     let mut from = 0;
     for i in 0..16_usize {
@@ -127,6 +146,24 @@ fn sort<S: State>(state: &S) -> Sorted
         lits,
         parts,
         all: true,
+    }
+}
+
+// The literals of a state by their words. The state is read once: its literals may stand far apart.
+fn sort<S: State>(state: &S) -> Sorted
+    ensures { result.all ≡ true → IsSorted (S.known state.now) result.lits result.parts }
+{
+    let mut lits = [NO_LITERAL; ROOM];
+    match copy_all(state, &mut lits) {
+        Some(count) => by_words(&OfWord {
+            state,
+            lits: &lits[0..count],
+        }),
+        None => Sorted {
+            lits,
+            parts: [NO_PART; 16],
+            all: false,
+        },
     }
 }
 

@@ -97,14 +97,13 @@ fn numbers_of(native: Arch) -> &'static [(u32, Call)]
 }
 
 // The call beside the first such number.
-fn find_call(mut numbers: &[(u32, Call)], number: u32) -> Call
-    ensures { result ≡ call_at numbers.entry.now number }
+fn find_call(numbers: &[(u32, Call)], number: u32) -> Call
+    ensures { result ≡ call_at numbers.now number }
 {
-    while let [entry, rest @ ..] = numbers {
+    for entry in numbers {
         if entry.0 == number {
             return entry.1;
         }
-        numbers = rest;
     }
     Call::Plain
 }

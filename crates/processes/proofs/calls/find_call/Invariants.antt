@@ -1,9 +1,6 @@
-use Rattle.std.proofs.Common.{◌≡◌, length}
+use Rattle.std.proofs.Common.{◌≡◌, drop}
 use Rattle.processes.specs.inner.Numbers.{call_at}
 use Rattle.processes.proofs.calls.find_call.Given as goal
 
-abbrev pub invariant-loop-numbers : goal.invariant-loop-numbers
-invariant-loop-numbers l = call_at l.numbers l.number ≡ call_at l.initial.numbers l.number
-
-abbrev pub decreases-loop-numbers : goal.decreases-loop-numbers
-decreases-loop-numbers l = length l.numbers
+abbrev pub invariant-loop-entry : goal.invariant-loop-entry
+invariant-loop-entry l = call_at (drop l.entry-index l.numbers) l.number ≡ call_at l.numbers l.number

@@ -4,7 +4,7 @@ use Rattle.std.proofs.lemmas.Bool.{cases_eq}
 use Rattle.std.proofs.lemmas.List.{get_or-set_same, get_or-set_other, length-set}
 use Rattle.cert_state.specs.inner.Sorted.{IsPartOf}
 use Rattle.cert_state.proofs.SortedLaws.{part_stays}
-use Rattle.cert_state.proofs.sorted.sort.Goals as goal
+use Rattle.cert_state.proofs.sorted.by_words.Goals as goal
 
 pub loop-i-preserved : goal.loop-i-preserved
 loop-i-preserved g c =

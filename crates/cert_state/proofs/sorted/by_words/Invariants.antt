@@ -2,7 +2,7 @@ use Rattle.std.proofs.Common.{◌≡◌, ◌≤◌, ◌<◌, ℕ, length}
 use Rattle.std.specs.Prelude.{slice_index_or}
 use Rattle.cert_state.specs.declared.sorted.Part.{Part}
 use Rattle.cert_state.specs.inner.Sorted.{IsPartOf}
-use Rattle.cert_state.proofs.sorted.sort.Given as goal
+use Rattle.cert_state.proofs.sorted.by_words.Given as goal
 
 abbrev pub invariant-loop-i : goal.invariant-loop-i
 invariant-loop-i g l = record {
