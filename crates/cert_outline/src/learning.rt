@@ -116,7 +116,7 @@ impl<'a> Maker<'a> {
             let Some(rule) = self.rule(own.rule) else {
                 continue;
             };
-            let own = if word == NUMBER {
+            let own = if word == NUMBER || left.is_late {
                 left_by_all(known, rule, *own)
             } else {
                 still_left(known, rule, *own, word)
@@ -137,12 +137,12 @@ impl<'a> Maker<'a> {
         })
     }
 
-    // Whether some rule that is left needs a literal.
+    // Whether some rule that is left needs a literal. What was learned late is known of both halves.
     fn is_needed(&self, left: &Left, literal: Lit) -> bool {
         for own in &left.rules {
             if let Some(rule) = self.rule(own.rule) {
                 for (place, cond) in rule.conds.iter().enumerate() {
-                    let is_low = own.low & bit_of(place) != 0;
+                    let is_low = left.is_late || own.low & bit_of(place) != 0;
                     if own.met & bit_of(place) == 0 && needs(cond, is_low, literal) {
                         return true;
                     }
