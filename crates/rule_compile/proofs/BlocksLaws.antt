@@ -1,7 +1,7 @@
 -- Blocks, as they are built: what a block that is added stands for, and what its ranges decide.
 use Rattle.std.proofs.Common.{◌≡◌, ℕ, zero, suc, ◌+◌, ◌-◌, ◌/◌, ◌⊎◌, ◌↔◌, ◌<◌, ◌≤◌, ◌^◌, List, [], ◌∷◌, ◌++◌, length, refl, ap, sym, ◌∙◌, subst}
-use Rattle.std.proofs.Common.{arith, max, inl, inr, length-append, get_or, take, drop, append_assoc}
-use Rattle.std.specs.Prelude.{Bool, Option, Some, None, Result, Ok, Err, IfOk, IfSome, true, false, slice_get, slice_index, slice_index_or, bit_and}
+use Rattle.std.proofs.Common.{arith, max, inl, inr, length-append, get_or, take, drop}
+use Rattle.std.specs.Prelude.{Bool, Option, Some, None, Result, Ok, Err, IfOk, IfSome, true, false, slice_get, slice_index, slice_index_or}
 use Rattle.std.specs.List.{All, Contains}
 use Rattle.std.proofs.lemmas.Bool.{cases_lt}
 use Rattle.std.proofs.lemmas.Nat.{and_le_l}
@@ -21,9 +21,8 @@ use Rattle.rule_compile.specs.Decides.{Comes, Decides, IsWithin, StandsFor, by_b
 use Rattle.rule_compile.specs.Questions.{bits}
 use Rattle.rule_compile.specs.Rules.{IsClearAt, SomeMet, begins_here, put_first, rules_of, word_of}
 use Rattle.rule_compile.specs.inner.Built.{IsFoundAt, IsKept, IsReached}
-use Rattle.rule_compile.specs.inner.Left.{AreAlikeAt, AreRules, AreSame, AreStarts, AsksFor, IsFrom, IsOffset, IsQuestion, IsRule, weight, weight_of}
+use Rattle.rule_compile.specs.inner.Left.{AreAlikeAt, AreRules, AreStarts, AsksFor, IsOffset, IsQuestion, IsRule, weight, weight_of}
 use Rattle.rule_compile.specs.inner.Numbers.{IsExtended, Tiles, more, nothing, wider}
-use Rattle.rule_compile.specs.inner.Ranges.{IsPicked}
 use Rattle.rule_compile.specs.inner.Runs.{AreBefore, IsBefore}
 use Rattle.rule_compile.specs.inner.Stands.{AreBlocks, AreRanged, AreSound, BlocksStand, HasMore, IsBlock, IsFound, KnownStands}
 use Rattle.rule_compile.proofs.DecidesLaws.{before_le, before_more, decides_less, decides_more, get_less}

@@ -14,7 +14,7 @@ use Rattle.call_tables.specs.declared.arch.Arch.{Arch}
 use Rattle.call_tables.specs.Arch.{token_of}
 use Rattle.profile.specs.Policy.{InOrder, Policy}
 use Rattle.profile.specs.Said.{said}
-use Rattle.rule_compile.specs.declared.fault.CompileError.{CompileError}
+use Rattle.std.specs.declared.alloc.AllocError.{AllocError}
 use Rattle.rule_compile.specs.declared.written.Written.{Written}
 use Rattle.rule_compile.specs.declared.label.Label.{Label}
 use Rattle.rule_compile.specs.declared.label.Target.{Target}
@@ -134,7 +134,7 @@ searched_grows old new ranges word target (returns answer found is) = found.grow
 searched_grows old new ranges word target (loads_word mid begun first place found grown begins written start is) = grows_on found.grows
     (grows_on grown (grows_written begun new _ written))
 
-pub on_searched : (r : Result Written CompileError) (old new : List Insn) (ranges : List Range) (word : ℕ)
+pub on_searched : (r : Result Written AllocError) (old new : List Insn) (ranges : List Range) (word : ℕ)
     → IfOk r (λ found. Searched old new ranges word found.target) → OnOk r (Grows old new)
 on_searched (Ok found) old new ranges word is = searched_grows old new ranges word found.target is
 on_searched (Err e) old new ranges word is = tt
@@ -325,9 +325,6 @@ module _ (p : Policy) (plain : IsPlain p) (mid : List Insn) (to : Target) (apart
         few = omega (arith, weighs, ap (weight mid) one, light, few);
         short = omega (arith, deeps, ap (depth mid) one, shallow, few);
       }
-
-  pub whole_full : length mid ≡ 4096 → ⊥
-  whole_full full = omega (arith, full, these.short, few)
 
   -- it begins with what it begins with, and a return is alone
   pub whole_front : (first : Label) → to ≡ Place first → first.to_end ≡ length mid

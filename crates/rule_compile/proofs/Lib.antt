@@ -5,7 +5,6 @@ pub mod CallLaws
 pub mod ConditionLaws
 pub mod DecidesLaws
 pub mod FindLaws
-pub mod FullLaws
 pub mod GoesLaws
 pub mod HalvesLaws
 pub mod HeldLaws
@@ -14,6 +13,7 @@ pub mod LeftLaws
 pub mod LoadLaws
 pub mod MachineLaws
 pub mod PickLaws
+pub mod PlanLaws
 pub mod RangeLaws
 pub mod RulesLaws
 pub mod RunsLaws

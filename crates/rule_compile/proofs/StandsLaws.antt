@@ -1,5 +1,5 @@
 -- What decides questions, in two parts and all at once, and what decides the rules of a call.
-use Rattle.std.proofs.Common.{◌≡◌, ◌≢◌, ◌↔◌, ℕ, zero, suc, ◌⊎◌, ◌<◌, ◌≤◌, ◌==◌, Bool, true, false, List, [], ◌∷◌, ◌++◌, length, take, drop, refl, ap, sym, ◌∙◌}
+use Rattle.std.proofs.Common.{◌≡◌, ◌≢◌, ◌↔◌, ℕ, zero, suc, ◌⊎◌, ◌<◌, ◌≤◌, Bool, true, false, List, [], ◌∷◌, ◌++◌, length, take, drop, refl, ap, sym, ◌∙◌}
 use Rattle.std.proofs.Common.{subst, arith, inl, inr}
 use Rattle.std.specs.List.{All, Any}
 use Rattle.std.proofs.lemmas.Bool.{cases_eq, true≢false, false≢true}
@@ -8,17 +8,15 @@ use Rattle.std.proofs.lemmas.List.Elements.{All-cons, All-head, All-nil, All-pus
 use Rattle.call_record.specs.Words.{IsRecord}
 use Rattle.rule_compile.specs.declared.asked.Open.{Open}
 use Rattle.rule_compile.specs.declared.asked.Placed.{Placed}
-use Rattle.rule_compile.specs.declared.asked.Rest.{Rest}
-use Rattle.rule_compile.specs.declared.asked.Rest.TheVariants as rest
 use Rattle.rule_compile.specs.declared.blocks.Blocks.{Blocks}
 use Rattle.rule_compile.specs.declared.known.Known.{Known}
 use Rattle.rule_compile.specs.declared.outline.Block.{Block}
 use Rattle.rule_compile.specs.declared.ranges.Leaf.{Leaf}
 use Rattle.rule_compile.specs.declared.ranges.Leaf.TheVariants as leaf
-use Rattle.rule_compile.specs.Decides.{Comes, Decides, StandsFor, by_block, by_word}
+use Rattle.rule_compile.specs.Decides.{Comes, Decides, by_word}
 use Rattle.rule_compile.specs.Questions.{IsMet, outcome}
 use Rattle.rule_compile.specs.Rules.{IsClearAt, IsRuleMet, SomeMet, begins_here, put_first, rules_of, word_of}
-use Rattle.rule_compile.specs.inner.Left.{AreHeld, AreRules, AreSame, IsRule, SaysHeld, SomeHeld}
+use Rattle.rule_compile.specs.inner.Left.{AreRules, AreSame, IsRule, SomeHeld}
 use Rattle.rule_compile.specs.inner.Runs.{IsBefore}
 use Rattle.rule_compile.specs.inner.Stands.{AreBlocks, AreSound, BlocksStand, DecidesRules, HasMore, IsFound, KnownStands}
 use Rattle.rule_compile.proofs.DecidesLaws.{decides_more}

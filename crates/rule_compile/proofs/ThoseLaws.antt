@@ -1,5 +1,5 @@
 -- The rules for a number, as they are gathered, and what they decide.
-use Rattle.std.proofs.Common.{◌≡◌, ℕ, zero, suc, ◌+◌, ◌<◌, ◌⊎◌, List, [], ◌∷◌, ◌++◌, length, inl, inr, refl, ap, sym, ◌∙◌, subst, arith, length-append}
+use Rattle.std.proofs.Common.{◌≡◌, ℕ, ◌+◌, ◌<◌, ◌⊎◌, List, [], ◌∷◌, ◌++◌, length, inl, inr, ap, sym, ◌∙◌, subst, arith, length-append}
 use Rattle.std.specs.Prelude.{Err, IfOk, Ok, Result, slice_index, slice_index_or}
 use Rattle.std.specs.List.{All, Any, Contains}
 use Rattle.std.proofs.lemmas.Bool.{cases_lt}
@@ -15,7 +15,7 @@ use Rattle.rule_compile.specs.declared.outline.Block.{Block}
 use Rattle.rule_compile.specs.declared.ranges.Leaf.{Leaf}
 use Rattle.rule_compile.specs.declared.ranges.Leaf.TheVariants.{Word}
 use Rattle.rule_compile.specs.Decides.{Decides, by_word}
-use Rattle.rule_compile.specs.inner.Left.{AreHeld, SomeHeld}
+use Rattle.rule_compile.specs.inner.Left.{SomeHeld}
 use Rattle.rule_compile.specs.inner.Numbers.{IsFor}
 use Rattle.rule_compile.specs.inner.Stands.{AreThose, DecidesNumber, DecidesRules, IsClearOn, IsSaidBy, SaysNumber}
 use Rattle.rule_compile.proofs.SaysLaws.{said_one}

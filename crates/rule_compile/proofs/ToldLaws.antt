@@ -1,15 +1,14 @@
 -- The ranges of a machine's numbers, as they are added, for every profile.
-use Rattle.std.proofs.Common.{◌≡◌, ℕ, zero, suc, ◌+◌, ◌-◌, ◌⊎◌, ◌<◌, ◌≤◌, ◌^◌, List, [], ◌∷◌, ◌++◌, length, refl, ap, sym, ◌∙◌, subst}
-use Rattle.std.proofs.Common.{arith, max, inl, inr, length-append}
-use Rattle.std.specs.Prelude.{Some, slice_get, slice_index}
-use Rattle.std.specs.List.{All, Contains}
+use Rattle.std.proofs.Common.{◌≡◌, ℕ, ◌+◌, ◌-◌, ◌<◌, ◌≤◌, List, [], ◌∷◌, ◌++◌, length, refl, sym, ◌∙◌, subst}
+use Rattle.std.proofs.Common.{arith, max, inl, inr}
+use Rattle.std.specs.Prelude.{slice_index}
+use Rattle.std.specs.List.{All}
 use Rattle.std.proofs.lemmas.List.Elements.{All-append, All-cons, All-head, All-nil, All-weaker}
 use Rattle.std.proofs.lemmas.Bool.{cases_lt}
 use Rattle.call_record.specs.Words.{IsRecord}
 use Rattle.call_tables.specs.declared.arch.Arch.{Arch}
 use Rattle.call_tables.specs.Arch.{token_of}
 use Rattle.call_tables.specs.Numbers.{IsOther, IsOwn}
-use Rattle.profile.specs.declared.rules.Rule.{Rule}
 use Rattle.profile.specs.Policy.{IsClear, Policy}
 use Rattle.profile.specs.Rule.{Matches}
 use Rattle.profile.specs.Said.{said}
@@ -17,9 +16,9 @@ use Rattle.rule_compile.specs.declared.outline.Block.{Block}
 use Rattle.rule_compile.specs.declared.ranges.Leaf.{Leaf}
 use Rattle.rule_compile.specs.declared.ranges.Leaf.TheVariants.{Word}
 use Rattle.rule_compile.specs.declared.ranges.Range.{Range}
-use Rattle.rule_compile.specs.Decides.{Decides, IsWithin, by_word}
+use Rattle.rule_compile.specs.Decides.{Decides, by_word}
 use Rattle.rule_compile.specs.inner.Numbers.{AreOwn, IsExtended, IsFor, IsListed, IsNext, NoneFor, Tiles, more, nothing, wider}
-use Rattle.rule_compile.specs.inner.Runs.{AreBefore, IsBefore}
+use Rattle.rule_compile.specs.inner.Runs.{IsBefore}
 use Rattle.rule_compile.specs.inner.Stands.{DecidesCalls, DecidesNumber, HasMore}
 use Rattle.rule_compile.specs.inner.Told.{ToldSoFar}
 use Rattle.rule_compile.proofs.DecidesLaws.{before_more, decides_more}

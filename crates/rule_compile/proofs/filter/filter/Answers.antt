@@ -1,21 +1,16 @@
-use Rattle.std.proofs.Common.{◌≡◌, ℕ, List, ◌∙◌, ◌∷◌, [], ap, length, rules, subst, sym, vec_len}
-use Rattle.std.specs.Prelude.{Err, IsErrOf, Some}
+use Rattle.std.proofs.Common.{◌≡◌, ℕ, List, ◌∙◌, ◌∷◌, [], ap, subst, sym, vec_len}
+use Rattle.std.specs.Prelude.{Some}
 use Rattle.std.specs.List.{All}
 use Rattle.call_record.specs.Words.{IsRecord}
 use Rattle.profile.specs.Said.{said}
 use Rattle.bpf_insn.specs.declared.code.Operation.TheVariants.{LoadWord}
-use Rattle.rule_compile.specs.declared.fault.CompileError.{CompileError}
-use Rattle.rule_compile.specs.declared.fault.CompileError.TheVariants.{TooLong}
-use Rattle.rule_compile.specs.declared.label.Label.{Label}
-use Rattle.rule_compile.specs.declared.label.Target.{Target}
 use Rattle.rule_compile.specs.Shape.{IsCallFilter}
 use Rattle.rule_compile.specs.inner.Calls.{Apart}
 use Rattle.rule_compile.specs.inner.Code.{insn_of, position}
 use Rattle.rule_compile.specs.inner.Numbers.{IsListed}
 use Rattle.rule_compile.specs.inner.Runs.{gives_from}
 use Rattle.rule_compile.specs.inner.Stands.{TellsThese}
-use Rattle.rule_compile.proofs.CallLaws.{each_listed, whole_front, whole_full, whole_load, whole_one, whole_return}
-use Rattle.rule_compile.proofs.FullLaws.{all_fit}
+use Rattle.rule_compile.proofs.CallLaws.{each_listed, whole_front, whole_load, whole_one, whole_return}
 use Rattle.rule_compile.specs.declared.label.Target.TheVariants.{Place}
 use Rattle.rule_compile.specs.Steady.{Held, IsSteady, Nothing, Whole}
 use Rattle.rule_compile.specs.inner.Steadily.{IsSteadyAt}
@@ -23,75 +18,6 @@ use Rattle.rule_compile.proofs.LoadLaws.{steady_none}
 use Rattle.rule_compile.proofs.SteadyLaws.{steady_load}
 use Rattle.rule_compile.proofs.TellsLaws.{on_ok, whole_loaded, whole_returns, written_none}
 use Rattle.rule_compile.proofs.filter.filter.Goals as goal
-
-pub returns-in_err-place-clause-never : goal.returns-in_err-place-clause-never
-returns-in_err-place-clause-never c plain too_long =
-    let e : IsErrOf {T = Target} {E = CompileError} (Err c.in_err-place.field-0.0) TooLong = search rules in
-    all_fit c.args.profile.now c.args.code.now c.machines-machines.result.now c.machines-machines.ensures.machines
-    c.machines-machines.ensures.is_profile.machines_in_order c.requires.empty
-    (c.in_err-place.ensures.full e plain c.requires.no_block)
-
-pub returns-in_err-begin_at-in-Place-clause-never : goal.returns-in_err-begin_at-in-Place-clause-never
-returns-in_err-begin_at-in-Place-clause-never c plain too_long =
-    let p = c.args.profile.now in
-    let mid = c.tell_machines_apart.new.code in
-    let to = c.in_ok-place.field-0 in
-    let ms = c.machines-machines.result.now in
-    let apart : Apart p p.machines 0 [] mid to =
-    subst (λ ms. Apart p ms 0 [] mid to) c.machines-machines.ensures.machines
-    (subst (λ n. Apart p ms n [] mid to) c.requires.no_block
-    (subst (λ code. Apart p ms (vec_len c.args.blocks.now.blocks) code mid to) c.requires.empty
-    c.in_ok-place.ensures.apart)) in
-    let order = c.machines-machines.ensures.is_profile.machines_in_order in
-    let e : IsErrOf {T = Unit {0}} {E = CompileError} (Err c.in_err-begin_at-in-Place.field-0.0) TooLong = search rules in
-    c.in_err-begin_at-in-Place.ensures.full e (whole_front p plain mid to apart order c.in-Place.place c.in-Place.is)
-
-pub returns-in_err-load-in-Place-clause-never : goal.returns-in_err-load-in-Place-clause-never
-returns-in_err-load-in-Place-clause-never c plain too_long =
-    let p = c.args.profile.now in
-    let mid = c.tell_machines_apart.new.code in
-    let to = c.in_ok-place.field-0 in
-    let ms = c.machines-machines.result.now in
-    let apart : Apart p p.machines 0 [] mid to =
-    subst (λ ms. Apart p ms 0 [] mid to) c.machines-machines.ensures.machines
-    (subst (λ n. Apart p ms n [] mid to) c.requires.no_block
-    (subst (λ code. Apart p ms (vec_len c.args.blocks.now.blocks) code mid to) c.requires.empty
-    c.in_ok-place.ensures.apart)) in
-    let order = c.machines-machines.ensures.is_profile.machines_in_order in
-    let e : IsErrOf {T = Label} {E = CompileError} (Err c.in_err-load-in-Place.field-0.0) TooLong = search rules in
-    let same = c.in_ok-begin_at-in-Place.ensures.same (whole_front p plain mid to apart order c.in-Place.place c.in-Place.is) in
-    whole_full p plain mid to apart order (sym (ap length same) ∙ c.in_err-load-in-Place.ensures.full.0 e)
-
-pub returns-in_err-place-in-Return-clause-never : goal.returns-in_err-place-in-Return-clause-never
-returns-in_err-place-in-Return-clause-never c plain too_long =
-    let p = c.args.profile.now in
-    let mid = c.tell_machines_apart.new.code in
-    let to = c.in_ok-place.field-0 in
-    let ms = c.machines-machines.result.now in
-    let apart : Apart p p.machines 0 [] mid to =
-    subst (λ ms. Apart p ms 0 [] mid to) c.machines-machines.ensures.machines
-    (subst (λ n. Apart p ms n [] mid to) c.requires.no_block
-    (subst (λ code. Apart p ms (vec_len c.args.blocks.now.blocks) code mid to) c.requires.empty
-    c.in_ok-place.ensures.apart)) in
-    let order = c.machines-machines.ensures.is_profile.machines_in_order in
-    let e : IsErrOf {T = Label} {E = CompileError} (Err c.in_err-place-in-Return.field-0.0) TooLong = search rules in
-    whole_full p plain mid to apart order (c.in_err-place-in-Return.ensures.full e)
-
-pub returns-clause-never : goal.returns-clause-never
-returns-clause-never c plain too_long =
-    let p = c.args.profile.now in
-    let mid = c.tell_machines_apart.new.code in
-    let to = c.in_ok-place.field-0 in
-    let ms = c.machines-machines.result.now in
-    let apart : Apart p p.machines 0 [] mid to =
-    subst (λ ms. Apart p ms 0 [] mid to) c.machines-machines.ensures.machines
-    (subst (λ n. Apart p ms n [] mid to) c.requires.no_block
-    (subst (λ code. Apart p ms (vec_len c.args.blocks.now.blocks) code mid to) c.requires.empty
-    c.in_ok-place.ensures.apart)) in
-    let order = c.machines-machines.ensures.is_profile.machines_in_order in
-    let place = c.in_ok-place-in-Return.place in
-    c.begin_at-in-Return.ensures.full too_long
-    (whole_one p plain mid to apart order c.in-Return.word place c.near_return.new.self c.in-Return.is c.in_ok-place-in-Return.ensures.reached)
 
 pub returns-in-Place-clause-shape : goal.returns-in-Place-clause-shape
 returns-in-Place-clause-shape c plain =

@@ -1,4 +1,4 @@
-use Rattle.std.proofs.Common.{◌≡◌, subst, sym, refl, vec_len}
+use Rattle.std.proofs.Common.{subst, sym, vec_len}
 use Rattle.rule_compile.specs.inner.Runs.{IsBefore}
 use Rattle.rule_compile.specs.inner.Stands.{DecidesNumber, DecidesRules}
 use Rattle.rule_compile.proofs.DecidesLaws.{more_same}

@@ -1,7 +1,6 @@
-use Rattle.std.proofs.Common.{◌≡◌, ◌∙◌, ◌≤◌, ◌<◌, ◌++◌, ℕ, List, ap, arith, length, rules, subst, sym, take, drop, true, vec_len}
+use Rattle.std.proofs.Common.{◌≡◌, ◌∙◌, ◌++◌, ℕ, List, ap, length, rules, subst, sym, take, drop, vec_len}
 use Rattle.std.proofs.lemmas.List.{take-append-drop}
 use Rattle.rule_compile.specs.declared.outline.Block.{Block}
-use Rattle.rule_compile.specs.Rules.{begins_here}
 use Rattle.rule_compile.specs.inner.Left.{AreRules}
 use Rattle.rule_compile.specs.inner.Runs.{IsBefore}
 use Rattle.rule_compile.specs.inner.Stands.{HasMore, IsFound}

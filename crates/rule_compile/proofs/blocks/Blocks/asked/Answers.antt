@@ -1,9 +1,8 @@
-use Rattle.std.proofs.Common.{◌≡◌, ◌∙◌, ◌++◌, ◌<◌, [], ◌∷◌, ap, length, refl, rules, subst, sym, vec_len}
+use Rattle.std.proofs.Common.{◌≡◌, ◌<◌, length, refl, rules, subst, sym, vec_len}
 use Rattle.std.specs.List.{All}
-use Rattle.rule_compile.specs.declared.known.Known.{Known}
 use Rattle.rule_compile.specs.Decides.{StandsFor}
 use Rattle.rule_compile.specs.inner.Runs.{IsBefore}
-use Rattle.rule_compile.specs.inner.Stands.{IsFound, KnownStands}
+use Rattle.rule_compile.specs.inner.Stands.{KnownStands}
 use Rattle.rule_compile.proofs.DecidesLaws.{before_more}
 use Rattle.rule_compile.proofs.StandsLaws.{known_found, known_sound}
 use Rattle.rule_compile.proofs.blocks.Blocks.asked.Goals as goal
