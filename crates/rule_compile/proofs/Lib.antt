@@ -12,6 +12,8 @@ pub mod LeadsLaws
 pub mod LeftLaws
 pub mod LoadLaws
 pub mod MachineLaws
+pub mod NotedLaws
+pub mod PartLaws
 pub mod PickLaws
 pub mod PlanLaws
 pub mod RangeLaws

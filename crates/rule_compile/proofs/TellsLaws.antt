@@ -195,6 +195,10 @@ pub whole_returns : (p : Policy) (clear : IsClear p.rules) (mid new begun : List
 whole_returns p clear mid new begun word place tells reached begins r is_r =
     begins 0 r ∙ reached.runs 0 r ∙ whole_tells p clear mid (Return word) tells r is_r
 
+pub on_any : {T E : Type 0} (r : Result T E) (P : Type 0) → P → OnOk r P
+on_any (Ok x) P p = p
+on_any (Err e) P p = tt
+
 pub on_ok : {T E : Type 0} (r : Result T E) (P Q : Type 0) → OnOk r P → (P → Q) → OnOk r Q
 on_ok (Ok x) P Q is f = f is
 on_ok (Err e) P Q is f = tt

@@ -6,6 +6,7 @@ pub mod Emitted
 pub mod Goes
 pub mod Left
 pub mod Levels
+pub mod Noted
 pub mod Numbers
 pub mod Ranges
 pub mod Replies

@@ -5,10 +5,12 @@ ghost use Rattle.call_record.specs.Words.{IsRecord};
 ghost use Rattle.call_tables.specs.Arch.{token_of};
 ghost use Rattle.profile.specs.Policy.{IsClear};
 ghost use Rattle.profile.specs.Said.{said};
+ghost use Rattle.rule_compile.specs.Outline.{IsOutlineOf};
 ghost use Rattle.rule_compile.specs.Plan.{IsPlanOf, IsPlannedTooLong};
 ghost use Rattle.rule_compile.specs.Right.{IsRightFilter};
 ghost use Rattle.rule_compile.specs.Shape.{IsCallFilter, IsPlain};
 ghost use Rattle.rule_compile.specs.inner.Calls.{Apart, CallsOf};
+ghost use Rattle.rule_compile.specs.inner.Noted.{AreCalls};
 ghost use Rattle.rule_compile.specs.inner.Numbers.{IsListed};
 ghost use Rattle.rule_compile.specs.inner.Runs.{AreIn, AreWritten, gives_from};
 ghost use Rattle.rule_compile.specs.inner.Stands.{AreSound, TellsCalls, TellsThese};
@@ -64,6 +66,7 @@ pub fn make(alloc: Global, profile: &Profile) -> Result<Made, CompileError>
     ensures shape { IsPlain profile.now → IfOk result (λ made. IsCallFilter profile.now (insns_of made.bytes.items)) }
     ensures never { IsPlain profile.now → IfErr result (λ error. error ≡ CompileError.OutOfMemory) }
     ensures planned { IsErrOf result CompileError.TooLong → IsPlannedTooLong profile.now }
+    ensures outline { IfOk result (λ made. IsOutlineOf profile.now made.outline) }
 {
     let planned = plan(alloc, profile)?;
     planned.into_filter(alloc)
@@ -100,6 +103,7 @@ impl Planned {
 /// What is planned for the profile. It has no limit but memory.
 pub fn plan(alloc: Global, profile: &Profile) -> Result<Planned, AllocError>
     ensures plans { IfOk result (λ plan. IsPlanOf profile.now plan.insns.items) }
+    ensures outline { IfOk result (λ plan. IsOutlineOf profile.now plan.outline) }
 {
     let mut code = Assembler::new(alloc);
     let mut blocks = Blocks::new(alloc);
@@ -119,10 +123,13 @@ fn filter(
 ) -> Result<(), AllocError>
     requires empty { code.old ≡ [] }
     requires no_block { vec_len blocks.old.blocks ≡ 0 }
+    requires no_call { blocks.old.calls.items ≡ [] }
     requires sound { AreSound blocks.old }
     ensures gives { OnOk result ((r : List ℕ) → IsRecord r → gives_from code.new 0 0 r ≡ Some (said profile.now r)) }
     ensures some { OnOk result (1 ≤ length code.new) }
     ensures steady { OnOk result (IsSteady code.new 0 Nothing) }
+    ensures sound { OnOk result (AreSound blocks.new) }
+    ensures calls { OnOk result (AreCalls profile.now blocks.new) }
     ensures shape { IsPlain profile.now → OnOk result (IsCallFilter profile.now code.new) }
 {
     let machines = profile.machines();
@@ -160,6 +167,7 @@ fn tell_machines_apart(
     ensures tells_steadily { AreSteady code.old written.old.items → IfOk result (λ to. IsSteadyAt code.new to Whole) }
     ensures apart { IfOk result (Apart profile.now machines.now (vec_len blocks.old.blocks) code.old code.new) }
     ensures no_block { IsPlain profile.now → OnOk result (blocks.new ≡ blocks.old) }
+    ensures calls { All (IsListed profile.now) machines.now → AreCalls profile.now blocks.old → OnOk result (AreCalls profile.now blocks.new) }
 {
     let [machine, others @ ..] = machines else {
         return Ok(Target::Return(Word::KILL_THREAD));
@@ -210,6 +218,7 @@ fn calls_of(
     ensures always { AreSteady code.old written.old.items → IfOk result (IsAlwaysSteady code.new) }
     ensures calls { IfOk result (CallsOf profile.now machine (vec_len blocks.old.blocks) code.old code.new) }
     ensures no_block { IsPlain profile.now → OnOk result (blocks.new ≡ blocks.old) }
+    ensures noted { IsListed profile.now machine → AreCalls profile.now blocks.old → OnOk result (AreCalls profile.now blocks.new) }
 {
     let ranges = ranges_of(alloc, profile, machine, blocks)?;
     write_blocks(code, alloc, blocks, written)?;

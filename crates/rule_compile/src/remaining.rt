@@ -20,6 +20,7 @@ pub fn left(
     ensures less { AreRules rules.now → IfOk result (AsksLess rules.now subject) }
 {
     let mut questions = Questions::new(alloc);
+    // From rule to rule, which `for` does not do: each is one question or several.
     let mut rest = rules;
     while let [first, others @ ..] = rest {
         let (more, next) = others.split_at(further(others));

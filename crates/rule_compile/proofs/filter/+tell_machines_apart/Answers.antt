@@ -116,3 +116,21 @@ returns-in_ok-start-in-Some-clause-tells_steadily t c steady =
     (subst (λ to. IsSteadyAt top to Whole) (sym c.in-Some.ensures) own)
     (steady_kept mid top c.in_ok-calls_of.ensures.calls.grows c.in_ok-no.no c.in_ok-no.ensures.apart.placed Whole
     (c.in_ok-no.ensures.tells_steadily steady)))
+
+pub returns-in-None-clause-calls : goal.returns-in-None-clause-calls
+returns-in-None-clause-calls t c all noted =
+    let p = c.args.profile.now in
+    let ms = c.args.machines.now in
+    let archs : List Arch = take (length ms - 1) (drop 1 ms) in
+    let listed = subst (All (IsListed p)) (head_parts ms _ c.in-len1-up.len_at_least) all in
+    c.in_ok-calls_of.ensures.noted (All-head (IsListed p) _ archs listed)
+    (c.in_ok-no.ensures.calls (All-tail (IsListed p) _ archs listed) noted)
+
+pub returns-in_ok-start-in-Some-clause-calls : goal.returns-in_ok-start-in-Some-clause-calls
+returns-in_ok-start-in-Some-clause-calls t c all noted =
+    let p = c.args.profile.now in
+    let ms = c.args.machines.now in
+    let archs : List Arch = take (length ms - 1) (drop 1 ms) in
+    let listed = subst (All (IsListed p)) (head_parts ms _ c.in-len1-up.len_at_least) all in
+    c.in_ok-calls_of.ensures.noted (All-head (IsListed p) _ archs listed)
+    (c.in_ok-no.ensures.calls (All-tail (IsListed p) _ archs listed) noted)

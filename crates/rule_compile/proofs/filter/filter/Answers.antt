@@ -1,6 +1,11 @@
 use Rattle.std.proofs.Common.{◌≡◌, ℕ, List, ◌∙◌, ◌∷◌, [], ap, subst, sym, vec_len}
 use Rattle.std.specs.Prelude.{Some}
 use Rattle.std.specs.List.{All}
+use Rattle.std.proofs.lemmas.List.Elements.{All-nil}
+use Rattle.call_tables.specs.declared.arch.Arch.{Arch}
+use Rattle.profile.specs.Policy.{InOrder, Policy}
+use Rattle.rule_compile.specs.declared.blocks.Blocks.{Blocks}
+use Rattle.rule_compile.specs.inner.Noted.{AreCalls, IsKnownCall}
 use Rattle.call_record.specs.Words.{IsRecord}
 use Rattle.profile.specs.Said.{said}
 use Rattle.bpf_insn.specs.declared.code.Operation.TheVariants.{LoadWord}
@@ -16,7 +21,7 @@ use Rattle.rule_compile.specs.Steady.{Held, IsSteady, Nothing, Whole}
 use Rattle.rule_compile.specs.inner.Steadily.{IsSteadyAt}
 use Rattle.rule_compile.proofs.LoadLaws.{steady_none}
 use Rattle.rule_compile.proofs.SteadyLaws.{steady_load}
-use Rattle.rule_compile.proofs.TellsLaws.{on_ok, whole_loaded, whole_returns, written_none}
+use Rattle.rule_compile.proofs.TellsLaws.{on_any, on_ok, whole_loaded, whole_returns, written_none}
 use Rattle.rule_compile.proofs.filter.filter.Goals as goal
 
 pub returns-in-Place-clause-shape : goal.returns-in-Place-clause-shape
@@ -107,3 +112,24 @@ returns-clause-steady c =
     let place = c.in_ok-place-in-Return.place in
     on_ok c.begin_at-in-Return.result ((h : Held) → IsSteady new (position new place) h → IsSteady begun 0 h) (IsSteady begun 0 Nothing)
     c.begin_at-in-Return.ensures.steady (λ begins. begins Nothing (c.in_ok-place-in-Return.ensures.reached.steady Nothing tt))
+
+-- the calls that are noted of all machines
+all_calls : (p : Policy) (ms : List Arch) (order : InOrder p.machines) (old new : Blocks) → ms ≡ p.machines → old.calls.items ≡ []
+    → (All (IsListed p) ms → AreCalls p old → AreCalls p new) → AreCalls p new
+all_calls p ms order old new is none noted =
+    noted (subst (All (IsListed p)) (sym is) (each_listed p order))
+    (subst (All (IsKnownCall p old.blocks.items)) (sym none) (All-nil (IsKnownCall p old.blocks.items)))
+
+pub returns-in-Place-clause-calls : goal.returns-in-Place-clause-calls
+returns-in-Place-clause-calls c =
+    all_calls c.args.profile.now c.machines-machines.result.now c.machines-machines.ensures.is_profile.machines_in_order c.args.blocks.now
+    c.tell_machines_apart.new.blocks c.machines-machines.ensures.machines c.requires.no_call c.in_ok-place.ensures.calls
+
+pub returns-clause-calls : goal.returns-clause-calls
+returns-clause-calls c =
+    let p = c.args.profile.now in
+    let a = c.args.blocks.now in
+    let b = c.tell_machines_apart.new.blocks in
+    let all = all_calls p c.machines-machines.result.now c.machines-machines.ensures.is_profile.machines_in_order a
+    b c.machines-machines.ensures.machines c.requires.no_call c.in_ok-place.ensures.calls in
+    on_any c.begin_at-in-Return.result (AreCalls p b) all
