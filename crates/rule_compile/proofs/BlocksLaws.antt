@@ -116,12 +116,12 @@ kept_found blocks os other place sound kept =
 
 -- ---- a block more
 
-record IsRangeOf (ranges : List Range) (u : ℕ) : Type 0 where
+pub record IsRangeOf (ranges : List Range) (u : ℕ) : Type 0 where
   pub range : Range
   pub has : Contains ranges range
   pub within : IsWithin range u
 
-range_at : (xs : List Range) (a b u : ℕ) → Tiles a xs b → a ≤ u → u < b → IsRangeOf xs u
+pub range_at : (xs : List Range) (a b u : ℕ) → Tiles a xs b → a ≤ u → u < b → IsRangeOf xs u
 range_at [] a b u t low high = absurd (omega (arith, t, low, high))
 range_at (x ∷ xs) a b u t low high = elim (cases_lt x.last u) [
   | inl after ↦

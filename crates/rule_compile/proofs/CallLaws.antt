@@ -273,6 +273,13 @@ pub each_listed : (p : Policy) → InOrder p.machines → All (IsListed p) p.mac
 each_listed p order =
     All-weaker (Contains p.machines) (IsListed p) (λ a has. (order, has)) p.machines (All-contains_itself p.machines)
 
+-- the code of all machines, where there was neither code nor a block
+pub apart_whole : (p : Policy) (machines : List Arch) (count : ℕ) (old mid : List Insn) (to : Target) → machines ≡ p.machines → count ≡ 0
+    → old ≡ [] → Apart p machines count old mid to → Apart p p.machines 0 [] mid to
+apart_whole p machines count old mid to same none empty apart =
+    subst (λ ms. Apart p ms 0 [] mid to) same
+    (subst (λ n. Apart p machines n [] mid to) none (subst (λ code. Apart p machines count code mid to) empty apart))
+
 module _ (p : Policy) (plain : IsPlain p) (mid : List Insn) (to : Target) (apart : Apart p p.machines 0 [] mid to)
     (order : InOrder p.machines) where
   few : length p.machines ≤ 2

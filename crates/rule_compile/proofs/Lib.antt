@@ -26,3 +26,4 @@ pub mod SteadyLaws
 pub mod TellsLaws
 pub mod ThoseLaws
 pub mod ToldLaws
+pub mod TurnLaws

@@ -22,14 +22,16 @@ use Rattle.rule_compile.specs.Decides.{Decides}
 use Rattle.rule_compile.specs.Outline.{IsAskedOf, IsCallOf, IsOfCall, StandInTurn}
 use Rattle.rule_compile.specs.Rules.{IsClearAt}
 use Rattle.rule_compile.specs.inner.Left.{SomeHeld}
-use Rattle.rule_compile.specs.inner.Noted.{AreAsked, AreCalls, ArePartsOf, AsksOf, IsKnownCall, NotesNumber, no_call, one_call}
+use Rattle.rule_compile.specs.inner.Noted.{AreEarly, AreCalls, ArePartsOf, AsksOf, IsKnownCall, NotesNumber, no_call, one_call}
 use Rattle.rule_compile.specs.inner.Numbers.{IsFor, IsListed}
 use Rattle.rule_compile.specs.inner.Runs.{IsBefore}
 use Rattle.rule_compile.specs.inner.Stands.{AreAmong, AreBlocks, AreThose, DecidesRules, HasMore, IsFound}
 use Rattle.rule_compile.proofs.BlocksLaws.{stands_more}
 use Rattle.rule_compile.proofs.DecidesLaws.{before_more, decides_more}
+use Rattle.rule_compile.proofs.LeadsLaws.{word_decided}
 use Rattle.rule_compile.proofs.SaysLaws.{clear_on, native_own, said_is}
 use Rattle.rule_compile.proofs.ThoseLaws.{by_those, held_matches}
+use Rattle.rule_compile.proofs.TurnLaws.{in_turn}
 
 -- ---- parts
 
@@ -82,8 +84,9 @@ module _ (p : Policy) (clear : IsClear p.rules) (m : Arch) (number : ℕ) (liste
       let other = held_matches p.rules (token_of m) number p.default_word own those r token at w held_w in
       sym one.3 ∙ clear_on p r clear of_call.is_record one.0 other.0 one.1 other.1 one.2 other.2 ∙ other.3
 
-  call_asks : (asked : Asked) → AsksOf blocks own p.default_word call.leaf asked → IsAskedOf p blocks call asked
-  call_asks (Nothing place) (placed, has, at, held) =
+  call_asks : AreBlocks blocks → DecidesRules blocks own p.default_word call.leaf → (asked : Asked)
+      → AsksOf blocks own p.default_word call.leaf asked → IsAskedOf p blocks call asked
+  call_asks are_blocks decides (Nothing place) (placed, has, at, held) =
       let there = All-contains (λ (placed : Placed). slice_get p.rules placed.place ≡ Some placed.rule.now) own placed those.places has in
       let of_those = All-contains (λ (placed : Placed). Contains p.rules placed.rule.now × IsFor (token_of m) number placed.rule.now) own
       placed those.those has in (
@@ -96,22 +99,28 @@ module _ (p : Policy) (clear : IsClear p.rules) (m : Arch) (number : ℕ) (liste
               conditions = held r of_call.is_record;
             },
       )
-  call_asks (InParts parts) (os, are, says) = (
-    stand_in_turn blocks os (leaf.Word p.default_word) parts.items call.leaf are,
-    λ r of_call.
-        parts_all (λ part. IsClearAt part.rules.items r) blocks os (leaf.Word p.default_word) parts.items call.leaf
-        (λ part among v w met_v met_w.
-        held_clear r of_call v w (says r of_call.is_record v (among r v met_v)) (says r of_call.is_record w (among r w met_w))) are,
-  )
+  call_asks are_blocks decides (InParts parts) (os, are, says) =
+      let default = leaf.Word p.default_word in
+      let clear : (r : List ℕ) → IsOfCall call r → All (λ (part : Part). IsClearAt part.rules.items r) parts.items = λ r of_call.
+      parts_all (λ part. IsClearAt part.rules.items r) blocks os default parts.items call.leaf
+      (λ part among v w met_v met_w.
+      held_clear r of_call v w (says r of_call.is_record v (among r v met_v)) (says r of_call.is_record w (among r w met_w))) are in
+      record {
+        stand = stand_in_turn blocks os default parts.items call.leaf are;
+        clear = clear;
+        come = λ r of_call.
+            in_turn blocks are_blocks r of_call.is_record os default parts.items call.leaf (λ w. w ≡ p.default_word) (said p r) tt
+            (λ w d. sym (word_decided d)) (clear r of_call) are (call_decides decides r of_call);
+      }
 
-  call_before : (asked : Asked) → AsksOf blocks own p.default_word call.leaf asked → AreAsked (length blocks) asked
+  call_before : (asked : Asked) → AsksOf blocks own p.default_word call.leaf asked → AreEarly (length blocks) asked
   call_before (Nothing place) asks = tt
   call_before (InParts parts) asks = parts_before blocks asks.0 (leaf.Word p.default_word) parts.items call.leaf asks.1
 
-  pub call_known : DecidesRules blocks own p.default_word call.leaf → AsksOf blocks own p.default_word call.leaf call.asked
+  pub call_known : AreBlocks blocks → DecidesRules blocks own p.default_word call.leaf → AsksOf blocks own p.default_word call.leaf call.asked
       → IsKnownCall p blocks call
-  call_known decides asks = record {
-    is = record { decides = call_decides decides; asked = call_asks call.asked asks };
+  call_known are_blocks decides asks = record {
+    is = record { decides = call_decides decides; asked = call_asks are_blocks decides call.asked asks };
     parts = call_before call.asked asks;
   }
 
@@ -127,11 +136,15 @@ module _ (p : Policy) (old new : List Block) (g : HasMore old new) (blocks : Are
         (All-tail (λ (part : Part). IsBefore (length old) part.leaf) part parts all) is.1,
   )
 
-  asked_more : (call : Call) (asked : Asked) → AreAsked (length old) asked → IsAskedOf p old call asked → IsAskedOf p new call asked
+  asked_more : (call : Call) (asked : Asked) → AreEarly (length old) asked → IsAskedOf p old call asked → IsAskedOf p new call asked
   asked_more call (Nothing place) before is = is
-  asked_more call (InParts parts) before is = (turn_more (leaf.Word p.default_word) parts.items call.leaf tt before is.0, is.1)
+  asked_more call (InParts parts) before is = record {
+    stand = turn_more (leaf.Word p.default_word) parts.items call.leaf tt before is.stand;
+    clear = is.clear;
+    come = is.come;
+  }
 
-  early_more : (asked : Asked) → AreAsked (length old) asked → AreAsked (length new) asked
+  early_more : (asked : Asked) → AreEarly (length old) asked → AreEarly (length new) asked
   early_more (Nothing place) before = tt
   early_more (InParts parts) before =
       All-weaker (λ (part : Part). IsBefore (length old) part.leaf) (λ (part : Part). IsBefore (length new) part.leaf)
@@ -158,7 +171,7 @@ calls_noted p clear m number a b listed is_own g blocks (no_call is) all =
     subst (All (IsKnownCall p b.blocks.items)) (sym is) (calls_more p a.blocks.items b.blocks.items g blocks a.calls.items all)
 calls_noted p clear m number a b listed is_own g blocks (one_call own those noted) all =
     let bs = b.blocks.items in
-    let known = call_known p clear m number listed is_own own those bs noted.call noted.token_is noted.number_is noted.decides noted.asks in
+    let known = call_known p clear m number listed is_own own those bs noted.call noted.token_is noted.number_is blocks noted.decides noted.asks in
     subst (All (IsKnownCall p bs)) (sym noted.is)
     (All-push (IsKnownCall p bs) a.calls.items noted.call (calls_more p a.blocks.items bs g blocks a.calls.items all) known)
 

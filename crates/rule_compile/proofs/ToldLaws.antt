@@ -9,6 +9,7 @@ use Rattle.call_record.specs.Words.{IsRecord}
 use Rattle.call_tables.specs.declared.arch.Arch.{Arch}
 use Rattle.call_tables.specs.Arch.{token_of}
 use Rattle.call_tables.specs.Numbers.{IsOther, IsOwn}
+use Rattle.profile.specs.declared.rules.Rule.{Rule}
 use Rattle.profile.specs.Policy.{IsClear, Policy}
 use Rattle.profile.specs.Rule.{Matches}
 use Rattle.profile.specs.Said.{said}
@@ -86,6 +87,11 @@ told_none p m blocks = record {
 }
 
 -- ---- numbers without rules, and the next one that has some
+
+pub next_is : (p : Policy) (m : Arch) (t from end next : ℕ) (rules : List Rule) → t ≡ token_of m → rules ≡ p.rules
+    → IsNext rules t from end next → IsNext p.rules (token_of m) from end next
+next_is p m t from end next rules token is next_one =
+    subst (λ n. IsNext p.rules n from end next) token (subst (λ rs. IsNext rs t from end next) is next_one)
 
 module _ (p : Policy) (m : Arch) (blocks : List Block) (clear : IsClear p.rules) (from end next : ℕ) (old mid : List Range) (before : from < end)
     (own : AreOwn m from end) (told : ToldSoFar p m blocks from old) (is_next : IsNext p.rules (token_of m) from end next)

@@ -97,13 +97,13 @@ pub data NotesNumber (old new : Blocks) (rules : List Rule) (token number defaul
       → NotesNumber old new rules token number default
 
 -- each part goes on at a block that is there
-abbrev pub AreAsked : ℕ → Asked → Type 0
-AreAsked count (Nothing place) = ⊤
-AreAsked count (InParts parts) = All (λ part. IsBefore count part.leaf) parts.items
+abbrev pub AreEarly : ℕ → Asked → Type 0
+AreEarly count (Nothing place) = ⊤
+AreEarly count (InParts parts) = All (λ part. IsBefore count part.leaf) parts.items
 
 pub record IsKnownCall (policy : Policy) (blocks : List Block) (call : Call) : Type 0 where
   pub is : IsCallOf policy blocks call
-  pub parts : AreAsked (length blocks) call.asked
+  pub parts : AreEarly (length blocks) call.asked
 
 -- the calls that are noted
 abbrev pub AreCalls : Policy → Blocks → Type 0

@@ -10,12 +10,11 @@ use Rattle.call_record.specs.Words.{IsRecord}
 use Rattle.profile.specs.Said.{said}
 use Rattle.bpf_insn.specs.declared.code.Operation.TheVariants.{LoadWord}
 use Rattle.rule_compile.specs.Shape.{IsCallFilter}
-use Rattle.rule_compile.specs.inner.Calls.{Apart}
 use Rattle.rule_compile.specs.inner.Code.{insn_of, position}
 use Rattle.rule_compile.specs.inner.Numbers.{IsListed}
 use Rattle.rule_compile.specs.inner.Runs.{gives_from}
 use Rattle.rule_compile.specs.inner.Stands.{TellsThese}
-use Rattle.rule_compile.proofs.CallLaws.{each_listed, whole_front, whole_load, whole_one, whole_return}
+use Rattle.rule_compile.proofs.CallLaws.{apart_whole, each_listed, whole_front, whole_load, whole_one, whole_return}
 use Rattle.rule_compile.specs.declared.label.Target.TheVariants.{Place}
 use Rattle.rule_compile.specs.Steady.{Held, IsSteady, Nothing, Whole}
 use Rattle.rule_compile.specs.inner.Steadily.{IsSteadyAt}
@@ -29,12 +28,8 @@ returns-in-Place-clause-shape c plain =
     let p = c.args.profile.now in
     let mid = c.tell_machines_apart.new.code in
     let to = c.in_ok-place.field-0 in
-    let ms = c.machines-machines.result.now in
-    let apart : Apart p p.machines 0 [] mid to =
-    subst (λ ms. Apart p ms 0 [] mid to) c.machines-machines.ensures.machines
-    (subst (λ n. Apart p ms n [] mid to) c.requires.no_block
-    (subst (λ code. Apart p ms (vec_len c.args.blocks.now.blocks) code mid to) c.requires.empty
-    c.in_ok-place.ensures.apart)) in
+    let apart = apart_whole p c.machines-machines.result.now (vec_len c.args.blocks.now.blocks) c.args.code.now mid to
+    c.machines-machines.ensures.machines c.requires.no_block c.requires.empty c.in_ok-place.ensures.apart in
     let order = c.machines-machines.ensures.is_profile.machines_in_order in
     let same = c.in_ok-begin_at-in-Place.ensures.same (whole_front p plain mid to apart order c.in-Place.place c.in-Place.is) in
     whole_load p plain mid to apart order c.in-Place.place c.load.new.self c.in-Place.is
@@ -45,12 +40,8 @@ returns-clause-shape c plain =
     let p = c.args.profile.now in
     let mid = c.tell_machines_apart.new.code in
     let to = c.in_ok-place.field-0 in
-    let ms = c.machines-machines.result.now in
-    let apart : Apart p p.machines 0 [] mid to =
-    subst (λ ms. Apart p ms 0 [] mid to) c.machines-machines.ensures.machines
-    (subst (λ n. Apart p ms n [] mid to) c.requires.no_block
-    (subst (λ code. Apart p ms (vec_len c.args.blocks.now.blocks) code mid to) c.requires.empty
-    c.in_ok-place.ensures.apart)) in
+    let apart = apart_whole p c.machines-machines.result.now (vec_len c.args.blocks.now.blocks) c.args.code.now mid to
+    c.machines-machines.ensures.machines c.requires.no_block c.requires.empty c.in_ok-place.ensures.apart in
     let order = c.machines-machines.ensures.is_profile.machines_in_order in
     let place = c.in_ok-place-in-Return.place in
     let new = c.near_return.new.self in
