@@ -38,12 +38,10 @@ fn further(questions: &[Open]) -> usize
     ensures further { All (λ o. o.begins ≡ false) (take result questions.now) }
     ensures next { begins_here (drop result questions.now) ≡ true }
 {
-    for (place, open) in questions.iter().enumerate() {
-        if open.begins {
-            return place;
-        }
-    }
-    questions.len()
+    questions
+        .iter()
+        .position(|question| question.begins)
+        .unwrap_or(questions.len())
 }
 
 // Adds what is left of a rule. Gives whether it is met for sure.
