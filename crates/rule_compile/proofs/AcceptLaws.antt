@@ -76,11 +76,10 @@ module _ (p : List Insn) (i n : ℕ) (insn : Insn) (place : i + 1 + n ≡ length
   none cause.Scratch (masks e a) is = elim is.0 [ inl f ↦ cc | inr f ↦ cc ]
   none cause.Scratch (loads e a b c) is = elim is.0 [ inl f ↦ cc | inr f ↦ cc ]
 
+pub fine_has_no_cause : (p : List Insn) → AreFine p → (i : ℕ) (k : Cause) → HasCause p i k → ⊥
+fine_has_no_cause p fine i k has =
+    let at = fine_at p i has.0 fine has.1 in
+    none p i at.0 has.0 at.1 k at.2 has.2
+
 pub fine_is_accepted : (p : List Insn) → 1 ≤ length p → length p ≤ max_insns → AreFine p → IsAccepted p
-fine_is_accepted p some limit fine = record {
-  some = some;
-  limit = limit;
-  no_cause = λ i k (has : HasCause p i k).
-      let at = fine_at p i has.0 fine has.1 in
-      none p i at.0 has.0 at.1 k at.2 has.2;
-}
+fine_is_accepted p some limit fine = record { some = some; limit = limit; no_cause = fine_has_no_cause p fine }

@@ -1,7 +1,7 @@
 -- Blocks, as they are built: what a block that is added stands for, and what its ranges decide.
 use Rattle.std.proofs.Common.{◌≡◌, ℕ, zero, suc, ◌+◌, ◌-◌, ◌/◌, ◌⊎◌, ◌↔◌, ◌<◌, ◌≤◌, ◌^◌, List, [], ◌∷◌, ◌++◌, length, refl, ap, sym, ◌∙◌, subst}
-use Rattle.std.proofs.Common.{arith, max, inl, inr, length-append, get_or, take, drop, append_assoc}
-use Rattle.std.specs.Prelude.{Bool, Option, Some, None, Result, Ok, Err, IfOk, IfSome, true, false, slice_get, slice_index, slice_index_or, bit_and}
+use Rattle.std.proofs.Common.{arith, max, inl, inr, length-append, get_or, take, drop}
+use Rattle.std.specs.Prelude.{Bool, Option, Some, None, Result, Ok, Err, IfOk, IfSome, true, false, slice_get, slice_index, slice_index_or}
 use Rattle.std.specs.List.{All, Contains}
 use Rattle.std.proofs.lemmas.Bool.{cases_lt}
 use Rattle.std.proofs.lemmas.Nat.{and_le_l}
@@ -12,6 +12,7 @@ use Rattle.call_record.specs.Words.{IsRecord}
 use Rattle.rule_compile.specs.declared.asked.Open.{Open}
 use Rattle.rule_compile.specs.declared.blocks.Blocks.{Blocks}
 use Rattle.rule_compile.specs.declared.known.Known.{Known}
+use Rattle.rule_compile.specs.declared.known.Span.{Span}
 use Rattle.rule_compile.specs.declared.outline.Block.{Block}
 use Rattle.rule_compile.specs.declared.question.Subject.{Subject}
 use Rattle.rule_compile.specs.declared.ranges.Leaf.{Leaf}
@@ -21,11 +22,10 @@ use Rattle.rule_compile.specs.Decides.{Comes, Decides, IsWithin, StandsFor, by_b
 use Rattle.rule_compile.specs.Questions.{bits}
 use Rattle.rule_compile.specs.Rules.{IsClearAt, SomeMet, begins_here, put_first, rules_of, word_of}
 use Rattle.rule_compile.specs.inner.Built.{IsFoundAt, IsKept, IsReached}
-use Rattle.rule_compile.specs.inner.Left.{AreAlikeAt, AreRules, AreSame, AreStarts, AsksFor, IsFrom, IsOffset, IsQuestion, IsRule, weight, weight_of}
+use Rattle.rule_compile.specs.inner.Left.{AreAlikeAt, AreRules, AreStarts, AsksFor, IsOffset, IsQuestion, IsRule, weight, weight_of}
 use Rattle.rule_compile.specs.inner.Numbers.{IsExtended, Tiles, more, nothing, wider}
-use Rattle.rule_compile.specs.inner.Ranges.{IsPicked}
 use Rattle.rule_compile.specs.inner.Runs.{AreBefore, IsBefore}
-use Rattle.rule_compile.specs.inner.Stands.{AreBlocks, AreRanged, AreSound, BlocksStand, HasMore, IsBlock, IsFound, KnownStands}
+use Rattle.rule_compile.specs.inner.Stands.{AreBlocks, AreRanged, AreSound, AreSpans, BlocksStand, HasMore, IsBlock, IsFound, KnownStands, part_of}
 use Rattle.rule_compile.proofs.DecidesLaws.{before_le, before_more, decides_less, decides_more, get_less}
 use Rattle.rule_compile.proofs.FindLaws.{all_left, all_right}
 use Rattle.rule_compile.proofs.RangeLaws.{tiles_back, tiles_extended}
@@ -53,11 +53,22 @@ module _ (old new : List Block) (g : HasMore old new) (blocks : AreBlocks new) w
     stands = stands_more to os other before found.stands;
   }
 
+  pub spans_more : (os : List Open) (other : Leaf) (spans : List Span) (whole : Leaf) → IsBefore (length old) other
+      → AreSpans old os other spans whole → AreSpans new os other spans whole
+  spans_more os other [] whole before is = is
+  spans_more os other (span ∷ spans) whole before is =
+      let found : IsFound old (part_of os span) other span.leaf = is.0 in (
+        found_more (part_of os span) other span.leaf before found,
+        is.1,
+        spans_more os span.leaf spans whole found.before is.2,
+      )
+
   pub known_more : (known : Known) → KnownStands old known → KnownStands new known
   known_more known k = record {
     before = before_more old new g known.leaf k.before;
     goes_on = before_more old new g known.other k.goes_on;
     stands = stands_more known.leaf known.asked.items known.other k.goes_on k.stands;
+    spans = spans_more known.asked.items known.other known.spans.items known.leaf k.goes_on k.spans;
   }
 
   pub ranged_more : (os : List Open) (other : Leaf) (subject : Subject) (ranges : List Range) (end : ℕ) → IsBefore (length old) other
@@ -105,12 +116,12 @@ kept_found blocks os other place sound kept =
 
 -- ---- a block more
 
-record IsRangeOf (ranges : List Range) (u : ℕ) : Type 0 where
+pub record IsRangeOf (ranges : List Range) (u : ℕ) : Type 0 where
   pub range : Range
   pub has : Contains ranges range
   pub within : IsWithin range u
 
-range_at : (xs : List Range) (a b u : ℕ) → Tiles a xs b → a ≤ u → u < b → IsRangeOf xs u
+pub range_at : (xs : List Range) (a b u : ℕ) → Tiles a xs b → a ≤ u → u < b → IsRangeOf xs u
 range_at [] a b u t low high = absurd (omega (arith, t, low, high))
 range_at (x ∷ xs) a b u t low high = elim (cases_lt x.last u) [
   | inl after ↦

@@ -14,7 +14,7 @@ use Rattle.call_tables.specs.declared.arch.Arch.{Arch}
 use Rattle.call_tables.specs.Arch.{token_of}
 use Rattle.profile.specs.Policy.{InOrder, Policy}
 use Rattle.profile.specs.Said.{said}
-use Rattle.rule_compile.specs.declared.fault.CompileError.{CompileError}
+use Rattle.std.specs.declared.alloc.AllocError.{AllocError}
 use Rattle.rule_compile.specs.declared.written.Written.{Written}
 use Rattle.rule_compile.specs.declared.label.Label.{Label}
 use Rattle.rule_compile.specs.declared.label.Target.{Target}
@@ -134,7 +134,7 @@ searched_grows old new ranges word target (returns answer found is) = found.grow
 searched_grows old new ranges word target (loads_word mid begun first place found grown begins written start is) = grows_on found.grows
     (grows_on grown (grows_written begun new _ written))
 
-pub on_searched : (r : Result Written CompileError) (old new : List Insn) (ranges : List Range) (word : ℕ)
+pub on_searched : (r : Result Written AllocError) (old new : List Insn) (ranges : List Range) (word : ℕ)
     → IfOk r (λ found. Searched old new ranges word found.target) → OnOk r (Grows old new)
 on_searched (Ok found) old new ranges word is = searched_grows old new ranges word found.target is
 on_searched (Err e) old new ranges word is = tt
@@ -273,6 +273,13 @@ pub each_listed : (p : Policy) → InOrder p.machines → All (IsListed p) p.mac
 each_listed p order =
     All-weaker (Contains p.machines) (IsListed p) (λ a has. (order, has)) p.machines (All-contains_itself p.machines)
 
+-- the code of all machines, where there was neither code nor a block
+pub apart_whole : (p : Policy) (machines : List Arch) (count : ℕ) (old mid : List Insn) (to : Target) → machines ≡ p.machines → count ≡ 0
+    → old ≡ [] → Apart p machines count old mid to → Apart p p.machines 0 [] mid to
+apart_whole p machines count old mid to same none empty apart =
+    subst (λ ms. Apart p ms 0 [] mid to) same
+    (subst (λ n. Apart p machines n [] mid to) none (subst (λ code. Apart p machines count code mid to) empty apart))
+
 module _ (p : Policy) (plain : IsPlain p) (mid : List Insn) (to : Target) (apart : Apart p p.machines 0 [] mid to)
     (order : InOrder p.machines) where
   few : length p.machines ≤ 2
@@ -325,9 +332,6 @@ module _ (p : Policy) (plain : IsPlain p) (mid : List Insn) (to : Target) (apart
         few = omega (arith, weighs, ap (weight mid) one, light, few);
         short = omega (arith, deeps, ap (depth mid) one, shallow, few);
       }
-
-  pub whole_full : length mid ≡ 4096 → ⊥
-  whole_full full = omega (arith, full, these.short, few)
 
   -- it begins with what it begins with, and a return is alone
   pub whole_front : (first : Label) → to ≡ Place first → first.to_end ≡ length mid

@@ -9,7 +9,7 @@ use Rattle.bpf_insn.specs.declared.code.Operation.TheVariants.{ReturnK, Jump, Br
 use Rattle.bpf_insn.specs.declared.instruction.Insn.{Insn}
 use Rattle.bpf_insn.specs.Code.{operation_of}
 use Rattle.bpf_insn.specs.Machine.{holds, perform_if}
-use Rattle.rule_compile.specs.declared.fault.CompileError.{CompileError}
+use Rattle.std.specs.declared.alloc.AllocError.{AllocError}
 use Rattle.rule_compile.specs.declared.label.Label.{Label}
 use Rattle.rule_compile.specs.declared.label.Target.{Target}
 use Rattle.rule_compile.specs.declared.label.Target.TheVariants.{Place, Return}
@@ -43,12 +43,12 @@ grows_on {a} {b} {c} first next = record {
 pub grows_written : (a b : List Insn) (i : Insn) → b ≡ i ∷ a → Grows a b
 grows_written a b i written = subst (Grows a) (sym written) (grows_front i a)
 
-pub grows_after : {T : Type 0} (r : Result T CompileError) (a b c : List Insn) → OnOk r (Grows b c) → Grows a b → OnOk r (Grows a c)
+pub grows_after : {T : Type 0} (r : Result T AllocError) (a b c : List Insn) → OnOk r (Grows b c) → Grows a b → OnOk r (Grows a c)
 grows_after (Ok x) a b c next first = grows_on first next
 grows_after (Err e) a b c next first = tt
 
 -- where an instruction is written in front
-pub written_on : {T : Type 0} (r : Result T CompileError) (a b c : List Insn) (i : Insn) → OnOk r (c ≡ i ∷ b) → Grows a b
+pub written_on : {T : Type 0} (r : Result T AllocError) (a b c : List Insn) (i : Insn) → OnOk r (c ≡ i ∷ b) → Grows a b
     → OnOk r (Grows a c)
 written_on (Ok place) a b c i written g = subst (Grows a) (sym written) (grows_on g (grows_front i b))
 written_on (Err e) a b c i written g = tt
@@ -225,20 +225,20 @@ reach_new_return old word place start =
     }
 
 -- where one instruction is written
-pub if_written : (r : Result Label CompileError) (old new : List Insn) (i : Insn) (to : Target) → OnOk r (new ≡ i ∷ old)
+pub if_written : (r : Result Label AllocError) (old new : List Insn) (i : Insn) (to : Target) → OnOk r (new ≡ i ∷ old)
     → IfOk r (IsStart new)
     → ((place : Label) → place.to_end ≡ length (i ∷ old) → Reaches old (i ∷ old) to place) → IfOk r (Reaches old new to)
 if_written (Ok place) old new i to written start reach =
     subst (λ code. Reaches old code to place) (sym written) (reach place (start.1 ∙ ap length written))
 if_written (Err e) old new i to written start reach = tt
 
-pub if_reached : (r : Result Label CompileError) (old new : List Insn) (word : ℕ) (found : Label)
+pub if_reached : (r : Result Label AllocError) (old new : List Insn) (word : ℕ) (found : Label)
     → slice_get old (position old found) ≡ Some (insn_of ReturnK word)
     → IfOk r (Reaches old new (Place found)) → IfOk r (Reaches old new (Return word))
 if_reached (Ok place) old new word found stands there = reach_return old new word found place stands there
 if_reached (Err e) old new word found stands there = tt
 
-pub if_branched : (r : Result Label CompileError) (old top new : List Insn) (i : Insn) (test : Test) (k : ℕ) (exits : Exits)
+pub if_branched : (r : Result Label AllocError) (old top new : List Insn) (i : Insn) (test : Test) (k : ℕ) (exits : Exits)
     → OnOk r (new ≡ i ∷ top)
     → Branches old (i ∷ top) test k exits → OnOk r (Branches old new test k exits)
 if_branched (Ok place) old top new i test k exits written is = subst (λ code. Branches old code test k exits) (sym written) is

@@ -1,6 +1,6 @@
 -- Code that leads each record to what is decided.
-use Rattle.std.proofs.Common.{◌≡◌, ℕ, zero, suc, ◌+◌, ◌-◌, ◌/◌, ◌%◌, ◌==◌, ◌<◌, ◌≤◌, ◌^◌, ◌⊎◌, Bool, true, false, List, [], ◌∷◌, ◌++◌, length, refl, ap, sym}
-use Rattle.std.proofs.Common.{◌∙◌, subst, arith, bit_and, inl, inr, get_or}
+use Rattle.std.proofs.Common.{◌≡◌, ℕ, ◌/◌, ◌%◌, ◌==◌, ◌<◌, ◌≤◌, ◌^◌, true, false, List, [], ◌∷◌, ◌++◌, length, refl, ap, sym}
+use Rattle.std.proofs.Common.{◌∙◌, subst, arith, bit_and, get_or}
 use Rattle.std.specs.Prelude.{Option, Some, None, slice_get, slice_index, if◌then◌else◌}
 use Rattle.std.specs.List.{All, Contains}
 use Rattle.std.proofs.lemmas.Bool.{eq-eqb, le-leb, lt-leb, ne_eqb}
@@ -20,7 +20,6 @@ use Rattle.rule_compile.specs.declared.label.Target.{Target}
 use Rattle.rule_compile.specs.declared.label.Target.TheVariants.{Place, Return}
 use Rattle.rule_compile.specs.declared.outline.Block.{Block}
 use Rattle.rule_compile.specs.declared.question.Subject.{Subject}
-use Rattle.rule_compile.specs.declared.ranges.Leaf.{Leaf}
 use Rattle.rule_compile.specs.declared.ranges.Leaf.TheVariants as leaf
 use Rattle.rule_compile.specs.declared.ranges.Range.{Range}
 use Rattle.rule_compile.specs.Decides.{Decides, IsWithin, by_block, by_word}
@@ -29,8 +28,8 @@ use Rattle.rule_compile.specs.inner.Code.{Grows, IsStart, IsTarget, insn_of, pos
 use Rattle.rule_compile.specs.inner.Goes.{Branches}
 use Rattle.rule_compile.specs.inner.Left.{IsOffset}
 use Rattle.rule_compile.specs.inner.Ranges.{AreInOrder, IsLike}
-use Rattle.rule_compile.specs.inner.Runs.{AreLed, IsLoaded, Leads, LeadsByBits, LeadsByWord, LeadsElse, LeadsIn, PicksOut, gives_from, runs}
-use Rattle.rule_compile.proofs.FindLaws.{after_all, all_left, all_right, first_is_least, in_order_parts}
+use Rattle.rule_compile.specs.inner.Runs.{AreLed, Leads, LeadsByBits, LeadsByWord, LeadsIn, PicksOut, gives_from, runs}
+use Rattle.rule_compile.proofs.FindLaws.{after_all, first_is_least, in_order_parts}
 use Rattle.rule_compile.proofs.RunsLaws.{load_runs, mask_runs, runs_kept}
 
 -- a word decides just that word

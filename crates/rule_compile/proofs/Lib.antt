@@ -5,7 +5,6 @@ pub mod CallLaws
 pub mod ConditionLaws
 pub mod DecidesLaws
 pub mod FindLaws
-pub mod FullLaws
 pub mod GoesLaws
 pub mod HalvesLaws
 pub mod HeldLaws
@@ -13,7 +12,10 @@ pub mod LeadsLaws
 pub mod LeftLaws
 pub mod LoadLaws
 pub mod MachineLaws
+pub mod NotedLaws
+pub mod PartLaws
 pub mod PickLaws
+pub mod PlanLaws
 pub mod RangeLaws
 pub mod RulesLaws
 pub mod RunsLaws
@@ -24,3 +26,4 @@ pub mod SteadyLaws
 pub mod TellsLaws
 pub mod ThoseLaws
 pub mod ToldLaws
+pub mod TurnLaws

@@ -1,6 +1,5 @@
 -- Code that begins by a load compares steadily, whatever A holds.
 use Rattle.std.proofs.Common.{◌≡◌, ℕ, List, [], ◌∷◌, arith, subst, sym}
-use Rattle.std.specs.Prelude.{None, Option, Some}
 use Rattle.std.proofs.lemmas.List.Elements.{All-nil}
 use Rattle.bpf_insn.specs.declared.code.Arithmetic.TheVariants.{And}
 use Rattle.bpf_insn.specs.declared.code.Operand.TheVariants.{K}
@@ -9,9 +8,9 @@ use Rattle.bpf_insn.specs.declared.instruction.Insn.{Insn}
 use Rattle.rule_compile.specs.declared.label.Label.{Label}
 use Rattle.rule_compile.specs.declared.label.Target.TheVariants.{Place}
 use Rattle.rule_compile.specs.declared.written.Written.{Written}
-use Rattle.rule_compile.specs.Steady.{Held, IsOfWord, IsSteady, Part, Whole}
+use Rattle.rule_compile.specs.Steady.{Held, IsSteady, Part, Whole}
 use Rattle.rule_compile.specs.inner.Code.{IsStart, insn_of, position}
-use Rattle.rule_compile.specs.inner.Steadily.{AreSteady, IsAlwaysSteady, IsSteadyAt, held_by}
+use Rattle.rule_compile.specs.inner.Steadily.{AreSteady, IsAlwaysSteady, IsSteadyAt}
 use Rattle.rule_compile.proofs.SteadyLaws.{steady_load, steady_mask}
 
 -- where the code begins
@@ -28,11 +27,6 @@ pub masked_steady : (begun masked new : List Insn) (mask offset : ℕ) (place : 
 masked_steady begun masked new mask offset place anded written start s =
     loaded_steady masked new offset place written start
     (subst (λ code. IsSteady code 0 Whole) (sym anded) (steady_mask mask begun Whole tt s))
-
--- what A holds where a word or bits of one are told apart
-pub held_tells : (loaded : Option ℕ) → IsOfWord (held_by loaded)
-held_tells None = tt
-held_tells (Some offset) = tt
 
 -- no block is written
 pub steady_none : (code : List Insn) (written : List Written) → written ≡ [] → AreSteady code written

@@ -120,7 +120,7 @@ met_either os more r w begins h =
     let P : List Open → Type 0 = λ rule. IsRuleMet r rule × (word_of rule ≡ w) in
     any_either P (rules_of os) (rules_of more) (subst (Any P) (rules_append os more begins) h)
 
-begins_append : (os more : List Open) → begins_here os ≡ true → begins_here more ≡ true → begins_here (os ++ more) ≡ true
+pub begins_append : (os more : List Open) → begins_here os ≡ true → begins_here more ≡ true → begins_here (os ++ more) ≡ true
 begins_append [] more first next = next
 begins_append (o ∷ os) more first next = first
 

@@ -1,18 +1,17 @@
 -- What code gives from a place on, as more of it is written, and by its first instruction.
-use Rattle.std.proofs.Common.{◌≡◌, ℕ, zero, suc, ◌+◌, ◌-◌, ◌/◌, ◌%◌, ◌==◌, ◌<◌, ◌≤◌, ◌^◌, Bool, true, false, List, [], ◌∷◌, ◌++◌, length, refl, ap, sym}
-use Rattle.std.proofs.Common.{◌∙◌, subst, arith, length-append, bit_and}
-use Rattle.std.specs.Prelude.{Option, Some, None, slice_get, slice_index, if◌then◌else◌}
+use Rattle.std.proofs.Common.{◌≡◌, ℕ, suc, ◌+◌, ◌/◌, ◌%◌, ◌==◌, ◌≤◌, true, List, [], ◌∷◌, ◌++◌, length, refl, ap, sym}
+use Rattle.std.proofs.Common.{◌∙◌, arith, length-append, bit_and}
+use Rattle.std.specs.Prelude.{Some, None, slice_get, slice_index, if◌then◌else◌}
 use Rattle.std.specs.Option.{option_map}
 use Rattle.std.proofs.lemmas.Bool.{eq-eqb}
 use Rattle.std.proofs.lemmas.Option.{slice_get-get_or}
 use Rattle.call_record.specs.Words.{IsRecord}
 use Rattle.bpf_insn.specs.declared.code.Operand.TheVariants.{K}
-use Rattle.bpf_insn.specs.declared.code.Test.{Test}
 use Rattle.bpf_insn.specs.declared.code.Arithmetic.TheVariants.{And}
-use Rattle.bpf_insn.specs.declared.code.Operation.TheVariants.{Branch, Compute, Jump, LoadWord, ReturnK}
+use Rattle.bpf_insn.specs.declared.code.Operation.TheVariants.{Compute, Jump, LoadWord}
 use Rattle.bpf_insn.specs.declared.instruction.Insn.{Insn}
 use Rattle.bpf_insn.specs.Code.{operation_of}
-use Rattle.bpf_insn.specs.Machine.{Ending, Ends, Goes, Registers, after_one, ending, holds, loaded, perform_if, step, word_at}
+use Rattle.bpf_insn.specs.Machine.{Ending, Ends, Goes, Registers, after_one, ending, loaded, perform_if, step, word_at}
 use Rattle.bpf_insn.proofs.RunLaws.{ending_ends, ending_goes}
 use Rattle.rule_compile.specs.declared.label.Label.{Label}
 use Rattle.rule_compile.specs.declared.label.Target.{Target}

@@ -1,6 +1,6 @@
 -- What a profile says of a record, by the rules that match it.
-use Rattle.std.proofs.Common.{◌≡◌, ℕ, suc, ◌<◌, ◌==◌, ◌⊎◌, length, true, false, List, [], ◌∷◌, inl, inr, sym, ◌∙◌, subst, arith, refl}
-use Rattle.std.specs.List.{All, Any, Contains}
+use Rattle.std.proofs.Common.{◌≡◌, ℕ, suc, ◌==◌, ◌⊎◌, length, true, List, [], ◌∷◌, inl, inr, sym, ◌∙◌, subst, arith, refl}
+use Rattle.std.specs.List.{All, Contains}
 use Rattle.std.specs.Prelude.{slice_index}
 use Rattle.std.proofs.lemmas.Bool.{cases_Bool}
 use Rattle.std.proofs.lemmas.Bool.Decides.{Decides-eqb, not_from_Decides}
@@ -8,7 +8,7 @@ use Rattle.std.proofs.lemmas.List.Elements.{All-cons, All-contains, All-nil}
 use Rattle.call_record.specs.Words.{IsRecord, argument}
 use Rattle.call_tables.specs.declared.arch.Arch.{Arch}
 use Rattle.call_tables.specs.Arch.{token_of}
-use Rattle.call_tables.specs.Numbers.{HasCall, IsOther, IsOwn}
+use Rattle.call_tables.specs.Numbers.{IsOther, IsOwn}
 use Rattle.call_tables.proofs.NumberLaws.{own_not_other}
 use Rattle.profile.specs.declared.conditions.Cond.{Cond}
 use Rattle.profile.specs.declared.rules.Rule.{Rule}

@@ -1,5 +1,5 @@
 -- What decides questions, in two parts and all at once, and what decides the rules of a call.
-use Rattle.std.proofs.Common.{◌≡◌, ◌≢◌, ◌↔◌, ℕ, zero, suc, ◌⊎◌, ◌<◌, ◌≤◌, ◌==◌, Bool, true, false, List, [], ◌∷◌, ◌++◌, length, take, drop, refl, ap, sym, ◌∙◌}
+use Rattle.std.proofs.Common.{◌≡◌, ◌≢◌, ◌↔◌, ℕ, zero, suc, ◌⊎◌, ◌<◌, ◌≤◌, Bool, true, false, List, [], ◌∷◌, ◌++◌, length, take, drop, refl, ap, sym, ◌∙◌}
 use Rattle.std.proofs.Common.{subst, arith, inl, inr}
 use Rattle.std.specs.List.{All, Any}
 use Rattle.std.proofs.lemmas.Bool.{cases_eq, true≢false, false≢true}
@@ -8,22 +8,20 @@ use Rattle.std.proofs.lemmas.List.Elements.{All-cons, All-head, All-nil, All-pus
 use Rattle.call_record.specs.Words.{IsRecord}
 use Rattle.rule_compile.specs.declared.asked.Open.{Open}
 use Rattle.rule_compile.specs.declared.asked.Placed.{Placed}
-use Rattle.rule_compile.specs.declared.asked.Rest.{Rest}
-use Rattle.rule_compile.specs.declared.asked.Rest.TheVariants as rest
 use Rattle.rule_compile.specs.declared.blocks.Blocks.{Blocks}
 use Rattle.rule_compile.specs.declared.known.Known.{Known}
 use Rattle.rule_compile.specs.declared.outline.Block.{Block}
 use Rattle.rule_compile.specs.declared.ranges.Leaf.{Leaf}
 use Rattle.rule_compile.specs.declared.ranges.Leaf.TheVariants as leaf
-use Rattle.rule_compile.specs.Decides.{Comes, Decides, StandsFor, by_block, by_word}
+use Rattle.rule_compile.specs.Decides.{Comes, Decides, by_word}
 use Rattle.rule_compile.specs.Questions.{IsMet, outcome}
 use Rattle.rule_compile.specs.Rules.{IsClearAt, IsRuleMet, SomeMet, begins_here, put_first, rules_of, word_of}
-use Rattle.rule_compile.specs.inner.Left.{AreHeld, AreRules, AreSame, IsRule, SaysHeld, SomeHeld}
+use Rattle.rule_compile.specs.inner.Left.{AreRules, AreSame, IsRule, SomeHeld}
 use Rattle.rule_compile.specs.inner.Runs.{IsBefore}
 use Rattle.rule_compile.specs.inner.Stands.{AreBlocks, AreSound, BlocksStand, DecidesRules, HasMore, IsFound, KnownStands}
 use Rattle.rule_compile.proofs.DecidesLaws.{decides_more}
 use Rattle.rule_compile.proofs.FindLaws.{all_left, all_right}
-use Rattle.rule_compile.proofs.RulesLaws.{any_cases, any_here, any_later, any_nil, are_same_back, clear_same, met_either, met_left, met_right, met_same}
+use Rattle.rule_compile.proofs.RulesLaws.{any_cases, any_here, any_later, any_nil, any_weaker, are_same_back, clear_same, met_either, met_left, met_right, met_same}
 use Rattle.rule_compile.proofs.RulesLaws.{rules_append}
 
 -- ---- whether a rule with a word is met
@@ -67,6 +65,15 @@ met_or_not os r w =
       | inr never ↦ inr (λ both. never both.0)
     ])
     (rules_of os)
+
+pub met_some : (os : List Open) (r : List ℕ) → ((w : ℕ) × SomeMet os r w) ⊎ ((w : ℕ) → SomeMet os r w → ⊥)
+met_some os r =
+    elim (any_or_not (IsRuleMet r)
+    (all_or_not (λ (o : Open). IsMet o.question r) (λ o. same_or_not (outcome o.question r) o.question.wanted)) (rules_of os)) [
+      | inl any ↦ inl (word_of any.1, (any.0, any.1, any.2, any.3, (any.4, refl)))
+      | inr never ↦ inr (λ w met.
+          never (any_weaker (λ rule. IsRuleMet r rule × (word_of rule ≡ w)) (IsRuleMet r) (λ rule both. both.0) (rules_of os) met))
+    ]
 
 -- ---- questions in two parts
 

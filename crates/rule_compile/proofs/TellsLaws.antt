@@ -1,7 +1,7 @@
 -- Code that gives each call its word, for every profile.
-use Rattle.std.proofs.Common.{◌≡◌, ℕ, zero, suc, ◌+◌, ◌/◌, ◌<◌, ◌≤◌, ◌^◌, ◌⊎◌, true, false, List, [], ◌∷◌, ◌++◌, length, length-append, inl, inr, refl, ap, sym, ◌∙◌, subst, arith}
-use Rattle.std.specs.Prelude.{Err, Ok, OnOk, Option, Result, Some, None, slice_get, slice_index, slice_index_or, if◌then◌else◌}
-use Rattle.std.specs.List.{All, Contains}
+use Rattle.std.proofs.Common.{◌≡◌, ℕ, zero, suc, ◌<◌, ◌^◌, List, [], ◌∷◌, ◌++◌, length, length-append, inl, inr, refl, ap, sym, ◌∙◌, subst, arith}
+use Rattle.std.specs.Prelude.{Err, Ok, OnOk, Result, Some, None, slice_get, slice_index, slice_index_or, if◌then◌else◌}
+use Rattle.std.specs.List.{All}
 use Rattle.std.proofs.lemmas.Bool.{cases_eq, cases_lt, eq-eqb, ne_eqb}
 use Rattle.std.proofs.lemmas.List.Elements.{All-append, All-cons, All-nil, All-weaker}
 use Rattle.std.proofs.lemmas.Option.{get_or_from_slice_get, same_Some, slice_get_within}
@@ -23,9 +23,9 @@ use Rattle.rule_compile.specs.declared.ranges.Leaf.TheVariants as leaf
 use Rattle.rule_compile.specs.declared.ranges.Range.{Range}
 use Rattle.rule_compile.specs.declared.written.Written.{Written}
 use Rattle.rule_compile.specs.inner.Calls.{IsOneOf}
-use Rattle.rule_compile.specs.inner.Code.{Grows, IsIn, IsStart, IsTarget, insn_of, position}
+use Rattle.rule_compile.specs.inner.Code.{Grows, IsStart, IsTarget, insn_of, position}
 use Rattle.rule_compile.specs.inner.Goes.{Branches, Reaches}
-use Rattle.rule_compile.specs.inner.Numbers.{IsListed, Tiles}
+use Rattle.rule_compile.specs.inner.Numbers.{Tiles}
 use Rattle.rule_compile.specs.inner.Runs.{AreIn, AreWritten, Leads, LeadsByWord, gives_from, runs}
 use Rattle.rule_compile.specs.inner.Stands.{AreBlocks, DecidesCalls, HasMore, TellsCalls, TellsThese}
 use Rattle.rule_compile.proofs.CallLaws.{one_of_or_not}
@@ -194,6 +194,10 @@ pub whole_returns : (p : Policy) (clear : IsClear p.rules) (mid new begun : List
     → gives_from begun 0 0 r ≡ Some (said p r)
 whole_returns p clear mid new begun word place tells reached begins r is_r =
     begins 0 r ∙ reached.runs 0 r ∙ whole_tells p clear mid (Return word) tells r is_r
+
+pub on_any : {T E : Type 0} (r : Result T E) (P : Type 0) → P → OnOk r P
+on_any (Ok x) P p = p
+on_any (Err e) P p = tt
 
 pub on_ok : {T E : Type 0} (r : Result T E) (P Q : Type 0) → OnOk r P → (P → Q) → OnOk r Q
 on_ok (Ok x) P Q is f = f is

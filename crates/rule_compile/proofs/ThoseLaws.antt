@@ -1,9 +1,10 @@
 -- The rules for a number, as they are gathered, and what they decide.
-use Rattle.std.proofs.Common.{◌≡◌, ℕ, zero, suc, ◌+◌, ◌<◌, ◌⊎◌, List, [], ◌∷◌, ◌++◌, length, inl, inr, refl, ap, sym, ◌∙◌, subst, arith, length-append}
-use Rattle.std.specs.Prelude.{Err, IfOk, Ok, Result, slice_index, slice_index_or}
+use Rattle.std.proofs.Common.{◌≡◌, ℕ, ◌+◌, ◌<◌, ◌⊎◌, List, [], ◌∷◌, ◌++◌, length, inl, inr, ap, sym, ◌∙◌, subst, arith, length-append}
+use Rattle.std.specs.Prelude.{Err, IfOk, Ok, Result, Some, slice_get, slice_index, slice_index_or}
 use Rattle.std.specs.List.{All, Any, Contains}
 use Rattle.std.proofs.lemmas.Bool.{cases_lt}
 use Rattle.std.proofs.lemmas.List.{get_or_append_left, get_or_default}
+use Rattle.std.proofs.lemmas.Option.{slice_get-get_or}
 use Rattle.std.proofs.lemmas.List.Elements.{All-append, All-cons, All-contains, All-nil}
 use Rattle.std.proofs.Math.Seq.{get_or-append_seam}
 use Rattle.call_record.specs.Words.{IsRecord, argument}
@@ -15,7 +16,7 @@ use Rattle.rule_compile.specs.declared.outline.Block.{Block}
 use Rattle.rule_compile.specs.declared.ranges.Leaf.{Leaf}
 use Rattle.rule_compile.specs.declared.ranges.Leaf.TheVariants.{Word}
 use Rattle.rule_compile.specs.Decides.{Decides, by_word}
-use Rattle.rule_compile.specs.inner.Left.{AreHeld, SomeHeld}
+use Rattle.rule_compile.specs.inner.Left.{SomeHeld}
 use Rattle.rule_compile.specs.inner.Numbers.{IsFor}
 use Rattle.rule_compile.specs.inner.Stands.{AreThose, DecidesNumber, DecidesRules, IsClearOn, IsSaidBy, SaysNumber}
 use Rattle.rule_compile.proofs.SaysLaws.{said_one}
@@ -63,12 +64,22 @@ module _ (rules : List Rule) (token nr n : ℕ) (own : List Placed) (x : Rule) (
         All-append P own (placed ∷ []) those
         (All-cons P placed [] (subst (λ y. Contains rules y × IsFor token nr y) (sym of_x) (has, fits)) (All-nil P))
 
+    pub places_more : placed.place ≡ n → All (λ (placed : Placed). slice_get rules placed.place ≡ Some placed.rule.now) own
+        → All (λ (placed : Placed). slice_get rules placed.place ≡ Some placed.rule.now) (own ++ placed ∷ [])
+    places_more at places =
+        let P : Placed → Type 0 = λ placed. slice_get rules placed.place ≡ Some placed.rule.now in
+        let here : slice_get rules n ≡ Some x = slice_get-get_or rules n x inside ∙ ap Some (sym is) in
+        All-append P own (placed ∷ []) places
+        (All-cons P placed [] (ap (slice_get rules) at ∙ here ∙ ap Some (sym of_x)) (All-nil P))
+
 pub those_all : (rules : List Rule) (token nr : ℕ) (own : List Placed)
     → All (λ (placed : Placed). Contains rules placed.rule.now × IsFor token nr placed.rule.now) own
     → ((k : ℕ) (d : Rule) → k < length rules → IsFor token nr (slice_index_or rules k d)
     → Any (λ (placed : Placed). placed.rule.now ≡ slice_index_or rules k d) own)
+    → All (λ (placed : Placed). slice_get rules placed.place ≡ Some placed.rule.now) own
     → AreThose rules token nr own
-those_all rules token nr own those all = record {
+those_all rules token nr own those all places = record {
+  places = places;
   those = those;
   all = λ rule has fits.
       let e : slice_index_or rules has.0 rule ≡ rule = has.2 in
@@ -80,7 +91,7 @@ those_all rules token nr own those all = record {
 
 module _ (rules : List Rule) (token nr default : ℕ) (own : List Placed) (those : AreThose rules token nr own) (r : List ℕ)
     (at : slice_index r 1 ≡ token) (number : slice_index r 0 ≡ nr) where
-  held_matches : (w : ℕ) → SomeHeld own r w → (rule : Rule) × Contains rules rule × Matches rule r × (rule.word ≡ w)
+  pub held_matches : (w : ℕ) → SomeHeld own r w → (rule : Rule) × Contains rules rule × Matches rule r × (rule.word ≡ w)
   held_matches w (k, placed, inside, is, (held, word)) =
       let of_those = All-contains (λ (placed : Placed). Contains rules placed.rule.now × IsFor token nr placed.rule.now) own placed those.those
       (k, inside, is) in (

@@ -1,8 +1,8 @@
 -- The ranges of a machine's numbers, as they are added, for every profile.
-use Rattle.std.proofs.Common.{◌≡◌, ℕ, zero, suc, ◌+◌, ◌-◌, ◌⊎◌, ◌<◌, ◌≤◌, ◌^◌, List, [], ◌∷◌, ◌++◌, length, refl, ap, sym, ◌∙◌, subst}
-use Rattle.std.proofs.Common.{arith, max, inl, inr, length-append}
-use Rattle.std.specs.Prelude.{Some, slice_get, slice_index}
-use Rattle.std.specs.List.{All, Contains}
+use Rattle.std.proofs.Common.{◌≡◌, ℕ, ◌+◌, ◌-◌, ◌<◌, ◌≤◌, List, [], ◌∷◌, ◌++◌, length, refl, sym, ◌∙◌, subst}
+use Rattle.std.proofs.Common.{arith, max, inl, inr}
+use Rattle.std.specs.Prelude.{slice_index}
+use Rattle.std.specs.List.{All}
 use Rattle.std.proofs.lemmas.List.Elements.{All-append, All-cons, All-head, All-nil, All-weaker}
 use Rattle.std.proofs.lemmas.Bool.{cases_lt}
 use Rattle.call_record.specs.Words.{IsRecord}
@@ -17,9 +17,9 @@ use Rattle.rule_compile.specs.declared.outline.Block.{Block}
 use Rattle.rule_compile.specs.declared.ranges.Leaf.{Leaf}
 use Rattle.rule_compile.specs.declared.ranges.Leaf.TheVariants.{Word}
 use Rattle.rule_compile.specs.declared.ranges.Range.{Range}
-use Rattle.rule_compile.specs.Decides.{Decides, IsWithin, by_word}
+use Rattle.rule_compile.specs.Decides.{Decides, by_word}
 use Rattle.rule_compile.specs.inner.Numbers.{AreOwn, IsExtended, IsFor, IsListed, IsNext, NoneFor, Tiles, more, nothing, wider}
-use Rattle.rule_compile.specs.inner.Runs.{AreBefore, IsBefore}
+use Rattle.rule_compile.specs.inner.Runs.{IsBefore}
 use Rattle.rule_compile.specs.inner.Stands.{DecidesCalls, DecidesNumber, HasMore}
 use Rattle.rule_compile.specs.inner.Told.{ToldSoFar}
 use Rattle.rule_compile.proofs.DecidesLaws.{before_more, decides_more}
@@ -87,6 +87,11 @@ told_none p m blocks = record {
 }
 
 -- ---- numbers without rules, and the next one that has some
+
+pub next_is : (p : Policy) (m : Arch) (t from end next : ℕ) (rules : List Rule) → t ≡ token_of m → rules ≡ p.rules
+    → IsNext rules t from end next → IsNext p.rules (token_of m) from end next
+next_is p m t from end next rules token is next_one =
+    subst (λ n. IsNext p.rules n from end next) token (subst (λ rs. IsNext rs t from end next) is next_one)
 
 module _ (p : Policy) (m : Arch) (blocks : List Block) (clear : IsClear p.rules) (from end next : ℕ) (old mid : List Range) (before : from < end)
     (own : AreOwn m from end) (told : ToldSoFar p m blocks from old) (is_next : IsNext p.rules (token_of m) from end next)

@@ -1,6 +1,8 @@
 pub mod Decides
 pub mod Fault
 pub mod Moves
+pub mod Outline
+pub mod Plan
 pub mod Questions
 pub mod Right
 pub mod Rules

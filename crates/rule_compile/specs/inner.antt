@@ -5,8 +5,9 @@ pub mod Code
 pub mod Emitted
 pub mod Goes
 pub mod Left
+pub mod Levels
+pub mod Noted
 pub mod Numbers
-pub mod Plan
 pub mod Ranges
 pub mod Replies
 pub mod Runs

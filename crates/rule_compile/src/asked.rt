@@ -4,6 +4,7 @@ ghost use Rattle.call_record.specs.Words.{IsRecord, argument};
 ghost use Rattle.profile.specs.Condition.{Meets};
 ghost use Rattle.rule_compile.specs.Questions.{IsMet, compares};
 ghost use Rattle.rule_compile.specs.inner.Left.{AreHeld, AreLeft, AreRules, AreSame, IsOffset, IsQuestion, IsSame, SaysHeld};
+ghost use Rattle.rule_compile.specs.inner.Noted.{IsMetAt};
 ghost use Rattle.rule_compile.specs.inner.Asked.{Asks, IsAdded, IsAsked, IsLast, argument_at};
 
 use crate::index::mixed;
@@ -325,6 +326,7 @@ pub(crate) fn questions_of(
 ) -> Result<Rest, AllocError>
     ensures left { IfOk result AreLeft }
     ensures says { IfOk result (λ rest. (r : List ℕ) → IsRecord r → SaysHeld rules.now default r rest) }
+    ensures met { IfOk result (IsMetAt rules.now) }
 {
     let mut questions = Questions::new(alloc);
     for placed in rules {

@@ -3,23 +3,20 @@
 //! The jumps of a filter go forward. So where a jump goes to is there already when the jump is
 //! written, and how many instructions it skips is known.
 ghost use Rattle.std.specs.Prelude.{◌≡◌, ℕ, List, ◌+◌, ◌≤◌, ◌<◌, ◌↔◌, [], ◌∷◌, None, Some, length, slice_get, slice_index, ◌/◌, IfOk, IfSome, IsErrOf, IsTrue, OnOk};
-ghost use Rattle.bpf_insn.specs.Bytes.{insns_of, view_fault};
-ghost use Rattle.kernel_check.specs.Accepted.{IsAccepted};
 ghost use Rattle.call_record.specs.Words.{IsRecord};
-ghost use Rattle.rule_compile.specs.inner.Emitted.{IsFine};
+ghost use Rattle.rule_compile.specs.inner.Emitted.{AreFine, IsFine};
 ghost use Rattle.rule_compile.specs.inner.Left.{IsOffset};
 ghost use Rattle.rule_compile.specs.Steady.{Held, IsSteady, Whole};
 ghost use Rattle.rule_compile.specs.inner.Runs.{gives_from, runs};
 ghost use Rattle.rule_compile.specs.inner.Steadily.{IsAlwaysSteady, IsSteadyAt};
-ghost use Rattle.bpf_insn.specs.declared.code.Operation.TheVariants.{Compute, LoadWord};
+ghost use Rattle.bpf_insn.specs.declared.code.Operation.TheVariants.{Compute, Jump, LoadWord};
 ghost use Rattle.bpf_insn.specs.declared.code.Arithmetic.TheVariants.{And};
 ghost use Rattle.bpf_insn.specs.declared.code.Operand.TheVariants.{K};
 ghost use Rattle.rule_compile.specs.inner.Code.{Grows, HasExits, IsIn, IsStart, IsTarget, insn_of, position};
 ghost use Rattle.rule_compile.specs.inner.Goes.{Branches, JumpsTo, Reaches};
 
-use crate::fault::CompileError;
 use crate::label::{Exits, Label, Target};
-use bpf_insn::{Arithmetic, Insn, MAX_INSNS, Operand, Operation, Test, encode_into};
+use bpf_insn::{Arithmetic, Insn, Operand, Operation, Test};
 use call_record::Word;
 use std::alloc::{AllocError, Global};
 use std::marker::Model;
@@ -35,16 +32,15 @@ pub(crate) struct Assembler {
 }
 
 impl Model for Assembler {
-    ghost use Rattle.std.specs.Prelude.{◌≤◌, List, reverse, vec_len};
+    ghost use Rattle.std.specs.Prelude.{List, reverse};
     ghost use Rattle.bpf_insn.specs.declared.instruction.Insn.{Insn};
-    ghost use Rattle.bpf_insn.specs.declared.view.TheConstants.{MAX_INSNS};
     ghost use Rattle.rule_compile.specs.inner.Emitted.{AreFine};
 
     ghost Value = { List Insn };
 
     ghost view = { λ code. reverse code.backwards.items };
 
-    ghost invariant = { λ code. (vec_len code.backwards ≤ MAX_INSNS) × AreFine (reverse code.backwards.items) };
+    ghost invariant = { λ code. AreFine (reverse code.backwards.items) };
 }
 
 // An instruction that is no conditional jump.
@@ -70,34 +66,42 @@ impl Assembler {
     }
 
     // Writes an instruction in front of the code.
-    fn write(&mut self, insn: Insn) -> Result<Label, CompileError>
+    fn write(&mut self, insn: Insn) -> Result<Label, AllocError>
         requires { IsFine insn (length self.old) }
         ensures written { OnOk result (self.new ≡ insn ∷ self.old) }
         ensures start { IfOk result (IsStart self.new) }
-        ensures full { IsErrOf result CompileError.TooLong ↔ (length self.old ≡ MAX_INSNS) }
     {
-        if self.backwards.len() == MAX_INSNS {
-            return Err(CompileError::TooLong);
-        }
         self.backwards.push(insn)?;
         Ok(Label {
             to_end: self.backwards.len(),
         })
     }
 
+    // Writes a jump over so many instructions. Where they are more than 2^32 - 1, which take 32 GiB, no memory is said to be
+    // left.
+    fn jump(&mut self, skipped: usize) -> Result<Label, AllocError>
+        requires { skipped < length self.old }
+        ensures written { OnOk result (self.new ≡ insn_of Jump skipped ∷ self.old) }
+        ensures start { IfOk result (IsStart self.new) }
+    {
+        let Ok(skipped) = u32::try_from(skipped) else {
+            return Err(AllocError);
+        };
+        self.write(insn(Operation::Jump, skipped))
+    }
+
     /// Loads the word at an offset of the record, and goes on at the code so far.
-    pub(crate) fn load(&mut self, offset: u32) -> Result<Label, CompileError>
+    pub(crate) fn load(&mut self, offset: u32) -> Result<Label, AllocError>
         requires some { 1 ≤ length self.old }
         requires offset { IsOffset offset }
         ensures written { OnOk result (self.new ≡ insn_of LoadWord offset ∷ self.old) }
         ensures start { IfOk result (IsStart self.new) }
-        ensures full { IsErrOf result CompileError.TooLong ↔ (length self.old ≡ MAX_INSNS) }
     {
         self.write(insn(Operation::LoadWord, offset))
     }
 
     /// Keeps the bits of a mask in the word that is loaded.
-    pub(crate) fn mask(&mut self, mask: u32) -> Result<Label, CompileError>
+    pub(crate) fn mask(&mut self, mask: u32) -> Result<Label, AllocError>
         requires { 1 ≤ length self.old }
         ensures written { OnOk result (self.new ≡ insn_of (Compute And K) mask ∷ self.old) }
         ensures start { IfOk result (IsStart self.new) }
@@ -110,7 +114,6 @@ impl Assembler {
     fn distance(&self, to: Label) -> usize
         requires { IsIn self.now to }
         ensures skipped { result + to.to_end ≡ length self.now }
-        ensures limit { result ≤ MAX_INSNS }
     {
         self.backwards.len() - to.to_end
     }
@@ -153,10 +156,9 @@ impl Assembler {
 
     // The label, or where it is far from here, that of a jump to it. A conditional jump that is
     // written next reaches it, even after one more instruction.
-    fn near(&mut self, to: Label) -> Result<Label, CompileError>
+    fn near(&mut self, to: Label) -> Result<Label, AllocError>
         requires { IsIn self.old to }
         ensures reached { IfOk result (Reaches self.old self.new (Target.Place to)) }
-        ensures full { IsErrOf result CompileError.TooLong → length self.old ≡ MAX_INSNS }
     {
         let skipped = self.distance(to);
         if skipped < FARTHEST {
@@ -164,14 +166,13 @@ impl Assembler {
         }
         match self.find_jump(to) {
             Some(jump) => Ok(jump),
-            None => self.write(insn(Operation::Jump, skipped as u32)),
+            None => self.jump(skipped),
         }
     }
 
     /// The one return of the word, or where it is far from here, that of a jump to it, as `near`.
-    pub(crate) fn near_return(&mut self, word: Word) -> Result<Label, CompileError>
+    pub(crate) fn near_return(&mut self, word: Word) -> Result<Label, AllocError>
         ensures reached { IfOk result (Reaches self.old self.new (Target.Return word)) }
-        ensures full { IsErrOf result CompileError.TooLong → length self.old ≡ MAX_INSNS }
     {
         let ending = insn(Operation::ReturnK, word.0);
         match self.find(ending) {
@@ -181,27 +182,25 @@ impl Assembler {
     }
 
     /// Has the code begin at the place: by a jump to it, where something else stands in front of it.
-    pub(crate) fn begin_at(&mut self, to: Label) -> Result<(), CompileError>
+    pub(crate) fn begin_at(&mut self, to: Label) -> Result<(), AllocError>
         requires { IsIn self.old to }
         ensures grows { OnOk result (Grows self.old self.new) }
         ensures runs { OnOk result ((a : ℕ) (r : List ℕ) → gives_from self.new 0 a r ≡ gives_from self.old (position self.old to) a r) }
         ensures steady { OnOk result ((h : Held) → IsSteady self.old (position self.old to) h → IsSteady self.new 0 h) }
         ensures same { to.to_end ≡ length self.old → OnOk result (self.new ≡ self.old) }
-        ensures full { IsErrOf result CompileError.TooLong → to.to_end ≡ length self.old → ⊥ }
     {
         let skipped = self.distance(to);
         if skipped == 0 {
             return Ok(());
         }
-        self.write(insn(Operation::Jump, skipped as u32))?;
+        self.jump(skipped)?;
         Ok(())
     }
 
     // Where to go on at the target, as `near`.
-    fn near_target(&mut self, to: Target) -> Result<Label, CompileError>
+    fn near_target(&mut self, to: Target) -> Result<Label, AllocError>
         requires { IsTarget self.old to }
         ensures reached { IfOk result (Reaches self.old self.new to) }
-        ensures full { IsErrOf result CompileError.TooLong → length self.old ≡ MAX_INSNS }
     {
         match to {
             Target::Place(place) => self.near(place),
@@ -210,11 +209,10 @@ impl Assembler {
     }
 
     /// Goes on by how the word that is loaded compares with a number.
-    pub(crate) fn branch(&mut self, test: Test, k: u32, exits: Exits) -> Result<Label, CompileError>
+    pub(crate) fn branch(&mut self, test: Test, k: u32, exits: Exits) -> Result<Label, AllocError>
         requires { HasExits self.old exits }
         ensures start { IfOk result (IsStart self.new) }
         ensures written { OnOk result (Branches self.old self.new test k exits) }
-        ensures full { IsErrOf result CompileError.TooLong → MAX_INSNS < length self.old + 3 }
     {
         let no = self.near_target(exits.no)?;
         let yes = self.near_target(exits.yes)?;
@@ -259,19 +257,15 @@ impl Assembler {
         }
     }
 
-    /// The code as the bytes of a filter.
-    pub(crate) fn into_bytes(self, alloc: Global) -> Result<Vec<u8>, AllocError>
-        requires { 1 ≤ length self }
-        ensures program { IfOk result (λ bytes. view_fault bytes.items ≡ None) }
-        ensures read { IfOk result (λ bytes. insns_of bytes.items ≡ self) }
-        ensures accepted { IsAccepted self }
+    /// The instructions, the first one first.
+    pub(crate) fn into_insns(self) -> Vec<Insn>
+        ensures code { result.items ≡ self }
+        ensures fine { AreFine self }
     {
         let Assembler {
             backwards: mut insns,
         } = self;
         insns.reverse();
-        let mut bytes = vec![in alloc; 0u8; 8 * insns.len()]?;
-        encode_into(&insns, &mut bytes);
-        Ok(bytes)
+        insns
     }
 }

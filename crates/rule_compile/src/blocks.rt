@@ -12,7 +12,7 @@ ghost use Rattle.rule_compile.specs.inner.Stands.{AreRanged, AreSound, HasMore, 
 
 use crate::asked::{Open, Rest, are_alike};
 use crate::index::{Index, key_of};
-use crate::known::{Known, Span};
+use crate::known::Known;
 use crate::outline::{Block, Call, Outline};
 use crate::question::Subject;
 use crate::ranges::{Leaf, Ranges};
@@ -28,8 +28,6 @@ pub(crate) struct Blocks {
     // The calls that they decide, and the questions of which these are known.
     pub(crate) calls: Vec<Call>,
     pub(crate) known: Vec<Known>,
-    // The parts of the questions that are looked at, the last one first.
-    pub(crate) spans: Vec<Span>,
     /// How many ranges may be looked at, until the rules are no more asked all at once; none: as many as there are.
     pub(crate) room: Option<usize>,
 }
@@ -38,6 +36,7 @@ impl Blocks {
     /// No blocks.
     pub(crate) fn new(alloc: Global) -> Blocks
         ensures none { vec_len result.blocks ≡ 0 }
+        ensures no_call { result.calls.items ≡ [] }
         ensures sound { AreSound result }
     {
         Blocks {
@@ -45,19 +44,20 @@ impl Blocks {
             index: Index::new(alloc),
             calls: Vec::new(alloc),
             known: Vec::new(alloc),
-            spans: Vec::new(alloc),
             room: None,
         }
     }
 
     /// The blocks, and the calls that they decide.
-    pub(crate) fn into_outline(self) -> Outline {
+    pub(crate) fn into_outline(self) -> Outline
+        ensures blocks { result.blocks.items ≡ self.blocks.items }
+        ensures calls { result.calls.items ≡ self.calls.items }
+    {
         let Blocks {
             blocks,
             index: _,
             calls,
             known: _,
-            spans: _,
             room: _,
         } = self;
         Outline { blocks, calls }
@@ -78,6 +78,7 @@ impl Blocks {
         ensures kept { OnOk result (self.new.blocks.items ≡ take place self.old.blocks.items) }
         ensures aside { IfOk result (λ aside. aside.items ≡ drop place self.old.blocks.items) }
         ensures known { OnOk result (self.new.known.items ≡ self.old.known.items) }
+        ensures calls { OnOk result (self.new.calls.items ≡ self.old.calls.items) }
     {
         let aside = self.blocks.split_off(place)?;
         self.index.forget(aside.len());
@@ -88,6 +89,7 @@ impl Blocks {
     pub(crate) fn drop_from(&mut self, place: usize)
         ensures kept { self.new.blocks.items ≡ take place self.old.blocks.items }
         ensures known { self.new.known.items ≡ self.old.known.items }
+        ensures calls { self.new.calls.items ≡ self.old.calls.items }
     {
         self.index.forget(self.blocks.len().saturating_sub(place));
         self.blocks.truncate(place);
@@ -101,6 +103,7 @@ impl Blocks {
     ) -> Result<(), AllocError>
         ensures blocks { OnOk result (self.new.blocks.items ≡ self.old.blocks.items ++ aside.items) }
         ensures known { OnOk result (self.new.known.items ≡ self.old.known.items) }
+        ensures calls { OnOk result (self.new.calls.items ≡ self.old.calls.items) }
     {
         self.index.push_all(alloc, &aside)?;
         self.blocks.append(&mut aside)?;
@@ -123,6 +126,7 @@ impl Blocks {
         ensures sound { OnOk result (AreSound self.new) }
         ensures more { OnOk result (HasMore self.old.blocks.items self.new.blocks.items) }
         ensures known { OnOk result (self.new.known.items ≡ self.old.known.items) }
+        ensures calls { OnOk result (self.new.calls.items ≡ self.old.calls.items) }
         ensures found { IfOk result (λ leaf. IfSome leaf (IsFound self.new.blocks.items rules.now other.now)) }
         ensures always { self.old.room ≡ None → IfOk result IsSome }
         ensures room { self.old.room ≡ None → OnOk result (self.new.room ≡ None) }
@@ -166,6 +170,7 @@ impl Blocks {
         ensures sound { OnOk result (AreSound self.new) }
         ensures more { OnOk result (HasMore self.old.blocks.items self.new.blocks.items) }
         ensures known { OnOk result (self.new.known.items ≡ self.old.known.items) }
+        ensures calls { OnOk result (self.new.calls.items ≡ self.old.calls.items) }
         ensures found { IfOk result (λ leaf. IfSome leaf (IsFoundAt self.new.blocks.items rules.now other.now subject start)) }
         ensures always { self.old.room ≡ None → IfOk result IsSome }
         ensures room { self.old.room ≡ None → OnOk result (self.new.room ≡ None) }
@@ -180,6 +185,7 @@ impl Blocks {
     fn has_room(&mut self, count: usize) -> bool
         ensures blocks { self.new.blocks.items ≡ self.old.blocks.items }
         ensures known { self.new.known.items ≡ self.old.known.items }
+        ensures calls { self.new.calls.items ≡ self.old.calls.items }
         ensures none { self.old.room ≡ None → (IsTrue result × (self.new.room ≡ None)) }
     {
         let Some(room) = self.room else {
@@ -209,6 +215,7 @@ impl Blocks {
         ensures sound { OnOk result (AreSound self.new) }
         ensures more { OnOk result (HasMore self.old.blocks.items self.new.blocks.items) }
         ensures known { OnOk result (self.new.known.items ≡ self.old.known.items) }
+        ensures calls { OnOk result (self.new.calls.items ≡ self.old.calls.items) }
         ensures found { IfOk result (IsFound self.new.blocks.items rules.now other.now) }
         ensures room { OnOk result (self.new.room ≡ self.old.room) }
     {
@@ -235,6 +242,7 @@ impl Blocks {
     fn put(&mut self, alloc: Global, block: Block) -> Result<(), AllocError>
         ensures blocks { OnOk result (self.new.blocks.items ≡ self.old.blocks.items ++ block ∷ []) }
         ensures known { OnOk result (self.new.known.items ≡ self.old.known.items) }
+        ensures calls { OnOk result (self.new.calls.items ≡ self.old.calls.items) }
         ensures room { OnOk result (self.new.room ≡ self.old.room) }
     {
         self.index.push(alloc, key_of(&block.rules, &block.other))?;

@@ -1,13 +1,16 @@
 //! The filter of a profile.
-ghost use Rattle.std.specs.Prelude.{◌≡◌, ◌≤◌, ◌<◌, ◌+◌, ◌*◌, ℕ, List, [], None, Some, length, vec_len, All, OnOk, IfErr, IfOk, IsErrOf, MatchOption};
-ghost use Rattle.bpf_insn.specs.Bytes.{insns_of, view_fault};
+ghost use Rattle.std.specs.Prelude.{◌≡◌, ◌↔◌, ◌≤◌, ◌<◌, ◌+◌, ◌*◌, ℕ, List, [], None, Some, length, vec_len, All, OnOk, IfErr, IfOk, IsErrOf, MatchOption};
+ghost use Rattle.bpf_insn.specs.Bytes.{insns_of, max_insns, spelling, view_fault};
 ghost use Rattle.call_record.specs.Words.{IsRecord};
 ghost use Rattle.call_tables.specs.Arch.{token_of};
 ghost use Rattle.profile.specs.Policy.{IsClear};
 ghost use Rattle.profile.specs.Said.{said};
+ghost use Rattle.rule_compile.specs.Outline.{IsOutlineOf};
+ghost use Rattle.rule_compile.specs.Plan.{IsPlanOf, IsPlannedTooLong};
 ghost use Rattle.rule_compile.specs.Right.{IsRightFilter};
 ghost use Rattle.rule_compile.specs.Shape.{IsCallFilter, IsPlain};
 ghost use Rattle.rule_compile.specs.inner.Calls.{Apart, CallsOf};
+ghost use Rattle.rule_compile.specs.inner.Noted.{AreCalls};
 ghost use Rattle.rule_compile.specs.inner.Numbers.{IsListed};
 ghost use Rattle.rule_compile.specs.inner.Runs.{AreIn, AreWritten, gives_from};
 ghost use Rattle.rule_compile.specs.inner.Stands.{AreSound, TellsCalls, TellsThese};
@@ -22,12 +25,12 @@ use crate::outline::Outline;
 use crate::ranges::ranges_of;
 use crate::search::{search_word, write_blocks};
 use crate::written::Written;
-use bpf_insn::Test;
+use bpf_insn::{Insn, MAX_INSNS, Test, encode_into};
 use call_record::Word;
 use call_record::offset::{MACHINE, NUMBER};
 use call_tables::Arch;
 use profile::Profile;
-use std::alloc::Global;
+use std::alloc::{AllocError, Global};
 
 /// A filter of the profile, as the bytes of its instructions: the kernel accepts it, and its verdict on each call record is
 /// the one that the profile says, conditions included.
@@ -40,6 +43,7 @@ pub fn compile(alloc: Global, profile: &Profile) -> Result<Vec<u8>, CompileError
     ensures steady { IfOk result (λ bytes. IsSteady (insns_of bytes.items) 0 Nothing) }
     ensures shape { IsPlain profile.now → IfOk result (λ bytes. IsCallFilter profile.now (insns_of bytes.items)) }
     ensures never { IsPlain profile.now → IfErr result (λ error. error ≡ CompileError.OutOfMemory) }
+    ensures planned { IsErrOf result CompileError.TooLong → IsPlannedTooLong profile.now }
 {
     let Made { bytes, outline: _ } = make(alloc, profile)?;
     Ok(bytes)
@@ -50,7 +54,7 @@ pub fn compile(alloc: Global, profile: &Profile) -> Result<Vec<u8>, CompileError
 pub struct Made {
     /// The bytes of its instructions.
     pub bytes: Vec<u8>,
-    /// What is asked where, and for which rules. Nothing is promised of it.
+    /// What is asked where, and for which rules.
     pub outline: Outline,
 }
 
@@ -61,13 +65,53 @@ pub fn make(alloc: Global, profile: &Profile) -> Result<Made, CompileError>
     ensures steady { IfOk result (λ made. IsSteady (insns_of made.bytes.items) 0 Nothing) }
     ensures shape { IsPlain profile.now → IfOk result (λ made. IsCallFilter profile.now (insns_of made.bytes.items)) }
     ensures never { IsPlain profile.now → IfErr result (λ error. error ≡ CompileError.OutOfMemory) }
+    ensures planned { IsErrOf result CompileError.TooLong → IsPlannedTooLong profile.now }
+    ensures outline { IfOk result (λ made. IsOutlineOf profile.now made.outline) }
+{
+    let planned = plan(alloc, profile)?;
+    planned.into_filter(alloc)
+}
+
+/// A right program for a profile, of any length, and what the compiler knows of it.
+#[derive(Drop)]
+pub struct Planned {
+    /// Its instructions.
+    pub insns: Vec<Insn>,
+    /// What is asked where, and for which rules.
+    pub outline: Outline,
+}
+
+impl Planned {
+    /// The filter of these instructions, if they are no more than the kernel takes.
+    pub fn into_filter(self, alloc: Global) -> Result<Made, CompileError>
+        ensures too_long { IsErrOf result CompileError.TooLong ↔ (max_insns < length self.insns.items) }
+        ensures spelled { IfOk result (λ made. made.bytes.items ≡ spelling self.insns.items) }
+        ensures read { IfOk result (λ made. insns_of made.bytes.items ≡ self.insns.items) }
+        ensures program { 1 ≤ length self.insns.items → IfOk result (λ made. view_fault made.bytes.items ≡ None) }
+        ensures outline { IfOk result (λ made. made.outline ≡ self.outline) }
+    {
+        let Planned { insns, outline } = self;
+        if insns.len() > MAX_INSNS {
+            return Err(CompileError::TooLong);
+        }
+        let mut bytes = vec![in alloc; 0u8; 8 * insns.len()]?;
+        encode_into(&insns, &mut bytes);
+        Ok(Made { bytes, outline })
+    }
+}
+
+/// What is planned for the profile. It has no limit but memory.
+pub fn plan(alloc: Global, profile: &Profile) -> Result<Planned, AllocError>
+    ensures plans { IfOk result (λ plan. IsPlanOf profile.now plan.insns.items) }
+    ensures outline { IfOk result (λ plan. IsOutlineOf profile.now plan.outline) }
 {
     let mut code = Assembler::new(alloc);
     let mut blocks = Blocks::new(alloc);
     filter(&mut code, alloc, profile, &mut blocks)?;
-    let bytes = code.into_bytes(alloc)?;
-    let outline = blocks.into_outline();
-    Ok(Made { bytes, outline })
+    Ok(Planned {
+        insns: code.into_insns(),
+        outline: blocks.into_outline(),
+    })
 }
 
 // The whole code. A record of no listed machine is foreign.
@@ -76,15 +120,17 @@ fn filter(
     alloc: Global,
     profile: &Profile,
     blocks: &mut Blocks,
-) -> Result<(), CompileError>
+) -> Result<(), AllocError>
     requires empty { code.old ≡ [] }
     requires no_block { vec_len blocks.old.blocks ≡ 0 }
+    requires no_call { blocks.old.calls.items ≡ [] }
     requires sound { AreSound blocks.old }
     ensures gives { OnOk result ((r : List ℕ) → IsRecord r → gives_from code.new 0 0 r ≡ Some (said profile.now r)) }
     ensures some { OnOk result (1 ≤ length code.new) }
     ensures steady { OnOk result (IsSteady code.new 0 Nothing) }
+    ensures sound { OnOk result (AreSound blocks.new) }
+    ensures calls { OnOk result (AreCalls profile.now blocks.new) }
     ensures shape { IsPlain profile.now → OnOk result (IsCallFilter profile.now code.new) }
-    ensures never { IsPlain profile.now → IsErrOf result CompileError.TooLong → ⊥ }
 {
     let machines = profile.machines();
     let mut written = Vec::new(alloc);
@@ -109,7 +155,7 @@ fn tell_machines_apart(
     machines: &[Arch],
     blocks: &mut Blocks,
     written: &mut Vec<Written>,
-) -> Result<Target, CompileError>
+) -> Result<Target, AllocError>
     requires clear { IsClear profile.now.rules }
     requires sound { AreSound blocks.old }
     requires placed { AreIn code.old written.old.items }
@@ -121,7 +167,7 @@ fn tell_machines_apart(
     ensures tells_steadily { AreSteady code.old written.old.items → IfOk result (λ to. IsSteadyAt code.new to Whole) }
     ensures apart { IfOk result (Apart profile.now machines.now (vec_len blocks.old.blocks) code.old code.new) }
     ensures no_block { IsPlain profile.now → OnOk result (blocks.new ≡ blocks.old) }
-    ensures full { IsErrOf result CompileError.TooLong → IsPlain profile.now → vec_len blocks.old.blocks ≡ 0 → All (IsListed profile.now) machines.now → 4096 < length code.old + 1546 * length machines.now }
+    ensures calls { All (IsListed profile.now) machines.now → AreCalls profile.now blocks.old → OnOk result (AreCalls profile.now blocks.new) }
 {
     let [machine, others @ ..] = machines else {
         return Ok(Target::Return(Word::KILL_THREAD));
@@ -160,7 +206,7 @@ fn calls_of(
     machine: Arch,
     blocks: &mut Blocks,
     written: &mut Vec<Written>,
-) -> Result<Target, CompileError>
+) -> Result<Target, AllocError>
     requires clear { IsClear profile.now.rules }
     requires sound { AreSound blocks.old }
     requires placed { AreIn code.old written.old.items }
@@ -172,7 +218,7 @@ fn calls_of(
     ensures always { AreSteady code.old written.old.items → IfOk result (IsAlwaysSteady code.new) }
     ensures calls { IfOk result (CallsOf profile.now machine (vec_len blocks.old.blocks) code.old code.new) }
     ensures no_block { IsPlain profile.now → OnOk result (blocks.new ≡ blocks.old) }
-    ensures full { IsErrOf result CompileError.TooLong → IsPlain profile.now → vec_len blocks.old.blocks ≡ 0 → IsListed profile.now machine → 4096 < length code.old + 1543 }
+    ensures noted { IsListed profile.now machine → AreCalls profile.now blocks.old → OnOk result (AreCalls profile.now blocks.new) }
 {
     let ranges = ranges_of(alloc, profile, machine, blocks)?;
     write_blocks(code, alloc, blocks, written)?;

@@ -1,6 +1,8 @@
 //! Questions of which it is known what decides them.
-ghost use Rattle.std.specs.Prelude.{◌≡◌, IsTrue};
+ghost use Rattle.std.specs.Prelude.{◌≡◌, IfOk, IsTrue};
 ghost use Rattle.rule_compile.specs.inner.Left.{AreSame};
+ghost use Rattle.rule_compile.specs.inner.Noted.{AreBySpans};
+ghost use Rattle.rule_compile.specs.inner.Stands.{part_of as questions_of_span};
 
 use crate::asked::{Open, are_alike};
 use crate::outline::Part;
@@ -44,21 +46,29 @@ impl Known {
     }
 
     /// The parts in which questions that are the same are asked.
-    pub(crate) fn parts_of(&self, alloc: Global, open: &[Open]) -> Result<Vec<Part>, AllocError> {
+    pub(crate) fn parts_of(
+        &self,
+        alloc: Global,
+        questions: &[Open],
+    ) -> Result<Vec<Part>, AllocError>
+        ensures { IfOk result (λ parts. AreBySpans questions.now self.now.spans.items parts.items) }
+    {
         let mut parts = Vec::new(alloc);
         for span in &self.spans {
-            parts.push(part_of(alloc, open, *span)?)?;
+            parts.push(part_of(alloc, questions, *span)?)?;
         }
         Ok(parts)
     }
 }
 
 // The questions of a part.
-fn part_of(alloc: Global, open: &[Open], span: Span) -> Result<Part, AllocError> {
-    let mut rules = Vec::new(alloc);
-    for open in open.iter().skip(span.start).take(span.count) {
-        rules.push(*open)?;
-    }
+fn part_of(alloc: Global, questions: &[Open], span: Span) -> Result<Part, AllocError>
+    ensures rules { IfOk result (λ part. part.rules.items ≡ questions_of_span questions.now span) }
+    ensures leaf { IfOk result (λ part. part.leaf ≡ span.leaf) }
+{
+    let behind = &questions[span.start.min(questions.len())..];
+    let own = &behind[..span.count.min(behind.len())];
+    let rules = Vec::from_slice(alloc, own)?;
     let leaf = span.leaf;
     Ok(Part { rules, leaf })
 }

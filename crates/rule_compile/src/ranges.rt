@@ -5,6 +5,7 @@ ghost use Rattle.call_tables.specs.Arch.{token_of};
 ghost use Rattle.profile.specs.Policy.{IsClear};
 ghost use Rattle.rule_compile.specs.Shape.{IsPlain};
 ghost use Rattle.rule_compile.specs.inner.Numbers.{AreOwn, AreUnconditional, IsExtended, IsFor, IsLastAlike, IsListed, IsNext, IsWorded, LeafFor, Reached, Tiles, said_of};
+ghost use Rattle.rule_compile.specs.inner.Noted.{AreCalls, NotesNumber};
 ghost use Rattle.rule_compile.specs.inner.Ranges.{IsLike};
 ghost use Rattle.rule_compile.specs.inner.Runs.{AreBefore, IsBefore};
 ghost use Rattle.rule_compile.specs.inner.Stands.{AreSound, AreThose, DecidesCalls, DecidesNumber, HasMore, SaysNumber};
@@ -219,6 +220,7 @@ impl Ranges {
         ensures more { OnOk result (HasMore blocks.old.blocks.items blocks.new.blocks.items) }
         ensures told { ToldSoFar profile.now machine blocks.old.blocks.items self.old.end self.old.ranges.items → OnOk result (ToldSoFar profile.now machine blocks.new.blocks.items self.new.end self.new.ranges.items) }
         ensures end { OnOk result (self.new.end ≡ end) }
+        ensures calls { IsListed profile.now machine → AreCalls profile.now blocks.old → OnOk result (AreCalls profile.now blocks.new) }
         ensures no_block { IsPlain profile.now → OnOk result (blocks.new ≡ blocks.old) }
         ensures reached { (most : ℕ) → 513 ≤ most → Reached profile.now machine most end self.old.end self.old.ranges.items → OnOk result (Reached profile.now machine most end end self.new.ranges.items) }
     {
@@ -245,6 +247,7 @@ impl Ranges {
         ensures more { OnOk result (HasMore blocks.old.blocks.items blocks.new.blocks.items) }
         ensures told { ToldSoFar profile.now machine blocks.old.blocks.items self.old.end self.old.ranges.items → OnOk result (ToldSoFar profile.now machine blocks.new.blocks.items self.new.end self.new.ranges.items) }
         ensures further { OnOk result ((self.old.end < self.new.end) × (self.new.end ≤ end)) }
+        ensures calls { IsListed profile.now machine → AreCalls profile.now blocks.old → OnOk result (AreCalls profile.now blocks.new) }
         ensures no_block { IsPlain profile.now → OnOk result (blocks.new ≡ blocks.old) }
         ensures reached { (most : ℕ) → 513 ≤ most → Reached profile.now machine most end self.old.end self.old.ranges.items → OnOk result (Reached profile.now machine most end self.new.end self.new.ranges.items) }
     {
@@ -279,6 +282,7 @@ fn leaf_of(
     ensures decides { IfOk result (DecidesNumber rules.now token number default blocks.new.blocks.items) }
     ensures no_block { AreUnconditional rules.now → OnOk result (blocks.new ≡ blocks.old) }
     ensures word { AreUnconditional rules.now → IfOk result (LeafFor rules.now token number default) }
+    ensures notes { OnOk result (NotesNumber blocks.old blocks.new rules.now token number default) }
 {
     match Leaf::of(rules, token, number, default) {
         Some(leaf) => Ok(leaf),
@@ -320,6 +324,7 @@ pub(crate) fn ranges_of(
     ensures sound { OnOk result (AreSound blocks.new) }
     ensures more { OnOk result (HasMore blocks.old.blocks.items blocks.new.blocks.items) }
     ensures before { IfOk result (λ ranges. AreBefore (vec_len blocks.new.blocks) ranges.items) }
+    ensures calls { IsListed profile.now machine → AreCalls profile.now blocks.old → OnOk result (AreCalls profile.now blocks.new) }
     ensures decides { IsListed profile.now machine → IfOk result (λ ranges. All (DecidesCalls profile.now (token_of machine) blocks.new.blocks.items) ranges.items) }
     ensures no_block { IsPlain profile.now → OnOk result (blocks.new ≡ blocks.old) }
     ensures tiled { IfOk result (λ ranges. Tiles 0 ranges.items (2 ^ 32)) }

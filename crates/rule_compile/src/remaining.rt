@@ -20,6 +20,7 @@ pub fn left(
     ensures less { AreRules rules.now → IfOk result (AsksLess rules.now subject) }
 {
     let mut questions = Questions::new(alloc);
+    // From rule to rule, which `for` does not do: each is one question or several.
     let mut rest = rules;
     while let [first, others @ ..] = rest {
         let (more, next) = others.split_at(further(others));
@@ -37,12 +38,10 @@ fn further(questions: &[Open]) -> usize
     ensures further { All (λ o. o.begins ≡ false) (take result questions.now) }
     ensures next { begins_here (drop result questions.now) ≡ true }
 {
-    for (place, open) in questions.iter().enumerate() {
-        if open.begins {
-            return place;
-        }
-    }
-    questions.len()
+    questions
+        .iter()
+        .position(|question| question.begins)
+        .unwrap_or(questions.len())
 }
 
 // Adds what is left of a rule. Gives whether it is met for sure.

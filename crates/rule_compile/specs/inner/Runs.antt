@@ -1,5 +1,5 @@
 -- What code gives on a record, from a place on.
-use Rattle.std.specs.Prelude.{◌≡◌, ◌≤◌, ◌<◌, ◌/◌, ⊤, ℕ, List, Option, Some, None, length, slice_get, slice_index, if◌then◌else◌}
+use Rattle.std.specs.Prelude.{◌≡◌, ◌≤◌, ◌<◌, ◌/◌, ⊤, ℕ, List, Option, Some, None, length, slice_get, slice_index}
 use Rattle.std.specs.List.{All}
 use Rattle.std.specs.Option.{option_map}
 use Rattle.call_record.specs.Words.{IsRecord}

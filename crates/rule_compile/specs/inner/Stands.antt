@@ -1,5 +1,5 @@
 -- What blocks are, and what they stand for.
-use Rattle.std.specs.Prelude.{◌≡◌, ◌≤◌, ◌<◌, ◌^◌, ◌++◌, ◌⊎◌, ℕ, List, [], ◌∷◌, Some, length, slice_get, slice_index}
+use Rattle.std.specs.Prelude.{◌≡◌, ◌^◌, ◌++◌, ◌⊎◌, ℕ, List, [], ◌∷◌, Some, drop, length, slice_get, slice_index, take}
 use Rattle.std.specs.List.{All, Any, Contains}
 use Rattle.call_record.specs.Words.{IsRecord}
 use Rattle.bpf_insn.specs.declared.instruction.Insn.{Insn}
@@ -14,6 +14,7 @@ use Rattle.rule_compile.specs.declared.asked.Open.{Open}
 use Rattle.rule_compile.specs.declared.asked.Placed.{Placed}
 use Rattle.rule_compile.specs.declared.label.Target.{Target}
 use Rattle.rule_compile.specs.declared.known.Known.{Known}
+use Rattle.rule_compile.specs.declared.known.Span.{Span}
 use Rattle.rule_compile.specs.declared.outline.Block.{Block}
 use Rattle.rule_compile.specs.declared.question.Subject.{Subject}
 use Rattle.rule_compile.specs.declared.ranges.Leaf.{Leaf}
@@ -21,7 +22,7 @@ use Rattle.rule_compile.specs.declared.ranges.Leaf.TheVariants as leaf
 use Rattle.rule_compile.specs.declared.ranges.Range.{Range}
 use Rattle.rule_compile.specs.Decides.{Comes, Decides, IsWithin, StandsFor}
 use Rattle.rule_compile.specs.Questions.{bits}
-use Rattle.rule_compile.specs.Rules.{IsClearAt}
+use Rattle.rule_compile.specs.Rules.{IsClearAt, SomeMet}
 use Rattle.rule_compile.specs.inner.Calls.{IsOneOf}
 use Rattle.rule_compile.specs.inner.Left.{IsOffset, SomeHeld}
 use Rattle.rule_compile.specs.inner.Numbers.{IsFor, Tiles}
@@ -43,11 +44,31 @@ BlocksStand blocks =
     (place : ℕ) (block : Block) → slice_get blocks place ≡ Some block
     → StandsFor blocks (leaf.Block place) block.rules.items block.other
 
+-- what is found for some questions
+pub record IsFound (blocks : List Block) (os : List Open) (other leaf : Leaf) : Type 0 where
+  pub before : IsBefore (length blocks) leaf
+  pub stands : StandsFor blocks leaf os other
+
+-- the questions of a span
+abbrev pub part_of : List Open → Span → List Open
+part_of os span = take span.count (drop span.start os)
+
+-- each rule of the one questions that a record meets is one of the others
+abbrev pub AreAmong : List Open → List Open → Type 0
+AreAmong part os = (r : List ℕ) (w : ℕ) → SomeMet part r w → SomeMet os r w
+
+-- spans of questions, each with what was found for it, where the span before it is gone on at; the last one is the whole
+abbrev pub AreSpans : List Block → List Open → Leaf → List Span → Leaf → Type 0
+AreSpans blocks os other [] whole = whole ≡ other
+AreSpans blocks os other (span ∷ spans) whole =
+    IsFound blocks (part_of os span) other span.leaf × AreAmong (part_of os span) os × AreSpans blocks os span.leaf spans whole
+
 -- the same of what is known of questions
 pub record KnownStands (blocks : List Block) (known : Known) : Type 0 where
   pub before : IsBefore (length blocks) known.leaf
   pub goes_on : IsBefore (length blocks) known.other
   pub stands : StandsFor blocks known.leaf known.asked.items known.other
+  pub spans : AreSpans blocks known.asked.items known.other known.spans.items known.leaf
 
 pub record AreSound (blocks : Blocks) : Type 0 where
   pub blocks_are : AreBlocks blocks.blocks.items
@@ -58,11 +79,6 @@ pub record AreSound (blocks : Blocks) : Type 0 where
 pub record HasMore (old new : List Block) : Type 0 where
   pub more : List Block
   pub is : new ≡ old ++ more
-
--- what is found for some questions
-pub record IsFound (blocks : List Block) (os : List Open) (other leaf : Leaf) : Type 0 where
-  pub before : IsBefore (length blocks) leaf
-  pub stands : StandsFor blocks leaf os other
 
 -- the ranges of a block so far: those up to an end have what the questions come to
 pub record AreRanged (blocks : List Block) (os : List Open) (other : Leaf) (s : Subject) (ranges : List Range) (end : ℕ) : Type 0 where
@@ -120,6 +136,7 @@ DecidesNumber rules token number default blocks leaf =
 pub record AreThose (rules : List Rule) (token number : ℕ) (own : List Placed) : Type 0 where
   pub those : All (λ placed. Contains rules placed.rule.now × IsFor token number placed.rule.now) own
   pub all : (rule : Rule) → Contains rules rule → IsFor token number rule → Any (λ placed. placed.rule.now ≡ rule) own
+  pub places : All (λ placed. slice_get rules placed.place ≡ Some placed.rule.now) own
 
 -- the ranges so far decide the calls of the machine
 abbrev pub TellsSoFar : Policy → Arch → List Block → List Range → Type 0

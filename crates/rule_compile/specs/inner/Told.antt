@@ -1,7 +1,6 @@
 -- What is known of the ranges of a machine's numbers, and of the code of its calls.
-use Rattle.std.specs.Prelude.{◌≡◌, ℕ, List, Some, length, slice_index}
+use Rattle.std.specs.Prelude.{ℕ, List, length}
 use Rattle.std.specs.List.{All}
-use Rattle.call_record.specs.Words.{IsRecord}
 use Rattle.call_tables.specs.declared.arch.Arch.{Arch}
 use Rattle.call_tables.specs.Arch.{token_of}
 use Rattle.profile.specs.Policy.{Policy}

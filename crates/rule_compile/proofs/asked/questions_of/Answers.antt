@@ -13,6 +13,13 @@ returns-then-branch-clause-says c = λ r rec.
     subst (IsAdded c.loop-placed.questions c.add.new.self c.placed-item.result c.args.default) c.if-branch.true c.in_ok-add.ensures.says in
     (c.loop-placed.placed-index, c.placed-item.result, within, sym c.placed-item.is, (held r rec, refl))
 
+pub returns-then-branch-clause-met : goal.returns-then-branch-clause-met
+returns-then-branch-clause-met c =
+    let within : c.loop-placed.placed-index < length c.args.rules.now = search rules in
+    let held : IsAdded c.loop-placed.questions c.add.new.self c.placed-item.result c.args.default true =
+    subst (IsAdded c.loop-placed.questions c.add.new.self c.placed-item.result c.args.default) c.if-branch.true c.in_ok-add.ensures.says in
+    (c.placed-item.result, (c.loop-placed.placed-index, within, sym c.placed-item.is), refl, held)
+
 pub loop-placed-preserved : goal.loop-placed-preserved
 loop-placed-preserved c =
     let within : c.loop-placed.placed-index < length c.args.rules.now = search rules in

@@ -1,20 +1,14 @@
-use Rattle.std.proofs.Common.{◌≡◌, ◌-◌, ◌∙◌, List, ap, length, rules, subst, sym, take, drop, vec_len}
-use Rattle.std.specs.Prelude.{Err, IsErrOf}
+use Rattle.std.proofs.Common.{◌≡◌, ◌-◌, List, ap, length, subst, sym, take, drop, vec_len}
 use Rattle.bpf_insn.specs.declared.code.Test.TheVariants.{Equal}
 use Rattle.call_tables.specs.declared.arch.Arch.{Arch}
-use Rattle.call_tables.specs.declared.arch.Arch.TheVariants.{X86_64}
-use Rattle.rule_compile.specs.declared.fault.CompileError.{CompileError}
-use Rattle.rule_compile.specs.declared.fault.CompileError.TheVariants.{TooLong}
 use Rattle.rule_compile.specs.declared.label.Exits.{Exits}
-use Rattle.rule_compile.specs.declared.label.Label.{Label}
-use Rattle.rule_compile.specs.declared.label.Target.{Target}
 use Rattle.rule_compile.specs.declared.label.Target.TheVariants.{Place}
 use Rattle.rule_compile.specs.declared.blocks.Blocks.{Blocks}
 use Rattle.rule_compile.specs.Shape.{IsPlain}
 use Rattle.rule_compile.specs.inner.Calls.{Apart, CallsOf}
 use Rattle.rule_compile.specs.inner.Goes.{Branches}
 use Rattle.rule_compile.proofs.CallLaws.{apart_branch, apart_skip, calls_count}
-use Rattle.rule_compile.proofs.FullLaws.{full_in_branch, full_in_calls, full_in_rest, head_parts, listed_first}
+use Rattle.rule_compile.proofs.PlanLaws.{head_parts, listed_first}
 use Rattle.std.specs.List.{All}
 use Rattle.std.proofs.lemmas.List.Elements.{All-head, All-tail}
 use Rattle.rule_compile.specs.inner.Numbers.{IsListed}
@@ -25,46 +19,6 @@ use Rattle.rule_compile.proofs.LoadLaws.{start_steady}
 use Rattle.rule_compile.proofs.SteadyLaws.{are_steady_kept, steady_kept}
 use Rattle.rule_compile.proofs.TellsLaws.{tells_branch, tells_skip, written_grows}
 use Rattle.rule_compile.proofs.filter.+tell_machines_apart.Goals as goal
-
-pub returns-in_err-no-clause-full : goal.returns-in_err-no-clause-full
-returns-in_err-no-clause-full t c too_long plain none all =
-    let p = c.args.profile.now in
-    let old = c.args.code.now in
-    let ms = c.args.machines.now in
-    let archs : List Arch = take (length ms - 1) (drop 1 ms) in
-    let count = vec_len c.args.blocks.now.blocks in
-    let e : IsErrOf {T = Target} {E = CompileError} (Err c.in_err-no.field-0.0) TooLong = search rules in
-    full_in_rest p old ms count _ archs (head_parts ms X86_64 c.in-len1-up.len_at_least) (c.in_err-no.ensures.full e) plain none all
-
-pub returns-in_err-calls_of-clause-full : goal.returns-in_err-calls_of-clause-full
-returns-in_err-calls_of-clause-full t c too_long plain none all =
-    let p = c.args.profile.now in
-    let old = c.args.code.now in
-    let ms = c.args.machines.now in
-    let archs : List Arch = take (length ms - 1) (drop 1 ms) in
-    let count = vec_len c.args.blocks.now.blocks in
-    let same : IsPlain p → vec_len c.tell_machines_apart.new.blocks.blocks ≡ count = λ plain. ap (λ
-    (blocks : Blocks). vec_len blocks.blocks) (c.in_ok-no.ensures.no_block plain) in
-    let e : IsErrOf {T = Target} {E = CompileError} (Err c.in_err-calls_of.field-0.0) TooLong = search rules in
-    full_in_calls p old ms count _ archs (head_parts ms _ c.in-len1-up.len_at_least) c.tell_machines_apart.new.code c.in_ok-no.no
-    c.in_ok-no.ensures.apart
-    (λ plain none listed. c.in_err-calls_of.ensures.full e plain (same plain ∙ none) listed) plain none all
-
-pub returns-in_err-start-in-Some-clause-full : goal.returns-in_err-start-in-Some-clause-full
-returns-in_err-start-in-Some-clause-full t c too_long plain none all =
-    let p = c.args.profile.now in
-    let old = c.args.code.now in
-    let ms = c.args.machines.now in
-    let archs : List Arch = take (length ms - 1) (drop 1 ms) in
-    let count = vec_len c.args.blocks.now.blocks in
-    let same : IsPlain p → vec_len c.tell_machines_apart.new.blocks.blocks ≡ count = λ plain. ap (λ
-    (blocks : Blocks). vec_len blocks.blocks) (c.in_ok-no.ensures.no_block plain) in
-    let e : IsErrOf {T = Label} {E = CompileError} (Err c.in_err-start-in-Some.field-0.0) TooLong = search rules in
-    full_in_branch p old ms count _ archs (head_parts ms _ c.in-len1-up.len_at_least) c.tell_machines_apart.new.code c.in_ok-no.no
-    c.in_ok-no.ensures.apart
-    c.calls_of.new.code c.in_ok-calls_of.field-0
-    (calls_count p _ count _ c.tell_machines_apart.new.code c.calls_of.new.code c.in_ok-calls_of.field-0
-    c.in_ok-calls_of.ensures.calls same) (c.in_err-start-in-Some.ensures.full e) plain none all
 
 pub returns-in-None-clause-apart : goal.returns-in-None-clause-apart
 returns-in-None-clause-apart t c =
@@ -162,3 +116,21 @@ returns-in_ok-start-in-Some-clause-tells_steadily t c steady =
     (subst (λ to. IsSteadyAt top to Whole) (sym c.in-Some.ensures) own)
     (steady_kept mid top c.in_ok-calls_of.ensures.calls.grows c.in_ok-no.no c.in_ok-no.ensures.apart.placed Whole
     (c.in_ok-no.ensures.tells_steadily steady)))
+
+pub returns-in-None-clause-calls : goal.returns-in-None-clause-calls
+returns-in-None-clause-calls t c all noted =
+    let p = c.args.profile.now in
+    let ms = c.args.machines.now in
+    let archs : List Arch = take (length ms - 1) (drop 1 ms) in
+    let listed = subst (All (IsListed p)) (head_parts ms _ c.in-len1-up.len_at_least) all in
+    c.in_ok-calls_of.ensures.noted (All-head (IsListed p) _ archs listed)
+    (c.in_ok-no.ensures.calls (All-tail (IsListed p) _ archs listed) noted)
+
+pub returns-in_ok-start-in-Some-clause-calls : goal.returns-in_ok-start-in-Some-clause-calls
+returns-in_ok-start-in-Some-clause-calls t c all noted =
+    let p = c.args.profile.now in
+    let ms = c.args.machines.now in
+    let archs : List Arch = take (length ms - 1) (drop 1 ms) in
+    let listed = subst (All (IsListed p)) (head_parts ms _ c.in-len1-up.len_at_least) all in
+    c.in_ok-calls_of.ensures.noted (All-head (IsListed p) _ archs listed)
+    (c.in_ok-no.ensures.calls (All-tail (IsListed p) _ archs listed) noted)

@@ -1,47 +1,16 @@
-use Rattle.std.proofs.Common.{◌≡◌, ◌∙◌, ◌+◌, ◌*◌, ◌^◌, ◌<◌, ap, length, rules, subst, sym, vec_len}
-use Rattle.std.specs.Prelude.{Err, IsErrOf}
+use Rattle.std.proofs.Common.{◌≡◌, ◌∙◌, ◌^◌, ap, subst, sym, vec_len}
 use Rattle.call_tables.specs.Arch.{token_of}
 use Rattle.rule_compile.specs.declared.blocks.Blocks.{Blocks}
-use Rattle.rule_compile.specs.declared.fault.CompileError.{CompileError}
-use Rattle.rule_compile.specs.declared.fault.CompileError.TheVariants.{TooLong}
-use Rattle.rule_compile.specs.declared.written.Written.{Written}
 use Rattle.rule_compile.specs.Shape.{IsPlain}
 use Rattle.rule_compile.specs.inner.Numbers.{Tiles}
-use Rattle.rule_compile.specs.inner.Ranges.{AreOfWords, Searched}
+use Rattle.rule_compile.specs.inner.Ranges.{Searched}
 use Rattle.rule_compile.specs.inner.Runs.{AreWritten, LeadsByWord}
 use Rattle.rule_compile.specs.inner.Steadily.{AreSteady}
 use Rattle.rule_compile.proofs.CallLaws.{calls_searched, searched_grows, searched_placed}
-use Rattle.rule_compile.proofs.FullLaws.{search_full}
 use Rattle.rule_compile.proofs.GoesLaws.{grows_on}
 use Rattle.rule_compile.proofs.SteadyLaws.{are_steady_kept}
 use Rattle.rule_compile.proofs.TellsLaws.{calls_tell, written_grows, written_more}
 use Rattle.rule_compile.proofs.filter.calls_of.Goals as goal
-
-pub returns-in_err-write_blocks-clause-full : goal.returns-in_err-write_blocks-clause-full
-returns-in_err-write_blocks-clause-full c too_long plain none listed =
-    let p = c.args.profile.now in
-    let t = token_of c.args.machine in
-    let old = c.args.code.now in
-    let mid = c.write_blocks.new.code in
-    let ranges = c.in_ok-ranges.ranges.items in
-    let same : IsPlain p → vec_len c.args.blocks.now.blocks ≡ 0 → vec_len c.ranges_of.new.blocks.blocks ≡ 0 =
-    λ plain none. ap (λ (blocks : Blocks). vec_len blocks.blocks) (c.in_ok-ranges.ensures.no_block plain) ∙ none in
-    let e : IsErrOf {T = Unit {0}} {E = CompileError} (Err c.in_err-write_blocks.field-0.0) TooLong = search rules in
-    absurd (c.in_err-write_blocks.ensures.full (same plain none) e)
-
-pub returns-in_err-found-clause-full : goal.returns-in_err-found-clause-full
-returns-in_err-found-clause-full c too_long plain none listed =
-    let p = c.args.profile.now in
-    let t = token_of c.args.machine in
-    let old = c.args.code.now in
-    let mid = c.write_blocks.new.code in
-    let ranges = c.in_ok-ranges.ranges.items in
-    let same : IsPlain p → vec_len c.args.blocks.now.blocks ≡ 0 → vec_len c.ranges_of.new.blocks.blocks ≡ 0 =
-    λ plain none. ap (λ (blocks : Blocks). vec_len blocks.blocks) (c.in_ok-ranges.ensures.no_block plain) ∙ none in
-    let e : IsErrOf {T = Written} {E = CompileError} (Err c.in_err-found.field-0.0) TooLong = search rules in
-    search_full p t old mid ranges (c.in_ok-write_blocks.ensures.none (same plain none)) (c.in_ok-ranges.ensures.few plain)
-    (c.in_ok-ranges.ensures.worded plain listed)
-    (subst (λ rs. AreOfWords rs → 4098 < length mid + 3 * length rs) c.deref.ensures.value (c.in_err-found.ensures.full e))
 
 pub returns-clause-calls : goal.returns-clause-calls
 returns-clause-calls c =

@@ -1,109 +1,35 @@
-use Rattle.std.proofs.Common.{◌≡◌, ℕ, List, ◌∙◌, ◌∷◌, [], ap, length, rules, subst, sym, vec_len}
-use Rattle.std.specs.Prelude.{Err, IsErrOf, Some}
+use Rattle.std.proofs.Common.{◌≡◌, ℕ, List, ◌∙◌, ◌∷◌, [], ap, subst, sym, vec_len}
+use Rattle.std.specs.Prelude.{Some}
 use Rattle.std.specs.List.{All}
+use Rattle.std.proofs.lemmas.List.Elements.{All-nil}
+use Rattle.call_tables.specs.declared.arch.Arch.{Arch}
+use Rattle.profile.specs.Policy.{InOrder, Policy}
+use Rattle.rule_compile.specs.declared.blocks.Blocks.{Blocks}
+use Rattle.rule_compile.specs.inner.Noted.{AreCalls, IsKnownCall}
 use Rattle.call_record.specs.Words.{IsRecord}
 use Rattle.profile.specs.Said.{said}
 use Rattle.bpf_insn.specs.declared.code.Operation.TheVariants.{LoadWord}
-use Rattle.rule_compile.specs.declared.fault.CompileError.{CompileError}
-use Rattle.rule_compile.specs.declared.fault.CompileError.TheVariants.{TooLong}
-use Rattle.rule_compile.specs.declared.label.Label.{Label}
-use Rattle.rule_compile.specs.declared.label.Target.{Target}
 use Rattle.rule_compile.specs.Shape.{IsCallFilter}
-use Rattle.rule_compile.specs.inner.Calls.{Apart}
 use Rattle.rule_compile.specs.inner.Code.{insn_of, position}
 use Rattle.rule_compile.specs.inner.Numbers.{IsListed}
 use Rattle.rule_compile.specs.inner.Runs.{gives_from}
 use Rattle.rule_compile.specs.inner.Stands.{TellsThese}
-use Rattle.rule_compile.proofs.CallLaws.{each_listed, whole_front, whole_full, whole_load, whole_one, whole_return}
-use Rattle.rule_compile.proofs.FullLaws.{all_fit}
+use Rattle.rule_compile.proofs.CallLaws.{apart_whole, each_listed, whole_front, whole_load, whole_one, whole_return}
 use Rattle.rule_compile.specs.declared.label.Target.TheVariants.{Place}
 use Rattle.rule_compile.specs.Steady.{Held, IsSteady, Nothing, Whole}
 use Rattle.rule_compile.specs.inner.Steadily.{IsSteadyAt}
 use Rattle.rule_compile.proofs.LoadLaws.{steady_none}
 use Rattle.rule_compile.proofs.SteadyLaws.{steady_load}
-use Rattle.rule_compile.proofs.TellsLaws.{on_ok, whole_loaded, whole_returns, written_none}
+use Rattle.rule_compile.proofs.TellsLaws.{on_any, on_ok, whole_loaded, whole_returns, written_none}
 use Rattle.rule_compile.proofs.filter.filter.Goals as goal
-
-pub returns-in_err-place-clause-never : goal.returns-in_err-place-clause-never
-returns-in_err-place-clause-never c plain too_long =
-    let e : IsErrOf {T = Target} {E = CompileError} (Err c.in_err-place.field-0.0) TooLong = search rules in
-    all_fit c.args.profile.now c.args.code.now c.machines-machines.result.now c.machines-machines.ensures.machines
-    c.machines-machines.ensures.is_profile.machines_in_order c.requires.empty
-    (c.in_err-place.ensures.full e plain c.requires.no_block)
-
-pub returns-in_err-begin_at-in-Place-clause-never : goal.returns-in_err-begin_at-in-Place-clause-never
-returns-in_err-begin_at-in-Place-clause-never c plain too_long =
-    let p = c.args.profile.now in
-    let mid = c.tell_machines_apart.new.code in
-    let to = c.in_ok-place.field-0 in
-    let ms = c.machines-machines.result.now in
-    let apart : Apart p p.machines 0 [] mid to =
-    subst (λ ms. Apart p ms 0 [] mid to) c.machines-machines.ensures.machines
-    (subst (λ n. Apart p ms n [] mid to) c.requires.no_block
-    (subst (λ code. Apart p ms (vec_len c.args.blocks.now.blocks) code mid to) c.requires.empty
-    c.in_ok-place.ensures.apart)) in
-    let order = c.machines-machines.ensures.is_profile.machines_in_order in
-    let e : IsErrOf {T = Unit {0}} {E = CompileError} (Err c.in_err-begin_at-in-Place.field-0.0) TooLong = search rules in
-    c.in_err-begin_at-in-Place.ensures.full e (whole_front p plain mid to apart order c.in-Place.place c.in-Place.is)
-
-pub returns-in_err-load-in-Place-clause-never : goal.returns-in_err-load-in-Place-clause-never
-returns-in_err-load-in-Place-clause-never c plain too_long =
-    let p = c.args.profile.now in
-    let mid = c.tell_machines_apart.new.code in
-    let to = c.in_ok-place.field-0 in
-    let ms = c.machines-machines.result.now in
-    let apart : Apart p p.machines 0 [] mid to =
-    subst (λ ms. Apart p ms 0 [] mid to) c.machines-machines.ensures.machines
-    (subst (λ n. Apart p ms n [] mid to) c.requires.no_block
-    (subst (λ code. Apart p ms (vec_len c.args.blocks.now.blocks) code mid to) c.requires.empty
-    c.in_ok-place.ensures.apart)) in
-    let order = c.machines-machines.ensures.is_profile.machines_in_order in
-    let e : IsErrOf {T = Label} {E = CompileError} (Err c.in_err-load-in-Place.field-0.0) TooLong = search rules in
-    let same = c.in_ok-begin_at-in-Place.ensures.same (whole_front p plain mid to apart order c.in-Place.place c.in-Place.is) in
-    whole_full p plain mid to apart order (sym (ap length same) ∙ c.in_err-load-in-Place.ensures.full.0 e)
-
-pub returns-in_err-place-in-Return-clause-never : goal.returns-in_err-place-in-Return-clause-never
-returns-in_err-place-in-Return-clause-never c plain too_long =
-    let p = c.args.profile.now in
-    let mid = c.tell_machines_apart.new.code in
-    let to = c.in_ok-place.field-0 in
-    let ms = c.machines-machines.result.now in
-    let apart : Apart p p.machines 0 [] mid to =
-    subst (λ ms. Apart p ms 0 [] mid to) c.machines-machines.ensures.machines
-    (subst (λ n. Apart p ms n [] mid to) c.requires.no_block
-    (subst (λ code. Apart p ms (vec_len c.args.blocks.now.blocks) code mid to) c.requires.empty
-    c.in_ok-place.ensures.apart)) in
-    let order = c.machines-machines.ensures.is_profile.machines_in_order in
-    let e : IsErrOf {T = Label} {E = CompileError} (Err c.in_err-place-in-Return.field-0.0) TooLong = search rules in
-    whole_full p plain mid to apart order (c.in_err-place-in-Return.ensures.full e)
-
-pub returns-clause-never : goal.returns-clause-never
-returns-clause-never c plain too_long =
-    let p = c.args.profile.now in
-    let mid = c.tell_machines_apart.new.code in
-    let to = c.in_ok-place.field-0 in
-    let ms = c.machines-machines.result.now in
-    let apart : Apart p p.machines 0 [] mid to =
-    subst (λ ms. Apart p ms 0 [] mid to) c.machines-machines.ensures.machines
-    (subst (λ n. Apart p ms n [] mid to) c.requires.no_block
-    (subst (λ code. Apart p ms (vec_len c.args.blocks.now.blocks) code mid to) c.requires.empty
-    c.in_ok-place.ensures.apart)) in
-    let order = c.machines-machines.ensures.is_profile.machines_in_order in
-    let place = c.in_ok-place-in-Return.place in
-    c.begin_at-in-Return.ensures.full too_long
-    (whole_one p plain mid to apart order c.in-Return.word place c.near_return.new.self c.in-Return.is c.in_ok-place-in-Return.ensures.reached)
 
 pub returns-in-Place-clause-shape : goal.returns-in-Place-clause-shape
 returns-in-Place-clause-shape c plain =
     let p = c.args.profile.now in
     let mid = c.tell_machines_apart.new.code in
     let to = c.in_ok-place.field-0 in
-    let ms = c.machines-machines.result.now in
-    let apart : Apart p p.machines 0 [] mid to =
-    subst (λ ms. Apart p ms 0 [] mid to) c.machines-machines.ensures.machines
-    (subst (λ n. Apart p ms n [] mid to) c.requires.no_block
-    (subst (λ code. Apart p ms (vec_len c.args.blocks.now.blocks) code mid to) c.requires.empty
-    c.in_ok-place.ensures.apart)) in
+    let apart = apart_whole p c.machines-machines.result.now (vec_len c.args.blocks.now.blocks) c.args.code.now mid to
+    c.machines-machines.ensures.machines c.requires.no_block c.requires.empty c.in_ok-place.ensures.apart in
     let order = c.machines-machines.ensures.is_profile.machines_in_order in
     let same = c.in_ok-begin_at-in-Place.ensures.same (whole_front p plain mid to apart order c.in-Place.place c.in-Place.is) in
     whole_load p plain mid to apart order c.in-Place.place c.load.new.self c.in-Place.is
@@ -114,12 +40,8 @@ returns-clause-shape c plain =
     let p = c.args.profile.now in
     let mid = c.tell_machines_apart.new.code in
     let to = c.in_ok-place.field-0 in
-    let ms = c.machines-machines.result.now in
-    let apart : Apart p p.machines 0 [] mid to =
-    subst (λ ms. Apart p ms 0 [] mid to) c.machines-machines.ensures.machines
-    (subst (λ n. Apart p ms n [] mid to) c.requires.no_block
-    (subst (λ code. Apart p ms (vec_len c.args.blocks.now.blocks) code mid to) c.requires.empty
-    c.in_ok-place.ensures.apart)) in
+    let apart = apart_whole p c.machines-machines.result.now (vec_len c.args.blocks.now.blocks) c.args.code.now mid to
+    c.machines-machines.ensures.machines c.requires.no_block c.requires.empty c.in_ok-place.ensures.apart in
     let order = c.machines-machines.ensures.is_profile.machines_in_order in
     let place = c.in_ok-place-in-Return.place in
     let new = c.near_return.new.self in
@@ -181,3 +103,24 @@ returns-clause-steady c =
     let place = c.in_ok-place-in-Return.place in
     on_ok c.begin_at-in-Return.result ((h : Held) → IsSteady new (position new place) h → IsSteady begun 0 h) (IsSteady begun 0 Nothing)
     c.begin_at-in-Return.ensures.steady (λ begins. begins Nothing (c.in_ok-place-in-Return.ensures.reached.steady Nothing tt))
+
+-- the calls that are noted of all machines
+all_calls : (p : Policy) (ms : List Arch) (order : InOrder p.machines) (old new : Blocks) → ms ≡ p.machines → old.calls.items ≡ []
+    → (All (IsListed p) ms → AreCalls p old → AreCalls p new) → AreCalls p new
+all_calls p ms order old new is none noted =
+    noted (subst (All (IsListed p)) (sym is) (each_listed p order))
+    (subst (All (IsKnownCall p old.blocks.items)) (sym none) (All-nil (IsKnownCall p old.blocks.items)))
+
+pub returns-in-Place-clause-calls : goal.returns-in-Place-clause-calls
+returns-in-Place-clause-calls c =
+    all_calls c.args.profile.now c.machines-machines.result.now c.machines-machines.ensures.is_profile.machines_in_order c.args.blocks.now
+    c.tell_machines_apart.new.blocks c.machines-machines.ensures.machines c.requires.no_call c.in_ok-place.ensures.calls
+
+pub returns-clause-calls : goal.returns-clause-calls
+returns-clause-calls c =
+    let p = c.args.profile.now in
+    let a = c.args.blocks.now in
+    let b = c.tell_machines_apart.new.blocks in
+    let all = all_calls p c.machines-machines.result.now c.machines-machines.ensures.is_profile.machines_in_order a
+    b c.machines-machines.ensures.machines c.requires.no_call c.in_ok-place.ensures.calls in
+    on_any c.begin_at-in-Return.result (AreCalls p b) all

@@ -63,6 +63,7 @@ loop-foreign-preserved c =
       no_block = λ plain. c.in_ok-add_own.ensures.no_block plain ∙ c.loop-foreign.invariant.no_block plain;
       sound = c.in_ok-add_own.ensures.sound;
       more = more_on c.loop-foreign.invariant.more c.in_ok-add_own.ensures.more;
+      calls = λ listed all. c.in_ok-add_own.ensures.calls listed (c.loop-foreign.invariant.calls listed all);
       told =
           let blocks = c.add_own.new.blocks.blocks.items in
           let so_far : ToldSoFar p m blocks foreign.first mid =
@@ -80,6 +81,7 @@ loop-foreign-init c = record {
   no_block = λ plain. refl;
   sound = c.requires.sound;
   more = more_same c.args.blocks.now.blocks.items;
+  calls = λ listed all. all;
   told = subst (λ n. ToldSoFar c.args.profile.now c.args.machine c.args.blocks.now.blocks.items n c.new-ranges.result.ranges.items)
       (sym c.new-ranges.ensures.end)
       (subst (ToldSoFar c.args.profile.now c.args.machine c.args.blocks.now.blocks.items 0) (sym c.new-ranges.ensures.ranges)
@@ -140,3 +142,6 @@ returns-clause-worded c =
     (last_reached c.args.profile.now c.args.machine c.loop-foreign.foreign-index c.loop-foreign.ranges.end
     c.loop-foreign.ranges.ranges.items c.loop-foreign.invariant.between all) in
     reached.worded
+
+pub returns-clause-calls : goal.returns-clause-calls
+returns-clause-calls c listed all = c.in_ok-add_own-2.ensures.calls listed (c.loop-foreign.invariant.calls listed all)

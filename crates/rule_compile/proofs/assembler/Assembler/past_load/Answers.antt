@@ -1,6 +1,5 @@
-use Rattle.std.proofs.Common.{◌≡◌, ◌-◌, ◌∙◌, ap, arith, refl, subst, sym}
+use Rattle.std.proofs.Common.{◌-◌, ◌∙◌, ap, arith, refl, subst, sym}
 use Rattle.rule_compile.specs.declared.label.Label.{Label}
-use Rattle.rule_compile.specs.declared.label.Target.TheVariants.{Place}
 use Rattle.rule_compile.specs.inner.Code.{IsTarget}
 use Rattle.rule_compile.specs.inner.Runs.{runs}
 use Rattle.rule_compile.specs.inner.Steadily.{IsAlwaysSteady}

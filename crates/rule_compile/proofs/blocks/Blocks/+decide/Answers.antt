@@ -31,6 +31,7 @@ decide-loop-place-init m c =
       sound = sound_same a b c.has_room.ensures.blocks c.has_room.ensures.known c.requires.sound;
       more = subst (HasMore a.blocks.items) (sym c.has_room.ensures.blocks) (more_same a.blocks.items);
       known = c.has_room.ensures.known;
+      calls = c.has_room.ensures.calls;
       other =
           before_le (vec_len a.blocks) (vec_len b.blocks) (omega (arith, a.blocks.ok, b.blocks.ok, ap length c.has_room.ensures.blocks)) other
           c.requires.other;
@@ -75,6 +76,7 @@ decide-loop-place-preserved m c =
       sound = c.in_ok-leaf.ensures.sound;
       more = more_on inv.more all;
       known = c.in_ok-leaf.ensures.known ∙ inv.known;
+      calls = c.in_ok-leaf.ensures.calls ∙ inv.calls;
       other =
           before_le (vec_len a.blocks) (vec_len b.blocks) (omega (arith, a.blocks.ok, b.blocks.ok, more_length all)) other inv.other;
       starts = inv.starts;

@@ -16,6 +16,7 @@ invariant-decide-loop-place l = record {
   sound : AreSound l.self;
   more : HasMore l.fn.self.blocks.items l.self.blocks.items;
   known : l.self.known.items ≡ l.fn.self.known.items;
+  calls : l.self.calls.items ≡ l.fn.self.calls.items;
   other : IsBefore (vec_len l.self.blocks) l.other;
   starts : AreStarts l.rules l.subject l.start-items;
   reached : IsReached l.start-items l.place l.ranges.end;

@@ -1,10 +1,12 @@
-use Rattle.std.proofs.Common.{◌≡◌, ◌≢◌, ◌↔◌, ◌∙◌, ℕ, List, ap, length, rules, subst, sym, vec_len}
+use Rattle.std.proofs.Common.{◌≡◌, ◌≢◌, ◌↔◌, ◌∙◌, ◌++◌, ◌∷◌, [], ℕ, List, ap, length, rules, subst, sym, vec_len}
 use Rattle.call_record.specs.Words.{IsRecord}
 use Rattle.rule_compile.specs.declared.ranges.Leaf.TheVariants as leaf
 use Rattle.rule_compile.specs.Rules.{SomeMet}
 use Rattle.rule_compile.specs.inner.Left.{AreLeft, AreRules, SaysHeld, SomeHeld}
 use Rattle.rule_compile.specs.inner.Runs.{IsBefore}
-use Rattle.rule_compile.specs.inner.Stands.{IsFound}
+use Rattle.rule_compile.specs.declared.outline.Asked.TheVariants.{InParts, Nothing}
+use Rattle.rule_compile.specs.inner.Noted.{ArePartsOf, AsksOf, IsMetAt}
+use Rattle.rule_compile.specs.inner.Stands.{DecidesRules, IsFound}
 use Rattle.rule_compile.proofs.BlocksLaws.{sound_same}
 use Rattle.rule_compile.proofs.StandsLaws.{met_decides, open_decides}
 use Rattle.rule_compile.proofs.blocks.Blocks.leaf_of.Goals as goal
@@ -46,3 +48,51 @@ returns-in_ok-add_call-in-Open-clause-decides c =
     c.in_ok-leaf-in-Open.ensures.found in
     open_decides c.add_call-in-Open.new.self.blocks.items c.args.rules.now c.args.default os c.in_ok-leaf-in-Open.leaf says
     (subst (λ bs. IsFound bs os (leaf.Word c.args.default) c.in_ok-leaf-in-Open.leaf) (sym c.in_ok-add_call-in-Open.ensures.blocks) found)
+
+pub returns-in_ok-add_call-in-Met-clause-notes : goal.returns-in_ok-add_call-in-Met-clause-notes
+returns-in_ok-add_call-in-Met-clause-notes c =
+    let rules = c.args.rules.now in
+    let bs = c.add_call.new.self.blocks.items in
+    let next = c.in_ok-add_call-in-Met.ensures.calls in
+    let word = c.in-Met.word in
+    let decides = returns-in_ok-add_call-in-Met-clause-decides c in
+    let asks : AsksOf bs rules c.args.default (leaf.Word word) (Nothing c.in-Met.rule) =
+    subst (IsMetAt rules) c.in-Met.is c.in_ok-rule.ensures.met in
+    record {
+      call = next.call;
+      is = next.is;
+      token_is = next.token_is;
+      number_is = next.number_is;
+      decides = subst (DecidesRules bs rules c.args.default) (sym next.leaf_is) decides;
+      asks = subst (AsksOf bs rules c.args.default next.call.leaf) (sym next.asked_is)
+          (subst (λ l. AsksOf bs rules c.args.default l (Nothing c.in-Met.rule)) (sym next.leaf_is) asks);
+    }
+
+pub returns-in_ok-add_call-in-Open-clause-notes : goal.returns-in_ok-add_call-in-Open-clause-notes
+returns-in_ok-add_call-in-Open-clause-notes c =
+    let rules = c.args.rules.now in
+    let os = c.in-Open.open.items in
+    let bs = c.add_call-in-Open.new.self.blocks.items in
+    let to = c.in_ok-leaf-in-Open.leaf in
+    let parts = c.in_ok-leaf-in-Open.parts in
+    let next = c.in_ok-add_call-in-Open.ensures.calls in
+    let decides = returns-in_ok-add_call-in-Open-clause-decides c in
+    let are : ArePartsOf c.asked.new.self.blocks.items os (leaf.Word c.args.default) parts.items to =
+    subst (λ xs. ArePartsOf c.asked.new.self.blocks.items xs (leaf.Word c.args.default) parts.items to) c.deref.ensures.value
+    c.in_ok-leaf-in-Open.ensures.parts in
+    let says : (r : List ℕ) → IsRecord r → (w : ℕ) → SomeMet os r w ↔ (SomeHeld rules r w × (w ≢ c.args.default)) =
+    λ r rec. subst (SaysHeld rules c.args.default r) c.in-Open.is (c.in_ok-rule.ensures.says r rec) in
+    let asks : AsksOf bs rules c.args.default to (InParts parts) = (
+      os,
+      subst (λ bs. ArePartsOf bs os (leaf.Word c.args.default) parts.items to) (sym c.in_ok-add_call-in-Open.ensures.blocks) are,
+      λ r rec w met. ((says r rec w).0 met).0,
+    ) in
+    record {
+      call = next.call;
+      is = next.is ∙ ap (λ xs. xs ++ next.call ∷ []) c.in_ok-leaf-in-Open.ensures.calls;
+      token_is = next.token_is;
+      number_is = next.number_is;
+      decides = subst (DecidesRules bs rules c.args.default) (sym next.leaf_is) decides;
+      asks = subst (AsksOf bs rules c.args.default next.call.leaf) (sym next.asked_is)
+          (subst (λ l. AsksOf bs rules c.args.default l (InParts parts)) (sym next.leaf_is) asks);
+    }

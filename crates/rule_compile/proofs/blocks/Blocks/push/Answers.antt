@@ -1,9 +1,6 @@
-use Rattle.std.proofs.Common.{◌≡◌, ◌^◌, ◌⊎◌, List, [], ◌∷◌, ◌∙◌, ap, sym, subst, arith, length, vec_len}
-use Rattle.std.specs.List.{All}
+use Rattle.std.proofs.Common.{◌≡◌, ◌^◌, [], ◌∷◌, ◌∙◌, sym, subst, arith, length, vec_len}
 use Rattle.rule_compile.specs.declared.outline.Block.{Block}
 use Rattle.rule_compile.specs.declared.ranges.Leaf.TheVariants as leaf
-use Rattle.rule_compile.specs.declared.ranges.Range.{Range}
-use Rattle.rule_compile.specs.inner.Ranges.{IsPicked}
 use Rattle.rule_compile.specs.inner.Runs.{IsBefore}
 use Rattle.rule_compile.specs.inner.Stands.{AreRanged, IsBlock, IsFound}
 use Rattle.rule_compile.proofs.BlocksLaws.{asked_offset, pushed_found, pushed_sound, ranged_one, single}

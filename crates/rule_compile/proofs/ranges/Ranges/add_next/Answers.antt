@@ -1,12 +1,14 @@
 use Rattle.std.proofs.Common.{◌≡◌, ◌+◌, ◌<◌, ◌∙◌, ap, arith, length, max, subst, sym, vec_len}
 use Rattle.call_tables.specs.Arch.{token_of}
 use Rattle.rule_compile.specs.declared.ranges.Leaf.TheVariants.{Word}
-use Rattle.rule_compile.specs.inner.Numbers.{AreUnconditional, IsExtended, IsNext, LeafFor, Reached}
+use Rattle.rule_compile.specs.inner.Numbers.{AreUnconditional, IsExtended, LeafFor, Reached}
 use Rattle.rule_compile.specs.inner.Stands.{DecidesNumber}
+use Rattle.rule_compile.specs.inner.Noted.{NotesNumber}
 use Rattle.rule_compile.specs.inner.Told.{ToldSoFar}
 use Rattle.rule_compile.proofs.DecidesLaws.{before_le}
+use Rattle.rule_compile.proofs.NotedLaws.{calls_noted}
 use Rattle.rule_compile.proofs.RangeLaws.{reached_end, reached_next}
-use Rattle.rule_compile.proofs.ToldLaws.{told_first, told_next}
+use Rattle.rule_compile.proofs.ToldLaws.{next_is, told_first, told_next}
 use Rattle.rule_compile.proofs.ranges.Ranges.add_next.Goals as goal
 
 pub returns-then-next-end-clause-reached : goal.returns-then-next-end-clause-reached
@@ -19,9 +21,8 @@ returns-then-next-end-clause-reached c most many reached =
     let next = c.next_number-next.result in
     let old = c.args.self.now.ranges.items in
     let mid = c.extend.new.self.ranges.items in
-    let is_next : IsNext p.rules (token_of m) from end next =
-    subst (λ n. IsNext p.rules n from end next) c.token-token.ensures
-    (subst (λ rs. IsNext rs t from end next) c.rules-rules.ensures.rules c.next_number-next.ensures) in
+    let is_next = next_is p m t from end next c.rules-rules.result.now c.token-token.ensures c.rules-rules.ensures.rules
+    c.next_number-next.ensures in
     let first : IsExtended old from next (Word p.default_word) mid =
     subst (λ w. IsExtended old from next (Word w) mid) c.default_word-default.ensures c.in_ok-extend.ensures.extended in
     subst (λ n. Reached p m most end n mid) (sym c.in_ok-extend.ensures.end)
@@ -38,9 +39,8 @@ returns-clause-reached c most many reached =
     let next = c.next_number-next.result in
     let old = c.args.self.now.ranges.items in
     let mid = c.extend.new.self.ranges.items in
-    let is_next : IsNext p.rules (token_of m) from end next =
-    subst (λ n. IsNext p.rules n from end next) c.token-token.ensures
-    (subst (λ rs. IsNext rs t from end next) c.rules-rules.ensures.rules c.next_number-next.ensures) in
+    let is_next = next_is p m t from end next c.rules-rules.result.now c.token-token.ensures c.rules-rules.ensures.rules
+    c.next_number-next.ensures in
     let first : IsExtended old from next (Word p.default_word) mid =
     subst (λ w. IsExtended old from next (Word w) mid) c.default_word-default.ensures c.in_ok-extend.ensures.extended in
     let new = c.extend-2.new.self.ranges.items in
@@ -71,9 +71,8 @@ returns-then-next-end-clause-told c told =
     let old = c.args.self.now.ranges.items in
     let mid = c.extend.new.self.ranges.items in
     let blocks = c.args.blocks.now.blocks.items in
-    let is_next : IsNext p.rules (token_of m) from end next =
-    subst (λ n. IsNext p.rules n from end next) c.token-token.ensures
-    (subst (λ rs. IsNext rs t from end next) c.rules-rules.ensures.rules c.next_number-next.ensures) in
+    let is_next = next_is p m t from end next c.rules-rules.result.now c.token-token.ensures c.rules-rules.ensures.rules
+    c.next_number-next.ensures in
     let first : IsExtended old from next (Word p.default_word) mid =
     subst (λ w. IsExtended old from next (Word w) mid) c.default_word-default.ensures c.in_ok-extend.ensures.extended in
     subst (λ n. ToldSoFar p m blocks n mid) (sym c.in_ok-extend.ensures.end)
@@ -93,9 +92,8 @@ returns-clause-told c told =
     let blocks = c.args.blocks.now.blocks.items in
     let grown = c.leaf_of.new.blocks.blocks.items in
     let leaf = c.in_ok-leaf.leaf in
-    let is_next : IsNext p.rules (token_of m) from end next =
-    subst (λ n. IsNext p.rules n from end next) c.token-token.ensures
-    (subst (λ rs. IsNext rs t from end next) c.rules-rules.ensures.rules c.next_number-next.ensures) in
+    let is_next = next_is p m t from end next c.rules-rules.result.now c.token-token.ensures c.rules-rules.ensures.rules
+    c.next_number-next.ensures in
     let first : IsExtended old from next (Word p.default_word) mid =
     subst (λ w. IsExtended old from next (Word w) mid) c.default_word-default.ensures c.in_ok-extend.ensures.extended in
     let of_rules : DecidesNumber p.rules t next c.default_word-default.result grown leaf =
@@ -113,3 +111,24 @@ returns-clause-told c told =
     grown c.in_ok-leaf.ensures.more leaf new inside
     (before_le (vec_len c.leaf_of.new.blocks.blocks) (length grown) (omega (arith, c.leaf_of.new.blocks.blocks.ok)) leaf c.in_ok-leaf.ensures.before)
     decided one)
+
+pub returns-clause-calls : goal.returns-clause-calls
+returns-clause-calls c listed all =
+    let p = c.args.profile.now in
+    let m = c.args.machine in
+    let t = c.token-token.result in
+    let from = c.args.self.now.end in
+    let end = c.args.end in
+    let next = c.next_number-next.result in
+    let a = c.args.blocks.now in
+    let b = c.leaf_of.new.blocks in
+    let is_next = next_is p m t from end next c.rules-rules.result.now c.token-token.ensures c.rules-rules.ensures.rules
+    c.next_number-next.ensures in
+    let inside : next < end = omega (arith, c.if-next-end.false, is_next.most) in
+    let of_rules : NotesNumber a b p.rules t next c.default_word-default.result =
+    subst (λ rs. NotesNumber a b rs t next c.default_word-default.result) c.rules-rules.ensures.rules c.in_ok-leaf.ensures.notes in
+    let noted : NotesNumber a b p.rules (token_of m) next p.default_word =
+    subst (λ n. NotesNumber a b p.rules n next p.default_word) c.token-token.ensures
+    (subst (λ w. NotesNumber a b p.rules t next w) c.default_word-default.ensures of_rules) in
+    calls_noted p c.rules-rules.ensures.is_profile.clear m next a b listed (c.requires.own next is_next.least inside) c.in_ok-leaf.ensures.more
+    c.in_ok-leaf.ensures.sound.blocks_are noted all

@@ -14,6 +14,7 @@ own-preserved c =
       sound = c.in_ok-add_next.ensures.sound;
       more = more_on c.own.invariant.more c.in_ok-add_next.ensures.more;
       told = λ told. c.in_ok-add_next.ensures.told (c.own.invariant.told told);
+      calls = λ listed all. c.in_ok-add_next.ensures.calls listed (c.own.invariant.calls listed all);
     }
 
 pub own-init : goal.own-init
@@ -25,6 +26,7 @@ own-init c = record {
   sound = c.requires.sound;
   more = more_same c.args.blocks.now.blocks.items;
   told = λ told. told;
+  calls = λ listed all. all;
 }
 
 pub returns-clause-reached : goal.returns-clause-reached

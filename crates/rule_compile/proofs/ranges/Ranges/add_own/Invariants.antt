@@ -1,6 +1,7 @@
 use Rattle.std.specs.Prelude.{ℕ, ◌≡◌, ◌≤◌, ◌-◌}
 use Rattle.rule_compile.specs.Shape.{IsPlain}
-use Rattle.rule_compile.specs.inner.Numbers.{Reached}
+use Rattle.rule_compile.specs.inner.Noted.{AreCalls}
+use Rattle.rule_compile.specs.inner.Numbers.{IsListed, Reached}
 use Rattle.rule_compile.specs.inner.Stands.{AreSound, HasMore}
 use Rattle.rule_compile.specs.inner.Told.{ToldSoFar}
 use Rattle.rule_compile.proofs.ranges.Ranges.add_own.Given as goal
@@ -19,4 +20,5 @@ invariant-own l = record {
   more : HasMore l.initial.blocks.blocks.items l.blocks.blocks.items;
   told : ToldSoFar l.profile l.machine l.initial.blocks.blocks.items l.initial.self.end l.initial.self.ranges.items
       → ToldSoFar l.profile l.machine l.blocks.blocks.items l.self.end l.self.ranges.items;
+  calls : IsListed l.profile l.machine → AreCalls l.profile l.initial.blocks → AreCalls l.profile l.blocks;
 }
