@@ -3,12 +3,10 @@
 //! Argument j stands in the words 4 + 2 j and 5 + 2 j of a record, the low half first.
 ghost use Rattle.std.specs.Prelude.{◌<◌};
 
-use crate::words::{Words, listed};
+use crate::words::Words;
+use cert_parts::{Cut, cut_below, cut_of_bits, listed};
 use cert_state::{Lit, range};
 use profile::{Cond, Op};
-
-/// Two literals of a word, of which one holds of each record.
-pub(crate) type Cut = (Lit, Lit);
 
 /// The word of the low half of a condition's argument; that of the high half is the next one.
 pub(crate) fn low_word(cond: &Cond) -> u8
@@ -195,9 +193,7 @@ fn if_open(known: &Words, cut: Cut) -> Option<Cut> {
 
 /// A word is cut in front of a number.
 pub(crate) fn below(known: &Words, word: u8, number: u32) -> Option<Cut> {
-    let last = number.checked_sub(1)?;
-    let cut = (Lit::In(word, 0, last), Lit::In(word, number, u32::MAX));
-    if_open(known, cut)
+    if_open(known, cut_below(word, number)?)
 }
 
 /// A word is cut in front of a number, or else behind it.
@@ -213,15 +209,11 @@ pub(crate) fn told_apart(known: &Words, word: u8, mask: u32, datum: u32) -> Opti
     if answer_to_bits(known, word, mask, datum).is_some() {
         return None;
     }
-    let cut = (
-        Lit::Bits(word, mask, datum),
-        Lit::NotBits(word, mask, datum),
-    );
-    if_open(known, cut)
+    if_open(known, cut_of_bits(word, mask, datum))
 }
 
 // Where bits of a half are told apart for a condition. No word has a bit outside the mask.
-fn cut_of_bits(known: &Words, cond: &Cond, is_high: bool) -> Option<Cut> {
+fn cut_of_half_bits(known: &Words, cond: &Cond, is_high: bool) -> Option<Cut> {
     let low = low_word(cond);
     let word = if is_high { low + 1 } else { low };
     let (mask, datum) = bits_of(cond, is_high);
@@ -234,7 +226,7 @@ fn cut_of_bits(known: &Words, cond: &Cond, is_high: bool) -> Option<Cut> {
 // Where a half is cut of which a condition asks that asks for no bits under a mask.
 fn cut_of_half(known: &Words, cond: &Cond, is_high: bool) -> Option<Cut> {
     if is_equality(cond) {
-        return cut_of_bits(known, cond, is_high);
+        return cut_of_half_bits(known, cond, is_high);
     }
     let (high, low) = halves(least_of(cond)?);
     if is_high {
@@ -248,9 +240,9 @@ pub(crate) fn cut_of(known: &Words, cond: &Cond, is_low: bool) -> Option<Cut> {
     if cond.op != Op::MaskedEq {
         return cut_of_half(known, cond, !is_low);
     }
-    match cut_of_bits(known, cond, true) {
+    match cut_of_half_bits(known, cond, true) {
         Some(cut) => Some(cut),
-        None => cut_of_bits(known, cond, false),
+        None => cut_of_half_bits(known, cond, false),
     }
 }
 
@@ -265,11 +257,11 @@ pub(crate) fn cut_where_known(known: &Words, cond: &Cond, is_low: bool) -> Optio
         }
         return None;
     }
-    if has_high && let Some(cut) = cut_of_bits(known, cond, true) {
+    if has_high && let Some(cut) = cut_of_half_bits(known, cond, true) {
         return Some(cut);
     }
     if has_low {
-        return cut_of_bits(known, cond, false);
+        return cut_of_half_bits(known, cond, false);
     }
     None
 }

@@ -1,11 +1,12 @@
 //! Where what is known is cut in two.
 
 use crate::asked::Left;
-use crate::conditions::{Cut, cut_of, cut_where_known};
+use crate::conditions::{cut_of, cut_where_known};
 use crate::fault::OutlineError;
 use crate::maker::Maker;
 use crate::spot::{Spot, Which};
 use crate::words::Words;
+use cert_parts::Cut;
 
 // Where the words of a record begin that hold arguments, in bytes.
 const ARGUMENTS: u32 = 16;

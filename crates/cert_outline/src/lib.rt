@@ -10,7 +10,6 @@
 #![tactic(auto)]
 
 mod asked;
-mod chains;
 mod conditions;
 mod cuts;
 mod fault;
@@ -21,7 +20,6 @@ mod numbers;
 mod sorting;
 mod spot;
 mod stating;
-mod table;
 mod words;
 
 pub use fault::OutlineError;

@@ -1,22 +1,11 @@
 //! The nodes of a certificate in their order, and its bytes.
 
-use crate::chains::Chains;
 use crate::fault::OutlineError;
 use crate::maker::{Maker, regs_of};
 use crate::spot::Spot;
 use cert_form::{ChainNode, Kind};
+use cert_parts::{Chains, NOBODY, followers, leading_to};
 use std::alloc::{AllocError, Global};
-
-/// Stands for no node.
-pub(crate) const NOBODY: u32 = u32::MAX;
-
-// The two that follow.
-fn followers(kind: Kind) -> (u32, u32) {
-    match kind {
-        Kind::Step(first, second) | Kind::Split(_, _, first, second) => (first, second),
-        Kind::Return | Kind::Dead => (NOBODY, NOBODY),
-    }
-}
 
 fn number_at(numbers: &[u32], place: u32) -> u32 {
     match numbers.get(place as usize) {
@@ -90,15 +79,6 @@ fn numbers_of(alloc: Global, order: &[u32]) -> Result<Vec<u32>, AllocError> {
     Ok(numbers)
 }
 
-/// The same, leading to others.
-fn leading_to(kind: Kind, first: u32, second: u32) -> Kind {
-    match kind {
-        Kind::Step(_, _) => Kind::Step(first, second),
-        Kind::Split(one, other, _, _) => Kind::Split(one, other, first, second),
-        Kind::Return | Kind::Dead => kind,
-    }
-}
-
 // The nodes so far, and the chains of what they state.
 #[derive(Drop)]
 struct Listing {
@@ -169,7 +149,7 @@ fn chain_of(
 ) -> Result<u32, OutlineError> {
     let stated = maker.stated(spot)?;
     let claims = stated.sorted(maker.alloc, chains, before)?;
-    chains.of(&claims)
+    Ok(chains.of(&claims)?)
 }
 
 /// The certificate of all spots of a maker, with what they do.
@@ -177,5 +157,5 @@ pub(crate) fn listed_nodes(maker: &Maker<'_>, ways: &[Kind]) -> Result<Vec<u8>, 
     let order = sorted(maker.alloc, ways)?;
     let mut listing = Listing::new(maker.alloc, &order)?;
     listing.add_all(maker, ways, &order)?;
-    listing.chains.written(maker.alloc, &listing.nodes)
+    Ok(listing.chains.written(maker.alloc, &listing.nodes)?)
 }

@@ -1,14 +1,13 @@
 //! The maker of the certificate.
 
 use crate::asked::{AskedCall, Left, asked_calls};
-use crate::conditions::Cut;
 use crate::fault::OutlineError;
-use crate::listing::{NOBODY, listed_nodes};
+use crate::listing::listed_nodes;
 use crate::spot::{Spot, Which};
-use crate::table::Table;
-use crate::words::{Words, listed};
+use crate::words::Words;
 use bpf_insn::{Arithmetic, Insn, Operand, Operation, Program, Test};
 use cert_form::{Kind, MAX_NODES};
+use cert_parts::{Cut, NOBODY, Table, listed};
 use cert_state::{AVal, Listed, Lit, Regs, dead, sharp_fact};
 use profile::Profile;
 use rule_compile::Outline;

@@ -1,10 +1,11 @@
 //! What is known of the machine and the number of a call.
 
-use crate::conditions::{Cut, below, beside, is_refuted, told_apart};
+use crate::conditions::{below, beside, is_refuted, told_apart};
 use crate::maker::Maker;
 use crate::spot::Which;
-use crate::words::{Words, listed};
+use crate::words::Words;
 use call_tables::Arch;
+use cert_parts::{Cut, listed};
 use cert_state::{Facts, Listed, Lit, range};
 use profile::Rule;
 use std::alloc::AllocError;

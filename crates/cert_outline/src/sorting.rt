@@ -3,9 +3,9 @@
 //! Nodes that say much the same share most of their chains where they say it in one order. Two orders are tried: that of a
 //! node before, as far as it says the same; and that of the rules' halves which are out as wholes, the greatest first.
 
-use crate::chains::Chains;
 use crate::stating::Stated;
 use cert_form::Claim;
+use cert_parts::Chains;
 use std::alloc::{AllocError, Global};
 
 // More rules than a profile has.

@@ -1,6 +1,6 @@
 //! Where a node stands, and what is known there.
 
-use crate::table::{Item, bits, mixed};
+use cert_parts::{Item, bits, mixed};
 use cert_state::AVal;
 
 /// Which call comes to a spot.

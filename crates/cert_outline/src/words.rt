@@ -1,14 +1,8 @@
 //! What is known of some words of a record, as literals.
 
-use crate::table::{Item, mixed};
-use cert_state::{AVal, Listed, Lit, Regs, entails, range};
+use cert_parts::{Item, listed, mixed};
+use cert_state::{Lit, entails, range};
 use std::alloc::{AllocError, Global};
-
-const NO_REGS: Regs = Regs {
-    a: AVal::Unknown,
-    x: AVal::Unknown,
-    scratch: [AVal::Unknown; 16],
-};
 
 /// Literals of whole words, word by word, and of bits under masks. What is known of bits under one mask is not looked at for those
 /// under another, nor for the whole word: the compiler, too, asks for them apart.
@@ -16,15 +10,6 @@ const NO_REGS: Regs = Regs {
 pub(crate) struct Words {
     pub(crate) whole: Vec<Lit>,
     pub(crate) masked: Vec<Lit>,
-}
-
-/// Literals as a state, of which can be asked what follows.
-pub(crate) fn listed(lits: &[Lit]) -> Listed<'_> {
-    Listed {
-        regs: NO_REGS,
-        lits,
-        more: None,
-    }
 }
 
 // Whether a literal speaks of its whole word.

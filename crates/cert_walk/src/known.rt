@@ -1,187 +1,303 @@
-//! What is known on a path: literals, and what follows from those of each word.
-//!
-//! The rules are those of `cert_state`. What is asked often is kept up to date as a literal comes or goes, so that a
-//! question costs little however much is known.
+//! What is known on a path, and what a node has to state of it. What follows from the literals of a word is asked of
+//! `cert_state`.
 
-use crate::literals::Literals;
-use crate::word_facts::WordFacts;
-use cert_state::Lit;
+use call_record::least_below;
+use cert_form::Claim;
+use cert_parts::{Table, listed};
+use cert_state::{Lit, dead, entails, range};
 use std::alloc::{AllocError, Global};
 
-/// Literals in the order in which they came, the last of which go first.
+/// How many numbers are tried for the least one of a word.
+pub(crate) const TRIES: usize = 256;
+
+/// What is known of a word, but for what is excluded of it.
+#[derive(Clone, Copy)]
+pub(crate) struct Short {
+    /// The least and the greatest number. Where there is none, the first is above the second.
+    pub(crate) least: u32,
+    pub(crate) greatest: u32,
+    /// The union of the masks of its `Bits`, and that of their data.
+    pub(crate) mask: u32,
+    pub(crate) datum: u32,
+}
+
+// Nothing is known of a word.
+const ANY: Short = Short {
+    least: 0,
+    greatest: u32::MAX,
+    mask: 0,
+    datum: 0,
+};
+
+/// Literals by their words, the last of which go first.
 #[derive(Drop)]
 pub(crate) struct Known {
-    literals: Literals,
-    words: [WordFacts; 16],
-    // For each literal what was known of its word before it.
-    before: Vec<WordFacts>,
+    words: Vec<Vec<Lit>>,
+    short: [Short; 16],
+    // For each literal, in the order in which they came, its word, and what was known of that before.
+    order: Vec<(u8, Short)>,
+    /// A bit for each word of which nothing is told for now.
+    pub(crate) hidden: u16,
+}
+
+// The mask under which one of the literals excludes a datum under a mask.
+fn excluding(own: &[Lit], mask: u32, datum: u32) -> Option<u32> {
+    for literal in own {
+        if let Lit::NotBits(_, m, d) = literal
+            && m & mask == *m
+            && datum & m == *d
+        {
+            return Some(*m);
+        }
+    }
+    None
+}
+
+// The least number above one that has other bits under the mask.
+fn next_under(number: u32, mask: u32) -> Option<u32> {
+    let lowest = mask & mask.wrapping_neg();
+    (number | lowest.wrapping_sub(1)).checked_add(1)
 }
 
 impl Known {
     /// Nothing is known.
     pub(crate) fn new(alloc: Global) -> Result<Known, AllocError> {
+        let mut words = Vec::new(alloc);
+        for _ in 0..16 {
+            words.push(Vec::new(alloc))?;
+        }
         Ok(Known {
-            literals: Literals::new(alloc)?,
-            words: [WordFacts::NONE; 16],
-            before: Vec::new(alloc),
+            words,
+            short: [ANY; 16],
+            order: Vec::new(alloc),
+            hidden: 0,
         })
     }
 
     /// How many literals are known.
     pub(crate) fn len(&self) -> usize {
-        self.before.len()
+        self.order.len()
     }
 
-    /// What is known of a word.
-    pub(crate) fn word(&self, word: u8) -> WordFacts {
-        self.words[(word % 16) as usize]
-    }
-
-    // Whether a number of a word is excluded by itself.
-    fn is_barred(&self, word: u8, number: u32) -> bool {
-        self.literals.has(Lit::NotBits(word, u32::MAX, number))
-    }
-
-    // What is known of a word, with its least and its greatest number as they are where some are excluded.
-    fn narrowed(&self, word: u8, facts: WordFacts) -> WordFacts {
-        let mut facts = facts;
-        for _ in 0..facts.excluded {
-            let Some((least, greatest)) = facts.range() else {
-                break;
-            };
-            facts = if self.is_barred(word, least) {
-                match least.checked_add(1) {
-                    Some(from) => facts.between(from, u32::MAX),
-                    None => facts.between(1, 0),
-                }
-            } else if self.is_barred(word, greatest) {
-                facts.between(0, greatest.saturating_sub(1))
-            } else {
-                break;
-            };
+    /// The literals of a word.
+    pub(crate) fn of(&self, word: u8) -> &[Lit] {
+        match self.words.get((word % 16) as usize) {
+            Some(own) if self.hidden >> (word % 16) & 1 == 0 => own.as_slice(),
+            _ => &[],
         }
-        facts
+    }
+
+    /// What is known of a word, but for what is excluded of it.
+    pub(crate) fn short(&self, word: u8) -> Short {
+        if self.hidden >> (word % 16) & 1 == 1 {
+            return ANY;
+        }
+        self.short[(word % 16) as usize]
     }
 
     /// Adds a literal.
     pub(crate) fn push(&mut self, literal: Lit) -> Result<(), AllocError> {
         let word = literal.word() % 16;
-        let before = self.word(word);
-        let facts = before.with(literal, self.len());
-        self.literals.push(literal)?;
-        self.before.push(before)?;
-        self.words[word as usize] = self.narrowed(word, facts);
-        Ok(())
-    }
-
-    /// Adds a literal, and that its word is one number where that follows.
-    pub(crate) fn learn(&mut self, literal: Lit) -> Result<(), AllocError> {
-        self.push(literal)?;
-        let word = literal.word();
-        if let Some((least, greatest)) = self.range(word) {
-            let only = Lit::Bits(word, u32::MAX, least);
-            if least == greatest && !self.literals.has(only) {
-                self.push(only)?;
-            }
+        let before = self.short(word);
+        self.order.push((word, before))?;
+        if let Some(own) = self.words.get_mut(word as usize) {
+            own.push(literal)?;
         }
+        let (mask, datum) = match literal {
+            Lit::Bits(_, mask, datum) => (mask, datum),
+            _ => (0, 0),
+        };
+        let mut short = before;
+        short.mask |= mask;
+        short.datum |= datum;
+        (short.least, short.greatest) = match range(&listed(self.of(word)), word) {
+            Some(ends) if before.mask & mask & (before.datum ^ datum) == 0 => ends,
+            _ => (1, 0),
+        };
+        // A word that is one number has all its bits.
+        if short.least == short.greatest && short.least & short.mask == short.datum {
+            short.mask = u32::MAX;
+            short.datum = short.least;
+        }
+        self.short[word as usize] = short;
         Ok(())
     }
 
     /// Forgets all literals but the first of them.
     pub(crate) fn truncate(&mut self, count: usize) {
         for _ in count..self.len() {
-            if let (Some(literal), Some(before)) = (self.literals.pop(), self.before.pop()) {
-                self.words[(literal.word() % 16) as usize] = before;
+            if let Some((word, before)) = self.order.pop() {
+                self.short[(word % 16) as usize] = before;
+                if let Some(own) = self.words.get_mut(word as usize) {
+                    own.pop();
+                }
             }
         }
     }
 
     /// The least and the greatest number of a word, if it has one.
     pub(crate) fn range(&self, word: u8) -> Option<(u32, u32)> {
-        self.word(word).range()
-    }
-
-    // The mask under which a literal excludes this datum, by bits under a part of all.
-    fn excluding_part(&self, word: u8, mask: u32, datum: u32) -> Option<u32> {
-        let facts = self.word(word);
-        let mut next = facts.partial;
-        for _ in 0..facts.parts {
-            let (literal, before) = self.at(next)?;
-            if let Lit::NotBits(_, m, d) = literal {
-                if m & mask == m && datum & m == d {
-                    return Some(m);
-                }
-            }
-            next = before.partial;
+        let short = self.short(word);
+        if short.least > short.greatest {
+            return None;
         }
-        None
-    }
-
-    // The literal at a place, with what was known of its word before it.
-    fn at(&self, place: Option<usize>) -> Option<(Lit, WordFacts)> {
-        let literal = self.literals.as_slice().get(place?)?;
-        Some((*literal, *self.before.get(place?)?))
-    }
-
-    /// The mask under which a literal excludes this datum under this mask, if one does.
-    pub(crate) fn excluding_mask(&self, word: u8, mask: u32, datum: u32) -> Option<u32> {
-        if self.literals.has(Lit::NotBits(word, mask, datum)) {
-            return Some(mask);
-        }
-        self.excluding_part(word, mask, datum)
+        Some((short.least, short.greatest))
     }
 
     /// How many steps it takes at most to see whether a literal of a word follows.
     pub(crate) fn cost(&self, word: u8) -> usize {
-        self.word(word).parts.saturating_add(4)
+        self.of(word).len().saturating_add(8)
     }
 
-    /// Whether a word may be a number.
-    pub(crate) fn admits(&self, word: u8, number: u32) -> bool {
-        !self.entails(Lit::NotBits(word, u32::MAX, number))
+    // What is known of a word, but for what is excluded of it.
+    fn in_short(&self, word: u8) -> [Lit; 2] {
+        let short = self.short(word);
+        [
+            Lit::In(word, short.least, short.greatest),
+            Lit::Bits(word, short.mask, short.datum),
+        ]
     }
 
     /// Whether a literal follows.
     pub(crate) fn entails(&self, literal: Lit) -> bool {
-        let facts = self.word(literal.word());
+        let word = literal.word();
+        let short = self.short(word);
         match literal {
-            Lit::In(_, low, high) => match facts.range() {
-                Some((least, greatest)) => low <= least && greatest <= high,
-                None => false,
-            },
-            Lit::Bits(_, mask, datum) => facts.has_bits(mask, datum),
-            Lit::NotBits(word, mask, datum) => {
-                facts.has_other_bits(mask, datum)
-                    || self.excluding_mask(word, mask, datum).is_some()
-                    || facts.misses(mask, datum)
-            }
+            Lit::Bits(_, mask, _) if mask & !short.mask != 0 && short.least < short.greatest =>
+                false,
+            Lit::NotBits(_, mask, datum) if excluding(self.of(word), mask, datum).is_some() => true,
+            Lit::NotBits(_, u32::MAX, datum) => datum < short.least
+                || short.greatest < datum
+                || short.mask & (short.datum ^ datum) != 0,
+            _ => entails(&listed(&self.in_short(word)), &literal),
         }
+    }
+
+    /// Whether a word is another number.
+    pub(crate) fn excludes(&self, word: u8, number: u32) -> bool {
+        self.entails(Lit::NotBits(word, u32::MAX, number))
     }
 
     /// Whether the literals of a word can not all be true.
     pub(crate) fn is_dead(&self, word: u8) -> bool {
-        let facts = self.word(word);
-        let excluding = self.excluding_mask(word, facts.mask, facts.datum);
-        facts.is_empty() || excluding.is_some()
+        let short = self.short(word);
+        excluding(self.of(word), short.mask, short.datum).is_some()
+            || dead(&listed(&self.in_short(word)))
     }
 
-    /// All literals, in their order.
-    pub(crate) fn literals(&self) -> &[Lit] {
-        self.literals.as_slice()
-    }
-
-    /// The literals of a word, in their order.
-    pub(crate) fn of_word(&self, alloc: Global, word: u8) -> Result<Vec<Lit>, AllocError> {
-        let mut own = Vec::new(alloc);
-        let mut next = self.word(word).last;
-        for _ in 0..=self.len() {
-            let Some((literal, before)) = self.at(next) else {
-                break;
-            };
-            own.push(literal)?;
-            next = before.last;
+    /// The least number that a word may be, if it is found soon.
+    pub(crate) fn least_number(&self, word: u8) -> Option<u32> {
+        let own = self.of(word);
+        let short = self.short(word);
+        let (mask, datum) = (u64::from(short.mask), u64::from(short.datum));
+        let mut from = short.least;
+        for _ in 0..TRIES {
+            let found = least_below(32, u64::from(from), mask, datum)?;
+            let number = u32::try_from(found).ok()?;
+            match excluding(own, u32::MAX, number) {
+                Some(under) => from = next_under(number, under & !short.mask)?,
+                None if number <= short.greatest => return Some(number),
+                None => return None,
+            }
         }
-        own.reverse();
+        None
+    }
+}
+
+/// What a node states that is made next: literals, each once.
+#[derive(Drop)]
+pub(crate) struct Needs {
+    alloc: Global,
+    pub(crate) claims: Table<Claim>,
+}
+
+// Whether a literal says more of a word than that it lies between two numbers and has these bits. A number that is excluded
+// by itself may come to be an end of the range, so it stays.
+fn says_more(literal: Lit, short: &Short) -> bool {
+    match literal {
+        Lit::In(_, _, _) => false,
+        Lit::Bits(_, mask, _) => mask != u32::MAX,
+        Lit::NotBits(_, u32::MAX, number) => short.least < number && number < short.greatest,
+        Lit::NotBits(_, mask, datum) => short.mask & mask & (short.datum ^ datum) == 0,
+    }
+}
+
+impl Needs {
+    /// Nothing.
+    pub(crate) fn new(alloc: Global) -> Needs {
+        Needs {
+            alloc,
+            claims: Table::new(alloc),
+        }
+    }
+
+    /// Adds a literal.
+    pub(crate) fn add(&mut self, literal: Lit) -> Result<(), AllocError> {
+        self.claims.place(Claim::Knows(literal))?;
+        Ok(())
+    }
+
+    /// Adds what is known of a word, of which some number is possible: its range, or its one number, and the literals that say more.
+    pub(crate) fn add_word(&mut self, known: &Known, word: u8) -> Result<(), AllocError> {
+        let short = known.short(word);
+        if short.least == short.greatest {
+            return self.add(Lit::Bits(word, u32::MAX, short.least));
+        }
+        if short.least > 0 {
+            self.add(Lit::In(word, short.least, u32::MAX))?;
+        }
+        if short.greatest < u32::MAX {
+            self.add(Lit::In(word, 0, short.greatest))?;
+        }
+        for literal in known.of(word) {
+            if says_more(*literal, &short) {
+                self.add(*literal)?;
+            }
+        }
+        Ok(())
+    }
+
+    /// The literals of a word.
+    pub(crate) fn of(&self, word: u8) -> Result<Vec<Lit>, AllocError> {
+        let mut own = Vec::new(self.alloc);
+        for claim in self.claims.items() {
+            if let Claim::Knows(literal) = claim
+                && literal.word() == word
+            {
+                own.push(*literal)?;
+            }
+        }
         Ok(own)
     }
+}
+
+/// Few of these literals and a fact, all of one word, that can not all be true, if they can not: the fact or what follows
+/// from it, alone or with another, if that is enough. The fact is looked at first: who comes here may know more than these
+/// literals, and then what follows from it may not follow.
+pub(crate) fn contradiction(
+    alloc: Global,
+    literals: &[Lit],
+    fact: Lit,
+) -> Result<Option<Vec<Lit>>, AllocError> {
+    let mut own = Vec::from_slice(alloc, &[fact])?;
+    own.extend_from_slice(literals)?;
+    let mut only = fact;
+    if let Some((least, greatest)) = range(&listed(&own), fact.word())
+        && least == greatest
+    {
+        only = Lit::Bits(fact.word(), u32::MAX, least);
+        own.push(only)?;
+    }
+    for last in [fact, only] {
+        for literal in &own {
+            let two = [*literal, last];
+            if dead(&listed(&two)) {
+                return Ok(Some(Vec::from_slice(alloc, &two)?));
+            }
+        }
+    }
+    if dead(&listed(&own)) {
+        return Ok(Some(own));
+    }
+    Ok(None)
 }

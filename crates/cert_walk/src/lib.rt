@@ -4,27 +4,16 @@
 //! whoever relies on a certificate has it checked.
 #![tactic(auto)]
 
-mod chains;
-mod clash;
-mod conditions;
 mod fault;
-mod index;
 mod known;
-mod literals;
 mod nodes;
-mod numbers;
 mod place;
-mod pool;
-mod registers;
 mod rules;
 mod search;
 mod settle;
-mod split;
-mod summary;
 mod trace;
 mod trials;
 mod walk;
-mod word_facts;
 mod words;
 mod work;
 

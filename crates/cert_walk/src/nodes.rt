@@ -1,21 +1,13 @@
 //! The nodes of a certificate, made from its last to its first.
 
-use crate::chains::Chains;
 use crate::fault::CertifyError;
-use crate::index::Index;
 use crate::known::Known;
-use crate::place::Place;
-use crate::registers::{BEGINNING, are_so};
-use crate::split::Split;
+use crate::place::{BEGINNING, Place, are_so};
 use crate::work::Work;
-use bpf_insn::Insn;
-use cert_form::{ChainNode, Claim, Kind, MAX_LITERALS, MAX_NODES, write_chained, write_claims};
-use cert_state::{Listed, Lit, Regs, edge_fact, sharp_fact};
-use kernel_check::Accepted;
+use cert_form::{ChainNode, Claim, Kind, MAX_LITERALS, MAX_NODES};
+use cert_parts::{Chains, NO_REGS, NOBODY, bits, followers, leading_to};
+use cert_state::Regs;
 use std::alloc::{AllocError, Global};
-
-/// Stands for no node.
-const NOBODY: u32 = u32::MAX;
 
 // How many nodes of a position are tried.
 const TRIES: usize = 64;
@@ -25,9 +17,14 @@ const TRIES: usize = 64;
 pub(crate) struct Nodes {
     alloc: Global,
     nodes: Vec<ChainNode>,
-    // Nodes by their positions.
-    index: Index,
+    // For each position the last node that stands there, and for each node the last one before it at its position.
+    latest: Vec<u32>,
+    before: Vec<u32>,
     chains: Chains,
+}
+
+fn at(numbers: &[u32], place: usize) -> u32 {
+    numbers.get(place).copied().unwrap_or(NOBODY)
 }
 
 impl Nodes {
@@ -36,8 +33,9 @@ impl Nodes {
         Ok(Nodes {
             alloc,
             nodes: Vec::new(alloc),
-            index: Index::new(alloc, insns)?,
-            chains: Chains::new(alloc)?,
+            latest: vec![in alloc; NOBODY; insns]?,
+            before: Vec::new(alloc),
+            chains: Chains::new(alloc),
         })
     }
 
@@ -47,13 +45,16 @@ impl Nodes {
         kind: Kind,
         pc: u16,
         regs: Regs,
-        literals: &[Lit],
+        claims: &[Claim],
     ) -> Result<u32, CertifyError> {
         let count = self.nodes.len();
-        if count >= MAX_NODES {
+        if count >= MAX_NODES || claims.len() > MAX_LITERALS {
             return Err(CertifyError::TooLarge);
         }
-        let chain = self.chains.of(literals)?;
+        let mut chain = 0;
+        for claim in claims {
+            chain = self.chains.longer(chain, *claim)?;
+        }
         let node = ChainNode {
             kind,
             pc,
@@ -63,7 +64,10 @@ impl Nodes {
         if let Some(number) = self.same(&node) {
             return Ok(number);
         }
-        self.index.push(pc as usize)?;
+        self.before.push(at(&self.latest, pc as usize))?;
+        if let Some(latest) = self.latest.get_mut(pc as usize) {
+            *latest = count as u32;
+        }
         self.nodes.push(node)?;
         Ok(count as u32)
     }
@@ -73,13 +77,12 @@ impl Nodes {
         if node.kind != Kind::Dead {
             return None;
         }
-        let mut next = self.index.latest(node.pc as usize);
+        let mut next = at(&self.latest, node.pc as usize);
         for _ in 0..TRIES {
-            let number = next?;
-            if self.nodes.get(number)? == node {
-                return u32::try_from(number).ok();
+            if self.nodes.get(next as usize)? == node {
+                return Some(next);
             }
-            next = self.index.before(number);
+            next = at(&self.before, next as usize);
         }
         None
     }
@@ -88,7 +91,7 @@ impl Nodes {
     fn follow(&self, known: &Known, chain: u32, work: &mut Work) -> bool {
         let mut left = chain;
         for _ in 0..=MAX_LITERALS {
-            let Some((parent, literal)) = self.chains.last(left) else {
+            let Some((parent, Claim::Knows(literal))) = self.chains.last(left) else {
                 return true;
             };
             work.spend(known.cost(literal.word()));
@@ -102,111 +105,50 @@ impl Nodes {
 
     /// The last node that stands at a place and states nothing but what is known.
     pub(crate) fn find(&self, place: &Place, known: &Known, work: &mut Work) -> Option<u32> {
-        let mut next = self.index.latest(place.pc as usize);
+        let mut next = at(&self.latest, place.pc as usize);
         for _ in 0..TRIES {
-            let number = next?;
-            let node = self.nodes.get(number)?;
+            let node = self.nodes.get(next as usize)?;
             if are_so(&node.regs, &place.regs) && self.follow(known, node.chain, work) {
-                return u32::try_from(number).ok();
+                return Some(next);
             }
-            next = self.index.before(number);
+            next = at(&self.before, next as usize);
         }
         None
     }
 
-    /// What a node states of the registers, and the literals that it states.
-    pub(crate) fn stated(&self, number: u32) -> Result<(Regs, Vec<Lit>), AllocError> {
+    /// What a node states of the registers, and what else it states.
+    pub(crate) fn stated(&self, number: u32) -> Result<(Regs, Vec<Claim>), AllocError> {
         let (regs, chain) = match self.nodes.get(number as usize) {
             Some(node) => (node.regs, node.chain),
-            None => (BEGINNING, 0),
+            None => (NO_REGS, 0),
         };
-        Ok((regs, self.chains.literals(self.alloc, chain)?))
+        Ok((regs, self.chains.claims(self.alloc, chain)?))
     }
 
     /// Whether a node says that no record is left.
     pub(crate) fn is_dead(&self, number: u32) -> bool {
-        match self.nodes.get(number as usize) {
-            Some(node) => node.kind == Kind::Dead,
-            None => false,
-        }
+        matches!(self.nodes.get(number as usize), Some(node) if node.kind == Kind::Dead)
     }
 
-    // Whether a node rests on what certificates of form 4 alone tell.
-    fn is_sharp(&self, program: &Accepted<'_>) -> bool {
-        for node in self.nodes.iter() {
-            if is_sharp(node, program.insn_at(node.pc)) {
-                return true;
-            }
-        }
-        false
-    }
-
-    /// The certificate of a program.
-    pub(crate) fn written(&self, program: &Accepted<'_>) -> Result<Vec<u8>, CertifyError> {
+    /// The certificate.
+    pub(crate) fn written(&self) -> Result<Vec<u8>, CertifyError> {
         let mut turned = Vec::new(self.alloc);
         for node in self.nodes.iter().rev() {
-            let kind = turned_kind(node.kind, self.nodes.len());
+            let (first, second) = followers(node.kind);
+            let kind = leading_to(node.kind, self.turned(first), self.turned(second));
             turned.push(ChainNode { kind, ..*node })?;
         }
         if let Some(root) = turned.first_mut() {
             root.regs = BEGINNING;
         }
-        if !self.is_sharp(program) {
-            return Ok(write_chained(self.alloc, self.chains.entries(), &turned)?);
+        Ok(self.chains.written(self.alloc, &turned)?)
+    }
+
+    // The number of a node where they are counted from the last.
+    fn turned(&self, number: u32) -> u32 {
+        if number == NOBODY {
+            return NOBODY;
         }
-        let mut entries = Vec::new(self.alloc);
-        for (parent, literal) in self.chains.entries() {
-            entries.push((*parent, Claim::Knows(*literal)))?;
-        }
-        Ok(write_claims(self.alloc, &entries, &turned)?)
-    }
-}
-
-// Whether a node at this instruction rests on what certificates of form 4 alone tell: on the fact of an edge, or on two
-// literals that cover each record by bits.
-fn is_sharp(node: &ChainNode, insn: Option<Insn>) -> bool {
-    match (node.kind, insn) {
-        (Kind::Split(Lit::Bits(_, _, _), Lit::Bits(_, _, _) | Lit::In(_, _, _), _, _), _) => true,
-        (Kind::Step(_, _), Some(insn)) => {
-            let state = Listed {
-                regs: node.regs,
-                lits: &[],
-                more: None,
-            };
-            sharp_fact(&state, &insn, true) != edge_fact(&state, &insn, true)
-                || sharp_fact(&state, &insn, false) != edge_fact(&state, &insn, false)
-        }
-        _ => false,
-    }
-}
-
-// The number of a node where so many nodes are counted from the last.
-fn turned(number: u32, count: usize) -> u32 {
-    if number == NOBODY {
-        return NOBODY;
-    }
-    let turned = (count as u64).saturating_sub(1 + u64::from(number));
-    turned.min(0xffff_ffff) as u32
-}
-
-fn turned_kind(kind: Kind, count: usize) -> Kind {
-    match kind {
-        Kind::Step(a, b) => Kind::Step(turned(a, count), turned(b, count)),
-        Kind::Split(one, other, a, b) => Kind::Split(
-            one,
-            other,
-            turned(a, count),
-            turned(b, count),
-        ),
-        Kind::Return | Kind::Dead => kind,
-    }
-}
-
-/// The kind of a node that others follow: over a split, or over the instruction, which has one way on or two.
-pub(crate) fn kind_of(split: Option<Split>, first: u32, second: Option<u32>) -> Kind {
-    match (split, second) {
-        (Some(split), Some(second)) => Kind::Split(split.first, split.second, first, second),
-        (None, Some(second)) => Kind::Step(second, first),
-        (_, None) => Kind::Step(first, NOBODY),
+        bits(self.before.len()).wrapping_sub(number).wrapping_sub(1)
     }
 }

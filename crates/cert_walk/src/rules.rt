@@ -1,8 +1,7 @@
 //! The rules of a profile, by machine and number.
 
-use profile::{Profile, Rule};
+use profile::Profile;
 use std::alloc::{AllocError, Global};
-use std::ops::Range;
 
 /// Where the rules stand in their list, in the order of their machines' tokens, their numbers and their places.
 #[derive(Drop)]
@@ -22,28 +21,20 @@ impl<'a> Rules<'a> {
         Ok(Rules { profile, places })
     }
 
-    /// In which turns the rules of a machine stand from a number on, and those behind them.
-    pub(crate) fn from(&self, token: u32, number: u32) -> Range<usize> {
-        let first = match self.places.binary_search(&(token, number, 0)) {
-            Ok(turn) => turn,
-            Err(turn) => turn,
-        };
-        first..self.places.len()
-    }
-
-    /// How many rules a machine's numbers from one to another have.
-    pub(crate) fn count(&self, token: u32, least: u32, greatest: u32) -> usize {
-        let first = self.from(token, least).start;
-        let next = self.from(token, greatest.saturating_add(1)).start;
-        next.saturating_sub(first)
-    }
-
-    /// The rule of a turn, if it is one of a machine's whose number is not above one.
-    pub(crate) fn at(&self, turn: usize, token: u32, greatest: u32) -> Option<&'a Rule> {
-        let (machine, nr, place) = self.places.get(turn)?;
-        if *machine != token || *nr > greatest {
-            return None;
+    // In which turn the first rule of a machine comes whose number is not below one, or the first behind the machine's.
+    fn turn(&self, token: u32, number: u32) -> usize {
+        match self.places.binary_search(&(token, number, 0)) {
+            Ok(turn) | Err(turn) => turn,
         }
-        self.profile.rules().get(*place)
+    }
+
+    /// The places of the rules of a machine's numbers from one to another, in their order.
+    pub(crate) fn among(&self, token: u32, least: u32, greatest: u32) -> &[(u32, u32, usize)] {
+        let first = self.turn(token, least);
+        let next = match greatest.checked_add(1) {
+            Some(above) => self.turn(token, above),
+            None => self.turn(token.saturating_add(1), 0),
+        };
+        self.places.get(first..next).unwrap_or(&[])
     }
 }

@@ -1,14 +1,13 @@
 //! The search for records that get unlike words.
 
-use crate::known::Known;
-use crate::numbers::{TRIES, least_number};
-use crate::trace::{Run, Step, Traced};
-use crate::trials::{Trials, mixed, with};
-use crate::words::{ARGUMENTS, NUMBER, TOKEN};
-use bpf_insn::{MAX_INSNS, Test};
-use call_record::halves;
-use call_tables::{Arch, LEAST_X32_NUMBER};
-use profile::{Cond, Op, Rule};
+use crate::known::{Known, TRIES};
+use crate::trace::Traced;
+use crate::trials::{LATER, Trials, mixed};
+use crate::words::{
+    NUMBER, TOKEN, Words, all_met, argument_of, around, beside, drawn, with, with_argument,
+};
+use call_tables::Arch;
+use profile::Rule;
 use std::alloc::AllocError;
 
 // Below this number are all numbers of the tables of calls.
@@ -19,103 +18,48 @@ const TURNS: usize = 60_000;
 
 const SAMPLES: usize = 8192;
 
-fn argument_of(words: &[u32; 16], index: u8) -> u64 {
-    let word = (ARGUMENTS + 2 * (index % 6)) as usize;
-    u64::from(words[word + 1]) << 32 | u64::from(words[word])
-}
-
-fn with_argument(words: &[u32; 16], index: u8, value: u64) -> [u32; 16] {
-    let word = ARGUMENTS + 2 * (index % 6);
-    let (low, high) = halves(value);
-    with(&with(words, word, low), word + 1, high)
-}
-
-// An argument that meets a condition: near its value, or another one with its bits.
-fn met(cond: &Cond, argument: u64) -> u64 {
-    match cond.op {
-        Op::Eq | Op::Le | Op::Ge => cond.value,
-        Op::Lt => cond.value.wrapping_sub(1),
-        Op::Ne | Op::Gt => cond.value.wrapping_add(1),
-        Op::MaskedEq => argument & !cond.value | cond.datum,
-    }
-}
-
-// Arguments of which some meet a condition: its value and those beside it, or one with its bits, or some of them flipped.
-fn beside(cond: &Cond, argument: u64) -> [u64; 3] {
-    let value = cond.value;
-    if cond.op == Op::MaskedEq {
-        let same = met(cond, argument);
-        [same, same ^ value & value.wrapping_neg(), same ^ value]
-    } else {
-        [value, value.wrapping_sub(1), value.wrapping_add(1)]
-    }
-}
-
-// Numbers in the place of the first one of a test, for which it comes out in either way.
-fn around(test: Test, number: u32, other: u32) -> [u32; 3] {
-    match test {
-        Test::AnyBit => [
-            number | other,
-            number & !other,
-            number ^ other & other.wrapping_neg(),
-        ],
-        _ => [other, other.wrapping_add(1), other.wrapping_sub(1)],
-    }
-}
-
-fn all_met(words: &[u32; 16], rule: &Rule) -> [u32; 16] {
-    let mut all = *words;
-    for cond in rule.conds.as_slice() {
-        let value = met(cond, argument_of(words, cond.index));
-        all = with_argument(&all, cond.index, value);
-    }
-    all
-}
-
 impl Trials<'_> {
     /// Tries records that come to a return by what is known there, and some beside them.
     pub(crate) fn visit(&mut self, known: &Known) -> Result<(), AllocError> {
-        self.share_walk(16);
+        self.work.share(LATER, 16);
         if self.is_over() {
             return Ok(());
         }
+        self.work.spend(known.len().saturating_mul(TRIES));
+        let mut words = [0; 16];
         for word in 0..16u8 {
-            self.work.spend(known.cost(word).saturating_mul(TRIES));
+            let Some(number) = known.least_number(word) else {
+                return Ok(());
+            };
+            words[word as usize] = number;
         }
-        let Some(words) = least_words(known) else {
-            return Ok(());
-        };
         for arch in self.rules.profile.machines() {
-            if known.admits(TOKEN, arch.token()) {
-                self.visit_machine(known, &with(&words, TOKEN, arch.token()), *arch)?;
+            if !known.excludes(TOKEN, arch.token()) {
+                let words = with(&words, TOKEN, arch.token());
+                self.visit_calls(known, &words, *arch)?;
+                self.beside_words(known, &words)?;
             }
         }
         self.beside_words(known, &words)
     }
 
-    fn visit_machine(
-        &mut self,
-        known: &Known,
-        words: &[u32; 16],
-        arch: Arch,
-    ) -> Result<(), AllocError> {
-        let Some((least, greatest)) = known.range(NUMBER) else {
-            return Ok(());
-        };
+    // Tries these words with each number of a call that is possible.
+    fn visit_calls(&mut self, known: &Known, words: &Words, arch: Arch) -> Result<(), AllocError> {
+        let (least, greatest) = known.range(NUMBER).unwrap_or((1, 0));
         for number in least..NUMBERS.min(greatest.saturating_add(1)) {
             if self.is_over() {
                 break;
             }
             self.work.spend(known.cost(NUMBER));
-            if known.admits(NUMBER, number) && arch.name(number).is_some() {
+            if arch.name(number).is_some() && !known.excludes(NUMBER, number) {
                 self.attempt(&with(words, NUMBER, number))?;
             }
         }
-        self.beside_words(known, words)
+        Ok(())
     }
 
     // Tries these words, and those with the greatest number of one word, or beside the rules.
-    fn beside_words(&mut self, known: &Known, words: &[u32; 16]) -> Result<(), AllocError> {
+    fn beside_words(&mut self, known: &Known, words: &Words) -> Result<(), AllocError> {
         self.attempt(words)?;
         for word in 0..16u8 {
             if let Some((_, greatest)) = known.range(word) {
@@ -126,28 +70,23 @@ impl Trials<'_> {
     }
 
     // Tries words beside the rules of a number.
-    fn by_rules(&mut self, words: &[u32; 16]) -> Result<(), AllocError> {
-        let token = words[TOKEN as usize];
+    fn by_rules(&mut self, words: &Words) -> Result<(), AllocError> {
         let number = words[NUMBER as usize];
         let rules = self.rules;
-        for turn in rules.from(token, number) {
-            let Some(rule) = rules.at(turn, token, number) else {
-                break;
-            };
+        for (_, _, place) in rules.among(words[TOKEN as usize], number, number) {
             if self.is_over() {
                 break;
             }
-            self.by_rule(words, rule)?;
+            if let Some(rule) = rules.profile.rules().get(*place) {
+                self.by_rule(words, rule)?;
+            }
         }
         Ok(())
     }
 
     // Tries all conditions of a rule met, and the arguments beside each of them: alone, and with the others met.
-    fn by_rule(&mut self, words: &[u32; 16], rule: &Rule) -> Result<(), AllocError> {
-        let mut all = *words;
-        for cond in rule.conds.as_slice() {
-            all = with_argument(&all, cond.index, met(cond, argument_of(words, cond.index)));
-        }
+    fn by_rule(&mut self, words: &Words, rule: &Rule) -> Result<(), AllocError> {
+        let all = all_met(words, rule);
         self.attempt(&all)?;
         for cond in rule.conds.as_slice() {
             for value in beside(cond, argument_of(words, cond.index)) {
@@ -160,108 +99,42 @@ impl Trials<'_> {
 
     /// Tries records of which nothing is known before.
     pub(crate) fn explore(&mut self) -> Result<(), AllocError> {
-        self.share(2);
+        self.work.share(0, 2);
         self.begin()?;
-        let mut place = 0;
-        let mut chance = 1;
-        self.share(4);
-        for _ in 0..SAMPLES {
-            chance = mixed(chance, 1);
-            self.sample(chance)?;
-        }
-        for _ in 0..TURNS {
-            self.share(32);
-            if self.is_over() {
-                break;
+        self.work.share(0, 4);
+        let (mut chance, mut place) = (1, 0);
+        for turn in 0..TURNS {
+            if turn >= SAMPLES {
+                self.work.share(0, 32);
+                if self.is_over() {
+                    break;
+                }
             }
-            if let Some(words) = self.queue.get(place).copied() {
-                place += 1;
-                self.flip_all(&words)?;
-                self.near_rules(&words)?;
-            } else {
-                chance = mixed(chance, 1);
-                self.cross(chance)?;
-                self.sample(chance)?;
+            match self.queue.get(place).copied() {
+                Some(words) if turn >= SAMPLES => {
+                    place += 1;
+                    self.flip_all(&words)?;
+                    self.by_rules(&words)?;
+                }
+                _ => {
+                    chance = mixed(chance, 1);
+                    self.sample(chance)?;
+                }
             }
         }
         Ok(())
     }
 
-    // Tries words of two records of the queue, mixed, and with all conditions of a rule met.
-    fn cross(&mut self, chance: u64) -> Result<(), AllocError> {
-        let Some(mut words) = self.drawn(chance) else {
-            return Ok(());
-        };
-        let Some(others) = self.drawn(chance >> 16) else {
-            return Ok(());
-        };
-        for word in 0..16u8 {
-            if chance >> word & 0x1_0000_0000 != 0 {
-                words[word as usize] = others[word as usize];
-            } else if chance & 1 == 0 && word > TOKEN {
-                words[word as usize] = (mixed(chance, u32::from(word)) & 0xffff_ffff) as u32;
-            }
-        }
-        self.attempt(&words)?;
-        let word = (chance >> 48 & 15) as u8;
-        let bit = 1u32.wrapping_shl((chance >> 52 & 31) as u32);
-        let number = words[word as usize];
-        self.attempt(&with(&words, word, number ^ bit))?;
-        let Some(all) = self.meeting(&words, chance) else {
-            return Ok(());
-        };
-        self.attempt(&all)?;
-        if chance >> 60 == 0 {
-            self.flip_all(&all)
-        } else {
-            self.attempt(&with(&all, word, number))
-        }
-    }
-
-    fn meeting(&self, words: &[u32; 16], chance: u64) -> Option<[u32; 16]> {
-        let rules = self.rules.profile.rules();
-        let rule = rules.get((chance as usize).checked_rem(rules.len())?)?;
-        let words = with(words, TOKEN, rule.arch.token());
-        Some(all_met(&with(&words, NUMBER, rule.nr), rule))
-    }
-
-    // Tries words of numbers that filter and rules name: with the call of a rule, and with its conditions met.
-    fn sample(&mut self, chance: u64) -> Result<(), AllocError> {
-        let mut words = [0; 16];
-        let mut other = chance;
-        for word in 0..16u8 {
-            other = mixed(other, u32::from(word));
-            words[word as usize] = self.pool.drawn(word, other).unwrap_or(0);
-        }
-        let Some(all) = self.meeting(&words, chance) else {
-            return self.attempt(&words);
-        };
-        self.attempt(&all)?;
-        let words = with(&words, TOKEN, all[TOKEN as usize]);
-        self.attempt(&with(&words, NUMBER, all[NUMBER as usize]))
-    }
-
-    fn drawn(&self, chance: u64) -> Option<[u32; 16]> {
-        let place = (chance % 0x1_0000) as usize;
-        self.queue
-            .get(place.checked_rem(self.queue.len())?)
-            .copied()
-    }
-
-    // Tries the calls of the tables, and records beside the rules of each number.
+    // Tries the calls of the tables, the ends of foreign numbers, and records beside the rules of each number.
     fn begin(&mut self) -> Result<(), AllocError> {
         let rules = self.rules;
+        let nothing = Known::new(self.alloc)?;
         for arch in rules.profile.machines() {
             let words = with(&[0; 16], TOKEN, arch.token());
-            for number in 0..NUMBERS {
-                if arch.name(number).is_some() {
-                    self.attempt(&with(&words, NUMBER, number))?;
-                }
-            }
-            self.attempt(&with(&words, NUMBER, LEAST_X32_NUMBER))?;
+            self.visit_calls(&nothing, &words, *arch)?;
             for foreign in arch.other_numbers() {
-                if let Some(own) = foreign.last.checked_add(1) {
-                    self.attempt(&with(&words, NUMBER, own))?;
+                for number in [foreign.first, foreign.last.wrapping_add(1)] {
+                    self.attempt(&with(&words, NUMBER, number))?;
                 }
             }
         }
@@ -273,128 +146,65 @@ impl Trials<'_> {
         Ok(())
     }
 
-    // Tries words of which each comparison of a run comes out otherwise.
-    fn flip_all(&mut self, words: &[u32; 16]) -> Result<(), AllocError> {
-        let mut run = Run::new();
-        for _ in 0..MAX_INSNS {
-            let Some(insn) = self.insn_at(run.pc) else {
-                break;
-            };
-            match run.step(&insn, words) {
-                Step::Goes => {}
-                Step::Ends(word) => {
-                    self.flip_bits(words, word, word.number)?;
-                    break;
-                }
-                Step::Compares(test, a, operand) => {
-                    self.flip_test(words, test, a, operand.number)?;
-                    self.flip_test(words, test, operand, a.number)?;
-                    let holds = test.holds(a.number, operand.number);
-                    run.skip(u32::from(if holds { insn.jt } else { insn.jf }));
-                }
-            }
+    // Tries words of numbers that filter and rules name: with the call of a rule, and with its conditions met.
+    fn sample(&mut self, chance: u64) -> Result<(), AllocError> {
+        let mut words = [0; 16];
+        let mut other = chance;
+        for word in 0..16u8 {
+            other = mixed(other, u32::from(word));
+            words[word as usize] = drawn(&self.pool, word, other).unwrap_or(0);
         }
-        Ok(())
+        let rules = self.rules.profile.rules();
+        let place = (chance as usize).checked_rem(rules.len()).unwrap_or(0);
+        let Some(rule) = rules.get(place) else {
+            return self.attempt(&words);
+        };
+        let words = with(&with(&words, TOKEN, rule.arch.token()), NUMBER, rule.nr);
+        self.attempt(&all_met(&words, rule))?;
+        self.attempt(&words)
     }
 
-    // Tries words for which a test of a number and another comes out in either way.
-    fn flip_test(
-        &mut self,
-        words: &[u32; 16],
-        test: Test,
-        from: Traced,
-        other: u32,
-    ) -> Result<(), AllocError> {
-        for target in around(test, from.number, other) {
-            self.flip(words, from, target)?;
+    // Tries words of which each comparison of a run comes out otherwise, or with one bit flipped of the word that it gives.
+    fn flip_all(&mut self, words: &Words) -> Result<(), AllocError> {
+        let (end, _) = self.run(words, 0)?;
+        let mut compared = Vec::new(self.alloc);
+        compared.append(&mut self.compared)?;
+        for (a, other) in &compared {
+            self.flip(words, *a, other.number)?;
+            self.flip(words, *other, a.number)?;
         }
-        if from.is_computed {
-            let target = if test == Test::AnyBit {
-                from.number
-            } else {
-                other
-            };
-            self.flip_bits(words, from, target)?;
-        }
-        Ok(())
+        self.flip_bits(words, end, end.number)
     }
 
-    // Tries words with which a number of a run may become another.
-    fn flip(&mut self, words: &[u32; 16], from: Traced, target: u32) -> Result<(), AllocError> {
+    // Tries words with which a number of a run may become others, by another that it is compared with.
+    fn flip(&mut self, words: &Words, from: Traced, other: u32) -> Result<(), AllocError> {
         let Some(word) = from.word else {
             return Ok(());
         };
         let old = words[(word % 16) as usize];
-        let more = target.wrapping_sub(from.number);
-        for number in [
-            old ^ from.bits_to(target),
-            old.wrapping_add(more),
-            old.wrapping_sub(more),
-        ] {
-            self.attempt(&with(words, word, number))?;
+        for target in around(from.number, other) {
+            let more = target.wrapping_sub(from.number);
+            let flipped = old ^ from.number ^ target;
+            for number in [flipped, old.wrapping_add(more), old.wrapping_sub(more)] {
+                self.attempt(&with(words, word, number))?;
+            }
+        }
+        if from.is_computed {
+            self.flip_bits(words, from, from.number)?;
+            self.flip_bits(words, from, other)?;
         }
         Ok(())
     }
 
-    fn flip_bits(
-        &mut self,
-        words: &[u32; 16],
-        from: Traced,
-        target: u32,
-    ) -> Result<(), AllocError> {
+    // Tries words with which a number of a run may become another one, but for one bit of the word.
+    fn flip_bits(&mut self, words: &Words, from: Traced, target: u32) -> Result<(), AllocError> {
         let Some(word) = from.word else {
             return Ok(());
         };
-        let number = words[(word % 16) as usize] ^ from.bits_to(target);
+        let number = words[(word % 16) as usize] ^ from.number ^ target;
         for bit in 0..32u32 {
             self.attempt(&with(words, word, number ^ 1u32.wrapping_shl(bit)))?;
         }
         Ok(())
     }
-
-    // Tries words beside the rules of which they miss at most one condition.
-    fn near_rules(&mut self, words: &[u32; 16]) -> Result<(), AllocError> {
-        let token = words[TOKEN as usize];
-        let number = words[NUMBER as usize];
-        let rules = self.rules;
-        for turn in rules.from(token, number) {
-            let Some(rule) = rules.at(turn, token, number) else {
-                break;
-            };
-            if self.is_over() {
-                break;
-            }
-            self.near_rule(words, rule)?;
-        }
-        Ok(())
-    }
-
-    fn near_rule(&mut self, words: &[u32; 16], rule: &Rule) -> Result<(), AllocError> {
-        let mut missed = 0u32;
-        for cond in rule.conds.as_slice() {
-            if !cond.holds(argument_of(words, cond.index)) {
-                missed = missed.saturating_add(1);
-            }
-        }
-        if missed > 1 {
-            return Ok(());
-        }
-        for cond in rule.conds.as_slice() {
-            let argument = argument_of(words, cond.index);
-            if missed == 0 || !cond.holds(argument) {
-                for value in beside(cond, argument) {
-                    self.attempt(&with_argument(words, cond.index, value))?;
-                }
-            }
-        }
-        Ok(())
-    }
-}
-
-fn least_words(known: &Known) -> Option<[u32; 16]> {
-    let mut words = [0; 16];
-    for word in 0..16u8 {
-        words[word as usize] = least_number(known, word)?;
-    }
-    Some(words)
 }

@@ -1,54 +1,103 @@
 //! Whether what is known settles that the profile says a word, and else how to come to know more.
+ghost use Rattle.std.specs.Prelude.{◌<◌};
 
-use crate::conditions::{Judged, judge_conditions};
 use crate::known::Known;
 use crate::rules::Rules;
-use crate::split::Split;
-use crate::words::{NUMBER, TOKEN, Words};
-use call_record::Word;
+use crate::words::{ARGUMENTS, NUMBER, TOKEN};
+use call_record::{Word, halves};
 use call_tables::Arch;
-use cert_state::Lit;
-use profile::Rule;
+use cert_parts::{Cut, cut_below, cut_of_bits};
+use cert_state::{Lit, is_bit, lowest_bit};
+use profile::{Cond, Op};
 
-/// What comes of the question.
-#[derive(Clone, Copy)]
-pub(crate) enum Outcome {
-    /// The profile says the word, by what is known of these words.
-    Settled(Words),
-    /// It is asked again of either half.
-    Cut(Split),
-    /// It says another word of some record, or nothing more can be asked.
-    Undecided,
-}
+/// Whether something is so, by what is known; or, where it may be either, the cut that settles more.
+pub(crate) type Answer = Result<bool, Cut>;
 
-impl Outcome {
-    // A split, if there is one.
-    fn cut(split: Option<Split>) -> Outcome {
-        match split {
-            Some(split) => Outcome::Cut(split),
-            None => Outcome::Undecided,
-        }
-    }
-
-    // It is settled, or not, by what is known of these words.
-    fn by(words: Words, is_so: bool) -> Outcome {
-        if is_so {
-            Outcome::Settled(words)
-        } else {
-            Outcome::Undecided
-        }
-    }
-
-    // It rests on what is known of these words besides.
-    fn with(self, more: Words) -> Outcome {
-        match self {
-            Outcome::Settled(words) => Outcome::Settled(words.and(more)),
-            other => other,
-        }
+// Whether two things are so: not if one of them is not.
+fn both(one: Answer, other: Answer) -> Answer {
+    match (one, other) {
+        (Ok(false), _) | (_, Ok(false)) => Ok(false),
+        (Ok(true), other) => other,
+        (open, _) => open,
     }
 }
 
-/// Whether the profile says a word of each record of which this is known.
+// Whether a word has these bits under a mask.
+fn judge_word(known: &Known, word: u8, mask: u32, datum: u32) -> Answer {
+    if known.entails(Lit::Bits(word, mask, datum)) {
+        Ok(true)
+    } else if known.entails(Lit::NotBits(word, mask, datum)) {
+        Ok(false)
+    } else {
+        Err(cut_of_bits(word, mask, datum))
+    }
+}
+
+// Whether an argument, of which this is the low word, has these bits under a mask.
+fn judge_bits(known: &Known, word: u8, mask: u64, datum: u64) -> Answer
+    requires { word < 15 }
+{
+    let (mask_below, mask_above) = halves(mask);
+    let (below, above) = halves(datum);
+    let above = judge_word(known, word + 1, mask_above, above);
+    both(above, judge_word(known, word, mask_below, below))
+}
+
+// Whether a comparison by order has one answer at both ends of an argument.
+fn judge_order(known: &Known, word: u8, cond: &Cond) -> Answer
+    requires { word < 15 }
+{
+    let (least, greatest) = known.range(word).unwrap_or((0, u32::MAX));
+    let (from, to) = known.range(word + 1).unwrap_or((0, u32::MAX));
+    match (
+        cond.holds(u64::from(from) << 32 | u64::from(least)),
+        cond.holds(u64::from(to) << 32 | u64::from(greatest)),
+    ) {
+        (true, true) => Ok(true),
+        (false, false) => Ok(false),
+        _ => Err(cut_at(word, cond, from, to)),
+    }
+}
+
+// Where an argument is cut whose high word lies from one number to another: at the value of the condition.
+fn cut_at(word: u8, cond: &Cond, from: u32, to: u32) -> Cut
+    requires { word < 15 }
+{
+    let (low, high) = halves(cond.value);
+    let cut = if from < high {
+        cut_below(word + 1, high)
+    } else if high < to {
+        cut_below(word + 1, high.saturating_add(1))
+    } else if matches!(cond.op, Op::Lt | Op::Ge) {
+        cut_below(word, low)
+    } else {
+        cut_below(word, low.wrapping_add(1))
+    };
+    cut.unwrap_or(cut_of_bits(word, u32::MAX, low))
+}
+
+// Whether a condition is met.
+fn judge_condition(known: &Known, cond: &Cond) -> Answer {
+    let word = ARGUMENTS + 2 * cond.index;
+    match cond.op {
+        Op::Eq => judge_bits(known, word, u64::MAX, cond.value),
+        Op::Ne => judge_bits(known, word, u64::MAX, cond.value).map(|is| !is),
+        Op::MaskedEq => judge_bits(known, word, cond.value, cond.datum),
+        Op::Lt | Op::Le | Op::Ge | Op::Gt => judge_order(known, word, cond),
+    }
+}
+
+// Whether all conditions are met.
+fn judge_conditions(known: &Known, conds: &[Cond]) -> Answer {
+    let mut all = Ok(true);
+    for cond in conds {
+        all = both(all, judge_condition(known, cond));
+    }
+    all
+}
+
+/// Whether the profile says a word of each record of which this is known. Where it is not said that it does, the profile
+/// says another one of some record, or nothing more can be asked. The cut is where it is asked again of either half.
 #[derive(Clone, Copy)]
 pub(crate) struct Question<'a> {
     pub(crate) rules: &'a Rules<'a>,
@@ -56,152 +105,136 @@ pub(crate) struct Question<'a> {
     pub(crate) word: Word,
 }
 
-impl Question<'_> {
-    /// The answer. Where nothing more can be asked, what is known is said in other words first.
-    pub(crate) fn settle(&self) -> Outcome {
-        match self.answer() {
-            Outcome::Undecided => Outcome::cut(self.sharpened()),
-            outcome => outcome,
-        }
+// What a literal says in other words, in certificates of form 4: that a word has not this bit, as it has the other one;
+// that it has some bits, as it is at least the lowest. The first half says the contrary.
+fn sharpened(literal: Lit) -> Option<Cut> {
+    let Lit::NotBits(word, mask, datum) = literal else {
+        return None;
+    };
+    let contrary = Lit::Bits(word, mask, datum);
+    if is_bit(mask) {
+        return Some((contrary, Lit::Bits(word, mask, mask ^ datum)));
     }
+    if datum != 0 {
+        return None;
+    }
+    let lowest = u32::try_from(lowest_bit(mask)).ok()?;
+    Some((contrary, Lit::In(word, lowest, u32::MAX)))
+}
 
+// A cut, if there is one.
+fn cut(cut: Option<Cut>) -> Answer {
+    match cut {
+        Some(cut) => Err(cut),
+        None => Ok(false),
+    }
+}
+
+impl Question<'_> {
     /// How many rules bear on the numbers that are possible.
     pub(crate) fn rules_asked(&self) -> usize {
         let (least, greatest) = self.known.range(NUMBER).unwrap_or((0, 0));
         let mut asked = 0usize;
         for arch in self.rules.profile.machines() {
-            asked = asked.saturating_add(self.rules.count(arch.token(), least, greatest));
+            let among = self.rules.among(arch.token(), least, greatest);
+            asked = asked.saturating_add(among.len());
         }
         asked
     }
 
-    // A split that says something known in other words, of which not all follows.
-    fn sharpened(&self) -> Option<Split> {
-        for literal in self.known.literals() {
-            if let Some(split) = Split::sharpened(*literal)
-                && !self.known.entails(split.second)
-            {
-                return Some(split);
+    /// The answer. Where nothing more can be asked, what is known is said in other words first.
+    pub(crate) fn settle(&self) -> Answer {
+        if self.answer()? {
+            return Ok(true);
+        }
+        for word in 0..16u8 {
+            for literal in self.known.of(word) {
+                if let Some(cut) = sharpened(*literal)
+                    && !self.known.entails(cut.1)
+                {
+                    return Err(cut);
+                }
             }
         }
-        None
+        Ok(false)
     }
 
     // The answer by what is known as it stands.
-    fn answer(&self) -> Outcome {
-        if self.is_said_of_all() {
-            return Outcome::Settled(Words::NONE);
+    fn answer(&self) -> Answer {
+        let rules = self.rules.profile.rules();
+        if self.is_foreign()
+            && self.is_default()
+            && rules.iter().all(|rule| rule.word == self.word)
+        {
+            return Ok(true);
         }
         for arch in self.rules.profile.machines() {
             let token = arch.token();
             if self.known.entails(Lit::Bits(TOKEN, u32::MAX, token)) {
-                return self.settle_machine(*arch).with(Words::of(TOKEN));
+                return self.settle_machine(*arch);
             }
             if !self.known.entails(Lit::NotBits(TOKEN, u32::MAX, token)) {
-                return Outcome::Cut(Split::bits(TOKEN, u32::MAX, token));
+                return Err(cut_of_bits(TOKEN, u32::MAX, token));
             }
         }
-        self.settle_foreign(TOKEN)
-    }
-
-    // Whether the word is that of each record, a foreign one too.
-    fn is_said_of_all(&self) -> bool {
-        self.word == Word::KILL_THREAD && self.is_default() && self.is_said_by_all()
-    }
-
-    fn is_said_by_all(&self) -> bool {
-        let rules = self.rules.profile.rules();
-        rules.iter().all(|rule| rule.word == self.word)
-    }
-
-    // Foreign records, which this word tells, get one word.
-    fn settle_foreign(&self, by: u8) -> Outcome {
-        Outcome::by(Words::of(by), self.word == Word::KILL_THREAD)
-    }
-
-    // Whether the records with a machine's token get the word. Those of foreign numbers come apart first.
-    fn settle_machine(&self, arch: Arch) -> Outcome {
-        let Some((least, greatest)) = self.known.range(NUMBER) else {
-            return Outcome::Undecided;
-        };
-        for foreign in arch.other_numbers() {
-            if foreign.first <= greatest && least <= foreign.last {
-                if least < foreign.first {
-                    return Outcome::cut(Split::at(NUMBER, foreign.first));
-                }
-                if foreign.last < greatest {
-                    return Outcome::cut(Split::above(NUMBER, foreign.last));
-                }
-                return self.settle_foreign(NUMBER);
-            }
-        }
-        let token = arch.token();
-        let outcome = if least == greatest {
-            self.settle_number(token, least)
-        } else {
-            self.settle_numbers(token, least, greatest)
-        };
-        outcome.with(Words::of(NUMBER))
+        Ok(self.is_foreign())
     }
 
     fn is_default(&self) -> bool {
         self.rules.profile.default_word() == self.word
     }
 
-    // Whether the rules of a machine say the word of all numbers from one to another.
-    fn settle_numbers(&self, token: u32, least: u32, greatest: u32) -> Outcome {
-        let mut words = Words::NONE;
-        for turn in self.rules.from(token, least) {
-            let Some(rule) = self.rules.at(turn, token, greatest) else {
-                break;
-            };
-            let Some(more) = self.set_aside(rule) else {
-                return Outcome::cut(if rule.nr > least {
-                    Split::at(NUMBER, rule.nr)
-                } else {
-                    Split::above(NUMBER, rule.nr)
-                });
-            };
-            words = words.and(more);
-        }
-        Outcome::by(words, self.is_default())
+    // Whether the word is the one that foreign records get.
+    fn is_foreign(&self) -> bool {
+        self.word == Word::KILL_THREAD
     }
 
-    // By what is known of which words a rule bears in no way on the word, where several numbers are possible.
-    fn set_aside(&self, rule: &Rule) -> Option<Words> {
-        if self.is_default() && rule.word == self.word {
-            return Some(Words::NONE);
+    // Whether the records with a machine's token get the word. Those of foreign numbers come apart first.
+    fn settle_machine(&self, arch: Arch) -> Answer {
+        let Some((least, greatest)) = self.known.range(NUMBER) else {
+            return Ok(false);
+        };
+        for foreign in arch.other_numbers() {
+            if foreign.first <= greatest && least <= foreign.last {
+                if least < foreign.first {
+                    return cut(cut_below(NUMBER, foreign.first));
+                }
+                if foreign.last < greatest {
+                    return cut(cut_below(NUMBER, foreign.last.saturating_add(1)));
+                }
+                return Ok(self.is_foreign());
+            }
         }
-        if self.known.entails(Lit::NotBits(NUMBER, u32::MAX, rule.nr)) {
-            return Some(Words::NONE);
-        }
-        match judge_conditions(self.known, rule.conds.as_slice()) {
-            Judged::No(words) => Some(words),
-            Judged::Yes(_) | Judged::Open(_) => None,
-        }
+        self.settle_numbers(arch.token(), least, greatest)
     }
 
-    // Whether the rules of a number say the word.
-    fn settle_number(&self, token: u32, nr: u32) -> Outcome {
-        let mut words = Words::NONE;
+    // Whether the rules of a machine say the word of all numbers from one to another. One that may bear on it comes apart.
+    fn settle_numbers(&self, token: u32, least: u32, greatest: u32) -> Answer {
+        let is_one = least == greatest;
+        let is_default = self.is_default();
         let mut refuted = false;
         let mut open = None;
-        for turn in self.rules.from(token, nr) {
-            let Some(rule) = self.rules.at(turn, token, nr) else {
+        for (_, nr, place) in self.rules.among(token, least, greatest) {
+            let Some(rule) = self.rules.profile.rules().get(*place) else {
                 break;
             };
             let same = rule.word == self.word;
+            if !is_one && (same && is_default || self.known.excludes(NUMBER, *nr)) {
+                continue;
+            }
             match judge_conditions(self.known, rule.conds.as_slice()) {
-                Judged::Yes(by) if same => return Outcome::Settled(by),
-                Judged::Yes(_) => refuted = true,
-                Judged::No(by) if !same => words = words.and(by),
-                Judged::Open(split) if same != self.is_default() => open = open.or(Some(split)),
-                Judged::No(_) | Judged::Open(_) => {}
+                Ok(false) => {}
+                _ if *nr > least => return cut(cut_below(NUMBER, *nr)),
+                _ if !is_one => return cut(cut_below(NUMBER, nr.saturating_add(1))),
+                Ok(true) if same => return Ok(true),
+                Ok(true) => refuted = true,
+                Err(cut) if same != is_default => open = open.or(Some(cut)),
+                Err(_) => {}
             }
         }
         match open {
-            Some(split) if !refuted => Outcome::Cut(split),
-            _ => Outcome::by(words, self.is_default() && !refuted),
+            Some(cut) if !refuted => Err(cut),
+            _ => Ok(is_default && !refuted),
         }
     }
 }

@@ -1,11 +1,10 @@
 //! Records that are tried for unlike words.
 
-use crate::pool::Pool;
 use crate::rules::Rules;
-use crate::trace::{Run, Step};
-use crate::words::{NUMBER, TOKEN};
+use crate::trace::{A, Run, Traced};
+use crate::words::{NUMBER, TOKEN, Words, pool_of, record_of};
 use crate::work::Work;
-use bpf_insn::{Insn, MAX_INSNS};
+use bpf_insn::{MAX_INSNS, Operation};
 use call_record::Record;
 use kernel_check::Accepted;
 use std::alloc::{AllocError, Global};
@@ -13,8 +12,8 @@ use std::alloc::{AllocError, Global};
 // How much work all trials may be.
 const WORK: u64 = 200_000_000;
 
-// How much of it is kept until the walk has ended.
-const LATER: u64 = 120_000_000;
+/// How much of it is kept until the walk has ended.
+pub(crate) const LATER: u64 = 120_000_000;
 
 // What else it takes to try a record, and how much a rule is that is judged.
 const ONE: usize = 32;
@@ -27,34 +26,22 @@ const SLOTS: usize = 1 << 16;
 /// Records that were tried, and what was found.
 #[derive(Drop)]
 pub(crate) struct Trials<'a> {
+    pub(crate) alloc: Global,
     pub(crate) rules: &'a Rules<'a>,
     program: Accepted<'a>,
     pub(crate) work: Work,
-    pub(crate) pool: Pool,
+    /// Numbers of which records are made by chance.
+    pub(crate) pool: Vec<(u8, u32)>,
     // Marks of records that were tried, and of ways that runs took.
     tried: Vec<u64>,
     ways: Vec<u64>,
+    /// What the last run compared.
+    pub(crate) compared: Vec<(Traced, Traced)>,
     /// Records whose runs took a way that none before them took.
-    pub(crate) queue: Vec<[u32; 16]>,
+    pub(crate) queue: Vec<Words>,
     /// A record that gets unlike words: a call of the tables, and any other one.
     pub(crate) found: Option<Record>,
     pub(crate) other: Option<Record>,
-}
-
-// The record of these words.
-fn record_of(words: &[u32; 16]) -> Record {
-    let mut bytes = [0; 64];
-    for i in 0..16 {
-        bytes[4 * i..4 * i + 4].copy_from_slice(&words[i].to_le_bytes());
-    }
-    Record::from_bytes(&bytes)
-}
-
-/// Words with another number at one place.
-pub(crate) fn with(words: &[u32; 16], word: u8, number: u32) -> [u32; 16] {
-    let mut other = *words;
-    other[(word % 16) as usize] = number;
-    other
 }
 
 /// A mark in which another number is mixed.
@@ -84,12 +71,14 @@ impl<'a> Trials<'a> {
         program: Accepted<'a>,
     ) -> Result<Trials<'a>, AllocError> {
         Ok(Trials {
+            alloc,
             rules,
             program,
             work: Work::new(WORK),
-            pool: Pool::new(alloc, rules, &program)?,
+            pool: pool_of(alloc, rules.profile.rules(), &program)?,
             tried: vec![in alloc; 0; SLOTS]?,
             ways: vec![in alloc; 0; SLOTS]?,
+            compared: Vec::new(alloc),
             queue: Vec::new(alloc),
             found: None,
             other: None,
@@ -101,58 +90,46 @@ impl<'a> Trials<'a> {
         self.found.is_some() || self.work.is_over()
     }
 
-    /// From now on one part of so many of the work may be done that is left before the walk has ended.
-    pub(crate) fn share_walk(&mut self, parts: u64) {
-        self.work.share(LATER, parts);
-    }
-
-    /// From now on one part of so many of all work that is left may be done.
-    pub(crate) fn share(&mut self, parts: u64) {
-        self.work.share(0, parts);
-    }
-
-    /// The instruction at a position of the filter.
-    pub(crate) fn insn_at(&self, pc: u16) -> Option<Insn> {
-        self.program.insn_at(pc)
-    }
-
-    // The word that the filter gives, and whether its run took a way that no run before took to this word of the profile.
-    fn run(&mut self, words: &[u32; 16], said: u32) -> (u32, bool) {
+    /// The number that the filter gives, and whether its run took a way that no run before took to this word of the profile.
+    pub(crate) fn run(&mut self, words: &Words, said: u32) -> Result<(Traced, bool), AllocError> {
         let mut run = Run::new();
         let mut is_new = false;
+        self.compared.clear();
         for _ in 0..MAX_INSNS {
             let Some(insn) = self.program.insn_at(run.pc) else {
                 break;
             };
             self.work.spend(1);
-            match run.step(&insn, words) {
-                Step::Ends(word) => return (word.number, is_new),
-                Step::Goes => {}
-                Step::Compares(test, a, operand) => {
-                    let holds = test.holds(a.number, operand.number);
+            let skipped = match insn.operation() {
+                Some(Operation::ReturnK) | None => return Ok((Traced::of(insn.k, None), is_new)),
+                Some(Operation::ReturnA) => return Ok((run.registers[A], is_new)),
+                Some(Operation::Jump) => insn.k,
+                Some(Operation::Branch(test, operand)) => {
+                    let (a, other) = (run.registers[A], run.value(operand, insn.k));
+                    self.compared.push((a, other))?;
+                    let holds = test.holds(a.number, other.number);
                     let way = (u32::from(run.pc) << 1) | u32::from(holds);
-                    if put(&mut self.ways, mixed(mixed(1, said), way)) {
-                        is_new = true;
-                    }
-                    run.skip(u32::from(if holds { insn.jt } else { insn.jf }));
+                    is_new |= put(&mut self.ways, mixed(mixed(1, said), way));
+                    u32::from(if holds { insn.jt } else { insn.jf })
                 }
-            }
+                Some(operation) => {
+                    run.compute(operation, insn.k, words);
+                    0
+                }
+            };
+            run.skip(skipped);
         }
-        (said, is_new)
+        Ok((Traced::of(said, None), is_new))
     }
 
     // Whether a record is a call of the tables of the profile's machines.
     fn is_listed(&self, call: &Record) -> bool {
-        for arch in self.rules.profile.machines() {
-            if arch.token() == call.arch && arch.name(call.nr).is_some() {
-                return true;
-            }
-        }
-        false
+        let machines = self.rules.profile.machines();
+        machines.iter().any(|arch| arch.token() == call.arch && arch.name(call.nr).is_some())
     }
 
     /// Tries the record of these words.
-    pub(crate) fn attempt(&mut self, words: &[u32; 16]) -> Result<(), AllocError> {
+    pub(crate) fn attempt(&mut self, words: &Words) -> Result<(), AllocError> {
         if self.is_over() {
             return Ok(());
         }
@@ -167,14 +144,17 @@ impl<'a> Trials<'a> {
         let call = record_of(words);
         let said = self.rules.profile.decide(&call).0;
         let number = words[NUMBER as usize];
-        let judged = self.rules.count(words[TOKEN as usize], number, number);
+        let judged = self
+            .rules
+            .among(words[TOKEN as usize], number, number)
+            .len();
         self.work.spend(judged.saturating_mul(RULE));
-        let (given, is_new) = self.run(words, said);
-        if given != said {
+        let (given, is_new) = self.run(words, said)?;
+        if given.number != said {
             if self.is_listed(&call) {
                 self.found = Some(call);
-            } else if self.other.is_none() {
-                self.other = Some(call);
+            } else {
+                self.other = self.other.or(Some(call));
             }
         }
         if is_new {

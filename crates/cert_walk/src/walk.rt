@@ -4,23 +4,18 @@
 //! after it need, and a later path ends at the first node of which it knows all that is stated.
 ghost use Rattle.bpf_insn.specs.Causes.{IsPlain};
 
-use crate::clash::{clash_after, contradiction};
 use crate::fault::CertifyError;
-use crate::known::Known;
-use crate::literals::Literals;
-use crate::nodes::{Nodes, kind_of};
-use crate::place::Place;
-use crate::registers::{BEGINNING, NOTHING, needed};
+use crate::known::{Known, Needs, contradiction};
+use crate::nodes::Nodes;
+use crate::place::{BEGINNING, Place, has_two_ways, needed};
 use crate::rules::Rules;
-use crate::settle::{Outcome, Question};
-use crate::split::Split;
-use crate::summary::{add_word, add_words};
+use crate::settle::Question;
 use crate::trials::Trials;
-use crate::words::Words;
 use crate::work::Work;
 use bpf_insn::{Insn, Operation};
 use call_record::{Record, Word};
-use cert_form::{Kind, MAX_NODES};
+use cert_form::{Claim, Kind, MAX_NODES};
+use cert_parts::{Cut, NO_REGS, NOBODY, cut_below};
 use cert_state::{AVal, Lit, Regs};
 use kernel_check::Accepted;
 use profile::Profile;
@@ -29,45 +24,36 @@ use std::alloc::Global;
 // Each node is come back to at most three times: at first, and after each of its ways.
 const MAX_TURNS: usize = 4 * MAX_NODES;
 
-// Where so many numbers more of a word are excluded one by one, it is cut in two, since a node has few literals.
+// Where so much more is known of a word, it is cut in two, since a node has few literals.
 const CROWD: usize = 320;
 
 // How much work a walk may be, and how much a rule is that is asked.
 const WORK: u64 = 50_000_000;
 
-const RULE: usize = 16;
+const RULE: usize = 8;
+
+// Words in the order in which a return is tried without them. They are stated in the other order, the token first, so that
+// chains share their beginnings.
+const SPARED: [u8; 16] = [4, 5, 6, 7, 8, 9, 10, 11, 12, 13, 14, 15, 2, 3, 0, 1];
 
 // A node to be made, once those are found that follow it.
 #[derive(Clone, Copy)]
 struct Visit {
     place: Place,
     // How the path goes on: by one literal or the other, or else over the instruction.
-    split: Option<Split>,
+    cut: Option<Cut>,
     // How many literals are known there.
     known: usize,
     first: Option<u32>,
     second: Option<u32>,
 }
 
-impl Visit {
-    // With a node more that follows, if one was found.
-    fn followed(self, found: Option<u32>) -> Visit {
-        match self.first {
-            None => Visit {
-                first: found,
-                ..self
-            },
-            Some(_) => Visit {
-                second: found,
-                ..self
-            },
-        }
-    }
-}
+// A node that was found or made, or none yet.
+type Found = Result<Option<u32>, CertifyError>;
 
 /// A walk that has come so far.
 #[derive(Drop)]
-pub(crate) struct Walk<'a> {
+struct Walk<'a> {
     alloc: Global,
     program: Accepted<'a>,
     rules: &'a Rules<'a>,
@@ -76,19 +62,15 @@ pub(crate) struct Walk<'a> {
     visits: Vec<Visit>,
     nodes: Nodes,
     // What the node states that is made next.
-    needs: Literals,
+    needs: Needs,
     // Where it looks for a record that gets unlike words, those that were tried.
     trials: Option<Trials<'a>>,
     work: Work,
 }
 
-fn undecided(pc: u16) -> CertifyError {
-    CertifyError::Undecided(u32::from(pc))
-}
-
 impl<'a> Walk<'a> {
-    /// A walk that begins. It may look for a record that gets unlike words.
-    pub(crate) fn new(
+    // A walk that begins. It may look for a record that gets unlike words.
+    fn new(
         alloc: Global,
         rules: &'a Rules<'a>,
         program: Accepted<'a>,
@@ -101,7 +83,7 @@ impl<'a> Walk<'a> {
             known: Known::new(alloc)?,
             visits: Vec::new(alloc),
             nodes: Nodes::new(alloc, program.program().len())?,
-            needs: Literals::new(alloc)?,
+            needs: Needs::new(alloc),
             trials,
             work: Work::new(WORK),
         })
@@ -109,56 +91,64 @@ impl<'a> Walk<'a> {
 
     // Goes all paths, or until a record is found.
     fn go_all(&mut self) -> Result<(), CertifyError> {
-        let root = Place {
+        let mut found = self.enter(&Place {
             pc: 0,
             regs: BEGINNING,
             fact: None,
-        };
-        let mut found = self.enter(&root)?;
+        })?;
         for _ in 0..MAX_TURNS {
-            if self.has_found() {
-                return Ok(());
-            }
             let Some(visit) = self.visits.pop() else {
                 return Ok(());
             };
-            found = self.advance(visit.followed(found))?;
+            if matches!(&self.trials, Some(trials) if trials.found.is_some()) {
+                return Ok(());
+            }
+            let visit = match visit.first {
+                Some(_) => Visit {
+                    second: found,
+                    ..visit
+                },
+                None => Visit {
+                    first: found,
+                    ..visit
+                },
+            };
+            found = self.advance(visit)?;
         }
         Err(CertifyError::TooLarge)
     }
 
     // Goes a way from a node, or makes it where all are gone. A node that was found at the end of the way, or made, is
     // answered.
-    fn advance(&mut self, visit: Visit) -> Result<Option<u32>, CertifyError> {
+    fn advance(&mut self, visit: Visit) -> Found {
         let Some(insn) = self.program.insn_at(visit.place.pc) else {
-            return Err(undecided(visit.place.pc));
+            return Err(CertifyError::Undecided(u32::from(visit.place.pc)));
         };
         self.known.truncate(visit.known);
-        let (first, second) = visit.place.ways(&insn, visit.split);
-        let next = match (visit.first, visit.second, second) {
-            (None, _, _) => first,
-            (Some(_), None, Some(place)) => place,
-            (Some(node), _, _) => return self.leave(&visit, &insn, node),
+        let (first, second) = visit.place.ways(&insn, visit.cut);
+        let next = match (visit.first, visit.second) {
+            (None, _) => first,
+            (Some(_), None) if has_two_ways(&insn, visit.cut) => second,
+            (Some(one), other) => return self.leave(&visit, &insn, one, other.unwrap_or(NOBODY)),
         };
         self.visits.push(visit)?;
         self.enter(&next)
     }
 
     // Comes to a place. A node that is there already, or ends the path, is answered.
-    fn enter(&mut self, place: &Place) -> Result<Option<u32>, CertifyError> {
-        let before = self.known.len();
-        let mut split = None;
+    fn enter(&mut self, place: &Place) -> Found {
+        let mut cut = None;
         if let Some(fact) = place.fact
             && !self.known.entails(fact)
         {
-            self.known.learn(fact)?;
+            self.known.push(fact)?;
             if self.known.is_dead(fact.word()) {
-                return self.end_dead(place, fact, before);
+                return self.end_dead(place.pc, fact);
             }
-            split = self.crowded(fact);
+            cut = self.crowded(fact);
         }
         let Some(insn) = self.program.insn_at(place.pc) else {
-            return Err(undecided(place.pc));
+            return Err(CertifyError::Undecided(u32::from(place.pc)));
         };
         if self.work.is_over() {
             return Err(CertifyError::TooLarge);
@@ -166,62 +156,58 @@ impl<'a> Walk<'a> {
         if let Some(number) = self.nodes.find(place, &self.known, &mut self.work) {
             return Ok(Some(number));
         }
-        if split.is_some() {
-            return self.wait(place, split);
-        }
-        match (insn.operation(), place.regs.a) {
-            (Some(Operation::ReturnK), _) => self.end(place, Word(insn.k), NOTHING),
+        let a = place.regs.a;
+        match (insn.operation(), a) {
+            _ if cut.is_some() => self.wait(place, cut),
+            (Some(Operation::ReturnK), _) => self.end(place, Word(insn.k), NO_REGS),
             (Some(Operation::ReturnA), AVal::Const(word)) => {
-                let regs = Regs {
-                    a: place.regs.a,
-                    ..NOTHING
-                };
-                self.end(place, Word(word), regs)
+                self.end(place, Word(word), Regs { a, ..NO_REGS })
             }
             (Some(Operation::ReturnA), _) => self.stuck(place),
             _ => self.wait(place, None),
         }
     }
 
-    // Ends a path that no record takes, by a fact before which so much was known.
-    fn end_dead(
-        &mut self,
-        place: &Place,
-        fact: Lit,
-        before: usize,
-    ) -> Result<Option<u32>, CertifyError> {
-        let own = self.known.of_word(self.alloc, fact.word())?;
-        self.work.spend(own.len());
-        self.known.truncate(before);
-        Ok(Some(self.dead(place.pc, own, fact)?))
+    // Ends a path that no record takes, as is seen by a fact.
+    fn end_dead(&mut self, pc: u16, fact: Lit) -> Found {
+        self.work.spend(self.known.cost(fact.word()));
+        match contradiction(self.alloc, self.known.of(fact.word()), fact)? {
+            Some(few) => Ok(Some(self.dead(pc, &few)?)),
+            None => Err(CertifyError::Undecided(u32::from(pc))),
+        }
     }
 
-    // A node that no record reaches, since these literals of one word can not all be true. The fact came last.
-    fn dead(&mut self, pc: u16, own: Vec<Lit>, fact: Lit) -> Result<u32, CertifyError> {
-        let few = contradiction(self.alloc, own, fact)?;
-        self.nodes.add(Kind::Dead, pc, NOTHING, &few)
+    // A node that no record reaches, since these literals can not all be true.
+    fn dead(&mut self, pc: u16, few: &[Lit]) -> Result<u32, CertifyError> {
+        let mut needs = Needs::new(self.alloc);
+        for literal in few {
+            needs.add(*literal)?;
+        }
+        self.nodes
+            .add(Kind::Dead, pc, NO_REGS, needs.claims.items())
     }
 
-    // Where a word is cut of which so many numbers are excluded one by one, the last of them by this fact.
-    fn crowded(&self, fact: Lit) -> Option<Split> {
+    // Where a word is cut of which so much is known, the last of it that it is not this number.
+    fn crowded(&self, fact: Lit) -> Option<Cut> {
         let Lit::NotBits(word, u32::MAX, number) = fact else {
             return None;
         };
-        let facts = self.known.word(word);
-        if facts.excluded % CROWD > 0 || number < facts.least || facts.greatest < number {
+        let (least, greatest) = self.known.range(word)?;
+        let count = self.known.of(word).len();
+        if count < CROWD || count % CROWD > 1 || number < least || greatest < number {
             return None;
         }
-        Split::at(word, number)
+        cut_below(word, number)
     }
 
     // Puts a node off until those that follow it are made.
-    fn wait(&mut self, place: &Place, split: Option<Split>) -> Result<Option<u32>, CertifyError> {
+    fn wait(&mut self, place: &Place, cut: Option<Cut>) -> Found {
         if self.visits.len() >= MAX_NODES {
             return Err(CertifyError::TooLarge);
         }
         self.visits.push(Visit {
             place: *place,
-            split,
+            cut,
             known: self.known.len(),
             first: None,
             second: None,
@@ -229,103 +215,115 @@ impl<'a> Walk<'a> {
         Ok(None)
     }
 
-    // Comes to a return.
-    fn end(&mut self, place: &Place, word: Word, regs: Regs) -> Result<Option<u32>, CertifyError> {
-        let question = Question {
+    // The question whether the profile says a word, by what is known.
+    fn question(&self, word: Word) -> Question<'_> {
+        Question {
             rules: self.rules,
             known: &self.known,
             word,
-        };
-        let outcome = question.settle();
-        // Of a question that is asked again of either half the work is counted there.
-        if !matches!(outcome, Outcome::Cut(_)) {
-            self.work.spend(question.rules_asked().saturating_mul(RULE));
         }
-        match outcome {
-            Outcome::Settled(words) => {
-                self.needs.clear();
-                add_words(self.alloc, &mut self.needs, &self.known, words)?;
-                self.make(Kind::Return, place.pc, regs)
+    }
+
+    // Comes to a return.
+    fn end(&mut self, place: &Place, word: Word, regs: Regs) -> Found {
+        let question = self.question(word);
+        let asked = question.rules_asked().saturating_mul(RULE);
+        match question.settle() {
+            // The work is counted where the question is asked again of either half.
+            Err(cut) => self.wait(place, Some(cut)),
+            Ok(true) => {
+                self.spare_words(word, asked);
+                self.make_return(place.pc, regs)
             }
-            Outcome::Cut(split) => self.wait(place, Some(split)),
-            Outcome::Undecided => self.stuck(place),
+            Ok(false) => {
+                self.work.spend(asked);
+                self.stuck(place)
+            }
         }
+    }
+
+    // Hides the words of the record without which the question is settled as well.
+    fn spare_words(&mut self, word: Word, asked: usize) {
+        for spared in SPARED {
+            if self.known.of(spared).is_empty() {
+                continue;
+            }
+            let hidden = self.known.hidden;
+            self.known.hidden |= 1u16 << spared;
+            self.work.spend(asked);
+            if !matches!(self.question(word).settle(), Ok(true)) {
+                self.known.hidden = hidden;
+            }
+        }
+    }
+
+    // Makes a return that states what is known and not hidden.
+    fn make_return(&mut self, pc: u16, regs: Regs) -> Found {
+        self.needs = Needs::new(self.alloc);
+        for word in SPARED.iter().rev() {
+            self.needs.add_word(&self.known, *word)?;
+        }
+        self.known.hidden = 0;
+        self.make(Kind::Return, pc, regs)
     }
 
     // Comes to a return whose word is not the profile's, as far as is known. Who looks for a record tries some that come
     // here, and goes on elsewhere.
-    fn stuck(&mut self, place: &Place) -> Result<Option<u32>, CertifyError> {
+    fn stuck(&mut self, place: &Place) -> Found {
         let Some(trials) = &mut self.trials else {
-            return Err(undecided(place.pc));
+            return Err(CertifyError::Undecided(u32::from(place.pc)));
         };
         trials.visit(&self.known)?;
-        self.needs.clear();
-        add_words(self.alloc, &mut self.needs, &self.known, Words::ALL)?;
-        self.make(Kind::Return, place.pc, place.regs)
+        self.make_return(place.pc, place.regs)
     }
 
-    // Whether a record is found than which no other tells more.
-    fn has_found(&self) -> bool {
-        match &self.trials {
-            Some(trials) => trials.found.is_some(),
-            None => false,
-        }
-    }
-
-    // The record that was found, after more are tried where none tells the most.
-    fn told(&mut self) -> Result<Option<Record>, CertifyError> {
-        let Some(trials) = &mut self.trials else {
-            return Ok(None);
+    // Makes the node of a visit that these nodes follow.
+    fn leave(&mut self, visit: &Visit, insn: &Insn, one: u32, other: u32) -> Found
+        requires { IsPlain insn.now }
+    {
+        let (first, second) = visit.place.ways(insn, visit.cut);
+        self.needs = Needs::new(self.alloc);
+        let stated = self.need(first.fact, one)?;
+        let also = self.need(second.fact, other)?;
+        let regs = needed(&visit.place, insn, visit.cut, &stated, &also);
+        let one = self.or_dead(&first, one)?;
+        let other = self.or_dead(&second, other)?;
+        let kind = match visit.cut {
+            Some((literal, contrary)) => Kind::Split(literal, contrary, one, other),
+            None if other == NOBODY => Kind::Step(one, NOBODY),
+            None => Kind::Step(other, one),
         };
-        trials.explore()?;
-        Ok(trials.found.or(trials.other))
+        self.make(kind, visit.place.pc, regs)
     }
 
     // Makes a node that states what is needed.
-    fn make(&mut self, kind: Kind, pc: u16, regs: Regs) -> Result<Option<u32>, CertifyError> {
-        let number = self.nodes.add(kind, pc, regs, self.needs.as_slice())?;
-        Ok(Some(number))
-    }
-
-    // Makes the node of a visit, of which this node follows.
-    fn leave(&mut self, visit: &Visit, insn: &Insn, node: u32) -> Result<Option<u32>, CertifyError>
-        requires { IsPlain insn.now }
-    {
-        let (first, second) = visit.place.ways(insn, visit.split);
-        self.needs.clear();
-        let stated = self.need(first.fact, node)?;
-        let (also, other) = match (second, visit.second) {
-            (Some(place), Some(other)) => {
-                let also = self.need(place.fact, other)?;
-                (Some(also), Some(self.or_dead(&place, other)?))
-            }
-            _ => (None, None),
-        };
-        let node = self.or_dead(&first, node)?;
-        let regs = needed(&visit.place, insn, visit.split, &stated, also);
-        self.make(kind_of(visit.split, node, other), visit.place.pc, regs)
+    fn make(&mut self, kind: Kind, pc: u16, regs: Regs) -> Found {
+        let claims = self.needs.claims.items();
+        Ok(Some(self.nodes.add(kind, pc, regs, claims)?))
     }
 
     // Adds what has to be stated before a way with this fact to a node, and answers what that states of the registers.
     fn need(&mut self, fact: Option<Lit>, node: u32) -> Result<Regs, CertifyError> {
-        let (regs, literals) = self.nodes.stated(node)?;
-        for literal in &literals {
-            self.need_literal(fact, *literal)?;
+        let (regs, claims) = self.nodes.stated(node)?;
+        for claim in &claims {
+            if let Claim::Knows(literal) = claim
+                && fact != Some(*literal)
+            {
+                self.need_literal(*literal)?;
+            }
         }
         Ok(regs)
     }
 
-    // Adds what gives a literal together with the fact: itself, if it follows without, or else what is known of its
-    // word.
-    fn need_literal(&mut self, fact: Option<Lit>, literal: Lit) -> Result<(), CertifyError> {
-        if fact == Some(literal) {
-            return Ok(());
-        }
+    // Adds what gives a literal together with a fact: itself, if it follows without, or else what is known of its word.
+    fn need_literal(&mut self, literal: Lit) -> Result<(), CertifyError> {
         self.work.spend(self.known.cost(literal.word()));
         if self.known.entails(literal) {
-            return Ok(self.needs.add(literal)?);
+            self.needs.add(literal)?;
+        } else {
+            self.needs.add_word(&self.known, literal.word())?;
         }
-        Ok(add_word(self.alloc, &mut self.needs, &self.known, literal.word())?)
+        Ok(())
     }
 
     // The node that follows: a dead one, where what the node before it states can not be true together with the fact.
@@ -336,8 +334,8 @@ impl<'a> Walk<'a> {
         if !self.nodes.is_dead(node) {
             return Ok(node);
         }
-        match clash_after(self.alloc, self.needs.as_slice(), fact)? {
-            Some(own) => self.dead(place.pc, own, fact),
+        match contradiction(self.alloc, &self.needs.of(fact.word())?, fact)? {
+            Some(few) => self.dead(place.pc, &few),
             None => Ok(node),
         }
     }
@@ -352,7 +350,7 @@ pub fn walk_through<'a>(
     let rules = Rules::new(alloc, profile)?;
     let mut walk = Walk::new(alloc, &rules, program, None)?;
     walk.go_all()?;
-    walk.nodes.written(&program)
+    walk.nodes.written()
 }
 
 /// A record for which the filter may give another word than the profile says, if one is found.
@@ -366,9 +364,13 @@ pub fn hunt<'a>(
     let rules = Rules::new(alloc, profile)?;
     let trials = Trials::new(alloc, &rules, program)?;
     let mut walk = Walk::new(alloc, &rules, program, Some(trials))?;
-    match walk.go_all() {
-        Err(CertifyError::OutOfMemory) => Err(CertifyError::OutOfMemory),
-        // Where there is too much to go over, what is left is given up.
-        _ => walk.told(),
+    // Where there is too much to go over, what is left is given up.
+    if walk.go_all() == Err(CertifyError::OutOfMemory) {
+        return Err(CertifyError::OutOfMemory);
     }
+    let Some(trials) = &mut walk.trials else {
+        return Ok(None);
+    };
+    trials.explore()?;
+    Ok(trials.found.or(trials.other))
 }

@@ -9,14 +9,14 @@ const LISTS: usize = 16;
 const NOBODY: usize = usize::MAX;
 
 /// What stands in a table.
-pub(crate) trait Item {
+pub trait Item {
     /// A number that items have in common that are equal.
     fn key(&self) -> u32;
 }
 
 /// Items, each once.
 #[derive(Drop)]
-pub(crate) struct Table<T> {
+pub struct Table<T> {
     items: Vec<T>,
     // For each place the last one before it in its list, and for each list the last place. There are twice as many lists each
     // time when there are as many items as lists.
@@ -25,13 +25,13 @@ pub(crate) struct Table<T> {
 }
 
 /// A number that is mixed of one and of another.
-pub(crate) fn mixed(number: u32, other: u32) -> u32 {
+pub fn mixed(number: u32, other: u32) -> u32 {
     let mixed = (number ^ other).wrapping_mul(0x9e37_79b1);
     mixed ^ mixed >> 15
 }
 
 /// The last 32 bits of a number.
-pub(crate) fn bits(number: usize) -> u32 {
+pub fn bits(number: usize) -> u32 {
     (number % 0x1_0000_0000) as u32
 }
 
@@ -49,7 +49,7 @@ fn at(places: &[usize], place: usize) -> usize {
 
 impl<T: Item + PartialEq + Drop> Table<T> {
     /// No items.
-    pub(crate) fn new(alloc: Global) -> Table<T> {
+    pub fn new(alloc: Global) -> Table<T> {
         Table {
             items: Vec::new(alloc),
             before: Vec::new(alloc),
@@ -58,17 +58,17 @@ impl<T: Item + PartialEq + Drop> Table<T> {
     }
 
     /// The items, by their places.
-    pub(crate) fn items(&self) -> &[T] {
+    pub fn items(&self) -> &[T] {
         &self.items
     }
 
     /// The item at a place.
-    pub(crate) fn get(&self, place: usize) -> Option<&T> {
+    pub fn get(&self, place: usize) -> Option<&T> {
         self.items.get(place)
     }
 
     /// The place of an item, if it is there.
-    pub(crate) fn find(&self, item: &T) -> Option<usize> {
+    pub fn find(&self, item: &T) -> Option<usize> {
         self.find_by(item.key(), item)
     }
 
@@ -84,7 +84,7 @@ impl<T: Item + PartialEq + Drop> Table<T> {
     }
 
     /// The place of an item, which is added where it is new.
-    pub(crate) fn place(&mut self, item: T) -> Result<usize, AllocError> {
+    pub fn place(&mut self, item: T) -> Result<usize, AllocError> {
         let key = item.key();
         if let Some(place) = self.find_by(key, &item) {
             return Ok(place);

@@ -1,0 +1,114 @@
+//! The chains of a certificate: lists of claims that share their beginnings.
+
+use crate::table::{Item, Table, mixed};
+use cert_form::{ChainNode, Claim, FormError, MAX_ENTRIES, MAX_LITERALS, write_claims};
+use cert_state::Lit;
+use std::alloc::{AllocError, Global};
+
+/// Entries, each with the number of its parent, or 0, and a claim. They are numbered from 1.
+#[derive(Drop)]
+pub struct Chains {
+    entries: Table<(u32, Claim)>,
+}
+
+impl Item for Claim {
+    fn key(&self) -> u32 {
+        match *self {
+            Claim::Knows(Lit::In(word, low, high)) => mixed(low, mixed(u32::from(word), high)),
+            Claim::Knows(Lit::Bits(word, mask, datum)) => {
+                mixed(datum, mixed(u32::from(word), mask))
+            }
+            Claim::Knows(Lit::NotBits(word, mask, datum)) => {
+                mixed(datum, mixed(u32::from(word), !mask))
+            }
+            Claim::Out(rule) => rule,
+            Claim::Met(rule, condition) => mixed(rule, condition),
+        }
+    }
+}
+
+impl Item for (u32, Claim) {
+    fn key(&self) -> u32 {
+        mixed(self.0, self.1.key())
+    }
+}
+
+impl Chains {
+    /// No entries.
+    pub fn new(alloc: Global) -> Chains {
+        Chains {
+            entries: Table::new(alloc),
+        }
+    }
+
+    /// The chain with one claim more.
+    pub fn longer(&mut self, chain: u32, claim: Claim) -> Result<u32, FormError> {
+        let place = self.entries.place((chain, claim))?;
+        if place >= MAX_ENTRIES {
+            return Err(FormError::BadCount);
+        }
+        Ok(place as u32 + 1)
+    }
+
+    /// The chain of these claims.
+    pub fn of(&mut self, claims: &[Claim]) -> Result<u32, FormError> {
+        if claims.len() > MAX_LITERALS {
+            return Err(FormError::BadCount);
+        }
+        let mut chain = 0;
+        for claim in claims {
+            chain = self.longer(chain, *claim)?;
+        }
+        Ok(chain)
+    }
+
+    /// How many entries the chain of these claims shares with what is there.
+    pub fn shared(&self, claims: &[Claim]) -> usize {
+        let mut chain = 0;
+        let mut count = 0usize;
+        for claim in claims {
+            let Some(place) = self.entries.find(&(chain, *claim)) else {
+                return count;
+            };
+            chain = place.min(MAX_ENTRIES) as u32 + 1;
+            count = count.saturating_add(1);
+        }
+        count
+    }
+
+    /// The last claim of a chain, with the chain before it.
+    pub fn last(&self, chain: u32) -> Option<(u32, Claim)> {
+        self.entries.get((chain as usize).wrapping_sub(1)).copied()
+    }
+
+    /// The claims of a chain.
+    pub fn claims(&self, alloc: Global, chain: u32) -> Result<Vec<Claim>, AllocError> {
+        let mut claims = Vec::new(alloc);
+        let mut left = chain;
+        for _ in 0..MAX_LITERALS {
+            let Some((parent, claim)) = self.last(left) else {
+                break;
+            };
+            claims.push(claim)?;
+            left = parent;
+        }
+        claims.reverse();
+        Ok(claims)
+    }
+
+    /// The rules that a chain says to be out.
+    pub fn outs(&self, alloc: Global, chain: u32) -> Result<Vec<u32>, AllocError> {
+        let mut outs = Vec::new(alloc);
+        for claim in &self.claims(alloc, chain)? {
+            if let Claim::Out(rule) = claim {
+                outs.push(*rule)?;
+            }
+        }
+        Ok(outs)
+    }
+
+    /// The certificate of these nodes, whose chains are made here.
+    pub fn written(&self, alloc: Global, nodes: &[ChainNode]) -> Result<Vec<u8>, FormError> {
+        write_claims(alloc, self.entries.items(), nodes)
+    }
+}

@@ -1,0 +1,19 @@
+//! What is known, as a state of which can be asked what follows.
+
+use cert_state::{AVal, Listed, Lit, Regs};
+
+/// Nothing is known of registers and scratch words.
+pub const NO_REGS: Regs = Regs {
+    a: AVal::Unknown,
+    x: AVal::Unknown,
+    scratch: [AVal::Unknown; 16],
+};
+
+/// Literals as a state.
+pub fn listed(lits: &[Lit]) -> Listed<'_> {
+    Listed {
+        regs: NO_REGS,
+        lits,
+        more: None,
+    }
+}
