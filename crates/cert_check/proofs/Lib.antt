@@ -13,4 +13,5 @@ pub mod RulesLaws
 pub mod JudgedLaws
 pub mod NodeLaws
 pub mod FirstLaws
+pub mod ValidLaws
 pub mod CheckLaws

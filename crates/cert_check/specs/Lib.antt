@@ -3,6 +3,7 @@ pub mod Agree
 pub mod Rules
 pub mod Right
 pub mod Certified
+pub mod Valid
 pub mod Checked
 pub mod Settled
 pub mod inner

@@ -1,7 +1,8 @@
 //! The whole check.
-ghost use Rattle.std.specs.Prelude.{◌≡◌, ◌≢◌, ◌<◌, IfOk, IfErr};
-ghost use Rattle.bpf_insn.specs.Bytes.{insns_of};
+ghost use Rattle.std.specs.Prelude.{◌≡◌, ◌≢◌, IfErr, IfOk, None};
+ghost use Rattle.bpf_insn.specs.Bytes.{insns_of, spelling, view_fault};
 ghost use Rattle.kernel_check.specs.Accepted.{IsAccepted};
+ghost use Rattle.kernel_check.specs.Lent.{accepted_insns};
 ghost use Rattle.profile.specs.Policy.{IsClear};
 ghost use Rattle.cert_form.specs.Reading.{version_of};
 ghost use Rattle.cert_check.specs.declared.fault.CheckError.{CheckError as TheError};
@@ -9,6 +10,7 @@ ghost use Rattle.cert_check.specs.declared.fault.CheckError.TheVariants.{OutOfMe
 ghost use Rattle.cert_check.specs.Certified.{IsFirst, Kept};
 ghost use Rattle.cert_check.specs.Checked.{cert_of, profile_of, program_of};
 ghost use Rattle.cert_check.specs.Right.{IsRight};
+ghost use Rattle.cert_check.specs.Valid.{IsValidCertificate};
 ghost use Rattle.cert_check.specs.inner.Broken.{error_of};
 
 use crate::checked::Checked;
@@ -16,7 +18,7 @@ use crate::fault::CheckError;
 use crate::nodes::check_nodes;
 use bpf_insn::Program;
 use cert_form::{CertView, FormError};
-use kernel_check::accept;
+use kernel_check::{Accepted, accept};
 use profile::Profile;
 use std::alloc::Global;
 
@@ -35,6 +37,56 @@ fn rules_are_clear(profile: &Profile)
     ensures { IsClear profile.now.rules }
 {
     profile.rules();
+}
+
+// The bytes that an accepted program was read from are read as that program.
+fn is_read(program: &Accepted<'_>)
+    ensures accepted { IsAccepted (accepted_insns program.now) }
+    ensures read { insns_of (spelling (accepted_insns program.now)) ≡ accepted_insns program.now }
+    ensures whole { view_fault (spelling (accepted_insns program.now)) ≡ None }
+{
+    program.program().bytes();
+}
+
+/// Whether the certificate shows that a filter which the kernel accepts gives each call record the word that the profile says.
+///
+/// The first rule that is broken is told, in this order: of the certificate's bytes, its root, and then of the nodes from 0,
+/// at each Edge, Split, Entail, Return. Memory is asked for only where the certificate is of form 1.
+pub fn check_accepted<'a>(
+    alloc: Global,
+    profile: &'a Profile,
+    program: &Accepted<'a>,
+    cert: &'a [u8],
+) -> Result<Checked<'a>, CheckError>
+    // What is lent is what was given.
+    ensures profile { IfOk result (λ checked. profile_of checked ≡ profile.now) }
+    ensures program { IfOk result (λ checked. program_of checked ≡ accepted_insns program.now) }
+    ensures cert { IfOk result (λ checked. cert_of checked ≡ cert.now) }
+
+    // Yes: the filter gives each record the profile's word and no other.
+    ensures right { IfOk result (λ _. IsRight profile.now (accepted_insns program.now)) }
+
+    // Exactly: it is yes where each rule is kept, if there is memory, and an error names the first that is broken.
+    ensures valid { IfOk result (λ _. IsValidCertificate profile.now (accepted_insns program.now) cert.now) }
+    ensures never { IsValidCertificate profile.now (accepted_insns program.now) cert.now → IfErr result (λ e. e ≡ OutOfMemory) }
+    ensures first { IfErr result (λ e. e ≢ OutOfMemory
+        → IsFirst profile.now (spelling (accepted_insns program.now)) cert.now e) }
+
+    // Memory is asked for in form 1 alone.
+    ensures memory { IfErr result (λ e. e ≡ OutOfMemory → version_of cert.now ≡ 1) }
+{
+    is_read(program);
+    let view = match CertView::read(alloc, cert) {
+        Ok(view) => view,
+        Err(e) => return Err(error_of(e)),
+    };
+    check_nodes(profile, program, &view)?;
+    rules_are_clear(profile);
+    Ok(Checked {
+        profile,
+        program: *program,
+        cert,
+    })
 }
 
 /// Whether the certificate shows that the filter gives each call record the word that the profile says.
@@ -68,19 +120,8 @@ pub fn check<'a>(
         Ok(program) => program,
         Err(e) => return Err(CheckError::View(e)),
     };
-    let accepted = match accept(&program) {
-        Ok(accepted) => accepted,
-        Err(e) => return Err(CheckError::Kernel(e)),
-    };
-    let view = match CertView::read(alloc, cert) {
-        Ok(view) => view,
-        Err(e) => return Err(error_of(e)),
-    };
-    check_nodes(profile, &accepted, &view)?;
-    rules_are_clear(profile);
-    Ok(Checked {
-        profile,
-        program: accepted,
-        cert,
-    })
+    match accept(&program) {
+        Ok(accepted) => check_accepted(alloc, profile, &accepted, cert),
+        Err(e) => Err(CheckError::Kernel(e)),
+    }
 }

@@ -1,10 +1,16 @@
 //! What holds of every certificate that breaks no rule, and of all that is known in full.
 ghost use Rattle.cert_check.specs.Right.{ValidIsRight};
 ghost use Rattle.cert_check.specs.Settled.{StatedIsSettled};
+ghost use Rattle.cert_check.specs.Valid.{ValidIsKept};
 
 /// A valid certificate of an accepted program makes the program right for a clear profile.
 pub fn valid_is_right()
     ensures { ValidIsRight }
+{}
+
+/// A certificate whose nodes keep each rule breaks none that the checker looks for, beside a filter that the kernel accepts.
+pub fn valid_is_kept()
+    ensures { ValidIsKept }
 {}
 
 /// Where each word of a record is stated and all that is known holds of it, the rule of returns is kept by the word that

@@ -18,7 +18,7 @@ mod settled;
 mod split;
 
 pub use checked::Checked;
-pub use checking::check;
+pub use checking::{check, check_accepted};
 pub use fault::CheckError;
-pub use law::{stated_is_settled, valid_is_right};
+pub use law::{stated_is_settled, valid_is_kept, valid_is_right};
 pub use settled::is_settled;

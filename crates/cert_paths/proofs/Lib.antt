@@ -1,4 +1,5 @@
 pub mod ChainFacts
+pub mod ArriveLaws
 pub mod NodeLaws
 pub mod GrowLaws
 pub mod PathLaws

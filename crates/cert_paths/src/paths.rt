@@ -4,7 +4,7 @@ ghost use Rattle.bpf_insn.specs.declared.instruction.Insn.{Insn as TheInsn};
 ghost use Rattle.profile.specs.Policy.{Policy};
 ghost use Rattle.cert_state.specs.Literals.{IsLit, IsValue};
 ghost use Rattle.cert_paths.specs.Fault.{IsSize};
-ghost use Rattle.cert_paths.specs.Kept.{IsValidCertificate};
+ghost use Rattle.cert_check.specs.Valid.{IsValidCertificate};
 ghost use Rattle.cert_paths.specs.inner.Follow.{IsGiven};
 ghost use Rattle.cert_paths.specs.inner.Places.{AreInside, AreKept, AreNodes, ArePaths, IsAdded, IsLearned, IsPlace, chain_node_of};
 ghost use Rattle.std.specs.Prelude.{List};

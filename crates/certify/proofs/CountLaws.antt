@@ -1,16 +1,12 @@
 -- How many calls are possible, and what the paths of a filter cost.
 use Rattle.std.proofs.Common.{◌≡◌, ℕ, zero, suc, ◌+◌, ◌*◌, ◌<◌, ◌≤◌, Bool, true, false, cond, List, [], ◌∷◌, refl, ap, sym, ◌∙◌}
-use Rattle.std.proofs.Common.{subst, arith, max, length, inl, inr, ◌⊎◌, ⊎_elim}
-use Rattle.std.specs.Prelude.{◌&&◌, Option, Some, None, slice_get, Contains}
+use Rattle.std.proofs.Common.{subst, arith, max, length, ◌⊎◌, ⊎_elim}
+use Rattle.std.specs.Prelude.{◌&&◌, Some, slice_get, Contains}
 use Rattle.std.proofs.lemmas.Option.{same_Some}
 use Rattle.std.proofs.lemmas.Bool.{cases_eq}
 use Rattle.call_tables.specs.declared.arch.Arch.{Arch}
 use Rattle.call_tables.specs.Arch.{token_of}
 use Rattle.cert_state.specs.declared.literal.Lit.{Lit}
-use Rattle.bpf_insn.specs.declared.code.Operand.{Operand}
-use Rattle.bpf_insn.specs.declared.code.Test.{Test}
-use Rattle.bpf_insn.specs.declared.code.Operation.{Operation}
-use Rattle.bpf_insn.specs.declared.code.Operation.TheVariants.{LoadWord, ReturnK, Jump, Branch}
 use Rattle.bpf_insn.specs.declared.instruction.Insn.{Insn}
 use Rattle.bpf_insn.specs.Code.{operation_of}
 use Rattle.rule_compile.specs.Shape.{weight, weight_by, depth, depth_by}

@@ -1,10 +1,10 @@
 -- Nodes that are made keep the rules as more are made.
-use Rattle.std.proofs.Common.{◌≡◌, ℕ, false, zero, suc, ◌+◌, ◌-◌, ◌^◌, ◌<◌, ◌≤◌, List, [], ◌∷◌, ◌++◌, length, refl, ap, sym, ◌∙◌}
-use Rattle.std.proofs.Common.{subst, arith, inl, inr, ◌⊎◌, ⊎_elim, get_or, set}
-use Rattle.std.specs.Prelude.{Option, Some, None, slice_get, All, map, Result, Ok, Err, IfOk, OnOk}
+use Rattle.std.proofs.Common.{◌≡◌, ℕ, false, zero, suc, ◌+◌, ◌-◌, ◌<◌, ◌≤◌, List, [], ◌∷◌, ◌++◌, length, refl, ap, sym, ◌∙◌}
+use Rattle.std.proofs.Common.{subst, arith, ◌⊎◌, ⊎_elim, get_or, set}
+use Rattle.std.specs.Prelude.{Option, Some, slice_get, All, Result, Ok, Err, IfOk, OnOk}
 use Rattle.std.specs.Option.{option_map}
-use Rattle.std.proofs.lemmas.Option.{same_Some, slice_get-map, slice_get-get_or, slice_get_within}
-use Rattle.std.proofs.lemmas.List.{length-append, append_assoc, append-nil, get_or_append_left, length-set, set_at}
+use Rattle.std.proofs.lemmas.Option.{same_Some, slice_get-map, slice_get-get_or}
+use Rattle.std.proofs.lemmas.List.{length-append, append_assoc, append-nil, length-set, set_at}
 use Rattle.std.proofs.lemmas.Bool.{cases_lt, cases_eq}
 use Rattle.bpf_insn.specs.declared.instruction.Insn.{Insn}
 use Rattle.profile.specs.Policy.{Policy}
@@ -13,7 +13,6 @@ use Rattle.cert_form.specs.declared.node.ChainNode.{ChainNode}
 use Rattle.cert_form.specs.declared.node.Kind.{Kind}
 use Rattle.cert_form.specs.declared.node.Kind.TheVariants.{Dead}
 use Rattle.cert_form.specs.Nodes.{PlainNode, literals, said_plainly}
-use Rattle.cert_form.specs.Spelling.{IsKind}
 use Rattle.cert_form.specs.Writing.{IsChainMeant}
 use Rattle.cert_check.specs.Rules.{Keeps}
 use Rattle.cert_walk.specs.declared.fault.CertifyError.{CertifyError}
@@ -23,8 +22,8 @@ use Rattle.certify.specs.declared.plain.store.Store.{Store}
 use Rattle.certify.specs.inner.Made.{Agree, KeptIn, StandsAt, plain}
 use Rattle.certify.specs.inner.Meant.{IsMeant}
 use Rattle.certify.specs.inner.Steps.{node_of}
-use Rattle.certify.specs.inner.Store.{IsStore, IsLonger, IsForked, IsGrown, IsMadeAt, IsPlace, chain_node_of, known_at}
-use Rattle.certify.proofs.ChainFacts.{literals_more}
+use Rattle.certify.specs.inner.Store.{IsStore, IsLonger, IsForked, IsMadeAt, chain_node_of, known_at}
+use Rattle.cert_paths.proofs.ChainFacts.{literals_more}
 
 -- ---- lists
 

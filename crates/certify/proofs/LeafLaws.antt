@@ -1,10 +1,10 @@
 -- What is known at a return settles the word.
-use Rattle.std.proofs.Common.{◌≡◌, ◌≢◌, ℕ, suc, zero, ◌^◌, ◌<◌, ◌≤◌, List, [], ◌∷◌, sym, refl, ap, subst, ◌∙◌, arith, inl, inr}
+use Rattle.std.proofs.Common.{◌≡◌, ℕ, suc, zero, ◌^◌, ◌<◌, ◌≤◌, List, [], ◌∷◌, sym, refl, ap, subst, ◌∙◌, arith, inl, inr}
 use Rattle.std.proofs.Common.{◌⊎◌, ⊎_elim, get_or, length}
-use Rattle.std.specs.Prelude.{bit_and, Contains, Any, Some, replicate, slice_index}
-use Rattle.std.specs.List.{All, AllByRecursion}
+use Rattle.std.specs.Prelude.{Contains, Some, replicate, slice_index}
+use Rattle.std.specs.List.{All}
 use Rattle.std.proofs.lemmas.List.{get_or-replicate, get_or_past}
-use Rattle.std.proofs.lemmas.List.Elements.{All-from_recursion, recursion_from_All, All-contains, All-nil}
+use Rattle.std.proofs.lemmas.List.Elements.{All-contains, All-nil}
 use Rattle.std.proofs.lemmas.Bool.{cases_eq, cases_lt}
 use Rattle.call_record.specs.Words.{IsRecord, word, argument}
 use Rattle.call_tables.specs.declared.arch.Arch.{Arch}
@@ -17,16 +17,16 @@ use Rattle.profile.specs.declared.conditions.Cond.{Cond}
 use Rattle.profile.specs.declared.rules.Rule.{Rule}
 use Rattle.profile.specs.Condition.{Meets as MeetsCond}
 use Rattle.profile.specs.Rule.{Matches}
-use Rattle.profile.specs.Policy.{InOrder, Policy, IsNative, Says}
+use Rattle.profile.specs.Policy.{InOrder, Policy, IsNative}
 use Rattle.profile.proofs.MachineLaws.{token_of-one}
 use Rattle.cert_state.specs.declared.literal.Lit.{Lit}
-use Rattle.cert_state.specs.declared.literal.Lit.TheVariants.{In, Bits, NotBits}
+use Rattle.cert_state.specs.declared.literal.Lit.TheVariants.{Bits, NotBits}
 use Rattle.cert_state.specs.Literals.{all_bits, index_of, Meets, Holds}
-use Rattle.cert_state.specs.Points.{IsWhole, IsPoint, IsRange}
+use Rattle.cert_state.specs.Points.{IsPoint, IsRange}
 use Rattle.cert_state.specs.Entailment.{Entails}
 use Rattle.cert_state.proofs.BitLaws.{and_all}
 use Rattle.cert_state.proofs.KnownLaws.{entailed_is_true}
-use Rattle.cert_check.specs.Agree.{Agrees, ForeignNumbersAgree, IsAmong, IsNoRule, IsRuleOf, IsYes, IsYesRule, ListedAgrees, MachineAgrees, RulesAgree}
+use Rattle.cert_check.specs.Agree.{Agrees, ForeignNumbersAgree, IsAmong, IsNoRule, IsRuleOf, IsYesRule, ListedAgrees, MachineAgrees, RulesAgree}
 use Rattle.std.proofs.lemmas.Option.{slice_get-get_or}
 use Rattle.cert_check.proofs.Elements.{contains_at, each_of}
 use Rattle.rule_compile.specs.Shape.{call, IsPlainRule}

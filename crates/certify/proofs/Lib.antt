@@ -5,7 +5,6 @@ pub mod FreeLaws
 pub mod LeafLaws
 pub mod PathLaws
 pub mod NodeLaws
-pub mod ChainFacts
 pub mod StoreLaws
 pub mod GrowLaws
 pub mod WayLaws
@@ -13,7 +12,7 @@ pub mod HalfLaws
 pub mod RoomLaws
 pub mod SizeLaws
 pub mod WholeLaws
-pub mod OwnLaws
+pub mod CheckedLaws
 pub mod TableLaws
 pub mod UnlikeLaws
 pub mod ShapeLaws

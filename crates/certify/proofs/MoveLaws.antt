@@ -1,9 +1,9 @@
 -- Which instructions make a move, where they lead, and what that costs.
-use Rattle.std.proofs.Common.{◌≡◌, ℕ, zero, suc, ◌+◌, ◌*◌, ◌<◌, ◌≤◌, Bool, true, false, cond, eqb, refl, ap, sym, ◌∙◌, subst}
+use Rattle.std.proofs.Common.{◌≡◌, ℕ, zero, suc, ◌+◌, ◌<◌, ◌≤◌, Bool, true, false, cond, eqb, refl, sym, ◌∙◌, subst}
 use Rattle.std.proofs.Common.{arith, inl, inr, ◌⊎◌, ⊎_elim, length, List, [], ◌∷◌, max}
 use Rattle.std.specs.Prelude.{Option, Some, None, slice_get}
 use Rattle.std.proofs.lemmas.Bool.{eqb-true, cases_lt}
-use Rattle.std.proofs.lemmas.Option.{slice_get_within, same_Some}
+use Rattle.std.proofs.lemmas.Option.{slice_get_within}
 use Rattle.bpf_insn.specs.declared.code.Operation.{Operation}
 use Rattle.bpf_insn.specs.declared.code.Operation.TheVariants.{LoadWord, LoadScratch, LoadScratchX, Store, StoreX, SetA, SetX}
 use Rattle.bpf_insn.specs.declared.code.Operation.TheVariants.{ReturnK, ReturnA, Jump, Branch, Compute, ShiftLeft, ShiftRight}
@@ -17,7 +17,6 @@ use Rattle.kernel_check.specs.declared.fault.Cause.TheVariants.{Target, End}
 use Rattle.kernel_check.specs.Accepted.{IsAccepted, IsReturn, LeadsOut}
 use Rattle.rule_compile.specs.Moves.{Move, Ends, Goes, Forks, move_at}
 use Rattle.rule_compile.specs.Shape.{weight, weight_by, depth}
-use Rattle.certify.specs.inner.Counts.{CostsAt}
 use Rattle.certify.specs.inner.Inverse.{IsLoad, IsMoveOf}
 use Rattle.certify.specs.inner.Path.{HoldsCall}
 use Rattle.certify.proofs.CountLaws.{costs}

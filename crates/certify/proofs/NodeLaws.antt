@@ -1,11 +1,8 @@
 -- Nodes keep the rules.
-use Rattle.std.proofs.Common.{◌≡◌, ◌≢◌, ℕ, suc, zero, ◌+◌, ◌-◌, ◌/◌, ◌^◌, ◌<◌, ◌≤◌, Bool, true, false, cond, eqb, List, [], ◌∷◌}
-use Rattle.std.proofs.Common.{◌++◌, sym, refl, ap, subst, ◌∙◌, arith, inl, inr, ◌⊎◌, ⊎_elim, length, get_or}
-use Rattle.std.specs.Prelude.{Option, Some, None, IfSome, slice_get, slice_index_or, Contains, option_to_list, All}
-use Rattle.std.proofs.lemmas.Option.{same_Some, none-some, get_or_from_slice_get, slice_get_within}
-use Rattle.std.proofs.lemmas.List.Elements.{All-head, All-tail, All-cons, All-nil, All-weaker}
-use Rattle.std.proofs.lemmas.List.{get_or-append-add, get_or_append_left, append-nil, get_or_at, length-append}
-use Rattle.std.proofs.lemmas.Bool.{eq-eqb, eqb-true, cases_Bool}
+use Rattle.std.proofs.Common.{◌≡◌, ℕ, suc, zero, ◌+◌, ◌-◌, ◌/◌, ◌<◌, true, false, List, [], ◌∷◌}
+use Rattle.std.proofs.Common.{◌++◌, sym, refl, ap, subst, ◌∙◌, arith, inl, inr, length}
+use Rattle.std.specs.Prelude.{Option, Some, None, slice_get, option_to_list, All}
+use Rattle.std.proofs.lemmas.List.Elements.{All-cons, All-nil}
 use Rattle.bpf_insn.specs.declared.code.Operation.{Operation}
 use Rattle.bpf_insn.specs.declared.code.Operation.TheVariants.{LoadWord, ReturnK, Jump, Branch}
 use Rattle.bpf_insn.specs.declared.code.Operand.TheVariants.{K}
@@ -14,20 +11,17 @@ use Rattle.bpf_insn.specs.declared.instruction.Insn.{Insn}
 use Rattle.bpf_insn.specs.Code.{operation_of}
 use Rattle.profile.specs.Policy.{Policy}
 use Rattle.cert_state.specs.declared.literal.Lit.{Lit}
-use Rattle.cert_state.specs.declared.literal.Lit.TheVariants.{In, Bits, NotBits}
-use Rattle.cert_state.specs.declared.literal.AVal.{AVal}
-use Rattle.cert_state.specs.declared.literal.AVal.TheVariants.{Unknown, Const, Masked}
-use Rattle.cert_state.specs.declared.literal.Regs.{Regs}
+use Rattle.cert_state.specs.declared.literal.AVal.TheVariants.{Masked}
 use Rattle.cert_state.specs.Literals.{all_bits}
-use Rattle.cert_state.specs.Entailment.{Entails, IsDead}
-use Rattle.cert_state.specs.Transfer.{transfer, transfer_if, edge_fact, fact_by}
+use Rattle.cert_state.specs.Entailment.{IsDead}
+use Rattle.cert_state.specs.Transfer.{transfer_if, fact_by}
 use Rattle.cert_form.specs.declared.node.Kind.{Kind}
 use Rattle.cert_form.specs.declared.node.Kind.TheVariants.{Step, Split, Return, Dead}
 use Rattle.cert_form.specs.Nodes.{PlainNode}
 use Rattle.cert_check.specs.Agree.{Agrees}
-use Rattle.cert_check.specs.Rules.{IsOutOn, IsMetBy, Edge, known_on, Allows, Carries, Covers, EdgeRule, EntailRule, Keeps}
-use Rattle.cert_check.specs.Rules.{ReturnRule, SplitRule, edges, edges_by, no_node, step_edges, word_by}
-use Rattle.cert_check.proofs.Elements.{each_of}
+use Rattle.cert_check.specs.Rules.{Edge, Covers, Keeps}
+use Rattle.cert_check.specs.Rules.{ReturnRule, SplitRule, edges, no_node, step_edges, word_by}
+use Rattle.cert_paths.proofs.ArriveLaws.{Arrives, all_two, carries, edge_kept, entail_kept}
 use Rattle.rule_compile.specs.Moves.{Move}
 use Rattle.rule_compile.specs.Moves.{Ends, Goes, Forks}
 use Rattle.rule_compile.specs.Moves.{move_at}
@@ -35,84 +29,7 @@ use Rattle.certify.specs.inner.Inverse.{IsMoveOf}
 use Rattle.certify.specs.inner.Path.{fact}
 use Rattle.certify.proofs.MoveLaws.{move_of_is}
 use Rattle.certify.specs.inner.Made.{regs_of, StandsAt}
-use Rattle.certify.specs.inner.Steps.{node_of, NodesKeepAt, NodesKeep}
-
--- ---- edges
-
--- an edge of node i arrives
-abbrev Arrives : Policy → List PlainNode → ℕ → PlainNode → Edge → Type 0
-Arrives policy ns i n e = (i < e.to) × ((m : PlainNode) × (slice_get ns e.to ≡ Some m) × (m.pc ≡ e.pc) × Carries policy n e m)
-
-module _ (policy : Policy) (p : List Insn) (ns : List PlainNode) (i : ℕ) (n : PlainNode) (insn : Insn) (out : List Edge)
-    (inside : slice_get p n.pc ≡ Some insn) (leave : edges n insn ≡ Some out) (arrive : All (Arrives policy ns i n) out) where
-  edge_kept : EdgeRule p ns i n
-  edge_kept = record {
-    insn = insn;
-    inside = inside;
-    out = out;
-    leave = leave;
-    lead = λ k d lt. let a = arrive k d lt in (a.0, (a.1.0, a.1.1, a.1.2));
-  }
-
-  carried : All (λ e. (m : PlainNode) → slice_get ns e.to ≡ Some m → Carries policy n e m) out
-  carried = λ k d lt m there.
-      let a = arrive k d lt in
-      subst (λ x. Carries policy n (get_or out k d) x) (same_Some a.1.0 m (sym a.1.1 ∙ there)) a.1.3
-
-  entail_kept : (n.kind ≡ Dead → IsDead n.known) → EntailRule policy p ns n
-  entail_kept dead = record {
-    carry = λ i' out' found leave'.
-        let same : insn ≡ i' = same_Some insn i' (sym inside ∙ found) in
-        let same_out : out ≡ out' = same_Some out out' (sym leave ∙ ap (λ y. edges n y) same ∙ leave') in
-        subst (λ o. All (λ e. (m : PlainNode) → slice_get ns e.to ≡ Some m → Carries policy n e m) o) same_out carried;
-    dead = dead;
-  }
-
--- ---- what is carried
-
-contains_left : (ls ms : List Lit) (x : Lit) → Contains ls x → Contains (ls ++ ms) x
-contains_left ls ms x (k, lt, is) = (k, omega (arith, lt, length-append ls ms), get_or_append_left ls ms x k lt ∙ is)
-
-contains_new : (ls : List Lit) (x : Lit) → Contains (ls ++ x ∷ []) x
-contains_new ls x = (length ls, omega (arith, length-append ls (x ∷ [])), get_or_at ls x [] x (length ls) refl)
-
-same_values : (r s : Regs) → r ≡ s → (j : ℕ) (v : AVal) → slice_get r.scratch j ≡ Some v → Allows v (slice_index_or s.scratch j Unknown)
-same_values r s e j v found =
-    inr (sym (get_or_from_slice_get s.scratch j v Unknown (ap (λ (x : Regs). slice_get x.scratch j) (sym e) ∙ found)))
-
--- no rule is said to be out, and no condition to be met
-none_out : (policy : Policy) (n : PlainNode) (e : Edge) (m : PlainNode) → m.out ≡ [] → All (IsOutOn policy n e) m.out
-none_out policy n e m o = subst (All (IsOutOn policy n e)) (sym o) (All-nil (IsOutOn policy n e))
-
-none_met : (policy : Policy) (n : PlainNode) (e : Edge) (m : PlainNode) → m.met ≡ [] → All (IsMetBy policy n.met (known_on n e)) m.met
-none_met policy n e m o = subst (All (IsMetBy policy n.met (known_on n e))) (sym o) (All-nil (IsMetBy policy n.met (known_on n e)))
-
--- nothing new is learned, and one literal is
-carries_same : (policy : Policy) (n : PlainNode) (to pc : ℕ) (regs : Regs) (m : PlainNode) → m.regs ≡ regs → m.known ≡ n.known
-    → m.out ≡ [] → m.met ≡ []
-    → Carries policy n (record { to = to; pc = pc; fact = None; regs = regs }) m
-carries_same policy n to pc regs m r k o q = record {
-  literals = each_of (Entails (n.known ++ [])) m.known (λ x has. inl (contains_left n.known [] x (subst (λ ls. Contains ls x) k has)));
-  outs = none_out policy n (record { to = to; pc = pc; fact = None; regs = regs }) m o;
-  mets = none_met policy n (record { to = to; pc = pc; fact = None; regs = regs }) m q;
-  for_a = inr (ap (λ (s : Regs). s.a) r);
-  for_x = inr (ap (λ (s : Regs). s.x) r);
-  for_scratch = same_values m.regs regs r;
-}
-
-carries_more : (policy : Policy) (n : PlainNode) (to pc : ℕ) (regs : Regs) (l : Lit) (m : PlainNode) → m.regs ≡ regs → m.known ≡ l ∷ n.known
-    → m.out ≡ [] → m.met ≡ [] → Carries policy n (record { to = to; pc = pc; fact = Some l; regs = regs }) m
-carries_more policy n to pc regs l m r k o q = record {
-  literals = each_of (Entails (n.known ++ l ∷ [])) m.known (λ x has. inl (first_or_rest x (subst (λ ls. Contains ls x) k has)));
-  outs = none_out policy n (record { to = to; pc = pc; fact = Some l; regs = regs }) m o;
-  mets = none_met policy n (record { to = to; pc = pc; fact = Some l; regs = regs }) m q;
-  for_a = inr (ap (λ (s : Regs). s.a) r);
-  for_x = inr (ap (λ (s : Regs). s.x) r);
-  for_scratch = same_values m.regs regs r;
-} where
-  first_or_rest : (x : Lit) → Contains (l ∷ n.known) x → Contains (n.known ++ l ∷ []) x
-  first_or_rest x (zero, lt, is) = subst (λ y. Contains (n.known ++ l ∷ []) y) is (contains_new n.known l)
-  first_or_rest x (suc k, lt, is) = contains_left n.known (l ∷ []) x (k, omega arith, is)
+use Rattle.certify.specs.inner.Steps.{node_of, NodesKeep}
 
 -- ---- the instructions of a filter of calls
 
@@ -198,36 +115,20 @@ module _ (policy : Policy) (p : List Insn) (ns : List PlainNode) (i : ℕ) (insn
     return = return;
   }
 
-  arrives_same : (kind : Kind) (to next : ℕ) (now : Option ℕ) → i < to → StandsAt ns to next now known
-      → Arrives policy ns i (node_of held pc known kind) (record { to = to; pc = next; fact = None; regs = regs_of now })
-  arrives_same kind to next now later at = (
+  arrives : (kind : Kind) (to next : ℕ) (now : Option ℕ) (f : Option Lit) → i < to → StandsAt ns to next now (option_to_list f ++ known)
+      → Arrives policy ns i (node_of held pc known kind) (record { to = to; pc = next; fact = f; regs = regs_of now })
+  arrives kind to next now f later at = (
     later,
     (
       at.node,
       at.there,
       at.pc_is,
-      carries_same policy (node_of held pc known kind) to next (regs_of now) at.node at.regs_are at.known_is at.none_out at.none_met,
-    ),
-  )
-
-  arrives_more : (kind : Kind) (to next : ℕ) (l : Lit) → i < to → StandsAt ns to next held (l ∷ known)
-      → Arrives policy ns i (node_of held pc known kind) (record { to = to; pc = next; fact = Some l; regs = regs_of held })
-  arrives_more kind to next l later at = (
-    later,
-    (
-      at.node,
-      at.there,
-      at.pc_is,
-      carries_more policy (node_of held pc known kind) to next (regs_of held) l at.node at.regs_are at.known_is
-          at.none_out at.none_met,
+      carries policy (node_of held pc known kind) to next (regs_of now) f at.node at.regs_are at.known_is at.none_out at.none_met,
     ),
   )
 
   all_one : (P : Edge → Type 0) (e : Edge) → P e → All P (e ∷ [])
   all_one P e h = All-cons P e [] h (All-nil P)
-
-  all_two : (P : Edge → Type 0) (e f : Edge) → P e → P f → All P (e ∷ f ∷ [])
-  all_two P e f h g = All-cons P e (f ∷ []) h (all_one P f g)
 
   step_kept : (skip : ℕ) (now : Option ℕ) (to : ℕ) → move_at (operation_of insn.code) insn.k held ≡ Some (Goes skip now) → i < to
       → StandsAt ns to (pc + 1 + skip) now known → Keeps policy p ns i (node_of held pc known (Step to no_node))
@@ -236,7 +137,7 @@ module _ (policy : Policy) (p : List Insn) (ns : List PlainNode) (i : ℕ) (insn
       (is_as (Some (Goes skip now)) e to)
       (all_one (Arrives policy ns i (node_of held pc known (Step to no_node)))
       (record { to = to; pc = pc + 1 + skip; fact = None; regs = regs_of now })
-      (arrives_same (Step to no_node) to (pc + 1 + skip) now later at)) tt (λ no_dead. cc) (λ no_return. cc)
+      (arrives (Step to no_node) to (pc + 1 + skip) now None later at)) tt (λ no_dead. cc) (λ no_return. cc)
 
   two : (kind : Kind) (first second at_first at_second : ℕ) (l m : Lit) → i < first → i < second
       → StandsAt ns first at_first held (l ∷ known) → StandsAt ns second at_second held (m ∷ known)
@@ -245,8 +146,8 @@ module _ (policy : Policy) (p : List Insn) (ns : List PlainNode) (i : ℕ) (insn
       ∷ record { to = second; pc = at_second; fact = Some m; regs = regs_of held } ∷ [])
   two kind first second at_first at_second l m later also a b =
       all_two (Arrives policy ns i (node_of held pc known kind)) (record { to = first; pc = at_first; fact = Some l; regs = regs_of held })
-      (record { to = second; pc = at_second; fact = Some m; regs = regs_of held }) (arrives_more kind first at_first l later a)
-      (arrives_more kind second at_second m also b)
+      (record { to = second; pc = at_second; fact = Some m; regs = regs_of held }) (arrives kind first at_first held (Some l) later a)
+      (arrives kind second at_second held (Some m) also b)
 
   fork_kept : (test : Test) (w : ℕ) (first second : ℕ) (l m : Lit) → move_at (operation_of insn.code) insn.k held ≡ Some (Forks test w)
       → i < first → i < second → fact test w insn.k true ≡ Some l → fact test w insn.k false ≡ Some m

@@ -1,28 +1,26 @@
 -- What is known leads on.
-use Rattle.std.proofs.Common.{◌≡◌, ◌≢◌, ℕ, suc, zero, ◌+◌, ◌-◌, ◌^◌, ◌<◌, ◌≤◌, Bool, true, false, cond, eqb, List, [], ◌∷◌, sym}
-use Rattle.std.proofs.Common.{refl, ap, subst, ◌∙◌, arith, inl, inr, ◌⊎◌, ⊎_elim, length}
-use Rattle.std.specs.Prelude.{Option, Some, None, IfSome, slice_get, slice_index, bit_and, nat_le}
+use Rattle.std.proofs.Common.{◌≡◌, ℕ, suc, zero, ◌+◌, ◌-◌, ◌^◌, ◌<◌, ◌≤◌, Bool, true, false, cond, eqb, List, [], ◌∷◌, sym}
+use Rattle.std.proofs.Common.{refl, ap, subst, ◌∙◌, arith, inl, inr, ◌⊎◌, ⊎_elim}
+use Rattle.std.specs.Prelude.{Option, Some, None, slice_get, slice_index, bit_and, nat_le}
 use Rattle.std.proofs.lemmas.Option.{same_Some, none-some}
 use Rattle.std.proofs.lemmas.List.Elements.{All-head, All-tail}
-use Rattle.std.proofs.lemmas.Bool.{cases_eq, cases_lt, eq-eqb, ne_eqb, le-leb, lt-leb}
-use Rattle.bpf_insn.specs.declared.code.Operation.{Operation}
+use Rattle.std.proofs.lemmas.Bool.{cases_eq, eq-eqb, ne_eqb, le-leb, lt-leb}
 use Rattle.bpf_insn.specs.declared.code.Test.{Test}
 use Rattle.bpf_insn.specs.declared.code.Test.TheVariants.{Equal, Greater, AtLeast, AnyBit}
 use Rattle.bpf_insn.specs.declared.instruction.Insn.{Insn}
 use Rattle.bpf_insn.specs.Code.{operation_of}
 use Rattle.bpf_insn.specs.Machine.{holds}
 use Rattle.profile.specs.Policy.{Policy}
-use Rattle.profile.specs.Said.{said}
 use Rattle.cert_state.specs.declared.literal.Lit.{Lit}
 use Rattle.cert_state.specs.declared.literal.Lit.TheVariants.{In, Bits, NotBits}
-use Rattle.cert_state.specs.Literals.{all_bits, index_of, Meets}
-use Rattle.cert_state.specs.Points.{IsWhole, IsPoint}
+use Rattle.cert_state.specs.Literals.{all_bits}
+use Rattle.cert_state.specs.Points.{IsPoint}
 use Rattle.cert_state.proofs.BitLaws.{and_all}
 use Rattle.rule_compile.specs.Moves.{Move}
 use Rattle.rule_compile.specs.Moves.{Ends, Goes, Forks}
 use Rattle.rule_compile.specs.Moves.{move_at}
 use Rattle.rule_compile.specs.Shape.{answer, answer_by, call}
-use Rattle.certify.specs.inner.Path.{AnswersThere, IsPossible, HoldsCall, fact, LeadsOn, PathsLead}
+use Rattle.certify.specs.inner.Path.{AnswersThere, HoldsCall, fact, LeadsOn, PathsLead}
 use Rattle.certify.proofs.MoveLaws.{move_of_is}
 use Rattle.certify.proofs.PointFacts.{Asks}
 

@@ -1,12 +1,11 @@
 -- There is room for what is made.
-use Rattle.std.proofs.Common.{◌≡◌, ℕ, ◌+◌, ◌-◌, ◌<◌, ◌≤◌, ◌^◌, Bool, true, false, cond, eqb, List, [], ◌∷◌, length, refl, ap}
-use Rattle.std.proofs.Common.{sym, ◌∙◌, subst, arith, inl, inr, ◌⊎◌, ⊎_elim, max}
+use Rattle.std.proofs.Common.{◌≡◌, ℕ, ◌+◌, ◌-◌, ◌<◌, ◌≤◌, ◌^◌, Bool, true, false, cond, eqb, List, [], ◌∷◌, length, ap}
+use Rattle.std.proofs.Common.{sym, ◌∙◌, subst, arith, inl, inr, ◌⊎◌, ⊎_elim}
 use Rattle.std.specs.Prelude.{Option, Some, None, slice_get, Result, Ok, Err, IfOk, bit_and, nat_le, not}
 use Rattle.std.proofs.lemmas.Bool.{cases_eq, eq-eqb, ne_eqb, leb-true}
 use Rattle.std.proofs.lemmas.Option.{same_Some}
 use Rattle.std.proofs.lemmas.List.{length-append}
 use Rattle.std.proofs.Math.Nat.{le-max_left, le-max_right}
-use Rattle.call_tables.specs.declared.arch.Arch.{Arch}
 use Rattle.call_tables.specs.Arch.{x86_64_of, aarch64_of}
 use Rattle.bpf_insn.specs.declared.code.Test.{Test}
 use Rattle.bpf_insn.specs.declared.code.Test.TheVariants.{Equal, AtLeast}
@@ -15,19 +14,19 @@ use Rattle.bpf_insn.specs.Code.{operation_of}
 use Rattle.profile.specs.Policy.{Policy, IsProfile}
 use Rattle.cert_state.specs.declared.literal.Lit.{Lit}
 use Rattle.cert_state.specs.declared.literal.Lit.TheVariants.{In, Bits, NotBits}
-use Rattle.cert_state.specs.Literals.{all_bits, index_of}
+use Rattle.cert_state.specs.Literals.{all_bits}
 use Rattle.cert_state.proofs.BitLaws.{and_all}
 use Rattle.cert_form.specs.declared.node.Kind.TheVariants.{Dead}
-use Rattle.rule_compile.specs.Moves.{Ends, Goes, Forks, move_at}
-use Rattle.rule_compile.specs.Shape.{weight, depth}
+use Rattle.rule_compile.specs.Moves.{Forks, move_at}
+use Rattle.rule_compile.specs.Shape.{depth}
 use Rattle.cert_walk.specs.declared.fault.CertifyError.{CertifyError}
 use Rattle.certify.specs.declared.plain.place.Place.{Place}
 use Rattle.certify.specs.declared.plain.place.Fork.{Fork}
 use Rattle.certify.specs.declared.plain.store.Store.{Store}
-use Rattle.certify.specs.inner.Counts.{Exclude, HasRoom, halves_cost, inside, meets, path_cost, permits, return_cost}
+use Rattle.certify.specs.inner.Counts.{Exclude, HasRoom, halves_cost, inside, path_cost, return_cost}
 use Rattle.certify.specs.inner.Meant.{IsMeant}
 use Rattle.certify.specs.inner.Path.{fact}
-use Rattle.certify.specs.inner.Store.{IsForked, IsMadeAt, chain_node_of, known_at}
+use Rattle.certify.specs.inner.Store.{IsForked, IsMadeAt, chain_node_of}
 use Rattle.certify.proofs.CountLaws.{both_first, both_second, inside_parts}
 use Rattle.certify.proofs.GrowLaws.{made_within}
 use Rattle.certify.proofs.HalfLaws.{tokens_exclude}

@@ -1,6 +1,6 @@
 -- What is made of a filter of calls is within the limits of a certificate.
-use Rattle.std.proofs.Common.{◌≡◌, ℕ, zero, suc, ◌+◌, ◌*◌, ◌<◌, ◌≤◌, Bool, true, false, cond, eqb, List, [], ◌∷◌, ◌++◌, length}
-use Rattle.std.proofs.Common.{refl, ap, sym, ◌∙◌, subst, arith, inl, inr, ◌⊎◌, ⊎_elim}
+use Rattle.std.proofs.Common.{◌≡◌, ℕ, ◌+◌, ◌*◌, ◌<◌, ◌≤◌, Bool, true, false, cond, eqb, List, [], ◌∷◌, ◌++◌, length}
+use Rattle.std.proofs.Common.{refl, arith, inl, inr}
 use Rattle.std.specs.Prelude.{All}
 use Rattle.std.specs.List.{flat_map}
 use Rattle.std.proofs.lemmas.List.{length-append}
@@ -15,7 +15,7 @@ use Rattle.cert_form.specs.declared.node.ChainNode.{ChainNode}
 use Rattle.cert_form.specs.declared.node.Kind.{Kind}
 use Rattle.cert_form.specs.declared.node.Kind.TheVariants.{Step, Split, Return, Dead}
 use Rattle.cert_form.specs.Reading.{tail_length}
-use Rattle.cert_form.specs.Spelling.{chain_node, chained, entry, if_stated, kind_number, magic, offsets, scratch, stated_bits, value}
+use Rattle.cert_form.specs.Spelling.{chain_node, chained, entry, if_stated, kind_number, magic, offsets, scratch, stated_bits}
 use Rattle.cert_form.specs.declared.node.Claim.{Claim}
 use Rattle.cert_form.specs.Writing.{AreChainsWritable, ChainsRefused, IsChainMeant, all_known, version_for}
 use Rattle.cert_form.proofs.PartLaws.{length-value}

@@ -1,12 +1,12 @@
 -- Entries and nodes stay such as they grow.
-use Rattle.std.proofs.Common.{◌≡◌, ℕ, zero, suc, ◌+◌, ◌*◌, ◌^◌, ◌<◌, ◌≤◌, List, [], ◌∷◌, ◌++◌, length, refl, ap, sym, ◌∙◌}
-use Rattle.std.proofs.Common.{subst, arith, inl, inr, ◌⊎◌, ⊎_elim, get_or, set}
+use Rattle.std.proofs.Common.{◌≡◌, ℕ, zero, suc, ◌+◌, ◌*◌, ◌^◌, ◌<◌, ◌≤◌, List, [], ◌∷◌, ◌++◌, length, refl, ap, sym}
+use Rattle.std.proofs.Common.{subst, arith, inl, inr, ◌⊎◌, ⊎_elim, set}
 use Rattle.std.specs.Prelude.{Option, Some, None, slice_get, All}
 use Rattle.std.proofs.lemmas.Option.{same_Some}
 use Rattle.std.proofs.lemmas.List.{length-append, length-set}
 use Rattle.std.proofs.lemmas.List.Elements.{All-push, All-replicate, All-set, All-weaker}
 use Rattle.cert_state.specs.declared.literal.Lit.{Lit}
-use Rattle.cert_state.specs.declared.literal.AVal.TheVariants.{Unknown, Const, Masked}
+use Rattle.cert_state.specs.declared.literal.AVal.TheVariants.{Unknown}
 use Rattle.cert_state.specs.Literals.{IsLit, IsValue, AreValues}
 use Rattle.cert_form.specs.declared.node.ChainNode.{ChainNode}
 use Rattle.cert_form.specs.declared.node.Kind.{Kind}
@@ -15,12 +15,12 @@ use Rattle.cert_form.specs.Spelling.{IsKind}
 use Rattle.cert_form.specs.Writing.{AreLiteralEntries, IsChainMeant, IsLiteralEntry}
 use Rattle.certify.specs.declared.plain.place.Place.{Place}
 use Rattle.certify.specs.declared.plain.store.Store.{Store}
-use Rattle.certify.specs.inner.Chains.{AreEarlier}
+use Rattle.cert_paths.specs.inner.Chains.{AreEarlier}
 use Rattle.certify.specs.inner.Leaf.{IsOfCalls}
 use Rattle.certify.specs.inner.Path.{HoldsCall}
 use Rattle.certify.specs.inner.Made.{regs_of}
 use Rattle.certify.specs.inner.Store.{IsStore, chain_node_of}
-use Rattle.certify.proofs.ChainFacts.{literals_more, all_push}
+use Rattle.cert_paths.proofs.ChainFacts.{literals_more, all_push}
 
 pub slice_get_push : {X : Type 0} (xs : List X) (y : X) (j : ℕ) (x : X) → slice_get (xs ++ y ∷ []) j ≡ Some x
     → (slice_get xs j ≡ Some x) ⊎ ((j ≡ length xs) × (y ≡ x))

@@ -1,8 +1,8 @@
 -- What is known where a path stands is known in a part of it.
-use Rattle.std.proofs.Common.{◌≡◌, ℕ, zero, suc, ◌+◌, ◌^◌, ◌<◌, ◌≤◌, List, [], ◌∷◌, ◌++◌, length, refl, ap, sym, ◌∙◌, subst}
-use Rattle.std.proofs.Common.{arith, inl, inr, ◌⊎◌, ⊎_elim, Bool, true, false, cond, eqb}
-use Rattle.std.specs.Prelude.{Option, Some, None, Contains, All, slice_get}
-use Rattle.std.proofs.lemmas.List.Elements.{All-cons, All-tail}
+use Rattle.std.proofs.Common.{◌≡◌, ℕ, ◌+◌, ◌^◌, ◌<◌, ◌≤◌, List, [], ◌∷◌, length, refl, ap, sym, ◌∙◌, subst}
+use Rattle.std.proofs.Common.{arith, inl, inr, ◌⊎◌, ⊎_elim, Bool, true, false, cond}
+use Rattle.std.specs.Prelude.{Option, Some, None, Contains, slice_get}
+use Rattle.std.proofs.lemmas.List.Elements.{All-cons}
 use Rattle.std.proofs.lemmas.Option.{same_Some, none-some, slice_get-get_or, slice_get_within, get_or_from_slice_get}
 use Rattle.std.proofs.lemmas.Bool.{cases_lt}
 use Rattle.call_tables.specs.declared.arch.Arch.{Arch}
@@ -20,11 +20,11 @@ use Rattle.certify.specs.declared.plain.store.Store.{Store}
 use Rattle.certify.specs.inner.Leaf.{IsForeign, LieIn, SaysThere}
 use Rattle.certify.specs.inner.Meant.{IsMeant}
 use Rattle.certify.specs.inner.Store.{IsForked, IsMadeAt, IsPlace, IsStore, known_at}
-use Rattle.certify.specs.inner.Ways.{IsAtReturn, IsOfMachine, IsOnWay, IsReturnOf, AreOutBefore}
+use Rattle.certify.specs.inner.Ways.{IsAtReturn, IsOfMachine, IsOnWay, AreOutBefore}
 use Rattle.bpf_insn.specs.declared.code.Test.{Test}
 use Rattle.bpf_insn.specs.Code.{operation_of}
 use Rattle.profile.proofs.SaidLaws.{each_record_is_said_one_word}
-use Rattle.cert_state.specs.declared.literal.Lit.TheVariants.{In, Bits, NotBits}
+use Rattle.cert_state.specs.declared.literal.Lit.TheVariants.{Bits, NotBits}
 use Rattle.cert_state.specs.Literals.{all_bits}
 use Rattle.cert_state.proofs.BitLaws.{and_all}
 use Rattle.cert_form.specs.Nodes.{literals}

@@ -1,6 +1,6 @@
 -- What is made of the whole filter keeps each rule.
-use Rattle.std.proofs.Common.{◌≡◌, ℕ, ◌<◌, ◌≤◌, List, [], ◌∷◌, length, refl, ap, sym, ◌∙◌, subst, arith, get_or}
-use Rattle.std.specs.Prelude.{Option, Some, None, slice_get, All}
+use Rattle.std.proofs.Common.{◌≡◌, ℕ, ◌≤◌, List, [], length, refl, ap, sym, ◌∙◌, subst, arith}
+use Rattle.std.specs.Prelude.{Some, None, slice_get, All}
 use Rattle.std.proofs.lemmas.Option.{slice_get_within}
 use Rattle.std.proofs.lemmas.List.Elements.{All-nil, All-replicate}
 use Rattle.std.proofs.lemmas.List.{length-map}
@@ -12,13 +12,13 @@ use Rattle.cert_state.specs.declared.literal.AVal.TheVariants.{Unknown}
 use Rattle.cert_state.specs.declared.literal.Regs.{Regs}
 use Rattle.cert_form.specs.Writing.{AreMeant, IsChainMeant}
 use Rattle.cert_form.specs.Nodes.{literals}
-use Rattle.cert_check.specs.Rules.{IsValid, RootRule}
+use Rattle.cert_check.specs.Rules.{IsValid}
 use Rattle.certify.specs.declared.plain.place.Place.{Place}
 use Rattle.certify.specs.declared.plain.store.Store.{Store}
 use Rattle.certify.specs.inner.Leaf.{IsOfCalls}
 use Rattle.kernel_check.specs.Accepted.{IsAccepted}
 use Rattle.certify.specs.inner.Meant.{IsMeant}
-use Rattle.certify.specs.inner.Made.{plain, regs_of}
+use Rattle.certify.specs.inner.Made.{plain}
 use Rattle.certify.specs.inner.Ways.{IsOnWay}
 use Rattle.certify.specs.inner.Store.{IsMadeAt, IsStore}
 

@@ -1,4 +1,4 @@
-pub mod Own
+pub mod Fault
 pub mod Tables
 pub mod inner
 pub mod Conviction

@@ -1,5 +1,4 @@
 -- What the maker for profiles without conditions knows on its way.
-pub mod Chains
 pub mod Inverse
 pub mod Leaf
 pub mod Meant

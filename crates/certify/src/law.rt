@@ -1,12 +1,6 @@
-//! What own work comes to, as laws of the definitions.
-ghost use Rattle.certify.specs.Own.{OwnWorkIsKept};
+//! Profiles that are plain, and filters that are right, as laws of the definitions.
 ghost use Rattle.certify.specs.Right.{CompiledIsRight, ShapeIsRight};
 ghost use Rattle.certify.specs.Tables.{TableProfilesArePlain};
-
-/// A certificate that `certify` promises for a profile without conditions breaks no rule that the checker looks for.
-pub fn own_work_is_kept()
-    ensures { OwnWorkIsKept }
-{}
 
 /// A profile without conditions whose calls stand in their machines' tables is one that `certify` promises a certificate
 /// for.

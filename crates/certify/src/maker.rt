@@ -2,20 +2,22 @@
 ghost use Rattle.std.specs.Prelude.{◌≡◌, ◌↔◌, [], All, IfErr, IfOk, IfSome, IsTrue, None, OnOk};
 ghost use Rattle.bpf_insn.specs.Program.{insns};
 ghost use Rattle.kernel_check.specs.Accepted.{IsAccepted};
+ghost use Rattle.kernel_check.specs.Lent.{accepted_insns};
 ghost use Rattle.rule_compile.specs.Shape.{IsCallFilter, IsPlain};
 ghost use Rattle.rule_compile.specs.Steady.{IsSteady, Nothing};
 ghost use Rattle.cert_check.specs.Right.{IsRight};
+ghost use Rattle.cert_check.specs.Valid.{IsValidCertificate};
 ghost use Rattle.cert_paths.specs.Fault.{IsSize};
 ghost use Rattle.cert_walk.specs.declared.fault.CertifyError.TheVariants.{OutOfMemory};
-ghost use Rattle.certify.specs.Own.{IsOfSize, IsOwnWork};
+ghost use Rattle.certify.specs.Fault.{IsOfSize};
 
 use crate::own::with_conditions;
 use crate::plain::plain_certificate;
 use bpf_insn::Program;
-use cert_check::{CheckError, check};
+use cert_check::{CheckError, check_accepted};
 use cert_paths::{PathsError, by_paths};
 use cert_walk::{CertifyError, walk_through};
-use kernel_check::accept;
+use kernel_check::{Accepted, accept};
 use profile::{Profile, Rule};
 use rule_compile::Outline;
 use std::alloc::Global;
@@ -31,26 +33,22 @@ fn are_plain(rules: &[Rule]) -> bool
 fn certified(
     alloc: Global,
     profile: &Profile,
-    program: &Program<'_>,
+    program: &Accepted<'_>,
     outline: Option<&Outline>,
 ) -> Result<Vec<u8>, CertifyError>
-    ensures accepted { OnOk result (IsAccepted (insns program.now)) }
-    ensures own { IsPlain profile.now → IsCallFilter profile.now (insns program.now)
-        → IfOk result (λ bytes. IsOwnWork profile.now (insns program.now) bytes.items) }
-    ensures never { IsPlain profile.now → IsCallFilter profile.now (insns program.now) → IfErr result (λ e. e ≡ OutOfMemory) }
+    ensures own { IsPlain profile.now → IsCallFilter profile.now (accepted_insns program.now)
+        → IfOk result (λ bytes. IsValidCertificate profile.now (accepted_insns program.now) bytes.items) }
+    ensures never { IsPlain profile.now → IsCallFilter profile.now (accepted_insns program.now)
+        → IfErr result (λ e. e ≡ OutOfMemory) }
 {
-    let accepted = match accept(program) {
-        Ok(accepted) => accepted,
-        Err(refused) => return Err(CertifyError::Undecided(refused.pc)),
-    };
     if !are_plain(profile.rules()) {
-        return with_conditions(alloc, profile, accepted, outline);
+        return with_conditions(alloc, profile, *program, outline);
     }
     match plain_certificate(alloc, profile, program) {
         Ok(bytes) => Ok(bytes),
         Err(CertifyError::OutOfMemory) => Err(CertifyError::OutOfMemory),
         // A filter of another shape.
-        Err(_) => walk_through(alloc, profile, accepted),
+        Err(_) => walk_through(alloc, profile, *program),
     }
 }
 
@@ -58,14 +56,14 @@ fn certified(
 fn broken(
     alloc: Global,
     profile: &Profile,
-    program: &Program<'_>,
+    program: &Accepted<'_>,
     bytes: &[u8],
 ) -> Option<CheckError>
-    ensures none { result ≡ None → IsOwnWork profile.now (insns program.now) bytes.now }
-    ensures some { IsAccepted (insns program.now) → IsOwnWork profile.now (insns program.now) bytes.now
+    ensures none { result ≡ None → IsValidCertificate profile.now (accepted_insns program.now) bytes.now }
+    ensures some { IsValidCertificate profile.now (accepted_insns program.now) bytes.now
         → IfSome result (λ e. e ≡ CheckError.OutOfMemory) }
 {
-    check(alloc, profile, program.bytes(), bytes).err()
+    check_accepted(alloc, profile, program, bytes).err()
 }
 
 // Why there is no certificate that follows each path.
@@ -83,19 +81,15 @@ fn told(error: PathsError) -> CertifyError
 fn followed(
     alloc: Global,
     profile: &Profile,
-    program: &Program<'_>,
+    program: &Accepted<'_>,
 ) -> Result<Vec<u8>, CertifyError>
-    ensures accepted { OnOk result (IsAccepted (insns program.now)) }
-    ensures valid { IfOk result (λ bytes. IsOwnWork profile.now (insns program.now) bytes.items) }
-    ensures sure { IsAccepted (insns program.now) → IsRight profile.now (insns program.now) → IsSteady (insns program.now) 0 Nothing
+    ensures valid { IfOk result (λ bytes. IsValidCertificate profile.now (accepted_insns program.now) bytes.items) }
+    ensures sure { IsRight profile.now (accepted_insns program.now) → IsSteady (accepted_insns program.now) 0 Nothing
         → IfErr result IsOfSize }
 {
-    match accept(program) {
-        Ok(accepted) => match by_paths(alloc, profile, &accepted) {
-            Ok(certificate) => Ok(certificate),
-            Err(error) => Err(told(error)),
-        },
-        Err(refused) => Err(CertifyError::Undecided(refused.pc)),
+    match by_paths(alloc, profile, program) {
+        Ok(certificate) => Ok(certificate),
+        Err(error) => Err(told(error)),
     }
 }
 
@@ -103,13 +97,13 @@ fn followed(
 fn once_checked(
     alloc: Global,
     profile: &Profile,
-    program: &Program<'_>,
+    program: &Accepted<'_>,
     bytes: Vec<u8>,
 ) -> Result<Vec<u8>, CertifyError>
-    requires accepted { IsAccepted (insns program.now) }
-    ensures valid { IfOk result (λ made. IsOwnWork profile.now (insns program.now) made.items) }
-    ensures sure { IsRight profile.now (insns program.now) → IsSteady (insns program.now) 0 Nothing → IfErr result IsOfSize }
-    ensures never { IsOwnWork profile.now (insns program.now) bytes.items → IfErr result (λ e. e ≡ OutOfMemory) }
+    ensures valid { IfOk result (λ made. IsValidCertificate profile.now (accepted_insns program.now) made.items) }
+    ensures sure { IsRight profile.now (accepted_insns program.now) → IsSteady (accepted_insns program.now) 0 Nothing
+        → IfErr result IsOfSize }
+    ensures never { IsValidCertificate profile.now (accepted_insns program.now) bytes.items → IfErr result (λ e. e ≡ OutOfMemory) }
 {
     match broken(alloc, profile, program, &bytes) {
         None => Ok(bytes),
@@ -122,6 +116,21 @@ fn once_checked(
 ///
 /// That there is none says nothing of the filter, but where no rule has a condition and the filter has the shape of such a
 /// profile's: then memory was refused.
+pub fn certify_accepted(
+    alloc: Global,
+    profile: &Profile,
+    program: &Accepted<'_>,
+) -> Result<Vec<u8>, CertifyError>
+    // The certificate keeps each rule of the checker.
+    ensures valid { IfOk result (λ bytes. IsValidCertificate profile.now (accepted_insns program.now) bytes.items) }
+    ensures never { IsPlain profile.now → IsCallFilter profile.now (accepted_insns program.now)
+        → IfErr result (λ e. e ≡ OutOfMemory) }
+{
+    let bytes = certified(alloc, profile, program, None)?;
+    once_checked(alloc, profile, program, bytes)
+}
+
+/// The same of any program: where the kernel would not accept it, it is undecided.
 pub fn certify(
     alloc: Global,
     profile: &Profile,
@@ -129,11 +138,13 @@ pub fn certify(
 ) -> Result<Vec<u8>, CertifyError>
     ensures accepted { OnOk result (IsAccepted (insns program.now)) }
     // The certificate keeps each rule of the checker.
-    ensures valid { IfOk result (λ bytes. IsOwnWork profile.now (insns program.now) bytes.items) }
+    ensures valid { IfOk result (λ bytes. IsValidCertificate profile.now (insns program.now) bytes.items) }
     ensures never { IsPlain profile.now → IsCallFilter profile.now (insns program.now) → IfErr result (λ e. e ≡ OutOfMemory) }
 {
-    let bytes = certified(alloc, profile, program, None)?;
-    once_checked(alloc, profile, program, bytes)
+    match accept(program) {
+        Ok(accepted) => certify_accepted(alloc, profile, &accepted),
+        Err(refused) => Err(CertifyError::Undecided(refused.pc)),
+    }
 }
 
 /// The same of the filter that the compiler made of the profile, with its outline. Of a right filter that compares steadily, as
@@ -141,14 +152,14 @@ pub fn certify(
 pub fn certify_made(
     alloc: Global,
     profile: &Profile,
-    program: &Program<'_>,
+    program: &Accepted<'_>,
     outline: &Outline,
 ) -> Result<Vec<u8>, CertifyError>
-    ensures accepted { OnOk result (IsAccepted (insns program.now)) }
-    ensures valid { IfOk result (λ bytes. IsOwnWork profile.now (insns program.now) bytes.items) }
-    ensures sure { IsAccepted (insns program.now) → IsRight profile.now (insns program.now) → IsSteady (insns program.now) 0 Nothing
+    ensures valid { IfOk result (λ bytes. IsValidCertificate profile.now (accepted_insns program.now) bytes.items) }
+    ensures sure { IsRight profile.now (accepted_insns program.now) → IsSteady (accepted_insns program.now) 0 Nothing
         → IfErr result IsOfSize }
-    ensures never { IsPlain profile.now → IsCallFilter profile.now (insns program.now) → IfErr result (λ e. e ≡ OutOfMemory) }
+    ensures never { IsPlain profile.now → IsCallFilter profile.now (accepted_insns program.now)
+        → IfErr result (λ e. e ≡ OutOfMemory) }
 {
     match certified(alloc, profile, program, Some(outline)) {
         Ok(bytes) => once_checked(alloc, profile, program, bytes),

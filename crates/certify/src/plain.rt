@@ -4,12 +4,11 @@
 //! of the comparisons that led there. At a return it splits, by machines and then by halves of the numbers that are left,
 //! until the profile says one word.
 ghost use Rattle.std.specs.Prelude.{◌≡◌, IfErr, IfOk};
-ghost use Rattle.bpf_insn.specs.Program.{insns};
 ghost use Rattle.profile.specs.Policy.{IsProfile};
-ghost use Rattle.kernel_check.specs.Accepted.{IsAccepted};
+ghost use Rattle.kernel_check.specs.Lent.{accepted_insns};
 ghost use Rattle.rule_compile.specs.Shape.{IsCallFilter, IsPlain};
+ghost use Rattle.cert_check.specs.Valid.{IsValidCertificate};
 ghost use Rattle.cert_walk.specs.declared.fault.CertifyError.TheVariants.{OutOfMemory};
-ghost use Rattle.certify.specs.Own.{IsOwnWork};
 
 mod chain;
 mod moves;
@@ -19,9 +18,9 @@ mod store;
 mod unlike;
 mod ways;
 
-use bpf_insn::Program;
 use cert_form::write_chained;
 use cert_walk::CertifyError;
+use kernel_check::Accepted;
 use place::Place;
 use profile::Profile;
 use std::alloc::Global;
@@ -32,16 +31,17 @@ use ways::enter;
 pub(crate) fn plain_certificate(
     alloc: Global,
     profile: &Profile,
-    program: &Program<'_>,
+    program: &Accepted<'_>,
 ) -> Result<Vec<u8>, CertifyError>
     requires profile { IsProfile profile.now }
-    requires accepted { IsAccepted (insns program.now) }
-    ensures own { IsPlain profile.now → IsCallFilter profile.now (insns program.now)
-        → IfOk result (λ bytes. IsOwnWork profile.now (insns program.now) bytes.items) }
-    ensures never { IsPlain profile.now → IsCallFilter profile.now (insns program.now) → IfErr result (λ e. e ≡ OutOfMemory) }
+    ensures own { IsPlain profile.now → IsCallFilter profile.now (accepted_insns program.now)
+        → IfOk result (λ bytes. IsValidCertificate profile.now (accepted_insns program.now) bytes.items) }
+    ensures never { IsPlain profile.now → IsCallFilter profile.now (accepted_insns program.now)
+        → IfErr result (λ e. e ≡ OutOfMemory) }
 {
+    let filter = program.program();
     let mut store = Store::new(alloc);
-    let _root = enter(&mut store, profile, program, Place::FIRST)?;
+    let _root = enter(&mut store, profile, &filter, Place::FIRST)?;
     match write_chained(alloc, &store.entries, &store.nodes) {
         Ok(bytes) => Ok(bytes),
         Err(error) => Err(CertifyError::from(error)),

@@ -1,6 +1,6 @@
 -- How many nodes the paths of a filter of calls take.
 use Rattle.std.specs.Prelude.{◌≡◌, ◌==◌, ◌&&◌, ℕ, zero, suc, ◌+◌, ◌-◌, ◌*◌, ◌/◌, ◌≤◌, nat_le, Bool, true, not, if◌then◌else◌}
-use Rattle.std.specs.Prelude.{List, [], ◌∷◌, Option, Some, slice_get, max, bit_and, length}
+use Rattle.std.specs.Prelude.{List, [], ◌∷◌, Some, max, bit_and, length}
 use Rattle.call_tables.specs.declared.arch.Arch.{Arch}
 use Rattle.call_tables.specs.Arch.{token_of}
 use Rattle.bpf_insn.specs.declared.code.Operand.{Operand}
@@ -8,7 +8,6 @@ use Rattle.bpf_insn.specs.declared.code.Test.{Test}
 use Rattle.bpf_insn.specs.declared.code.Operation.TheVariants.{LoadWord, ReturnK, Jump, Branch}
 use Rattle.bpf_insn.specs.declared.instruction.Insn.{Insn}
 use Rattle.bpf_insn.specs.Code.{operation_of}
-use Rattle.profile.specs.Policy.{Policy}
 use Rattle.cert_state.specs.declared.literal.Lit.{Lit}
 use Rattle.cert_state.specs.declared.literal.Lit.TheVariants.{In, Bits, NotBits}
 use Rattle.cert_state.specs.Literals.{index_of}

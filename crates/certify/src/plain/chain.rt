@@ -2,7 +2,7 @@
 ghost use Rattle.std.specs.Prelude.{◌≡◌, ◌≤◌, ◌^◌, ◌<◌, MatchOption, length};
 ghost use Rattle.cert_form.specs.Nodes.{literals};
 ghost use Rattle.cert_state.specs.Points.{HasNoPoint, IsRange};
-ghost use Rattle.certify.specs.inner.Chains.{AreEarlier};
+ghost use Rattle.cert_paths.specs.inner.Chains.{AreEarlier};
 
 use cert_state::{AVal, Lit, Regs, State, range};
 

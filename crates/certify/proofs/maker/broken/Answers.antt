@@ -1,17 +1,17 @@
 use Rattle.std.proofs.Common.{◌≡◌, ◌∙◌, subst, sym}
-use Rattle.std.specs.Prelude.{None, IfSome}
+use Rattle.std.specs.Prelude.{IfSome}
+use Rattle.kernel_check.specs.Lent.{accepted_insns}
+use Rattle.cert_check.specs.Valid.{IsValidCertificate}
 use Rattle.cert_check.specs.declared.fault.CheckError.TheVariants.{OutOfMemory}
-use Rattle.bpf_insn.specs.Program.{insns}
-use Rattle.certify.proofs.OwnLaws.{only_memory, own_of_yes}
+use Rattle.certify.proofs.CheckedLaws.{only_memory, valid_of_none}
 use Rattle.certify.proofs.maker.broken.Goals as goal
 
 pub returns-clause-none : goal.returns-clause-none
 returns-clause-none c = λ is.
-    own_of_yes c.args.profile.now c.bytes.result.now c.args.bytes.now (insns c.args.program.now) c.bytes.ensures.read c.check.result
-    c.check.ensures.kept (sym c.err.ensures.value ∙ is)
+    valid_of_none (IsValidCertificate c.args.profile.now (accepted_insns c.args.program.now) c.args.bytes.now) c.check_accepted.result
+    c.check_accepted.ensures.valid (sym c.err.ensures.value ∙ is)
 
 pub returns-clause-some : goal.returns-clause-some
-returns-clause-some c = λ taken own.
+returns-clause-some c = λ valid.
     subst (λ o. IfSome o (λ e. e ≡ OutOfMemory)) (sym c.err.ensures.value)
-    (only_memory c.args.profile.now c.bytes.result.now c.args.bytes.now (insns c.args.program.now) c.bytes.ensures.read c.check.result
-    c.bytes.ensures.whole c.check.ensures.first taken own)
+    (only_memory c.check_accepted.result (c.check_accepted.ensures.never valid))

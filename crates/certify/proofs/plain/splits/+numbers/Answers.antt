@@ -1,4 +1,4 @@
-use Rattle.std.proofs.Common.{rules, ◌≡◌, ◌+◌, ◌-◌, ◌<◌, ◌≤◌, ◌⊎◌, inl, inr, refl, sym, subst, ap, ◌∙◌, arith, length, ◌∷◌}
+use Rattle.std.proofs.Common.{◌≡◌, ◌+◌, ◌-◌, ◌≤◌, ◌⊎◌, inl, inr, refl, sym, subst, ◌∙◌, arith, length, ◌∷◌}
 use Rattle.std.proofs.Common.{List, ℕ, true, false}
 use Rattle.call_tables.specs.Numbers.{other_numbers}
 use Rattle.bpf_insn.specs.Program.{insns}

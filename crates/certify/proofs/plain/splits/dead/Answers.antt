@@ -1,7 +1,4 @@
-use Rattle.std.proofs.Common.{arith, length, Some}
-use Rattle.std.specs.Prelude.{slice_get}
-use Rattle.std.proofs.lemmas.Option.{slice_get-get_or}
-use Rattle.bpf_insn.specs.declared.instruction.Insn.{Insn}
+use Rattle.std.proofs.Common.{length}
 use Rattle.bpf_insn.specs.Program.{insns}
 use Rattle.cert_form.specs.declared.node.Kind.TheVariants.{Dead}
 use Rattle.certify.specs.inner.Store.{known_at}

@@ -1,4 +1,4 @@
-use Rattle.std.proofs.Common.{◌≡◌, arith, length, Some, true, false}
+use Rattle.std.proofs.Common.{◌≡◌, length, true, false}
 use Rattle.bpf_insn.specs.Program.{insns}
 use Rattle.cert_form.specs.declared.node.Kind.TheVariants.{Return}
 use Rattle.certify.specs.inner.Store.{known_at}

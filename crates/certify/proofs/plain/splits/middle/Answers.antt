@@ -1,4 +1,4 @@
-use Rattle.std.proofs.Common.{◌≡◌, ◌<◌, true, false, inl, inr, sym, ◌∙◌, arith}
+use Rattle.std.proofs.Common.{◌≡◌, true, false, inl, inr, sym, ◌∙◌, arith}
 use Rattle.call_tables.proofs.NumberLaws.{other_is_high, own_or_other}
 use Rattle.certify.proofs.plain.splits.middle.Goals as goal
 

@@ -1,4 +1,4 @@
-use Rattle.std.proofs.Common.{rules, ◌≡◌, ◌<◌, ◌^◌, ◌∙◌}
+use Rattle.std.proofs.Common.{rules, ◌<◌, ◌^◌, ◌∙◌}
 use Rattle.certify.proofs.UnlikeLaws.{one_word}
 use Rattle.certify.proofs.plain.unlike.says_other.Goals as goal
 

@@ -1,19 +1,16 @@
-use Rattle.std.proofs.Common.{rules, ◌≡◌, ◌+◌, ◌-◌, ◌<◌, ◌≤◌, ◌^◌, ◌⊎◌, inl, inr, ⊎_elim, refl, sym, subst, ◌∙◌, ap, arith}
-use Rattle.std.proofs.Common.{length, ◌∷◌, Some, None, true, false, List, ℕ}
-use Rattle.std.specs.Prelude.{slice_get, Option}
-use Rattle.std.specs.Option.{option_map}
+use Rattle.std.proofs.Common.{rules, ◌≡◌, ◌+◌, ◌-◌, ◌<◌, ◌≤◌, ◌^◌, ◌⊎◌, inl, ⊎_elim, refl, sym, subst, ◌∙◌, ap, arith}
+use Rattle.std.proofs.Common.{length, ◌∷◌, Some, true, false, List, ℕ}
 use Rattle.bpf_insn.specs.Program.{insns}
 use Rattle.bpf_insn.specs.Code.{operation_of}
 use Rattle.cert_state.specs.declared.literal.Lit.{Lit}
 use Rattle.cert_form.specs.declared.node.Kind.TheVariants.{Step}
 use Rattle.cert_form.specs.Nodes.{literals}
-use Rattle.rule_compile.specs.Moves.{Ends, Goes, Forks, move_at}
+use Rattle.rule_compile.specs.Moves.{Goes, Forks, move_at}
 use Rattle.rule_compile.specs.Shape.{depth, weight}
 use Rattle.cert_walk.specs.declared.fault.CertifyError.TheVariants.{OutOfMemory}
 use Rattle.certify.specs.declared.plain.place.Place.{Place}
 use Rattle.certify.specs.inner.Counts.{inside, path_cost, return_cost}
 use Rattle.certify.specs.inner.Made.{StandsAt}
-use Rattle.certify.specs.inner.Meant.{IsMeant}
 use Rattle.certify.specs.inner.Moves.{move_by, test_by}
 use Rattle.certify.specs.inner.Store.{chain_node_of, known_at}
 use Rattle.certify.proofs.GrowLaws.{longer_than, length_more, made_fork, made_step}

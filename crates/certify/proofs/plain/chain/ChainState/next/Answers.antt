@@ -1,11 +1,11 @@
-use Rattle.std.proofs.Common.{rules, ◌≡◌, ℕ, suc, ◌-◌, ◌<◌, List, [], ◌∷◌, length, slice_index_or, sym, ap, ◌∙◌, arith, Some}
+use Rattle.std.proofs.Common.{rules, ◌≡◌, ℕ, suc, ◌-◌, ◌<◌, length, slice_index_or, ap, ◌∙◌, arith, Some}
 use Rattle.std.specs.Prelude.{slice_get}
 use Rattle.std.proofs.lemmas.Option.{slice_get-get_or}
 use Rattle.cert_state.specs.declared.literal.Lit.{Lit}
 use Rattle.cert_state.specs.declared.literal.Lit.TheVariants.{In}
 use Rattle.cert_form.specs.Nodes.{literals}
-use Rattle.certify.specs.inner.Chains.{AreEarlier}
-use Rattle.certify.proofs.ChainFacts.{literals_none, literals_past, chain_next}
+use Rattle.cert_paths.specs.inner.Chains.{AreEarlier}
+use Rattle.cert_paths.proofs.ChainFacts.{literals_none, literals_past, chain_next}
 use Rattle.certify.proofs.plain.chain.ChainState.next.Goals as goal
 
 pub returns-then-at-eq0-clause-more : goal.returns-then-at-eq0-clause-more

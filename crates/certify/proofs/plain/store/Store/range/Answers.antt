@@ -1,4 +1,4 @@
-use Rattle.std.proofs.Common.{arith, refl, ◌∙◌, ap, sym, subst, MatchOption, List, ℕ}
+use Rattle.std.proofs.Common.{subst, MatchOption, List, ℕ}
 use Rattle.cert_state.specs.declared.literal.Lit.{Lit}
 use Rattle.cert_state.specs.Points.{HasNoPoint, IsRange}
 use Rattle.cert_form.specs.Nodes.{literals}

@@ -1,4 +1,4 @@
-use Rattle.certify.proofs.maker.certified.Goals as goal
+use Rattle.certify.proofs.maker.certify.Goals as goal
 
 pub returns-in-Err-clause-never : goal.returns-in-Err-clause-never
 returns-in-Err-clause-never c = λ is shape.
