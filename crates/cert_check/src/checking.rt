@@ -48,31 +48,21 @@ fn is_read(program: &Accepted<'_>)
     program.program().bytes();
 }
 
-/// Whether the certificate shows that a filter which the kernel accepts gives each call record the word that the profile says.
-///
-/// The first rule that is broken is told, in this order: of the certificate's bytes, its root, and then of the nodes from 0,
-/// at each Edge, Split, Entail, Return. Memory is asked for only where the certificate is of form 1.
-pub fn check_accepted<'a>(
+// What passes the check of a filter that the kernel accepts.
+fn checked<'a>(
     alloc: Global,
     profile: &'a Profile,
     program: &Accepted<'a>,
     cert: &'a [u8],
 ) -> Result<Checked<'a>, CheckError>
-    // What is lent is what was given.
     ensures profile { IfOk result (λ checked. profile_of checked ≡ profile.now) }
     ensures program { IfOk result (λ checked. program_of checked ≡ accepted_insns program.now) }
     ensures cert { IfOk result (λ checked. cert_of checked ≡ cert.now) }
-
-    // Yes: the filter gives each record the profile's word and no other.
     ensures right { IfOk result (λ _. IsRight profile.now (accepted_insns program.now)) }
-
-    // Exactly: it is yes where each rule is kept, if there is memory, and an error names the first that is broken.
     ensures valid { IfOk result (λ _. IsValidCertificate profile.now (accepted_insns program.now) cert.now) }
     ensures never { IsValidCertificate profile.now (accepted_insns program.now) cert.now → IfErr result (λ e. e ≡ OutOfMemory) }
     ensures first { IfErr result (λ e. e ≢ OutOfMemory
         → IsFirst profile.now (spelling (accepted_insns program.now)) cert.now e) }
-
-    // Memory is asked for in form 1 alone.
     ensures memory { IfErr result (λ e. e ≡ OutOfMemory → version_of cert.now ≡ 1) }
 {
     is_read(program);
@@ -121,7 +111,30 @@ pub fn check<'a>(
         Err(e) => return Err(CheckError::View(e)),
     };
     match accept(&program) {
-        Ok(accepted) => check_accepted(alloc, profile, &accepted, cert),
+        Ok(accepted) => checked(alloc, profile, &accepted, cert),
         Err(e) => Err(CheckError::Kernel(e)),
     }
+}
+
+/// The same of a filter that the kernel accepts, of which nothing is lent.
+pub fn check_accepted(
+    alloc: Global,
+    profile: &Profile,
+    program: &Accepted<'_>,
+    cert: &[u8],
+) -> Result<(), CheckError>
+    // Yes: the filter gives each record the profile's word and no other.
+    ensures right { IfOk result (λ _. IsRight profile.now (accepted_insns program.now)) }
+
+    // Exactly: it is yes where each rule is kept, if there is memory, and an error names the first that is broken.
+    ensures valid { IfOk result (λ _. IsValidCertificate profile.now (accepted_insns program.now) cert.now) }
+    ensures never { IsValidCertificate profile.now (accepted_insns program.now) cert.now → IfErr result (λ e. e ≡ OutOfMemory) }
+    ensures first { IfErr result (λ e. e ≢ OutOfMemory
+        → IsFirst profile.now (spelling (accepted_insns program.now)) cert.now e) }
+
+    // Memory is asked for in form 1 alone.
+    ensures memory { IfErr result (λ e. e ≡ OutOfMemory → version_of cert.now ≡ 1) }
+{
+    checked(alloc, profile, program, cert)?;
+    Ok(())
 }

@@ -31,27 +31,27 @@ returns-in-Err-accept-clause-memory c = λ e. absurd cc
 pub returns-in-Ok-accept-clause-filter : goal.returns-in-Ok-accept-clause-filter
 returns-in-Ok-accept-clause-filter c =
     let same : accepted_insns c.in-Ok-accept.accepted ≡ insns_of c.args.filter.now = c.in-Ok-accept.ensures.same ∙ c.in-Ok.ensures.read in
-    subst (λ (p : List Insn). IfOk c.check_accepted.result (λ checked. program_of checked ≡ p)) same c.check_accepted.ensures.program
+    subst (λ (p : List Insn). IfOk c.checked.result (λ checked. program_of checked ≡ p)) same c.checked.ensures.program
 
 pub returns-in-Ok-accept-clause-accepted : goal.returns-in-Ok-accept-clause-accepted
 returns-in-Ok-accept-clause-accepted c =
-    accepted_at_yes c.args.filter.now (sym c.in-Ok.ensures.read) c.in-Ok-accept.ensures.accepted c.check_accepted.result
+    accepted_at_yes c.args.filter.now (sym c.in-Ok.ensures.read) c.in-Ok-accept.ensures.accepted c.checked.result
 
 pub returns-in-Ok-accept-clause-right : goal.returns-in-Ok-accept-clause-right
 returns-in-Ok-accept-clause-right c =
     let same : accepted_insns c.in-Ok-accept.accepted ≡ insns_of c.args.filter.now = c.in-Ok-accept.ensures.same ∙ c.in-Ok.ensures.read in
-    subst (λ (p : List Insn). IfOk c.check_accepted.result (λ _. IsRight c.args.profile.now p)) same c.check_accepted.ensures.right
+    subst (λ (p : List Insn). IfOk c.checked.result (λ _. IsRight c.args.profile.now p)) same c.checked.ensures.right
 
 pub returns-in-Ok-accept-clause-kept : goal.returns-in-Ok-accept-clause-kept
 returns-in-Ok-accept-clause-kept c =
     kept_at_yes c.args.profile.now c.args.filter.now c.args.cert.now _ (sym c.in-Ok.ensures.read) c.in-Ok.ensures.fault c.in-Ok-accept.ensures.accepted
-    c.check_accepted.result
-    (subst (λ (p : List Insn). IfOk c.check_accepted.result (λ _. IsValidCertificate c.args.profile.now p c.args.cert.now))
-    c.in-Ok-accept.ensures.same c.check_accepted.ensures.valid)
+    c.checked.result
+    (subst (λ (p : List Insn). IfOk c.checked.result (λ _. IsValidCertificate c.args.profile.now p c.args.cert.now))
+    c.in-Ok-accept.ensures.same c.checked.ensures.valid)
 
 pub returns-in-Ok-accept-clause-first : goal.returns-in-Ok-accept-clause-first
 returns-in-Ok-accept-clause-first c =
     let spelled : spelling (accepted_insns c.in-Ok-accept.accepted) ≡ c.args.filter.now =
     ap spelling c.in-Ok-accept.ensures.same ∙ c.in-Ok.ensures.spelled in
-    subst (λ filter. IfErr c.check_accepted.result (λ e. e ≢ OutOfMemory → IsFirst c.args.profile.now filter c.args.cert.now e)) spelled
-    c.check_accepted.ensures.first
+    subst (λ filter. IfErr c.checked.result (λ e. e ≢ OutOfMemory → IsFirst c.args.profile.now filter c.args.cert.now e)) spelled
+    c.checked.ensures.first

@@ -13,7 +13,7 @@ use Rattle.cert_check.proofs.FirstLaws.{first_found}
 use Rattle.cert_check.proofs.CheckLaws.{count_of_nodes, form_is_first, form_memory, no_memory, only_the_profiles}
 use Rattle.cert_check.proofs.Right.{right}
 use Rattle.cert_check.proofs.ValidLaws.{only_memory}
-use Rattle.cert_check.proofs.checking.check_accepted.Goals as goal
+use Rattle.cert_check.proofs.checking.checked.Goals as goal
 
 pub returns-in-Err-clause-first : goal.returns-in-Err-clause-first
 returns-in-Err-clause-first c =
