@@ -13,12 +13,12 @@ use Rattle.cert_check.proofs.FirstLaws.{first_kernel, first_view}
 use Rattle.cert_check.specs.declared.fault.CheckError.TheVariants as error
 use Rattle.cert_check.proofs.Right.{right}
 use Rattle.cert_check.specs.Right.{IsRight}
+use Rattle.cert_check.specs.Valid.{IsValidCertificate}
+use Rattle.cert_check.proofs.ValidLaws.{kept}
 use Rattle.cert_walk.specs.declared.fault.CertifyError.{CertifyError}
 use Rattle.cert_walk.specs.declared.fault.CertifyError.TheVariants as maker
 use Rattle.certify.specs.Conviction.{Convicts}
 use Rattle.streams.specs.Failures.{Failures}
-use Rattle.certify.specs.Own.{IsOwnWork}
-use Rattle.certify.proofs.OwnLaws.{accepted}
 use Rattle.streams.specs.Sink.{StopsAt, Writes, WritesMade}
 use Rattle.streams.specs.declared.fault.WriteFault.{WriteFault}
 use Rattle.streams.specs.declared.fault.WriteFault.TheVariants as fault
@@ -140,14 +140,14 @@ module _ {S : Type 0} (held : S → Option (List ℕ)) (failures : S → Failure
   open_told u result why (inr h) = inr (inr (inr h))
 
 -- with a valid certificate of an accepted filter the checker says yes
-pub yes_of_work : (policy : Policy) (p : List Insn) (filter cert : List ℕ) → IsClear policy.rules → p ≡ insns_of filter
-    → view_fault filter ≡ None → IsAccepted p → IsOwnWork policy p cert → IsYes policy filter cert
-yes_of_work policy p filter cert clear same whole taken own =
-    let here : IsAccepted (insns_of filter) = subst IsAccepted same taken in
-    let work : IsOwnWork policy (insns_of filter) cert = subst (λ (q : List Insn). IsOwnWork policy q cert) same own in record {
-      accepted = here;
-      right = right policy (insns_of filter) work.0 clear here work.2;
-      kept = accepted policy filter cert whole here work;
+pub yes_of_valid : (policy : Policy) (p : List Insn) (filter cert : List ℕ) → IsClear policy.rules → p ≡ insns_of filter
+    → view_fault filter ≡ None → IsAccepted (insns_of filter) → IsValidCertificate policy p cert → IsYes policy filter cert
+yes_of_valid policy p filter cert clear same whole taken valid =
+    let here : IsValidCertificate policy (insns_of filter) cert =
+    subst (λ (q : List Insn). IsValidCertificate policy q cert) same valid in record {
+      accepted = taken;
+      right = right policy (insns_of filter) here.0 clear taken here.2;
+      kept = kept policy filter cert whole taken here;
     }
 
 -- where the filter is right it gives the profile's word

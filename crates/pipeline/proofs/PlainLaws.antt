@@ -25,11 +25,12 @@ use Rattle.rule_compile.specs.Shape.{IsCallFilter, IsPlain}
 use Rattle.rule_compile.specs.Steady.{IsSteady, Nothing}
 use Rattle.kernel_check.specs.Accepted.{IsAccepted}
 use Rattle.cert_check.specs.Right.{IsRight}
+use Rattle.cert_check.specs.Valid.{IsValidCertificate}
+use Rattle.cert_check.proofs.ValidLaws.{kept}
 use Rattle.cert_walk.specs.declared.fault.CertifyError.{CertifyError}
 use Rattle.cert_walk.specs.declared.fault.CertifyError.TheVariants as maker
-use Rattle.certify.specs.Own.{IsOfSize, IsOwnWork}
+use Rattle.certify.specs.Fault.{IsOfSize}
 use Rattle.certify.proofs.CompiledLaws.{compiled}
-use Rattle.certify.proofs.OwnLaws.{accepted}
 use Rattle.certify.proofs.TableLaws.{table_rule_is_plain}
 use Rattle.cert_check.specs.declared.fault.CheckError.{CheckError}
 use Rattle.cert_check.specs.declared.fault.CheckError.TheVariants as error
@@ -161,17 +162,18 @@ module _ (policy : Policy) (p : List Insn) (filter : List ℕ) (same : p ≡ ins
 
   -- a right filter that compares steadily has a certificate, but for want of memory and the limits of the format
   pub sizes : (e : CertifyError) → IsRightFilter policy (insns_of filter) → IsSteady (insns_of filter) 0 Nothing
-      → (IsAccepted p → IsRight policy p → IsSteady p 0 Nothing → IsOfSize e) → IsSized policy e
+      → (IsRight policy p → IsSteady p 0 Nothing → IsOfSize e) → IsSized policy e
   sizes e right steady sure clear =
-      let told : IsAccepted (insns_of filter) → IsRight policy (insns_of filter) → IsSteady (insns_of filter) 0 Nothing → IsOfSize e =
-      subst (λ (q : List Insn). IsAccepted q → IsRight policy q → IsSteady q 0 Nothing → IsOfSize e) same sure in
-      told right.accepted (compiled policy (insns_of filter) clear right) steady
+      let told : IsRight policy (insns_of filter) → IsSteady (insns_of filter) 0 Nothing → IsOfSize e =
+      subst (λ (q : List Insn). IsRight policy q → IsSteady q 0 Nothing → IsOfSize e) same sure in
+      told (compiled policy (insns_of filter) clear right) steady
 
 -- a certificate that keeps each rule leaves none broken
-pub unbroken : (policy : Policy) (p : List Insn) (filter cert : List ℕ) → p ≡ insns_of filter → view_fault filter ≡ None → IsAccepted p
-    → IsOwnWork policy p cert → IsUnbroken policy filter cert
-unbroken policy p filter cert same whole taken own =
-    accepted policy filter cert whole (subst IsAccepted same taken) (subst (λ (q : List Insn). IsOwnWork policy q cert) same own)
+pub unbroken : (policy : Policy) (p : List Insn) (filter cert : List ℕ) → p ≡ insns_of filter → view_fault filter ≡ None
+    → IsAccepted (insns_of filter)
+    → IsValidCertificate policy p cert → IsUnbroken policy filter cert
+unbroken policy p filter cert same whole taken valid =
+    kept policy filter cert whole taken (subst (λ (q : List Insn). IsValidCertificate policy q cert) same valid)
 
 -- what is made of the profile that a bundle means
 pub prepared : (native : Arch) (bundle : List ℕ) (policy : Policy) (r : Result Prepared Unready) → IsBundle native bundle policy

@@ -2,7 +2,7 @@
 ghost use Rattle.std.specs.Prelude.{◌≡◌, ◌≢◌, ◌<◌, ℕ, List, None, IfErr, IfOk, length, slice_index, string_bytes};
 ghost use Rattle.call_record.specs.Record.{words};
 ghost use Rattle.bpf_insn.specs.Bytes.{insns_of, view_fault};
-ghost use Rattle.bpf_insn.specs.Program.{insns};
+ghost use Rattle.kernel_check.specs.Accepted.{IsAccepted};
 ghost use Rattle.kernel_check.specs.Lent.{accepted_insns};
 ghost use Rattle.call_tables.specs.declared.arch.Arch.{Arch as TheArch};
 ghost use Rattle.pipeline.specs.declared.unready.Unready.TheVariants.{OutOfMemory};
@@ -17,7 +17,7 @@ use bpf_insn::Program;
 use call_record::{Word, words_are_a_record};
 use call_tables::Arch;
 use cert_check::CheckError;
-use certify::{Conviction, certify, convict};
+use certify::{Conviction, certify_accepted, convict};
 use kernel_check::{Accepted, accept};
 use profile::Profile;
 use profile_json::read_bundle;
@@ -25,17 +25,17 @@ use std::alloc::{AllocError, Global};
 use streams::{Sink, WriteFault, write_all};
 
 // The certificate that is made of a profile and a filter, to which the checker says yes.
-fn certified(alloc: Global, profile: &Profile, program: &Program<'_>) -> Result<Vec<u8>, Unready>
-    ensures ok { (filter : List ℕ) → view_fault filter ≡ None → insns program.now ≡ insns_of filter
-        → IfOk result (λ cert. IsYes profile.now filter cert.items) }
+fn certified(alloc: Global, profile: &Profile, program: &Accepted<'_>) -> Result<Vec<u8>, Unready>
+    ensures ok { (filter : List ℕ) → view_fault filter ≡ None → IsAccepted (insns_of filter)
+        → accepted_insns program.now ≡ insns_of filter → IfOk result (λ cert. IsYes profile.now filter cert.items) }
     ensures err { (native : TheArch) (bundle filter : List ℕ) → AreJudged native bundle filter profile.now
         → IfErr result (λ unready. unready ≢ OutOfMemory → IsOpen native bundle filter unready) }
     // Of a filter of this project's own only memory is refused.
     ensures own { (native : TheArch) (bundle filter : List ℕ) → IsOwnFilter native bundle filter profile.now
-        → insns program.now ≡ insns_of filter → IfErr result (λ unready. unready ≡ OutOfMemory) }
+        → accepted_insns program.now ≡ insns_of filter → IfErr result (λ unready. unready ≡ OutOfMemory) }
 {
     profile.rules();
-    match certify(alloc, profile, program) {
+    match certify_accepted(alloc, profile, program) {
         Ok(certificate) => Ok(certificate),
         Err(error) => Err(Unready::from(error)),
     }
@@ -111,7 +111,7 @@ fn convict_or_refuse<S: Sink>(
 }
 
 // Writes the certificate of a filter that the kernel accepts, or what tells that it has none.
-fn certify_accepted<S: Sink>(
+fn write_certificate<S: Sink>(
     alloc: Global,
     profile: &Profile,
     filter: &[u8],
@@ -125,7 +125,7 @@ fn certify_accepted<S: Sink>(
         → accepted_insns program.now ≡ insns_of filter.now
         → CertifiesOwn S.held S.failures sink.old sink.new native bundle filter.now result }
 {
-    match certified(alloc, profile, &program.program()) {
+    match certified(alloc, profile, program) {
         Ok(certificate) => {
             write_all(&certificate, sink)?;
             Ok(true)
@@ -151,7 +151,7 @@ fn certify_filter<S: Sink>(
         Err(fault) => return refuse(alloc, &Unready::Check(CheckError::View(fault)), sink),
     };
     match accept(&program) {
-        Ok(accepted) => certify_accepted(alloc, profile, filter, &accepted, sink),
+        Ok(accepted) => write_certificate(alloc, profile, filter, &accepted, sink),
         Err(refused) => refuse(alloc, &Unready::Check(CheckError::Kernel(refused)), sink),
     }
 }

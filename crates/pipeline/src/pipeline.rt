@@ -7,6 +7,7 @@ use bpf_insn::Program;
 use call_tables::Arch;
 use cert_check::{Checked, check};
 use certify::certify_made;
+use kernel_check::accept;
 use profile::Profile;
 use profile_json::read_bundle;
 use rule_compile::make;
@@ -63,7 +64,10 @@ impl Prepared {
         let Ok(program) = Program::view(&made.bytes) else {
             unreachable!();
         };
-        let certificate = certify_made(alloc, &profile, &program, &made.outline)?;
+        let Ok(accepted) = accept(&program) else {
+            unreachable!();
+        };
+        let certificate = certify_made(alloc, &profile, &accepted, &made.outline)?;
         Ok(Prepared {
             profile,
             filter: made.bytes,

@@ -1,5 +1,5 @@
 -- The rules that a bundle says, entry by entry (OCI Runtime Specification, config-linux, Seccomp, `syscalls`).
-use Rattle.std.specs.Prelude.{◌≡◌, ℕ, List, map, nat_lt, position, Some, slice_get}
+use Rattle.std.specs.Prelude.{◌≡◌, ℕ, List, map, nat_lt, position, Some}
 use Rattle.serde_json.specs.Data.{Data}
 use Rattle.call_tables.specs.declared.arch.Arch.{Arch}
 use Rattle.call_tables.specs.Arch.{family_of}

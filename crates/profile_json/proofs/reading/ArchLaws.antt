@@ -1,8 +1,8 @@
 -- Listed machines: what reading gives is meant, and what it refuses is broken.
-use Rattle.std.proofs.Common.{◌≡◌, ℕ, ◌==◌, List, [], ◌∷◌, cond, if◌then◌else◌, Ok, Err, Some, None, true, false, inl, inr, refl}
+use Rattle.std.proofs.Common.{◌≡◌, ℕ, ◌==◌, List, [], ◌∷◌, cond, if◌then◌else◌, Ok, Err, Some, None, true, inl, inr, refl}
 use Rattle.std.proofs.Common.{sym, ◌∙◌, ap, subst}
 use Rattle.std.specs.Option.{ok_or}
-use Rattle.std.specs.List.{All, AllZip, Contains, list_any}
+use Rattle.std.specs.List.{AllZip, Contains, list_any}
 use Rattle.std.specs.Str.{bytes_eq}
 use Rattle.std.proofs.lemmas.Bool.{cases_Bool}
 use Rattle.std.proofs.lemmas.Bool.Decides.{Decides-eqb}

@@ -36,8 +36,8 @@ returns-in-Ok-accept-clause-found g c = λ native bundle means.
       means = means;
       program = c.in-Ok.ensures.fault;
       accepted = subst IsAccepted c.in-Ok.ensures.read c.in-Ok-accept.ensures.accepted;
-    } in c.certify_accepted.ensures.found native bundle judged (c.in-Ok-accept.ensures.same ∙ c.in-Ok.ensures.read)
+    } in c.write_certificate.ensures.found native bundle judged (c.in-Ok-accept.ensures.same ∙ c.in-Ok.ensures.read)
 
 pub returns-in-Ok-accept-clause-own : goal.returns-in-Ok-accept-clause-own
 returns-in-Ok-accept-clause-own g c = λ native bundle own.
-    c.certify_accepted.ensures.own native bundle own (c.in-Ok-accept.ensures.same ∙ c.in-Ok.ensures.read)
+    c.write_certificate.ensures.own native bundle own (c.in-Ok-accept.ensures.same ∙ c.in-Ok.ensures.read)

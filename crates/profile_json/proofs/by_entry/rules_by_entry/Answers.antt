@@ -1,4 +1,4 @@
-use Rattle.std.proofs.Common.{◌≡◌, List, map, sym, ◌∙◌, ap, subst}
+use Rattle.std.proofs.Common.{List, map, sym, ◌∙◌, ap, subst}
 use Rattle.serde_json.specs.View.{view}
 use Rattle.call_tables.specs.declared.arch.Arch.{Arch}
 use Rattle.call_tables.specs.Arch.{family_of, AreOfFamily}

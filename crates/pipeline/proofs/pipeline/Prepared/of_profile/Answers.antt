@@ -1,6 +1,7 @@
 use Rattle.std.proofs.Common.{ap, subst, ◌∙◌}
 use Rattle.bpf_insn.specs.Bytes.{insns_of}
-use Rattle.kernel_check.specs.Accepted.{IsAccepted}
+use Rattle.kernel_check.specs.Accepted.{IsRefusal}
+use Rattle.kernel_check.proofs.RefusalLaws.{one}
 use Rattle.rule_compile.specs.declared.fault.CompileError.TheVariants as compiler
 use Rattle.cert_walk.specs.declared.fault.CertifyError.TheVariants as maker
 use Rattle.pipeline.specs.declared.unready.Unready.TheVariants.{Compile, Certify}
@@ -16,9 +17,16 @@ pub returns-in_err-made-clause-err : goal.returns-in_err-made-clause-err
 returns-in_err-made-clause-err c =
     told_compile c.args.profile c.from_residual.result c.in_err-made.field-0.0 c.from_residual.ensures.1 c.in_err-made.ensures.never
 
+-- the kernel accepts what the compiler gives
+pub unreachable-requires-in_default-accept : goal.unreachable-requires-in_default-accept
+unreachable-requires-in_default-accept c =
+    let same = c.in-Ok.ensures.read ∙ ap insns_of c.deref.ensures.value in
+    one.none (insns_of c.in_ok-made.made.bytes.items) c.in_default-accept.field-0 c.in_ok-made.ensures.right.accepted
+    (subst (λ p. IsRefusal p c.in_default-accept.field-0) same c.in_default-accept.ensures.refused)
+
 pub returns-in_err-certificate-clause-never : goal.returns-in_err-certificate-clause-never
 returns-in_err-certificate-clause-never c = λ is.
-    let same = c.in-Ok.ensures.read ∙ ap insns_of c.deref.ensures.value in
+    let same = c.in-Ok-accept.ensures.same ∙ c.in-Ok.ensures.read ∙ ap insns_of c.deref.ensures.value in
     told_memory Certify maker.OutOfMemory c.in_err-certificate.field-0.0 c.from_residual-in_err-certificate.result
     c.from_residual-in_err-certificate.ensures.1
     (certifies c.args.profile _ c.in_ok-made.made.bytes.items same c.in_ok-made.ensures.shape c.in_err-certificate.field-0.0
@@ -26,7 +34,7 @@ returns-in_err-certificate-clause-never c = λ is.
 
 pub returns-in_err-certificate-clause-err : goal.returns-in_err-certificate-clause-err
 returns-in_err-certificate-clause-err c =
-    let same = c.in-Ok.ensures.read ∙ ap insns_of c.deref.ensures.value in
+    let same = c.in-Ok-accept.ensures.same ∙ c.in-Ok.ensures.read ∙ ap insns_of c.deref.ensures.value in
     told_certify c.args.profile c.from_residual-in_err-certificate.result c.in_err-certificate.field-0.0
     c.from_residual-in_err-certificate.ensures.1
     (certifies c.args.profile _ c.in_ok-made.made.bytes.items same c.in_ok-made.ensures.shape c.in_err-certificate.field-0.0
@@ -35,13 +43,10 @@ returns-in_err-certificate-clause-err c =
     c.in_ok-made.ensures.right c.in_ok-made.ensures.steady c.in_err-certificate.ensures.sure)
 
 pub returns-clause-taken : goal.returns-clause-taken
-returns-clause-taken c = record {
-  program = c.in_ok-made.ensures.program;
-  accepted = subst IsAccepted (c.in-Ok.ensures.read ∙ ap insns_of c.deref.ensures.value) c.in_ok-certificate.ensures.accepted;
-}
+returns-clause-taken c = record { program = c.in_ok-made.ensures.program; accepted = c.in_ok-made.ensures.right.accepted }
 
 pub returns-clause-unbroken : goal.returns-clause-unbroken
 returns-clause-unbroken c =
-    let same = c.in-Ok.ensures.read ∙ ap insns_of c.deref.ensures.value in
+    let same = c.in-Ok-accept.ensures.same ∙ c.in-Ok.ensures.read ∙ ap insns_of c.deref.ensures.value in
     unbroken c.args.profile _ c.in_ok-made.made.bytes.items c.in_ok-certificate.certificate.items same c.in_ok-made.ensures.program
-    c.in_ok-certificate.ensures.accepted c.in_ok-certificate.ensures.valid
+    c.in_ok-made.ensures.right.accepted c.in_ok-certificate.ensures.valid
