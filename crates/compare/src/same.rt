@@ -1,36 +1,44 @@
 //! What is shown of two profiles by a filter of the first.
-ghost use Rattle.std.specs.Prelude.{◌≡◌, ℕ, List, IfOk, IfSome, true};
-ghost use Rattle.kernel_check.specs.Lent.{accepted_insns};
+ghost use Rattle.std.specs.Prelude.{◌≡◌, IfOk, IfSome, true};
+ghost use Rattle.bpf_insn.specs.Bytes.{insns_of};
 ghost use Rattle.cert_check.specs.Right.{IsRight};
-ghost use Rattle.cert_check.specs.Valid.{IsValidCertificate};
 ghost use Rattle.compare.specs.Difference.{IsDifference, SayTheSame};
 
 use crate::difference::{Difference, unlike_words};
+use bpf_insn::Program;
 use call_tables::Family;
-use cert_check::valid_is_right;
-use certify::{CertifyError, certify_accepted, convict};
+use cert_check::{CheckError, check};
+use certify::{CertifyError, certify, convict};
 use explain::machine_of;
-use kernel_check::Accepted;
+use kernel_check::accept;
 use profile::Profile;
 use std::alloc::{AllocError, Global};
 
-// A valid certificate shows that a filter answers what a profile says.
-fn valid_shows(profile: &Profile, program: &Accepted<'_>)
-    ensures { (cert : List ℕ) → IsValidCertificate profile.now (accepted_insns program.now) cert
-        → IsRight profile.now (accepted_insns program.now) }
+// Whether the checker says yes to a profile, a filter and a certificate.
+fn is_shown(
+    alloc: Global,
+    profile: &Profile,
+    filter: &[u8],
+    certificate: &[u8],
+) -> Result<bool, AllocError>
+    ensures { IfOk result (λ shown. shown ≡ true → IsRight profile.now (insns_of filter.now)) }
 {
-    profile.rules();
-    program.program();
-    valid_is_right();
+    match check(alloc, profile, filter, certificate) {
+        Ok(_) => Ok(true),
+        Err(CheckError::OutOfMemory) => Err(AllocError),
+        Err(_) => Ok(false),
+    }
 }
 
 // Whether a certificate is made which shows that a filter answers what a profile says.
-fn is_right(alloc: Global, profile: &Profile, program: &Accepted<'_>) -> Result<bool, AllocError>
-    ensures { IfOk result (λ shown. shown ≡ true → IsRight profile.now (accepted_insns program.now)) }
+fn is_right(alloc: Global, profile: &Profile, filter: &[u8]) -> Result<bool, AllocError>
+    ensures { IfOk result (λ shown. shown ≡ true → IsRight profile.now (insns_of filter.now)) }
 {
-    valid_shows(profile, program);
-    match certify_accepted(alloc, profile, program) {
-        Ok(_) => Ok(true),
+    let Ok(program) = Program::view(filter) else {
+        return Ok(false);
+    };
+    match certify(alloc, profile, &program) {
+        Ok(certificate) => is_shown(alloc, profile, filter, &certificate),
         Err(CertifyError::OutOfMemory) => Err(AllocError),
         Err(_) => Ok(false),
     }
@@ -41,14 +49,14 @@ pub(crate) fn are_same(
     alloc: Global,
     first: &Profile,
     second: &Profile,
-    program: &Accepted<'_>,
+    filter: &[u8],
 ) -> Result<bool, AllocError>
     ensures { IfOk result (λ same. same ≡ true → SayTheSame first.now second.now) }
 {
-    if !is_right(alloc, first, program)? {
+    if !is_right(alloc, first, filter)? {
         return Ok(false);
     }
-    is_right(alloc, second, program)
+    is_right(alloc, second, filter)
 }
 
 /// A record on which a filter of the first profile gives another word than the second says, if it is one of which the two
@@ -58,11 +66,13 @@ pub(crate) fn hunted(
     family: Family,
     first: &Profile,
     second: &Profile,
-    program: &Accepted<'_>,
+    filter: &[u8],
 ) -> Option<Difference>
     ensures { IfSome result (IsDifference first.now second.now) }
 {
-    let call = convict(alloc, second, program).ok()??.call;
+    let program = Program::view(filter).ok()?;
+    let accepted = accept(&program).ok()?;
+    let call = convict(alloc, second, &accepted).ok()??.call;
     let arch = machine_of(family, call.arch)?;
     unlike_words(first, second, arch, call.nr, call.args)
 }
