@@ -8,9 +8,11 @@ ghost use Rattle.compare.specs.Outcome as spec;
 use crate::difference::Difference;
 use crate::same::{are_same, hunted};
 use crate::search::differences;
+use bpf_insn::Program;
 use call_record::Word;
 use call_tables::{Arch, Family};
 use explain::ActionText;
+use kernel_check::{Accepted, accept};
 use profile::Profile;
 use rule_compile::{CompileError, compile};
 use std::alloc::{AllocError, Global};
@@ -37,6 +39,25 @@ fn alone(alloc: Global, found: Difference) -> Result<Vec<Difference>, AllocError
 }
 
 // Compares two profiles of which no difference was found, by a filter of the first.
+fn by_program(
+    alloc: Global,
+    family: Family,
+    first: &Profile,
+    second: &Profile,
+    program: &Accepted<'_>,
+) -> Result<Comparison, AllocError>
+    ensures { IfOk result (spec.IsComparison first.now second.now) }
+{
+    if are_same(alloc, first, second, program)? {
+        return Ok(Comparison::Same);
+    }
+    match hunted(alloc, family, first, second, program) {
+        Some(found) => Ok(Comparison::Differ(alone(alloc, found)?)),
+        None => Ok(Comparison::Undecided),
+    }
+}
+
+// The same by the bytes of the filter.
 fn by_filter(
     alloc: Global,
     family: Family,
@@ -46,12 +67,12 @@ fn by_filter(
 ) -> Result<Comparison, AllocError>
     ensures { IfOk result (spec.IsComparison first.now second.now) }
 {
-    if are_same(alloc, first, second, filter)? {
-        return Ok(Comparison::Same);
-    }
-    match hunted(alloc, family, first, second, filter) {
-        Some(found) => Ok(Comparison::Differ(alone(alloc, found)?)),
-        None => Ok(Comparison::Undecided),
+    let Ok(program) = Program::view(filter) else {
+        return Ok(Comparison::Undecided);
+    };
+    match accept(&program) {
+        Ok(accepted) => by_program(alloc, family, first, second, &accepted),
+        Err(_) => Ok(Comparison::Undecided),
     }
 }
 

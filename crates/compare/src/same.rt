@@ -1,44 +1,36 @@
 //! What is shown of two profiles by a filter of the first.
-ghost use Rattle.std.specs.Prelude.{◌≡◌, IfOk, IfSome, true};
-ghost use Rattle.bpf_insn.specs.Bytes.{insns_of};
+ghost use Rattle.std.specs.Prelude.{◌≡◌, ℕ, List, IfOk, IfSome, true};
+ghost use Rattle.kernel_check.specs.Lent.{accepted_insns};
 ghost use Rattle.cert_check.specs.Right.{IsRight};
+ghost use Rattle.cert_check.specs.Valid.{IsValidCertificate};
 ghost use Rattle.compare.specs.Difference.{IsDifference, SayTheSame};
 
 use crate::difference::{Difference, unlike_words};
-use bpf_insn::Program;
 use call_tables::Family;
-use cert_check::{CheckError, check};
-use certify::{CertifyError, certify, convict};
+use cert_check::valid_is_right;
+use certify::{CertifyError, certify_accepted, convict};
 use explain::machine_of;
-use kernel_check::accept;
+use kernel_check::Accepted;
 use profile::Profile;
 use std::alloc::{AllocError, Global};
 
-// Whether the checker says yes to a profile, a filter and a certificate.
-fn is_shown(
-    alloc: Global,
-    profile: &Profile,
-    filter: &[u8],
-    certificate: &[u8],
-) -> Result<bool, AllocError>
-    ensures { IfOk result (λ shown. shown ≡ true → IsRight profile.now (insns_of filter.now)) }
+// A valid certificate shows that a filter answers what a profile says.
+fn valid_shows(profile: &Profile, program: &Accepted<'_>)
+    ensures { (cert : List ℕ) → IsValidCertificate profile.now (accepted_insns program.now) cert
+        → IsRight profile.now (accepted_insns program.now) }
 {
-    match check(alloc, profile, filter, certificate) {
-        Ok(_) => Ok(true),
-        Err(CheckError::OutOfMemory) => Err(AllocError),
-        Err(_) => Ok(false),
-    }
+    profile.rules();
+    program.program();
+    valid_is_right();
 }
 
 // Whether a certificate is made which shows that a filter answers what a profile says.
-fn is_right(alloc: Global, profile: &Profile, filter: &[u8]) -> Result<bool, AllocError>
-    ensures { IfOk result (λ shown. shown ≡ true → IsRight profile.now (insns_of filter.now)) }
+fn is_right(alloc: Global, profile: &Profile, program: &Accepted<'_>) -> Result<bool, AllocError>
+    ensures { IfOk result (λ shown. shown ≡ true → IsRight profile.now (accepted_insns program.now)) }
 {
-    let Ok(program) = Program::view(filter) else {
-        return Ok(false);
-    };
-    match certify(alloc, profile, &program) {
-        Ok(certificate) => is_shown(alloc, profile, filter, &certificate),
+    valid_shows(profile, program);
+    match certify_accepted(alloc, profile, program) {
+        Ok(_certificate) => Ok(true),
         Err(CertifyError::OutOfMemory) => Err(AllocError),
         Err(_) => Ok(false),
     }
@@ -49,14 +41,14 @@ pub(crate) fn are_same(
     alloc: Global,
     first: &Profile,
     second: &Profile,
-    filter: &[u8],
+    program: &Accepted<'_>,
 ) -> Result<bool, AllocError>
     ensures { IfOk result (λ same. same ≡ true → SayTheSame first.now second.now) }
 {
-    if !is_right(alloc, first, filter)? {
+    if !is_right(alloc, first, program)? {
         return Ok(false);
     }
-    is_right(alloc, second, filter)
+    is_right(alloc, second, program)
 }
 
 /// A record on which a filter of the first profile gives another word than the second says, if it is one of which the two
@@ -66,13 +58,11 @@ pub(crate) fn hunted(
     family: Family,
     first: &Profile,
     second: &Profile,
-    filter: &[u8],
+    program: &Accepted<'_>,
 ) -> Option<Difference>
     ensures { IfSome result (IsDifference first.now second.now) }
 {
-    let program = Program::view(filter).ok()?;
-    let accepted = accept(&program).ok()?;
-    let call = convict(alloc, second, &accepted).ok()??.call;
+    let call = convict(alloc, second, program).ok()??.call;
     let arch = machine_of(family, call.arch)?;
     unlike_words(first, second, arch, call.nr, call.args)
 }
