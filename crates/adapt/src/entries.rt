@@ -10,7 +10,10 @@ use serde_json::Value;
 
 // Whether a name stands in the table of no machine of the family.
 fn is_unknown(family: Family, name: &str) -> bool {
-    family.x86_64().number(name).is_none() && family.aarch64().number(name).is_none()
+    family
+        .machines()
+        .iter()
+        .all(|arch| arch.number(name).is_none())
 }
 
 // The name of a call that no table has.

@@ -10,7 +10,7 @@ use serde_json::Value;
 // The name of a machine that is not known.
 fn unknown_machine(family: Family, machine: &Value) -> Option<&str> {
     let name = machine.as_str()?;
-    if name == family.x86_64().scmp() || name == family.aarch64().scmp() {
+    if family.machines().iter().any(|arch| arch.scmp() == name) {
         return None;
     }
     Some(name)

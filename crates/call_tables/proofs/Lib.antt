@@ -1,6 +1,7 @@
 pub mod TableLaws
 pub mod ArchLaws
-pub mod PlaceLaws
 pub mod HalvingLaws
 pub mod NumberLaws
-mod WholeLaws
+pub mod ColumnLaws
+pub mod OwnLaws
+pub mod ForeignLaws

@@ -13,10 +13,10 @@ not_some None x h e = cc
 not_some (Some y) x h e = cc
 
 -- the two lookups at an entry that is found, and at one that is passed
-number_here : (n : List ℕ) (k : ℕ) (es : Table) (name : List ℕ) → bytes_eq n name ≡ true → number_in ((n, k) ∷ es) name ≡ Some k
+pub number_here : (n : List ℕ) (k : ℕ) (es : Table) (name : List ℕ) → bytes_eq n name ≡ true → number_in ((n, k) ∷ es) name ≡ Some k
 number_here n k es name h = rw h refl
 
-number_past : (n : List ℕ) (k : ℕ) (es : Table) (name : List ℕ) → bytes_eq n name ≡ false → number_in ((n, k) ∷ es) name ≡ number_in es name
+pub number_past : (n : List ℕ) (k : ℕ) (es : Table) (name : List ℕ) → bytes_eq n name ≡ false → number_in ((n, k) ∷ es) name ≡ number_in es name
 number_past n k es name h = rw h refl
 
 name_here : (n : List ℕ) (k : ℕ) (es : Table) (nr : ℕ) → (k == nr) ≡ true → name_in ((n, k) ∷ es) nr ≡ Some n

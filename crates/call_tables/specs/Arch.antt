@@ -1,9 +1,9 @@
 -- What each machine has.
-use Rattle.std.specs.Prelude.{◌≡◌, ℕ, List, [], ◌∷◌, Option, Some, None, if◌then◌else◌, codes}
+use Rattle.std.specs.Prelude.{◌≡◌, ◌==◌, ℕ, Bool, true, false, List, [], ◌∷◌, Option, Some, None, if◌then◌else◌, codes}
 use Rattle.std.specs.List.{All}
 use Rattle.std.specs.Str.{bytes_eq}
 use Rattle.call_tables.specs.declared.arch.Arch.{Arch}
-use Rattle.call_tables.specs.declared.arch.Arch.TheVariants.{X86_64, Aarch64, LinuxX86_64, LinuxAarch64}
+use Rattle.call_tables.specs.declared.arch.Arch.TheVariants.{X86_64, Aarch64, LinuxX86_64, LinuxX86, LinuxX32, LinuxAarch64, LinuxArm}
 use Rattle.call_tables.specs.declared.arch.Family.{Family}
 use Rattle.call_tables.specs.declared.arch.Family.TheVariants.{Chosen, Whole}
 use Rattle.call_tables.specs.Table.{Table}
@@ -13,35 +13,68 @@ abbrev pub token_of : Arch → ℕ
 token_of X86_64 = machines.x86_64_token
 token_of Aarch64 = machines.aarch64_token
 token_of LinuxX86_64 = machines.x86_64_token
+token_of LinuxX86 = machines.x86_token
+token_of LinuxX32 = machines.x86_64_token
 token_of LinuxAarch64 = machines.aarch64_token
+token_of LinuxArm = machines.arm_token
 
 abbrev pub scmp_of : Arch → List ℕ
 scmp_of X86_64 = machines.x86_64_scmp
 scmp_of Aarch64 = machines.aarch64_scmp
 scmp_of LinuxX86_64 = machines.x86_64_scmp
+scmp_of LinuxX86 = machines.x86_scmp
+scmp_of LinuxX32 = machines.x32_scmp
 scmp_of LinuxAarch64 = machines.aarch64_scmp
+scmp_of LinuxArm = machines.arm_scmp
 
 abbrev pub table_of : Arch → Table
 table_of X86_64 = machines.x86_64_table
 table_of Aarch64 = machines.aarch64_table
 table_of LinuxX86_64 = machines.linux_x86_64_table
+table_of LinuxX86 = machines.linux_x86_table
+table_of LinuxX32 = machines.linux_x32_table
 table_of LinuxAarch64 = machines.linux_aarch64_table
+table_of LinuxArm = machines.linux_arm_table
 
 -- the word by which a user of the program calls a machine
 abbrev pub word_of : Arch → List ℕ
 word_of X86_64 = codes "x86-64"
 word_of Aarch64 = codes "aarch64"
 word_of LinuxX86_64 = codes "linux-x86-64"
+word_of LinuxX86 = codes "linux-x86"
+word_of LinuxX32 = codes "linux-x32"
 word_of LinuxAarch64 = codes "linux-aarch64"
+word_of LinuxArm = codes "linux-arm"
 
--- the machine that a word calls
-unfoldable pub machine_called : List ℕ → Option Arch
-machine_called word =
+-- the machine that a word calls, of those that a container may be for
+unfoldable pub native_called : List ℕ → Option Arch
+native_called word =
     if bytes_eq word (word_of X86_64) then Some X86_64
     else if bytes_eq word (word_of Aarch64) then Some Aarch64
     else if bytes_eq word (word_of LinuxX86_64) then Some LinuxX86_64
     else if bytes_eq word (word_of LinuxAarch64) then Some LinuxAarch64
     else None
+
+-- the machine that a word calls
+unfoldable pub machine_called : List ℕ → Option Arch
+machine_called word =
+    if bytes_eq word (word_of LinuxX86) then Some LinuxX86
+    else if bytes_eq word (word_of LinuxX32) then Some LinuxX32
+    else if bytes_eq word (word_of LinuxArm) then Some LinuxArm
+    else native_called word
+
+-- a machine's place among all
+abbrev pub place_of : Arch → ℕ
+place_of X86_64 = 0
+place_of Aarch64 = 1
+place_of LinuxX86_64 = 2
+place_of LinuxX32 = 3
+place_of LinuxX86 = 4
+place_of LinuxAarch64 = 5
+place_of LinuxArm = 6
+
+abbrev pub same_arch : Arch → Arch → Bool
+same_arch a b = place_of a == place_of b
 
 -- ---- families
 
@@ -50,19 +83,21 @@ abbrev pub family_of : Arch → Family
 family_of X86_64 = Chosen
 family_of Aarch64 = Chosen
 family_of LinuxX86_64 = Whole
+family_of LinuxX86 = Whole
+family_of LinuxX32 = Whole
 family_of LinuxAarch64 = Whole
+family_of LinuxArm = Whole
 
-abbrev pub x86_64_of : Family → Arch
-x86_64_of Chosen = X86_64
-x86_64_of Whole = LinuxX86_64
+abbrev pub same_family : Family → Family → Bool
+same_family Chosen Chosen = true
+same_family Chosen Whole = false
+same_family Whole Chosen = false
+same_family Whole Whole = true
 
-abbrev pub aarch64_of : Family → Arch
-aarch64_of Chosen = Aarch64
-aarch64_of Whole = LinuxAarch64
-
--- a family's machines, x86-64 first
+-- a family's machines, x86-64 first, and side by side those with one token
 abbrev pub machines_of : Family → List Arch
-machines_of family = x86_64_of family ∷ aarch64_of family ∷ []
+machines_of Chosen = X86_64 ∷ Aarch64 ∷ []
+machines_of Whole = LinuxX86_64 ∷ LinuxX32 ∷ LinuxX86 ∷ LinuxAarch64 ∷ LinuxArm ∷ []
 
 -- all of these machines are of the family
 abbrev pub AreOfFamily : Family → List Arch → Type 0

@@ -1,4 +1,5 @@
 pub mod Table
+pub mod Rows
 pub mod Machines
 pub mod Arch
 pub mod Numbers

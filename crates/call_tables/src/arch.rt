@@ -3,8 +3,12 @@ ghost use Rattle.std.specs.Prelude.{◌≡◌, option_copied};
 ghost use Rattle.call_tables.specs.Table.{number_in, name_in, IsInverse};
 ghost use Rattle.call_tables.specs.Arch.{table_of};
 
-use crate::machines::{Aarch64, LinuxAarch64, LinuxX86_64, Machine, X86_64};
-use crate::numbers::{ALL, BELOW_X32, FROM_X32, LINUX_X32, LINUX_X86_64, Numbers};
+use crate::machines::{
+    Aarch64, LinuxAarch64, LinuxArm, LinuxX32, LinuxX86, LinuxX86_64, Machine, X86_64,
+};
+use crate::numbers::{
+    ALL, ARM_CALLS, BELOW_X32, CALLS, FROM_X32, LINUX_X32, LINUX_X86_64, Numbers, X32_CALLS,
+};
 
 /// A machine as a value.
 #[derive(Clone, Copy, Debug, PartialEq, Eq)]
@@ -12,10 +16,13 @@ pub enum Arch {
     X86_64,
     Aarch64,
     LinuxX86_64,
+    LinuxX32,
+    LinuxX86,
     LinuxAarch64,
+    LinuxArm,
 }
 
-/// What two machines share that may stand in one profile: the extent of their tables.
+/// What machines share that may stand in one profile: the extent of their tables.
 #[derive(Clone, Copy, Debug, PartialEq, Eq)]
 pub enum Family {
     /// The lists that this project chose.
@@ -25,50 +32,46 @@ pub enum Family {
 }
 
 impl Family {
-    ghost use Rattle.call_tables.specs.Arch.{x86_64_of, aarch64_of, machines_of};
+    ghost use Rattle.call_tables.specs.Arch.{machines_of};
 
-    /// The family's x86-64.
-    pub fn x86_64(self) -> Arch
-        ensures { result ≡ x86_64_of self }
-    {
-        match self {
-            Family::Chosen => Arch::X86_64,
-            Family::Whole => Arch::LinuxX86_64,
-        }
-    }
-
-    /// The family's AArch64.
-    pub fn aarch64(self) -> Arch
-        ensures { result ≡ aarch64_of self }
-    {
-        match self {
-            Family::Chosen => Arch::Aarch64,
-            Family::Whole => Arch::LinuxAarch64,
-        }
-    }
-
-    /// The machines of the family, x86-64 first.
+    /// The machines of the family, x86-64 first. Machines with one token stand side by side.
     pub fn machines(self) -> &'static [Arch]
         ensures { result.now ≡ machines_of self }
     {
         match self {
             Family::Chosen => &[Arch::X86_64, Arch::Aarch64],
-            Family::Whole => &[Arch::LinuxX86_64, Arch::LinuxAarch64],
+            Family::Whole => &[
+                Arch::LinuxX86_64,
+                Arch::LinuxX32,
+                Arch::LinuxX86,
+                Arch::LinuxAarch64,
+                Arch::LinuxArm,
+            ],
         }
+    }
+}
+
+/// What stands in a list of machines where none does.
+impl Default for Arch {
+    fn default() -> Arch {
+        Arch::X86_64
     }
 }
 
 impl Arch {
     ghost use Rattle.std.specs.Prelude.{◌↔◌, IsTrue};
-    ghost use Rattle.call_tables.specs.Arch.{table_of, token_of, scmp_of, word_of, machine_called, family_of};
+    ghost use Rattle.call_tables.specs.Arch.{table_of, token_of, scmp_of, word_of, machine_called, native_called, family_of};
     ghost use Rattle.call_tables.specs.Numbers.{own_numbers, other_numbers, IsOwn};
 
     /// All machines, family by family, in the order in which lists of machines name them.
-    pub const ALL: [Arch; 4] = [
+    pub const ALL: [Arch; 7] = [
         Arch::X86_64,
         Arch::Aarch64,
         Arch::LinuxX86_64,
+        Arch::LinuxX32,
+        Arch::LinuxX86,
         Arch::LinuxAarch64,
+        Arch::LinuxArm,
     ];
 
     /// Which tables the machine's is one of.
@@ -77,7 +80,11 @@ impl Arch {
     {
         match self {
             Arch::X86_64 | Arch::Aarch64 => Family::Chosen,
-            Arch::LinuxX86_64 | Arch::LinuxAarch64 => Family::Whole,
+            Arch::LinuxX86_64
+            | Arch::LinuxX86
+            | Arch::LinuxX32
+            | Arch::LinuxAarch64
+            | Arch::LinuxArm => Family::Whole,
         }
     }
 
@@ -89,18 +96,23 @@ impl Arch {
             Arch::X86_64 => X86_64::TOKEN,
             Arch::Aarch64 => Aarch64::TOKEN,
             Arch::LinuxX86_64 => LinuxX86_64::TOKEN,
+            Arch::LinuxX86 => LinuxX86::TOKEN,
+            Arch::LinuxX32 => LinuxX32::TOKEN,
             Arch::LinuxAarch64 => LinuxAarch64::TOKEN,
+            Arch::LinuxArm => LinuxArm::TOKEN,
         }
     }
 
-    /// The numbers of calls that are the machine's own, in order.
+    /// The numbers of calls that are the machine's own, in order. Machines of one family with one token have none in
+    /// common.
     pub fn own_numbers(self) -> &'static [Numbers]
         ensures { result.now ≡ own_numbers self }
     {
         match self {
             Arch::X86_64 => BELOW_X32,
             Arch::LinuxX86_64 => LINUX_X86_64,
-            Arch::Aarch64 | Arch::LinuxAarch64 => ALL,
+            Arch::LinuxX32 => LINUX_X32,
+            Arch::Aarch64 | Arch::LinuxX86 | Arch::LinuxAarch64 | Arch::LinuxArm => ALL,
         }
     }
 
@@ -111,7 +123,8 @@ impl Arch {
         match self {
             Arch::X86_64 => FROM_X32,
             Arch::LinuxX86_64 => LINUX_X32,
-            Arch::Aarch64 | Arch::LinuxAarch64 => &[],
+            Arch::LinuxX32 => LINUX_X86_64,
+            Arch::Aarch64 | Arch::LinuxX86 | Arch::LinuxAarch64 | Arch::LinuxArm => &[],
         }
     }
 
@@ -132,7 +145,10 @@ impl Arch {
             Arch::X86_64 => X86_64::SCMP,
             Arch::Aarch64 => Aarch64::SCMP,
             Arch::LinuxX86_64 => LinuxX86_64::SCMP,
+            Arch::LinuxX86 => LinuxX86::SCMP,
+            Arch::LinuxX32 => LinuxX32::SCMP,
             Arch::LinuxAarch64 => LinuxAarch64::SCMP,
+            Arch::LinuxArm => LinuxArm::SCMP,
         }
     }
 
@@ -144,14 +160,18 @@ impl Arch {
             Arch::X86_64 => "x86-64",
             Arch::Aarch64 => "aarch64",
             Arch::LinuxX86_64 => "linux-x86-64",
+            Arch::LinuxX86 => "linux-x86",
+            Arch::LinuxX32 => "linux-x32",
             Arch::LinuxAarch64 => "linux-aarch64",
+            Arch::LinuxArm => "linux-arm",
         }
     }
 
-    /// The machine that a word calls.
-    #[tactic(auto, unfolding(crate::specs::Arch::machine_called))]
-    pub fn called(word: &str) -> Option<Arch>
-        ensures { result ≡ machine_called word.now }
+    /// The machine that a word calls, of those that a container may be for: a kernel of x86-64 runs the calls of x86
+    /// and x32, and one of AArch64 those of ARM.
+    #[tactic(auto, unfolding(crate::specs::Arch::native_called))]
+    pub fn native_called(word: &str) -> Option<Arch>
+        ensures { result ≡ native_called word.now }
     {
         if word == "x86-64" {
             return Some(Arch::X86_64);
@@ -168,6 +188,23 @@ impl Arch {
         None
     }
 
+    /// The machine that a word calls.
+    #[tactic(auto, unfolding(crate::specs::Arch::machine_called))]
+    pub fn called(word: &str) -> Option<Arch>
+        ensures { result ≡ machine_called word.now }
+    {
+        if word == "linux-x86" {
+            return Some(Arch::LinuxX86);
+        }
+        if word == "linux-x32" {
+            return Some(Arch::LinuxX32);
+        }
+        if word == "linux-arm" {
+            return Some(Arch::LinuxArm);
+        }
+        Arch::native_called(word)
+    }
+
     /// The number of the call of that name, or `None` where the machine has no such call.
     pub fn number(self, name: &str) -> Option<u32>
         ensures { result ≡ number_in (table_of self) name.now }
@@ -176,7 +213,10 @@ impl Arch {
             Arch::X86_64 => X86_64::number(name),
             Arch::Aarch64 => Aarch64::number(name),
             Arch::LinuxX86_64 => LinuxX86_64::number(name),
+            Arch::LinuxX86 => LinuxX86::number(name),
+            Arch::LinuxX32 => LinuxX32::number(name),
             Arch::LinuxAarch64 => LinuxAarch64::number(name),
+            Arch::LinuxArm => LinuxArm::number(name),
         }
     }
 
@@ -188,7 +228,23 @@ impl Arch {
             Arch::X86_64 => X86_64::name(number),
             Arch::Aarch64 => Aarch64::name(number),
             Arch::LinuxX86_64 => LinuxX86_64::name(number),
+            Arch::LinuxX86 => LinuxX86::name(number),
+            Arch::LinuxX32 => LinuxX32::name(number),
             Arch::LinuxAarch64 => LinuxAarch64::name(number),
+            Arch::LinuxArm => LinuxArm::name(number),
+        }
+    }
+
+    /// Numbers of the machine, in order, among which those of all its calls are.
+    pub fn call_numbers(self) -> &'static [Numbers] {
+        match self {
+            Arch::LinuxX32 => X32_CALLS,
+            Arch::LinuxArm => ARM_CALLS,
+            Arch::X86_64
+            | Arch::Aarch64
+            | Arch::LinuxX86_64
+            | Arch::LinuxX86
+            | Arch::LinuxAarch64 => CALLS,
         }
     }
 }

@@ -5,21 +5,22 @@
 //! name and each number once, so that looking up a name and looking up a number undo each other.
 //!
 //! x86-64 and AArch64 stand here twice: with a list of calls that this project chose, and with all
-//! calls of Linux. Machines of one [`Family`] may stand in one profile.
+//! calls of Linux. Beside the latter stand x86, x32 and ARM, whose calls the same kernels run. Machines of one
+//! [`Family`] may stand in one profile. Of machines with one token each has its own numbers.
 #![tactic(auto)]
 
 mod arch;
 mod calls;
-mod linux_aarch64;
-mod linux_x86_64;
+mod linux;
+mod linux_calls;
 mod machines;
 mod numbers;
-mod places;
+mod rows;
 mod table;
-mod whole;
 
 pub use arch::{Arch, Family, look_ups_are_inverse};
 pub use machines::{
-    Aarch64, LinuxAarch64, LinuxX86_64, Machine, X86_64, machine_look_ups_are_inverse,
+    Aarch64, LinuxAarch64, LinuxArm, LinuxX32, LinuxX86, LinuxX86_64, Machine, X86_64,
+    machine_look_ups_are_inverse,
 };
 pub use numbers::{LEAST_X32_NUMBER, Numbers};

@@ -2,14 +2,11 @@
 ghost use Rattle.std.specs.Prelude.{◌≡◌, ℕ, option_copied, IsTrue, refl};
 ghost use Rattle.call_tables.specs.Table.{Table, entries, number_in, name_in, is_one_to_one, IsInverse};
 ghost use Rattle.call_tables.specs.Machines as spec;
-ghost use Rattle.call_tables.specs.inner.WholeTables.{linux_x86_64-one_to_one, linux_aarch64-one_to_one};
+ghost use Rattle.call_tables.specs.inner.WholeTables as whole;
 
 use crate::calls::{AARCH64_CALLS, X86_64_CALLS};
-use crate::linux_aarch64::LINUX_AARCH64_CALLS;
-use crate::linux_x86_64::LINUX_X86_64_CALLS;
-use crate::places::{LINUX_AARCH64_PLACES, LINUX_X86_64_PLACES};
+use crate::linux::{linux_name, linux_number};
 use crate::table::{find_name, find_number};
-use crate::whole::{name_of, number_of};
 
 /// A machine, with the table of its calls.
 pub trait Machine {
@@ -41,7 +38,7 @@ pub fn machine_look_ups_are_inverse<M: Machine>()
     ensures { IsInverse M.table }
 {}
 
-// Each of the next four is the one place where a table is spelled out as code.
+// Each of the next two is the one place where a table is spelled out as code; those of Linux are in `linux`.
 
 #[tactic(auto, unfolding(crate::specs::Machines::x86_64_table))]
 fn x86_64_calls() -> &'static [(&'static str, u32)]
@@ -57,23 +54,13 @@ fn aarch64_calls() -> &'static [(&'static str, u32)]
     AARCH64_CALLS
 }
 
-#[tactic(auto, unfolding(crate::specs::Machines::linux_x86_64_table))]
-fn linux_x86_64_calls() -> &'static [(&'static str, u32)]
-    ensures { entries result.now ≡ spec.linux_x86_64_table }
-{
-    LINUX_X86_64_CALLS
-}
-
-#[tactic(auto, unfolding(crate::specs::Machines::linux_aarch64_table))]
-fn linux_aarch64_calls() -> &'static [(&'static str, u32)]
-    ensures { entries result.now ≡ spec.linux_aarch64_table }
-{
-    LINUX_AARCH64_CALLS
-}
-
 const X86_64_TOKEN: u32 = 0xc000_003e;
 
 const AARCH64_TOKEN: u32 = 0xc000_00b7;
+
+const X86_TOKEN: u32 = 0x4000_0003;
+
+const ARM_TOKEN: u32 = 0x4000_0028;
 
 const X86_64_SCMP: &str = "SCMP_ARCH_X86_64";
 
@@ -91,9 +78,21 @@ pub struct Aarch64;
 #[derive(Clone, Copy, Debug)]
 pub struct LinuxX86_64;
 
+/// x86, with all its calls on Linux 6.18.
+#[derive(Clone, Copy, Debug)]
+pub struct LinuxX86;
+
+/// x32, the 32-bit interface of x86-64, with all its calls on Linux 6.18. They carry the token of x86-64.
+#[derive(Clone, Copy, Debug)]
+pub struct LinuxX32;
+
 /// AArch64, with all its calls on Linux 6.18.
 #[derive(Clone, Copy, Debug)]
 pub struct LinuxAarch64;
+
+/// ARM by its embedded interface, with all its calls on Linux 6.18.
+#[derive(Clone, Copy, Debug)]
+pub struct LinuxArm;
 
 impl Machine for X86_64 {
     ghost TOKEN = { spec.x86_64_token };
@@ -140,20 +139,64 @@ impl Machine for LinuxX86_64 {
 
     ghost table = { spec.linux_x86_64_table };
 
-    ghost one_to_one = { linux_x86_64-one_to_one };
+    ghost one_to_one = { whole.linux_x86_64-one_to_one };
 
     const TOKEN: u32 = X86_64_TOKEN;
 
     const SCMP: &'static str = X86_64_SCMP;
 
-    #[tactic(auto, using(crate::proofs::WholeLaws::x86_64_in_order))]
+    #[tactic(auto, unfolding(crate::specs::Machines::linux_x86_64_table))]
     fn number(name: &str) -> Option<u32> {
-        number_of(linux_x86_64_calls(), name)
+        linux_number(0, name)
     }
 
-    #[tactic(auto, using(crate::proofs::WholeLaws::x86_64_in_place))]
+    #[tactic(auto, unfolding(crate::specs::Machines::linux_x86_64_table))]
     fn name(number: u32) -> Option<&'static str> {
-        name_of(linux_x86_64_calls(), LINUX_X86_64_PLACES, number)
+        linux_name(0, number)
+    }
+}
+
+impl Machine for LinuxX86 {
+    ghost TOKEN = { spec.x86_token };
+
+    ghost table = { spec.linux_x86_table };
+
+    ghost one_to_one = { whole.linux_x86-one_to_one };
+
+    const TOKEN: u32 = X86_TOKEN;
+
+    const SCMP: &'static str = "SCMP_ARCH_X86";
+
+    #[tactic(auto, unfolding(crate::specs::Machines::linux_x86_table))]
+    fn number(name: &str) -> Option<u32> {
+        linux_number(1, name)
+    }
+
+    #[tactic(auto, unfolding(crate::specs::Machines::linux_x86_table))]
+    fn name(number: u32) -> Option<&'static str> {
+        linux_name(1, number)
+    }
+}
+
+impl Machine for LinuxX32 {
+    ghost TOKEN = { spec.x86_64_token };
+
+    ghost table = { spec.linux_x32_table };
+
+    ghost one_to_one = { whole.linux_x32-one_to_one };
+
+    const TOKEN: u32 = X86_64_TOKEN;
+
+    const SCMP: &'static str = "SCMP_ARCH_X32";
+
+    #[tactic(auto, unfolding(crate::specs::Machines::linux_x32_table))]
+    fn number(name: &str) -> Option<u32> {
+        linux_number(2, name)
+    }
+
+    #[tactic(auto, unfolding(crate::specs::Machines::linux_x32_table))]
+    fn name(number: u32) -> Option<&'static str> {
+        linux_name(2, number)
     }
 }
 
@@ -162,19 +205,41 @@ impl Machine for LinuxAarch64 {
 
     ghost table = { spec.linux_aarch64_table };
 
-    ghost one_to_one = { linux_aarch64-one_to_one };
+    ghost one_to_one = { whole.linux_aarch64-one_to_one };
 
     const TOKEN: u32 = AARCH64_TOKEN;
 
     const SCMP: &'static str = AARCH64_SCMP;
 
-    #[tactic(auto, using(crate::proofs::WholeLaws::aarch64_in_order))]
+    #[tactic(auto, unfolding(crate::specs::Machines::linux_aarch64_table))]
     fn number(name: &str) -> Option<u32> {
-        number_of(linux_aarch64_calls(), name)
+        linux_number(3, name)
     }
 
-    #[tactic(auto, using(crate::proofs::WholeLaws::aarch64_in_place))]
+    #[tactic(auto, unfolding(crate::specs::Machines::linux_aarch64_table))]
     fn name(number: u32) -> Option<&'static str> {
-        name_of(linux_aarch64_calls(), LINUX_AARCH64_PLACES, number)
+        linux_name(3, number)
+    }
+}
+
+impl Machine for LinuxArm {
+    ghost TOKEN = { spec.arm_token };
+
+    ghost table = { spec.linux_arm_table };
+
+    ghost one_to_one = { whole.linux_arm-one_to_one };
+
+    const TOKEN: u32 = ARM_TOKEN;
+
+    const SCMP: &'static str = "SCMP_ARCH_ARM";
+
+    #[tactic(auto, unfolding(crate::specs::Machines::linux_arm_table))]
+    fn number(name: &str) -> Option<u32> {
+        linux_number(4, name)
+    }
+
+    #[tactic(auto, unfolding(crate::specs::Machines::linux_arm_table))]
+    fn name(number: u32) -> Option<&'static str> {
+        linux_name(4, number)
     }
 }

@@ -60,3 +60,27 @@ pub(crate) const LINUX_X32: &[Numbers] = &[Numbers {
     first: LEAST_X32_NUMBER,
     last: u32::MAX - 1,
 }];
+
+/// Where the numbers of calls are, of most machines.
+pub(crate) const CALLS: &[Numbers] = &[Numbers {
+    first: 0,
+    last: 511,
+}];
+
+/// Where those of x32 are.
+pub(crate) const X32_CALLS: &[Numbers] = &[Numbers {
+    first: LEAST_X32_NUMBER,
+    last: LEAST_X32_NUMBER + 1023,
+}];
+
+/// Where those of ARM are: the last ones are private to it.
+pub(crate) const ARM_CALLS: &[Numbers] = &[
+    Numbers {
+        first: 0,
+        last: 511,
+    },
+    Numbers {
+        first: 0xf_0000,
+        last: 0xf_000f,
+    },
+];

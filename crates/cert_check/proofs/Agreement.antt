@@ -1,6 +1,6 @@
 -- What is known of a record settles the word that the profile says of it.
 use Rattle.std.proofs.Common.{◌≡◌, ◌≢◌, ℕ, ◌+◌, ◌*◌, ◌/◌, ◌%◌, ◌^◌, ◌<◌, ◌≤◌, Bool, true, false, List, sym, ap, ◌∙◌, subst, inl, inr, arith}
-use Rattle.std.specs.Prelude.{bit_and, slice_get, slice_index, slice_index_or, All, Contains, Some}
+use Rattle.std.specs.Prelude.{bit_and, slice_get, slice_index, slice_index_or, All, Any, Contains, Some}
 use Rattle.std.proofs.lemmas.Nat.{and_block, and_le_l}
 use Rattle.std.specs.Int.Bits.{and_mask}
 use Rattle.std.proofs.lemmas.List.Elements.{All-contains}
@@ -11,8 +11,9 @@ use Rattle.std.proofs.lemmas.Bool.Decides.{not_from_Decides}
 use Rattle.call_record.specs.Words.{IsRecord, word, argument}
 use Rattle.call_tables.specs.declared.arch.Arch.{Arch}
 use Rattle.call_tables.specs.Arch.{token_of}
-use Rattle.call_tables.specs.Numbers.{IsOwn}
-use Rattle.call_tables.proofs.NumberLaws.{all_own, own_not_other}
+use Rattle.call_tables.specs.Numbers.{HasCall, IsOwn, IsWithin}
+use Rattle.call_tables.proofs.NumberLaws.{none, own_not_other}
+use Rattle.call_tables.proofs.ForeignLaws.{foreign_is_other, native_or_foreign}
 use Rattle.profile.specs.declared.conditions.Op.{Op}
 use Rattle.profile.specs.declared.conditions.Op.TheVariants.{Ne, Lt, Le, Eq, Ge, Gt, MaskedEq}
 use Rattle.profile.specs.declared.conditions.Cond.{Cond}
@@ -236,7 +237,7 @@ module _ (r : List ℕ) (rec : IsRecord r) (known : List Lit) (so : All (λ l. H
         elim (machine_agrees arch listed machine).rules [
           | inl (k, numbers, inside, at, among) ↦
               let within = entailed_is_true r rec known so (In 0 numbers.first numbers.last) among in
-              absurd (own_not_other arch (word r 0) own (k, numbers, inside, at, within))
+              absurd (own_not_other arch (word r 0) own (foreign_is_other policy.machines arch (word r 0) (k, numbers, inside, at, within)))
           | inr agrees ↦ agrees
         ]
 
@@ -251,7 +252,10 @@ module _ (r : List ℕ) (rec : IsRecord r) (known : List Lit) (so : All (λ l. H
           let machine : word r 1 ≡ token_of arch = word_is 1 (token_of arch) token in
           let native : IsOwn arch (word r 0) → IsNative policy r = λ own. (listed.0, arch, listed.1, listed.2, (sym machine, own)) in
           elim (machine_agrees arch listed machine).foreign [
-            | inl none ↦ absurd (alien (native (all_own arch (word r 0) none (rec.words 0))))
+            | inl no_foreign ↦ elim (native_or_foreign policy.machines arch (word r 0) (rec.words 0) listed) [
+              | inl its ↦ absurd (alien (subst (λ t. Any (HasCall t (word r 0)) policy.machines) (sym machine) its))
+              | inr foreign ↦ absurd (none (word r 0) (subst (Any (IsWithin (word r 0))) no_foreign foreign))
+            ]
             | inr more ↦ elim more [
               | inl zero ↦ zero
               | inr (k, numbers, inside, at, among) ↦

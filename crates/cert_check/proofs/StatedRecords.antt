@@ -5,21 +5,23 @@ use Rattle.std.specs.Prelude.{slice_get, find, unwrap_or, All, Any, Contains}
 use Rattle.std.specs.Option.{option_map}
 use Rattle.std.proofs.lemmas.Bool.{cases_Bool, cases_eq}
 use Rattle.std.proofs.lemmas.Bool.Decides.{not_from_Decides}
+use Rattle.std.proofs.lemmas.List.Elements.{All-contains}
 use Rattle.call_record.specs.Words.{IsRecord, word}
 use Rattle.call_tables.specs.declared.arch.Arch.{Arch}
 use Rattle.call_tables.specs.declared.numbers.Numbers.{Numbers}
-use Rattle.call_tables.specs.Arch.{token_of}
-use Rattle.call_tables.specs.Numbers.{IsOwn, IsOther, IsWithin, own_numbers, other_numbers}
-use Rattle.call_tables.proofs.NumberLaws.{own_or_other, own_not_other}
+use Rattle.call_tables.specs.Arch.{token_of, family_of, same_arch}
+use Rattle.call_tables.specs.Numbers.{HasCall, IsOwn, IsWithin, foreign_numbers, own_numbers}
+use Rattle.call_tables.proofs.ArchLaws.{Decides-same_arch}
+use Rattle.call_tables.proofs.ForeignLaws.{native_or_foreign, none_foreign}
 use Rattle.profile.specs.declared.rules.Rule.{Rule}
 use Rattle.profile.specs.Rule.{Matches}
-use Rattle.profile.specs.Policy.{Policy, InOrder}
+use Rattle.profile.specs.Policy.{Policy, InOrder, IsNative}
 use Rattle.profile.specs.Said.{said, matches, is_native}
 use Rattle.profile.proofs.SaidLaws.{Decides-matches, Decides-is_native}
-use Rattle.profile.proofs.MachineLaws.{token_of-one}
+use Rattle.profile.proofs.MachineLaws.{family_in}
 use Rattle.cert_state.specs.declared.literal.Lit.{Lit}
 use Rattle.cert_state.specs.Literals.{Holds}
-use Rattle.cert_check.specs.Agree.{Agrees, IsAmong, IsRuleOf, ListedAgrees, MachineAgrees, RulesAgree}
+use Rattle.cert_check.specs.Agree.{Agrees, ForeignNumbersAgree, IsAmong, IsRuleOf, ListedAgrees, MachineAgrees, RulesAgree}
 use Rattle.cert_check.specs.Settled.{AreStated, StatedIsSettled}
 use Rattle.cert_check.proofs.Elements.{each_of}
 use Rattle.cert_check.proofs.StatedPoints.{between_follows, word_follows, another_follows}
@@ -116,26 +118,41 @@ module _ (policy : Policy) (known : List Lit) (r : List ℕ) (ordered : InOrder 
   among all (k, numbers, inside, at, within) =
       (k, numbers, inside, at, between_follows r rec known so stated 0 numbers.first numbers.last (omega arith) within.0 within.1)
 
-  -- a record of a listed machine whose number is another is foreign
-  foreign_number : (arch : Arch) → Contains policy.machines arch → word r 1 ≡ token_of arch → IsOther arch (word r 0) → said policy r ≡ 0
-  foreign_number arch listed machine other = elim (cases_Bool (is_native policy r)) [
-    | inr foreign ↦ said_foreign policy r foreign
-    | inl native ↦
-        let at = (Decides-is_native policy r).0 native in
-        let same : at.1 ≡ arch = token_of-one policy.machines ordered at.1 arch (at.0, at.2, at.3) listed (at.4.0 ∙ machine) in
-        absurd (own_not_other arch (word r 0) (subst (λ a. IsOwn a (word r 0)) same at.4.1) other)
+  -- the number of a foreign record with the token of a listed machine is foreign
+  is_foreign : (arch : Arch) → Contains policy.machines arch → word r 1 ≡ token_of arch → is_native policy r ≡ false
+      → Any (IsWithin (word r 0)) (foreign_numbers policy.machines arch)
+  is_foreign arch listed machine alien = elim (native_or_foreign policy.machines arch (word r 0) (rec.words 0) listed) [
+    | inl its ↦
+        let native : IsNative policy r = subst (λ t. Any (HasCall t (word r 0)) policy.machines) (sym machine) its in
+        absurd (not_from_Decides _ (Decides-is_native policy r) alien native)
+    | inr foreign ↦ foreign
   ]
+
+  of_family : (arch : Arch) → Contains policy.machines arch → family_of arch ≡ ordered.0
+  of_family arch =
+      All-contains (λ a. family_of a ≡ ordered.0) policy.machines arch (family_in ordered.0 policy.machines policy.machines ordered.1)
+
+  -- the number of a record that is no foreign one is the machine's own, or another listed machine has the token
+  own_number : (arch : Arch) → Contains policy.machines arch → word r 1 ≡ token_of arch → is_native policy r ≡ true
+      → ForeignNumbersAgree known (said policy r) arch (foreign_numbers policy.machines arch)
+  own_number arch listed machine native =
+      let at = (Decides-is_native policy r).0 native in
+      let its : Contains policy.machines at.1 = (at.0, at.2, at.3) in
+      elim (cases_Bool (same_arch at.1 arch)) [
+        | inl same ↦
+            inr (inr (among (own_numbers arch) (subst (λ a. IsOwn a (word r 0)) ((Decides-same_arch at.1 arch).0 same) at.4.1)))
+        | inr differ ↦
+            inl (none_foreign policy.machines arch at.1 its (of_family at.1 its ∙ sym (of_family arch listed)) (at.4.0 ∙ machine) differ)
+      ]
 
   machine_agrees : (arch : Arch) → Contains policy.machines arch → word r 1 ≡ token_of arch
       → MachineAgrees policy [] [] known (said policy r) arch
-  machine_agrees arch listed machine = elim (own_or_other arch (word r 0) (rec.words 0)) [
-    | inr other ↦ record {
-      foreign = inr (inl (foreign_number arch listed machine other));
-      rules = inl (among (other_numbers arch) other);
+  machine_agrees arch listed machine = elim (cases_Bool (is_native policy r)) [
+    | inl native ↦ record { foreign = own_number arch listed machine native; rules = inr (rules_agree arch machine native) }
+    | inr alien ↦ record {
+      foreign = inr (inl (said_foreign policy r alien));
+      rules = inl (among (foreign_numbers policy.machines arch) (is_foreign arch listed machine alien));
     }
-    | inl own ↦
-        let native = (Decides-is_native policy r).1 (listed.0, arch, listed.1, listed.2, (sym machine, own)) in
-        record { foreign = inr (inr (among (own_numbers arch) own)); rules = inr (rules_agree arch machine native) }
   ]
 
   listed_agrees : (arch : Arch) → Contains policy.machines arch → ListedAgrees policy [] [] known (said policy r) arch

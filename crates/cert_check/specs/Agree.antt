@@ -4,7 +4,7 @@ use Rattle.std.specs.Prelude.{◌≡◌, ℕ, ◌+◌, ◌*◌, ◌/◌, ◌%◌
 use Rattle.call_tables.specs.declared.arch.Arch.{Arch}
 use Rattle.call_tables.specs.declared.numbers.Numbers.{Numbers}
 use Rattle.call_tables.specs.Arch.{token_of}
-use Rattle.call_tables.specs.Numbers.{own_numbers, other_numbers}
+use Rattle.call_tables.specs.Numbers.{own_numbers, foreign_numbers}
 use Rattle.profile.specs.declared.conditions.Op.{Op}
 use Rattle.profile.specs.declared.conditions.Op.TheVariants.{Ne, Lt, Le, Eq, Ge, Gt, MaskedEq}
 use Rattle.profile.specs.declared.conditions.Cond.{Cond}
@@ -130,14 +130,14 @@ RulesAgree policy out met known v arch = OneSays policy out met known v arch ⊎
 abbrev pub IsAmong : List Lit → List Numbers → Type 0
 IsAmong known all = Any (λ numbers. Entails known (In 0 numbers.first numbers.last)) all
 
--- each number is the machine's own; or v is 0, or the number is known to be one of the machine's own
-abbrev pub ForeignNumbersAgree : List Lit → ℕ → Arch → Type 0
-ForeignNumbersAgree known v arch = (other_numbers arch ≡ []) ⊎ ((v ≡ 0) ⊎ IsAmong known (own_numbers arch))
+-- no number with the machine's token is foreign, of these; or v is 0, or the number is known to be one of the machine's own
+abbrev pub ForeignNumbersAgree : List Lit → ℕ → Arch → List Numbers → Type 0
+ForeignNumbersAgree known v arch foreign = (foreign ≡ []) ⊎ ((v ≡ 0) ⊎ IsAmong known (own_numbers arch))
 
 -- a machine agrees with v: v is 0 where a foreign number is possible, and its rules agree unless the number is one
 pub record MachineAgrees (policy : Policy) (out : List ℕ) (met : List (ℕ × ℕ)) (known : List Lit) (v : ℕ) (arch : Arch) : Type 0 where
-  pub foreign : ForeignNumbersAgree known v arch
-  pub rules : IsAmong known (other_numbers arch) ⊎ RulesAgree policy out met known v arch
+  pub foreign : ForeignNumbersAgree known v arch (foreign_numbers policy.machines arch)
+  pub rules : IsAmong known (foreign_numbers policy.machines arch) ⊎ RulesAgree policy out met known v arch
 
 -- a listed machine is known to be another than the record's, or agrees
 abbrev pub ListedAgrees : Policy → List ℕ → List (ℕ × ℕ) → List Lit → ℕ → Arch → Type 0

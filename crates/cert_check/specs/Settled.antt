@@ -1,6 +1,6 @@
 -- What is known in full is settled: where each word of a record is stated, the rule of returns is kept by the word that the
--- profile says of the record. The listed machines are of one family, so that no two of them have one token: a number may be
--- one's own and foreign to the other.
+-- profile says of the record. The listed machines are of one family, so that each number of a token is one machine's own: of
+-- machines of two families a number may be one's own and foreign to the other.
 use Rattle.std.specs.Prelude.{◌<◌, ℕ, List, [], All, Contains}
 use Rattle.call_record.specs.Words.{IsRecord, word}
 use Rattle.profile.specs.Policy.{Policy, InOrder}

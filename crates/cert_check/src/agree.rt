@@ -15,7 +15,7 @@ use crate::judged::{Answered, Bearing, Judged, Number};
 use call_record::Word;
 use call_tables::{Arch, Numbers};
 use cert_state::{Facts, Lit, State};
-use profile::{Cond, Op, Profile, Rule};
+use profile::{Cond, Op, Profile, Rule, foreign_numbers};
 
 /// What a word is judged by: the profile, what a node says of its rules, and what is known of the record.
 #[derive(Drop)]
@@ -132,11 +132,23 @@ fn is_among<S: State>(facts: &Facts<'_, S>, all: &[Numbers]) -> bool
     all.iter().any(|numbers| facts.entails(&Lit::In(NUMBER, numbers.first, numbers.last)))
 }
 
+// Whether the record is known to have the machine's token.
+fn is_of<S: State>(facts: &Facts<'_, S>, arch: Arch) -> bool
+    ensures { IsTrue result ↔ Entails (S.known facts.now.state.now) (Bits 1 all_bits (token_of arch)) }
+{
+    facts.entails(&Lit::Bits(TOKEN, u32::MAX, arch.token()))
+}
+
 // Whether the record is known to be of one of the machines.
 fn is_listed<S: State>(facts: &Facts<'_, S>, machines: &[Arch]) -> bool
     ensures { IsTrue result ↔ Any (λ arch. Entails (S.known facts.now.state.now) (Bits 1 all_bits (token_of arch))) machines.now }
 {
-    machines.iter().any(|arch| facts.entails(&Lit::Bits(TOKEN, u32::MAX, arch.token())))
+    for arch in machines {
+        if is_of(facts, *arch) {
+            return true;
+        }
+    }
+    false
 }
 
 // Whether a rule of the record's machine is settled, by the answers to its number and to its conditions.
@@ -272,11 +284,11 @@ impl<S: State> Agreement<'_, S> {
         self.profile.default_word() == self.word
     }
 
-    // Whether no foreign number with the machine's token is possible, or such a one gets its word.
-    fn foreign_numbers_agree(&self, arch: Arch) -> bool
-        ensures { IsTrue result ↔ ForeignNumbersAgree (known_of self.now) self.now.word arch }
+    // Whether no foreign number is possible, of these, or such a one gets its word.
+    fn foreign_numbers_agree(&self, arch: Arch, foreign: &[Numbers]) -> bool
+        ensures { IsTrue result ↔ ForeignNumbersAgree (known_of self.now) self.now.word arch foreign.now }
     {
-        if arch.other_numbers().is_empty() {
+        if foreign.is_empty() {
             return true;
         }
         if self.word == Word::KILL_THREAD {
@@ -290,11 +302,11 @@ impl<S: State> Agreement<'_, S> {
     fn machine_agrees(&self, arch: Arch) -> bool
         ensures { let a = self.now in IsTrue result ↔ MachineAgrees a.profile.now (out_of a) (met_of a) (known_of a) a.word arch }
     {
-        if !self.foreign_numbers_agree(arch) {
+        let foreign = foreign_numbers(self.profile.machines(), arch);
+        if !self.foreign_numbers_agree(arch, foreign) {
             return false;
         }
-        let others = arch.other_numbers();
-        if is_among(self.facts, others) {
+        if is_among(self.facts, foreign) {
             return true;
         }
         self.rules_agree(arch)

@@ -7,7 +7,7 @@ use crate::words::Words;
 use call_tables::Arch;
 use cert_parts::{Cut, listed};
 use cert_state::{Facts, Listed, Lit, range};
-use profile::Rule;
+use profile::{Rule, foreign_numbers};
 use std::alloc::AllocError;
 
 /// The words of a record that hold the call's number and the machine's token.
@@ -41,7 +41,7 @@ impl<'a> Maker<'a> {
         Which::Plain
     }
 
-    // The listed machine of which the call is known to be.
+    // The first listed machine with the token that the call is known to have.
     fn machine(&self, known: &Words) -> Option<Arch> {
         let token = only(known, TOKEN)?;
         for machine in self.profile.machines() {
@@ -114,9 +114,9 @@ impl<'a> Maker<'a> {
         Ok(numbers)
     }
 
-    // Where foreign numbers are cut from a machine's own.
+    // Where foreign numbers are cut from those of listed machines.
     fn cut_of_foreign(&self, known: &Words, machine: Arch) -> Option<Cut> {
-        for foreign in machine.other_numbers() {
+        for foreign in foreign_numbers(self.profile.machines(), machine) {
             if known.entail(Lit::In(NUMBER, foreign.first, foreign.last)) {
                 return None;
             }
@@ -134,7 +134,7 @@ impl<'a> Maker<'a> {
 
     // Whether all numbers that are known are foreign ones.
     fn is_foreign(&self, known: &Words, machine: Arch) -> bool {
-        for foreign in machine.other_numbers() {
+        for foreign in foreign_numbers(self.profile.machines(), machine) {
             if known.entail(Lit::In(NUMBER, foreign.first, foreign.last)) {
                 return true;
             }

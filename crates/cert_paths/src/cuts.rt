@@ -9,7 +9,7 @@ ghost use Rattle.cert_paths.specs.inner.Cuts.{Covers-prop, IsLit-prop};
 use crate::chain::Known;
 use call_tables::Arch;
 use cert_state::{Lit, entails, range};
-use profile::{Cond, Op, Profile, Rule};
+use profile::{Cond, Op, Profile, Rule, foreign_numbers};
 
 /// Two literals of a word, of which one holds of each record.
 #[derive(Clone, Copy)]
@@ -133,12 +133,12 @@ fn cut_of_rule(known: &Known<'_>, rule: &Rule) -> Option<Cut> {
     None
 }
 
-// Where a machine is cut from others, and its own numbers from foreign ones.
-fn cut_of_machine(known: &Known<'_>, machine: Arch) -> Option<Cut> {
+// Where a machine is cut from others, and foreign numbers with its token from the rest.
+fn cut_of_machine(profile: &Profile, known: &Known<'_>, machine: Arch) -> Option<Cut> {
     if let Some(cut) = if_open(Cut::bits(TOKEN, u32::MAX, machine.token()), known) {
         return Some(cut);
     }
-    for foreign in machine.other_numbers() {
+    for foreign in foreign_numbers(profile.machines(), machine) {
         if let Some(cut) = if_open(Cut::below(NUMBER, foreign.first), known) {
             return Some(cut);
         }
@@ -154,7 +154,7 @@ fn cut_of_machine(known: &Known<'_>, machine: Arch) -> Option<Cut> {
 // Where a profile is cut that is not settled.
 fn cut_of_profile(profile: &Profile, known: &Known<'_>) -> Option<Cut> {
     for machine in profile.machines() {
-        if let Some(cut) = cut_of_machine(known, *machine) {
+        if let Some(cut) = cut_of_machine(profile, known, *machine) {
             return Some(cut);
         }
     }

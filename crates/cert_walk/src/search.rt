@@ -6,12 +6,9 @@ use crate::trials::{LATER, Trials, mixed};
 use crate::words::{
     NUMBER, TOKEN, Words, all_met, argument_of, around, beside, drawn, with, with_argument,
 };
-use call_tables::Arch;
-use profile::Rule;
+use call_tables::{Arch, Numbers};
+use profile::{Rule, foreign_numbers};
 use std::alloc::AllocError;
-
-// Below this number are all numbers of the tables of calls.
-const NUMBERS: u32 = 512;
 
 // How many records are looked at, or made by chance, in all and at first.
 const TURNS: usize = 60_000;
@@ -45,8 +42,23 @@ impl Trials<'_> {
 
     // Tries these words with each number of a call that is possible.
     fn visit_calls(&mut self, known: &Known, words: &Words, arch: Arch) -> Result<(), AllocError> {
+        for numbers in arch.call_numbers() {
+            self.visit_numbers(known, words, arch, *numbers)?;
+        }
+        Ok(())
+    }
+
+    // Those among some numbers.
+    fn visit_numbers(
+        &mut self,
+        known: &Known,
+        words: &Words,
+        arch: Arch,
+        numbers: Numbers,
+    ) -> Result<(), AllocError> {
         let (least, greatest) = known.range(NUMBER).unwrap_or((1, 0));
-        for number in least..NUMBERS.min(greatest.saturating_add(1)) {
+        let end = numbers.last.min(greatest).saturating_add(1);
+        for number in numbers.first.max(least)..end {
             if self.is_over() {
                 break;
             }
@@ -132,7 +144,7 @@ impl Trials<'_> {
         for arch in rules.profile.machines() {
             let words = with(&[0; 16], TOKEN, arch.token());
             self.visit_calls(&nothing, &words, *arch)?;
-            for foreign in arch.other_numbers() {
+            for foreign in foreign_numbers(rules.profile.machines(), *arch) {
                 for number in [foreign.first, foreign.last.wrapping_add(1)] {
                     self.attempt(&with(&words, NUMBER, number))?;
                 }

@@ -8,7 +8,7 @@ use call_record::{Word, halves};
 use call_tables::Arch;
 use cert_parts::{Cut, cut_below, cut_of_bits};
 use cert_state::{Lit, is_bit, lowest_bit};
-use profile::{Cond, Op};
+use profile::{Cond, Op, foreign_numbers};
 
 /// Whether something is so, by what is known; or, where it may be either, the cut that settles more.
 pub(crate) type Answer = Result<bool, Cut>;
@@ -194,7 +194,7 @@ impl Question<'_> {
         let Some((least, greatest)) = self.known.range(NUMBER) else {
             return Ok(false);
         };
-        for foreign in arch.other_numbers() {
+        for foreign in foreign_numbers(self.rules.profile.machines(), arch) {
             if foreign.first <= greatest && least <= foreign.last {
                 if least < foreign.first {
                     return cut(cut_below(NUMBER, foreign.first));

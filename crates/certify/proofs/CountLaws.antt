@@ -1,16 +1,18 @@
 -- How many calls are possible, and what the paths of a filter cost.
 use Rattle.std.proofs.Common.{◌≡◌, ℕ, zero, suc, ◌+◌, ◌*◌, ◌<◌, ◌≤◌, Bool, true, false, cond, List, [], ◌∷◌, refl, ap, sym, ◌∙◌}
 use Rattle.std.proofs.Common.{subst, arith, max, length, ◌⊎◌, ⊎_elim}
-use Rattle.std.specs.Prelude.{◌&&◌, Some, slice_get, Contains}
+use Rattle.std.specs.Prelude.{◌&&◌, ◌==◌, if◌then◌else◌, Some, slice_get, Contains}
 use Rattle.std.proofs.lemmas.Option.{same_Some}
 use Rattle.std.proofs.lemmas.Bool.{cases_eq}
+use Rattle.std.proofs.lemmas.Bool.Decides.{Decides-eqb}
+use Rattle.std.proofs.lemmas.List.Folds.{Any-from_list_any}
 use Rattle.call_tables.specs.declared.arch.Arch.{Arch}
 use Rattle.call_tables.specs.Arch.{token_of}
 use Rattle.cert_state.specs.declared.literal.Lit.{Lit}
 use Rattle.bpf_insn.specs.declared.instruction.Insn.{Insn}
 use Rattle.bpf_insn.specs.Code.{operation_of}
-use Rattle.rule_compile.specs.Shape.{weight, weight_by, depth, depth_by}
-use Rattle.certify.specs.inner.Counts.{CostsAt, Exclude, allows, count_below, inside, permits}
+use Rattle.rule_compile.specs.Shape.{depth, depth_by, has_token, tokens, weight, weight_by}
+use Rattle.certify.specs.inner.Counts.{CostsAt, Exclude, allows, count_below, inside, permits, unless}
 
 -- ---- numbers and calls that pass a test
 
@@ -52,6 +54,18 @@ both_second true true e = refl
 both_second true false e = cc
 both_second false b e = cc
 
+unless_parts : (b : Bool) (x y z : ℕ) → x + y ≤ z → unless b x + unless b y ≤ unless b z
+unless_parts true x y z parts = omega arith
+unless_parts false x y z parts = parts
+
+unless_some : (b : Bool) (x r : ℕ) → (b ≡ false → 1 ≤ x) → (b ≡ true → 1 ≤ r) → 1 ≤ unless b x + r
+unless_some true x r here there = let e = there refl in omega (arith, e)
+unless_some false x r here there = let e = here refl in omega (arith, e)
+
+unless_most : (b : Bool) (x r t : ℕ) → x ≤ 512 → r ≤ 512 * t → unless b x + r ≤ 512 * (if b then t else suc t)
+unless_most true x r t few rest = omega (arith, rest)
+unless_most false x r t few rest = omega (arith, few, rest)
+
 -- what may be is split by two literals that exclude each other
 pub inside_parts : (n : ℕ) (archs : List Arch) (known : List Lit) (l m : Lit) → Exclude l m
     → inside n archs (l ∷ known) + inside n archs (m ∷ known) ≤ inside n archs known
@@ -63,28 +77,32 @@ inside_parts n (arch ∷ archs) known l m apart =
     (λ u e. both_second (permits l t u) (allows known t u) e)
     (λ u e. both_second (permits m t u) (allows known t u) e)
     (λ u e f. apart t u (both_first (permits l t u) (allows known t u) e) (both_first (permits m t u) (allows known t u) f)) in
-    omega (arith, here, inside_parts n archs known l m apart)
+    let once = unless_parts (has_token t archs) (count_below n (λ u. allows (l ∷ known) t u)) (count_below n (λ u. allows (m ∷ known) t u))
+    (count_below n (λ u. allows known t u)) here in
+    omega (arith, once, inside_parts n archs known l m apart)
 
 pub inside_some : (n : ℕ) (archs : List Arch) (known : List Lit) (arch : Arch) (u : ℕ) → Contains archs arch → u < n
     → allows known (token_of arch) u ≡ true → 1 ≤ inside n archs known
 unfolding inside
 inside_some n [] known arch u has less is = absurd (omega (arith, has.1))
 inside_some n (a ∷ archs) known arch u (zero, lt, same) less is =
-    let here = below_some n (λ nr. allows known (token_of a) nr) u less (subst (λ b. allows known (token_of b) u ≡ true) (sym same) is) in
-    omega (arith, here)
+    let allowed = subst (λ b. allows known (token_of b) u ≡ true) (sym same) is in
+    unless_some (has_token (token_of a) archs) (count_below n (λ nr. allows known (token_of a) nr)) (inside n archs known)
+    (λ new. below_some n (λ nr. allows known (token_of a) nr) u less allowed)
+    (λ shared.
+    let other = Any-from_list_any (λ b. token_of b == token_of a) archs shared in
+    let token : token_of other.1 ≡ token_of a = (Decides-eqb (token_of other.1) (token_of a)).0 other.4 in
+    inside_some n archs known other.1 u (other.0, other.2, other.3) less (subst (λ t. allows known t u ≡ true) (sym token) allowed))
 inside_some n (a ∷ archs) known arch u (suc k, lt, same) less is =
     let rest = inside_some n archs known arch u (k, omega (arith, lt), same) less is in
     omega (arith, rest)
 
-pub inside_most : (n : ℕ) (archs : List Arch) (known : List Lit) → length archs ≤ 2 → inside n archs known ≤ 2 * n
+pub inside_most : (archs : List Arch) (known : List Lit) → inside 512 archs known ≤ 512 * tokens archs
 unfolding inside
-inside_most n [] known few = omega arith
-inside_most n (a ∷ []) known few = let here = below_most n (λ nr. allows known (token_of a) nr) in omega (arith, here)
-inside_most n (a ∷ b ∷ []) known few =
-    let here = below_most n (λ nr. allows known (token_of a) nr) in
-    let next = below_most n (λ nr. allows known (token_of b) nr) in
-    omega (arith, here, next)
-inside_most n (a ∷ b ∷ c ∷ archs) known few = absurd (omega (arith, few))
+inside_most [] known = omega arith
+inside_most (a ∷ archs) known =
+    unless_most (has_token (token_of a) archs) (count_below 512 (λ nr. allows known (token_of a) nr)) (inside 512 archs known)
+    (tokens archs) (below_most 512 (λ nr. allows known (token_of a) nr)) (inside_most archs known)
 
 -- ---- costs, by the instruction at a position
 

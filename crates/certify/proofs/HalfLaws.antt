@@ -1,28 +1,30 @@
 -- A return of one machine: its halves come apart, and what they cost.
 use Rattle.std.proofs.Common.{◌≡◌, ℕ, suc, ◌+◌, ◌-◌, ◌*◌, ◌/◌, ◌^◌, ◌<◌, ◌≤◌, Bool, true, false, eqb, List, [], ◌∷◌}
 use Rattle.std.proofs.Common.{refl, ap, ◌∙◌, subst, arith, inl, inr, ◌⊎◌, ⊎_elim}
-use Rattle.std.specs.Prelude.{Contains, All, bit_and, nat_le, not}
+use Rattle.std.specs.Prelude.{Contains, All, Any, bit_and, nat_le, not}
 use Rattle.std.proofs.lemmas.List.Elements.{All-cons, All-head, All-tail}
 use Rattle.std.proofs.lemmas.Bool.{cases_eq, cases_lt, eq-eqb, ne_eqb, le-leb, leb-true}
 use Rattle.std.proofs.Math.Nat.{pow-suc}
 use Rattle.call_tables.specs.declared.arch.Arch.{Arch}
 use Rattle.call_tables.specs.Arch.{token_of}
-use Rattle.call_tables.specs.Numbers.{IsOther, IsOwn, other_numbers}
-use Rattle.call_tables.proofs.NumberLaws.{in_one, low_is_own, other_is_high, own_not_other, own_or_other, up_to_other}
+use Rattle.call_tables.specs.declared.numbers.Numbers.{Numbers}
+use Rattle.call_tables.specs.Numbers.{foreign_numbers}
 use Rattle.bpf_insn.specs.declared.instruction.Insn.{Insn}
-use Rattle.profile.specs.Policy.{Policy}
+use Rattle.profile.specs.Policy.{InOrder, Policy}
+use Rattle.rule_compile.specs.Shape.{AreSmallNative}
 use Rattle.cert_state.specs.declared.literal.Lit.{Lit}
 use Rattle.cert_state.specs.declared.literal.Lit.TheVariants.{In, Bits, NotBits}
 use Rattle.cert_state.specs.Literals.{all_bits, index_of, Meets}
 use Rattle.cert_state.specs.Points.{IsPoint, IsRange}
 use Rattle.certify.specs.inner.Counts.{Exclude, allows, halves_cost, inside, meets, permits}
-use Rattle.certify.specs.inner.Leaf.{IsOfCalls, LieIn}
+use Rattle.certify.specs.inner.Leaf.{BeginsWithin, IsOfCalls, LieIn}
 use Rattle.certify.specs.declared.plain.place.Place.{Place}
 use Rattle.certify.specs.declared.plain.store.Store.{Store}
 use Rattle.certify.specs.inner.Meant.{IsMeant}
 use Rattle.certify.specs.inner.Store.{known_at}
 use Rattle.certify.specs.inner.Ways.{AreForeign, AreNear, IsAtReturn, IsEnough, IsOfMachine}
 use Rattle.certify.proofs.CountLaws.{both_first, both_second, inside_parts, inside_some}
+use Rattle.certify.proofs.ForeignLaws.{IsForeignNumber, IsNativeNumber, apart, cut_of_stretch, either, foreign_is_high, in_one, low_is_native, up_to_foreign}
 use Rattle.certify.proofs.PathLaws.{first_asks, rest_point}
 use Rattle.certify.proofs.PointFacts.{Asks}
 use Rattle.certify.proofs.WayLaws.{small_number}
@@ -65,11 +67,12 @@ tokens_exclude t token nr own other = apart (eqb (bit_and token all_bits) t) own
 -- ---- halves
 
 -- foreign numbers come apart first, and then each half of numbers is in the middle
-pub record IsCut (arch : Arch) (lo hi cut : ℕ) : Type 0 where
+pub record IsCut (foreign_ones : List Numbers) (lo hi cut : ℕ) : Type 0 where
   pub from : lo ≤ cut
   pub upto : cut < hi
-  pub foreign : (IsOwn arch hi → ⊥) → lo < 0x40000000 → cut + 1 ≡ 0x40000000
-  pub half : IsOwn arch hi → cut ≡ lo + (hi - lo) / 2
+  pub foreign : Any (BeginsWithin lo hi) foreign_ones
+      → Any (λ numbers. BeginsWithin lo hi numbers × (cut + 1 ≡ numbers.first)) foreign_ones
+  pub half : (Any (BeginsWithin lo hi) foreign_ones → ⊥) → cut ≡ lo + (hi - lo) / 2
 
 -- a point of a half is one of the whole
 low_point : (known : List Lit) (cut u : ℕ) → IsPoint (In 0 0 cut ∷ known) 0 u → u ≤ cut
@@ -79,12 +82,14 @@ high_point : (known : List Lit) (cut u : ℕ) → IsPoint (In 0 (cut + 1) all_bi
 high_point known cut u at = (first_asks (In 0 (cut + 1) all_bits) known 0 u at refl tt).0
 
 -- some halvings are left
-pub some_left : (known : List Lit) (arch : Arch) (lo hi halvings : ℕ) → IsRange known 0 lo hi → (lo ≡ hi → ⊥) → IsEnough known arch halvings
-    → (LieIn lo hi (other_numbers arch) → ⊥) → halvings ≡ 0 → ⊥
-some_left known arch lo hi halvings range differ enough some_own none = ⊎_elim
+pub some_left : (policy : Policy) (order : InOrder policy.machines) (low_native : AreSmallNative policy.machines) (known : List Lit)
+    (arch : Arch) (listed : Contains policy.machines arch) (lo hi halvings : ℕ) → IsRange known 0 lo hi → (lo ≡ hi → ⊥)
+    → IsEnough policy known arch halvings → (LieIn lo hi (foreign_numbers policy.machines arch) → ⊥) → halvings ≡ 0 → ⊥
+some_left policy order low_native known arch listed lo hi halvings range differ enough some_own none = ⊎_elim
     (λ (ten : halvings ≡ 10). omega (arith, ten, none))
-    (λ (more : AreForeign known arch ⊎ ((halvings < 10) × AreNear known (2 ^ halvings))). ⊎_elim
-    (λ (all : AreForeign known arch). some_own (in_one arch lo hi (all lo range.least) (all hi range.greatest)))
+    (λ (more : AreForeign policy known arch ⊎ ((halvings < 10) × AreNear known (2 ^ halvings))). ⊎_elim
+    (λ (all : AreForeign policy known arch). some_own
+    (in_one policy.machines order low_native arch listed lo hi (all lo range.least) (all hi range.greatest)))
     (λ (near : (halvings < 10) × AreNear known (2 ^ halvings)).
     let at_once : AreNear known (2 ^ 0) = subst (λ h. AreNear known (2 ^ h)) none near.1 in
     let e = (at_once lo hi range.least range.greatest).0 in
@@ -93,28 +98,37 @@ some_left known arch lo hi halvings range differ enough some_own none = ⊎_elim
     more)
     enough
 
-module _ (known : List Lit) (arch : Arch) (lo hi cut halvings : ℕ) (range : IsRange known 0 lo hi) (cuts : IsCut arch lo hi cut)
-    (enough : IsEnough known arch halvings) (some_own : LieIn lo hi (other_numbers arch) → ⊥)
-    (small : (u : ℕ) → IsPoint known 0 u → IsOwn arch u → u < 512) where
+module _ (policy : Policy) (in_order : InOrder policy.machines) (low_native : AreSmallNative policy.machines) (known : List Lit) (arch : Arch)
+    (listed : Contains policy.machines arch) (lo hi cut halvings : ℕ) (range : IsRange known 0 lo hi)
+    (cuts : IsCut (foreign_numbers policy.machines arch) lo hi cut) (enough : IsEnough policy known arch halvings)
+    (some_own : LieIn lo hi (foreign_numbers policy.machines arch) → ⊥)
+    (small : (u : ℕ) → IsPoint known 0 u → IsNativeNumber policy.machines arch u → u < 512) where
   -- both halves are not empty
   order : lo < hi
   order = let a = cuts.from in let b = cuts.upto in omega (arith, a, b)
 
-  not_foreign : AreForeign known arch → ⊥
-  not_foreign all = some_own (in_one arch lo hi (all lo range.least) (all hi range.greatest))
+  not_foreign : AreForeign policy known arch → ⊥
+  not_foreign all =
+      some_own (in_one policy.machines in_order low_native arch listed lo hi (all lo range.least) (all hi range.greatest))
 
   -- where the greatest is foreign the least is not
-  least_low : IsOther arch hi → lo < 0x40000000
+  least_low : IsForeignNumber policy.machines arch hi → lo < 0x40000000
   least_low is = ⊎_elim
       (λ (l : lo < 0x40000000). l)
-      (λ (g : 0x40000000 ≤ lo). absurd (some_own (in_one arch lo hi (up_to_other arch lo hi is g (omega (arith, order))) is)))
+      (λ (g : 0x40000000 ≤ lo). absurd (some_own (in_one policy.machines in_order low_native arch listed lo hi
+      (up_to_foreign policy.machines in_order low_native arch listed lo hi is g (omega (arith, order))) is)))
       (cases_lt lo 0x40000000)
+
+  -- where the greatest is a listed machine's own none is cut off
+  none_begins : IsNativeNumber policy.machines arch hi → Any (BeginsWithin lo hi) (foreign_numbers policy.machines arch) → ⊥
+  none_begins own (k, numbers, inside, at, begins) =
+      apart policy.machines in_order low_native arch listed hi own (k, numbers, inside, at, begins.1)
 
   pub ten_at_most : halvings ≤ 10
   ten_at_most = ⊎_elim
       (λ (ten : halvings ≡ 10). omega (arith, ten))
-      (λ (more : AreForeign known arch ⊎ ((halvings < 10) × AreNear known (2 ^ halvings))). ⊎_elim
-      (λ (x : AreForeign known arch). absurd (not_foreign x))
+      (λ (more : AreForeign policy known arch ⊎ ((halvings < 10) × AreNear known (2 ^ halvings))). ⊎_elim
+      (λ (x : AreForeign policy known arch). absurd (not_foreign x))
       (λ (near : (halvings < 10) × AreNear known (2 ^ halvings)). omega (arith, near.0)) more)
       enough
 
@@ -122,7 +136,7 @@ module _ (known : List Lit) (arch : Arch) (lo hi cut halvings : ℕ) (range : Is
   double h e = ap (λ k. 2 ^ k) e ∙ pow-suc 2 h
 
   -- numbers of which the greatest is one of the machine's own
-  module _ (own_hi : IsOwn arch hi) where
+  module _ (own_hi : IsNativeNumber policy.machines arch hi) where
     small_all : (u : ℕ) → IsPoint known 0 u → u < 512
     small_all u at = let h = small hi range.greatest own_hi in let b = (range.between u at).1 in omega (arith, h, b)
 
@@ -133,8 +147,8 @@ module _ (known : List Lit) (arch : Arch) (lo hi cut halvings : ℕ) (range : Is
         let top = small_all hi range.greatest in
         let p : 2 ^ h ≡ 512 = ap (λ k. 2 ^ k) nine in
         omega (arith, p, top))
-        (λ (more : AreForeign known arch ⊎ ((halvings < 10) × AreNear known (2 ^ halvings))). ⊎_elim
-        (λ (x : AreForeign known arch). absurd (not_foreign x))
+        (λ (more : AreForeign policy known arch ⊎ ((halvings < 10) × AreNear known (2 ^ halvings))). ⊎_elim
+        (λ (x : AreForeign policy known arch). absurd (not_foreign x))
         (λ (near : (halvings < 10) × AreNear known (2 ^ halvings)).
         let apart = (near.1 lo hi range.least range.greatest).0 in
         let d = double h e in
@@ -148,7 +162,7 @@ module _ (known : List Lit) (arch : Arch) (lo hi cut halvings : ℕ) (range : Is
         let rest_w = rest_point (In 0 0 cut) known 0 w at_w in
         let low = (range.between u rest_u).0 in
         let high = low_point known cut w at_w in
-        let middle = cuts.half own_hi in
+        let middle = cuts.half (none_begins own_hi) in
         let far = spread h e in
         (omega (arith, low, high, middle, far), small_all w rest_w)
 
@@ -158,23 +172,23 @@ module _ (known : List Lit) (arch : Arch) (lo hi cut halvings : ℕ) (range : Is
         let rest_w = rest_point (In 0 (cut + 1) all_bits) known 0 w at_w in
         let low = high_point known cut u at_u in
         let high = (range.between w rest_w).1 in
-        let middle = cuts.half own_hi in
+        let middle = cuts.half (none_begins own_hi) in
         let far = spread h e in
         (omega (arith, low, high, middle, far), small_all w rest_w)
 
   -- foreign numbers are in the greater half
-  module _ (is : IsOther arch hi) where
+  module _ (is : IsForeignNumber policy.machines arch hi) where
     far : 0x40000000 ≤ hi
-    far = other_is_high arch hi is
+    far = foreign_is_high policy.machines in_order low_native arch listed hi is
 
     at_cut : cut + 1 ≡ 0x40000000
-    at_cut = cuts.foreign (λ own. own_not_other arch hi own is) (least_low is)
+    at_cut = cut_of_stretch policy.machines in_order low_native arch listed lo hi cut (least_low is) is cuts.foreign
 
     first_time : halvings ≡ 10
     first_time = ⊎_elim
         (λ (ten : halvings ≡ 10). ten)
-        (λ (more : AreForeign known arch ⊎ ((halvings < 10) × AreNear known (2 ^ halvings))). ⊎_elim
-        (λ (x : AreForeign known arch). absurd (not_foreign x))
+        (λ (more : AreForeign policy known arch ⊎ ((halvings < 10) × AreNear known (2 ^ halvings))). ⊎_elim
+        (λ (x : AreForeign policy known arch). absurd (not_foreign x))
         (λ (near : (halvings < 10) × AreNear known (2 ^ halvings)).
         let b = (near.1 lo hi range.least range.greatest).1 in
         absurd (omega (arith, b, far))) more)
@@ -183,7 +197,7 @@ module _ (known : List Lit) (arch : Arch) (lo hi cut halvings : ℕ) (range : Is
     small_low : (u : ℕ) → IsPoint (In 0 0 cut ∷ known) 0 u → u < 512
     small_low u at =
         let b = low_point known cut u at in
-        small u (rest_point (In 0 0 cut) known 0 u at) (low_is_own arch u (omega (arith, b, at_cut)))
+        small u (rest_point (In 0 0 cut) known 0 u at) (low_is_native policy.machines in_order low_native arch listed u (omega (arith, b, at_cut)))
 
     near_below : (h : ℕ) → halvings ≡ suc h → AreNear (In 0 0 cut ∷ known) (2 ^ h)
     near_below h e = λ u w at_u at_w.
@@ -192,16 +206,16 @@ module _ (known : List Lit) (arch : Arch) (lo hi cut halvings : ℕ) (range : Is
         let b = small_low w at_w in
         (omega (arith, p, b), b)
 
-    foreign_high : AreForeign (In 0 (cut + 1) all_bits ∷ known) arch
+    foreign_high : AreForeign policy (In 0 (cut + 1) all_bits ∷ known) arch
     foreign_high u at =
         let b = high_point known cut u at in
         let c = (range.between u (rest_point (In 0 (cut + 1) all_bits) known 0 u at)).1 in
-        up_to_other arch u hi is (omega (arith, at_cut, b)) c
+        up_to_foreign policy.machines in_order low_native arch listed u hi is (omega (arith, at_cut, b)) c
 
-  by_kind : (P : Type 0) → (IsOwn arch hi → P) → (IsOther arch hi → P) → P
-  by_kind P own other = ⊎_elim own other (own_or_other arch hi range.greatest.0)
+  by_kind : (P : Type 0) → (IsNativeNumber policy.machines arch hi → P) → (IsForeignNumber policy.machines arch hi → P) → P
+  by_kind P own other = ⊎_elim own other (either policy.machines in_order low_native arch listed hi range.greatest.0)
 
-  pub enough_low : (h : ℕ) → halvings ≡ suc h → IsEnough (In 0 0 cut ∷ known) arch h
+  pub enough_low : (h : ℕ) → halvings ≡ suc h → IsEnough policy (In 0 0 cut ∷ known) arch h
   enough_low h e =
       let most = ten_at_most in
       inr (inr (
@@ -209,16 +223,16 @@ module _ (known : List Lit) (arch : Arch) (lo hi cut halvings : ℕ) (range : Is
         by_kind (AreNear (In 0 0 cut ∷ known) (2 ^ h)) (λ own. near_low own h e) (λ is. near_below is h e),
       ))
 
-  pub enough_high : (h : ℕ) → halvings ≡ suc h → IsEnough (In 0 (cut + 1) all_bits ∷ known) arch h
+  pub enough_high : (h : ℕ) → halvings ≡ suc h → IsEnough policy (In 0 (cut + 1) all_bits ∷ known) arch h
   enough_high h e =
       let most = ten_at_most in
-      by_kind (IsEnough (In 0 (cut + 1) all_bits ∷ known) arch h)
+      by_kind (IsEnough policy (In 0 (cut + 1) all_bits ∷ known) arch h)
       (λ own. inr (inr (omega (arith, e, most), near_high own h e)))
       (λ is. inr (inl (foreign_high is)))
 
   -- ---- what they cost
 
-  module _ (archs : List Arch) (listed : Contains archs arch) (of : All IsOfCalls known) (token : IsPoint known 1 (token_of arch)) where
+  module _ (of : All IsOfCalls known) (token : IsPoint known 1 (token_of arch)) where
     low_at : IsPoint (In 0 0 cut ∷ known) 0 lo
     low_at = (range.least.0, All-cons (Asks 0 lo) (In 0 0 cut) known (λ i w. (omega arith, cuts.from)) range.least.1)
 
@@ -228,13 +242,13 @@ module _ (known : List Lit) (arch : Arch) (lo hi cut halvings : ℕ) (range : Is
     of_calls : (a b : ℕ) → All IsOfCalls (In 0 a b ∷ known)
     of_calls a b = All-cons IsOfCalls (In 0 a b) known (tt, omega arith) of
 
-    own_low : IsOwn arch lo
-    own_low = by_kind (IsOwn arch lo)
-        (λ own. let b = small hi range.greatest own in low_is_own arch lo (omega (arith, b, order)))
-        (λ is. low_is_own arch lo (least_low is))
+    own_low : IsNativeNumber policy.machines arch lo
+    own_low = by_kind (IsNativeNumber policy.machines arch lo)
+        (λ own. let b = small hi range.greatest own in low_is_native policy.machines in_order low_native arch listed lo (omega (arith, b, order)))
+        (λ is. low_is_native policy.machines in_order low_native arch listed lo (least_low is))
 
-    some_low : 1 ≤ inside 512 archs (In 0 0 cut ∷ known)
-    some_low = inside_some 512 archs (In 0 0 cut ∷ known) arch lo listed (small lo range.least own_low)
+    some_low : 1 ≤ inside 512 policy.machines (In 0 0 cut ∷ known)
+    some_low = inside_some 512 policy.machines (In 0 0 cut ∷ known) arch lo listed (small lo range.least own_low)
         (allowed (In 0 0 cut ∷ known) (token_of arch) lo (of_calls 0 cut) (token_at (In 0 0 cut) (λ e. omega (arith, e))) low_at)
 
     high_at : IsPoint (In 0 (cut + 1) all_bits ∷ known) 0 hi
@@ -244,16 +258,16 @@ module _ (known : List Lit) (arch : Arch) (lo hi cut halvings : ℕ) (range : Is
           (λ i w. let b = cuts.upto in let top = range.greatest.0 in (omega (arith, b), omega (arith, top))) range.greatest.1,
     )
 
-    some_high : IsOwn arch hi → 1 ≤ inside 512 archs (In 0 (cut + 1) all_bits ∷ known)
-    some_high own = inside_some 512 archs (In 0 (cut + 1) all_bits ∷ known) arch hi listed (small hi range.greatest own)
+    some_high : IsNativeNumber policy.machines arch hi → 1 ≤ inside 512 policy.machines (In 0 (cut + 1) all_bits ∷ known)
+    some_high own = inside_some 512 policy.machines (In 0 (cut + 1) all_bits ∷ known) arch hi listed (small hi range.greatest own)
         (allowed (In 0 (cut + 1) all_bits ∷ known) (token_of arch) hi (of_calls (cut + 1) all_bits)
         (token_at (In 0 (cut + 1) all_bits) (λ e. omega (arith, e))) high_at)
 
-    pub ten_or_high : (halvings ≡ 10) ⊎ (1 ≤ inside 512 archs (In 0 (cut + 1) all_bits ∷ known))
-    ten_or_high = by_kind ((halvings ≡ 10) ⊎ (1 ≤ inside 512 archs (In 0 (cut + 1) all_bits ∷ known)))
+    pub ten_or_high : (halvings ≡ 10) ⊎ (1 ≤ inside 512 policy.machines (In 0 (cut + 1) all_bits ∷ known))
+    ten_or_high = by_kind ((halvings ≡ 10) ⊎ (1 ≤ inside 512 policy.machines (In 0 (cut + 1) all_bits ∷ known)))
         (λ own. inr (some_high own)) (λ is. inl (first_time is))
 
-    pub low_is_some : 1 ≤ inside 512 archs (In 0 0 cut ∷ known)
+    pub low_is_some : 1 ≤ inside 512 policy.machines (In 0 0 cut ∷ known)
     low_is_some = some_low
 
 -- so the costs of both halves are those of the whole
@@ -269,27 +283,27 @@ pub record IsHalved (policy : Policy) (p : List Insn) (s : Store) (place : Place
   pub at : IsAtReturn policy p s place v
   pub of : IsOfMachine policy s place arch
   pub range : IsRange (known_at s place) 0 lo hi
-  pub enough : IsEnough (known_at s place) arch halvings
+  pub enough : IsEnough policy (known_at s place) arch halvings
   pub some : halvings ≡ 0 → ⊥
-  pub cuts : IsCut arch lo hi cut
-  pub some_own : LieIn lo hi (other_numbers arch) → ⊥
+  pub cuts : IsCut (foreign_numbers policy.machines arch) lo hi cut
+  pub some_own : LieIn lo hi (foreign_numbers policy.machines arch) → ⊥
   pub differ : policy.default_word ≡ v → ⊥
 
 module _ (policy : Policy) (p : List Insn) (s : Store) (place : Place) (v lo hi : ℕ) (arch : Arch) (cut halvings : ℕ)
     (meant : IsMeant policy p)
     (halved : IsHalved policy p s place v lo hi arch cut halvings) where
-  small : (u : ℕ) → IsPoint (known_at s place) 0 u → IsOwn arch u → u < 512
+  small : (u : ℕ) → IsPoint (known_at s place) 0 u → IsNativeNumber policy.machines arch u → u < 512
   small = small_number policy p s place v lo hi arch meant halved.at halved.of halved.range halved.differ
 
   left : halvings ≡ suc (halvings - 1)
   left = omega (arith, halved.some)
 
-  pub low_enough : IsEnough (In 0 0 cut ∷ known_at s place) arch (halvings - 1)
-  low_enough = enough_low (known_at s place) arch lo hi cut halvings halved.range halved.cuts halved.enough halved.some_own small
+  pub low_enough : IsEnough policy (In 0 0 cut ∷ known_at s place) arch (halvings - 1)
+  low_enough = enough_low policy meant.profile.machines_in_order meant.plain.small (known_at s place) arch halved.of.listed lo hi cut halvings halved.range halved.cuts halved.enough halved.some_own small
       (halvings - 1) left
 
-  pub high_enough : IsEnough (In 0 (cut + 1) all_bits ∷ known_at s place) arch (halvings - 1)
-  high_enough = enough_high (known_at s place) arch lo hi cut halvings halved.range halved.cuts halved.enough halved.some_own
+  pub high_enough : IsEnough policy (In 0 (cut + 1) all_bits ∷ known_at s place) arch (halvings - 1)
+  high_enough = enough_high policy meant.profile.machines_in_order meant.plain.small (known_at s place) arch halved.of.listed lo hi cut halvings halved.range halved.cuts halved.enough halved.some_own
       small (halvings - 1) left
 
   pub halves_total : halves_cost (halvings - 1) (inside 512 policy.machines (In 0 0 cut ∷ known_at s place))
@@ -301,9 +315,9 @@ module _ (policy : Policy) (p : List Insn) (s : Store) (place : Place) (v lo hi 
       halves_split halvings (inside 512 policy.machines (In 0 0 cut ∷ known_at s place))
       (inside 512 policy.machines (In 0 (cut + 1) all_bits ∷ known_at s place))
       (inside 512 policy.machines (known_at s place)) halved.some
-      (ten_at_most (known_at s place) arch lo hi cut halvings halved.range halved.cuts halved.enough halved.some_own small)
+      (ten_at_most policy meant.profile.machines_in_order meant.plain.small (known_at s place) arch halved.of.listed lo hi cut halvings halved.range halved.cuts halved.enough halved.some_own small)
       (inside_parts 512 policy.machines (known_at s place) (In 0 0 cut) (In 0 (cut + 1) all_bits) (halves_exclude cut))
-      (low_is_some (known_at s place) arch lo hi cut halvings halved.range halved.cuts halved.enough halved.some_own small
-      policy.machines halved.of.listed of_calls token)
-      (ten_or_high (known_at s place) arch lo hi cut halvings halved.range halved.cuts halved.enough halved.some_own small
-      policy.machines halved.of.listed of_calls token)
+      (low_is_some policy meant.profile.machines_in_order meant.plain.small (known_at s place) arch halved.of.listed lo hi cut halvings halved.range halved.cuts halved.enough halved.some_own small
+      of_calls token)
+      (ten_or_high policy meant.profile.machines_in_order meant.plain.small (known_at s place) arch halved.of.listed lo hi cut halvings halved.range halved.cuts halved.enough halved.some_own small
+      of_calls token)

@@ -10,15 +10,13 @@ use Rattle.call_record.specs.Words.{IsRecord, word, argument}
 use Rattle.call_tables.specs.declared.arch.Arch.{Arch}
 use Rattle.call_tables.specs.declared.numbers.Numbers.{Numbers}
 use Rattle.call_tables.specs.Arch.{token_of}
-use Rattle.call_tables.specs.Numbers.{IsOther, IsOwn, from_to, other_numbers, own_numbers}
+use Rattle.call_tables.specs.Numbers.{foreign_numbers, from_to, own_numbers}
 use Rattle.call_tables.proofs.ArchLaws.{token_of-fits}
-use Rattle.call_tables.proofs.NumberLaws.{IsStretch, in_one, low_is_own, other_in_stretch, own_not_other, own_or_other, stretch}
 use Rattle.profile.specs.declared.conditions.Cond.{Cond}
 use Rattle.profile.specs.declared.rules.Rule.{Rule}
 use Rattle.profile.specs.Condition.{Meets as MeetsCond}
 use Rattle.profile.specs.Rule.{Matches}
 use Rattle.profile.specs.Policy.{InOrder, Policy, IsNative}
-use Rattle.profile.proofs.MachineLaws.{token_of-one}
 use Rattle.cert_state.specs.declared.literal.Lit.{Lit}
 use Rattle.cert_state.specs.declared.literal.Lit.TheVariants.{Bits, NotBits}
 use Rattle.cert_state.specs.Literals.{all_bits, index_of, Meets, Holds}
@@ -29,14 +27,15 @@ use Rattle.cert_state.proofs.KnownLaws.{entailed_is_true}
 use Rattle.cert_check.specs.Agree.{Agrees, ForeignNumbersAgree, IsAmong, IsNoRule, IsRuleOf, IsYesRule, ListedAgrees, MachineAgrees, RulesAgree}
 use Rattle.std.proofs.lemmas.Option.{slice_get-get_or}
 use Rattle.cert_check.proofs.Elements.{contains_at, each_of}
-use Rattle.rule_compile.specs.Shape.{call, IsPlainRule}
+use Rattle.rule_compile.specs.Shape.{AreSmallNative, IsPlainRule, call}
 use Rattle.certify.specs.inner.Leaf.{IsForeign, IsOfCalls, IsOfOne, LeafAgrees, LieIn, SaysThere}
+use Rattle.certify.proofs.ForeignLaws.{IsForeignNumber, IsNativeNumber, IsStretch, apart, either, foreign_same, in_one, low_is_native, stretch, within_stretch}
 use Rattle.certify.proofs.FreeLaws.{point_between}
 use Rattle.certify.proofs.PointFacts.{Asks, point_or_not, bounded, single}
 
 -- one number, or the word of the default, or foreign numbers alone
-abbrev OneOrRest : ℕ → ℕ → ℕ → ℕ → Arch → Type 0
-OneOrRest lo hi default v arch = (lo ≡ hi) ⊎ ((default ≡ v) ⊎ LieIn lo hi (other_numbers arch))
+abbrev OneOrRest : ℕ → ℕ → ℕ → ℕ → List Numbers → Type 0
+OneOrRest lo hi default v foreign = (lo ≡ hi) ⊎ ((default ≡ v) ⊎ LieIn lo hi foreign)
 
 -- a call of two words is a record
 zeros_small : (i : ℕ) → slice_index (replicate 14 0) i < 2 ^ 32
@@ -67,7 +66,7 @@ pub holds_of_points : (known : List Lit) (t u : ℕ) → All IsOfCalls known →
 holds_of_points known t u of at_t at_u = λ k d lt. holds_here known t u (get_or known k d) (of k d lt) (at_t.1 k d lt) (at_u.1 k d lt)
 
 module _ (policy : Policy) (known : List Lit) (v lo hi from to : ℕ) (order : InOrder policy.machines) (short : length known ≤ 512)
-    (plain : All IsPlainRule policy.rules) (of : All IsOfCalls known)
+    (plain : All IsPlainRule policy.rules) (low_native : AreSmallNative policy.machines) (of : All IsOfCalls known)
     (says : SaysThere policy known v) (numbers : IsRange known 0 lo hi) (tokens : IsRange known 1 from to) where
   -- what is known of the number is so at each point
   number_is : (n u : ℕ) → Entails known (Bits 0 all_bits n) → IsPoint known 0 u → u ≡ n
@@ -149,14 +148,9 @@ module _ (policy : Policy) (known : List Lit) (v lo hi from to : ℕ) (order : I
 
   -- the one machine that is possible
   module _ (arch : Arch) (listed : Contains policy.machines arch) (token : IsPoint known 1 (token_of arch)) where
-    -- a number of the machine's own is native, and any other foreign
-    native : (u : ℕ) → IsOwn arch u → IsNative policy (call (token_of arch) u)
-    native u own = (listed.0, arch, listed.1, listed.2, (refl, own))
-
-    foreign : (u : ℕ) → IsOther arch u → IsNative policy (call (token_of arch) u) → ⊥
-    foreign u other (k, a, inside, at, has) =
-        let same : a ≡ arch = token_of-one policy.machines order a arch (k, inside, at) listed has.0 in
-        own_not_other arch u (subst (λ x. IsOwn x u) same has.1) other
+    -- a call with a foreign number is not native
+    foreign : (u : ℕ) → IsForeignNumber policy.machines arch u → IsNative policy (call (token_of arch) u) → ⊥
+    foreign u other native = apart policy.machines order low_native arch listed u native other
 
     matched_word : (rule : Rule) (u : ℕ) → Contains policy.rules rule → token_of rule.arch ≡ token_of arch → rule.nr ≡ u → IsPoint known 0 u
         → IsNative policy (call (token_of arch) u)
@@ -175,7 +169,7 @@ module _ (policy : Policy) (known : List Lit) (v lo hi from to : ℕ) (order : I
         let small = rule_is_small rule has in
         ⊎_elim
         (λ (at : IsPoint known 0 rule.nr). inr
-        (matched_word rule rule.nr has is.left.is_for refl at (native rule.nr (low_is_own arch rule.nr (omega (arith, small))))))
+        (matched_word rule rule.nr has is.left.is_for refl at (low_is_native policy.machines order low_native arch listed rule.nr (omega (arith, small)))))
         (λ (other : Entails known (NotBits 0 all_bits rule.nr)). inl (inl other, not_yes))
         (point_or_not known 0 lo hi numbers rule.nr (omega (arith, small)))
 
@@ -227,38 +221,43 @@ module _ (policy : Policy) (known : List Lit) (v lo hi from to : ℕ) (order : I
         (λ rule has m. none rule has (sym m.machine, sym m.number)))))))
         (rule_or_none arch u policy.rules)
 
-    -- the rules agree, or no number is the machine's own
-    rules_agree : OneOrRest lo hi policy.default_word v arch → IsAmong known (other_numbers arch) ⊎ RulesAgree policy [] [] known v arch
+    -- the rules agree, or each number is foreign
+    rules_agree : OneOrRest lo hi policy.default_word v (foreign_numbers policy.machines arch)
+        → IsAmong known (foreign_numbers policy.machines arch) ⊎ RulesAgree policy [] [] known v arch
     rules_agree h =
-        let order = (numbers.between lo numbers.least).1 in
+        let upward = (numbers.between lo numbers.least).1 in
+        let all = foreign_numbers policy.machines arch in
         ⊎_elim
         (λ (same : lo ≡ hi). ⊎_elim
-        (λ (own : IsOwn arch lo). inr (one same (native lo own)))
-        (λ (other : IsOther arch lo). inl (all_among (other_numbers arch) (in_one arch lo hi other (subst (IsOther arch) same other))))
-        (own_or_other arch lo numbers.least.0))
+        (λ (own : IsNativeNumber policy.machines arch lo). inr (one same own))
+        (λ (other : IsForeignNumber policy.machines arch lo). inl
+        (all_among all (in_one policy.machines order low_native arch listed lo hi other (subst (IsForeignNumber policy.machines arch) same other))))
+        (either policy.machines order low_native arch listed lo numbers.least.0))
         (λ (differ : lo ≡ hi → ⊥). ⊎_elim
         (λ (same : lo ≡ hi). absurd (differ same))
-        (λ (more : (policy.default_word ≡ v) ⊎ LieIn lo hi (other_numbers arch)). ⊎_elim
-        (λ (default : policy.default_word ≡ v). inr (several (omega (arith, order, differ)) default))
-        (λ (others : LieIn lo hi (other_numbers arch)). inl (all_among (other_numbers arch) others))
+        (λ (more : (policy.default_word ≡ v) ⊎ LieIn lo hi all). ⊎_elim
+        (λ (default : policy.default_word ≡ v). inr (several (omega (arith, upward, differ)) default))
+        (λ (others : LieIn lo hi all). inl (all_among all others))
         more)
         h)
         (cases_eq lo hi)
 
     -- where a foreign number is possible the word is 0
-    other_word : (u : ℕ) → IsPoint known 0 u → IsOther arch u → v ≡ 0
+    other_word : (u : ℕ) → IsPoint known 0 u → IsForeignNumber policy.machines arch u → v ≡ 0
     other_word u at other = (says (token_of arch) u token at).foreign (foreign u other)
 
     -- where the greatest number is behind the foreign ones, the least is too, or one of the foreign ones is possible
-    behind_word : (last : ℕ) → IsStretch arch last → last < hi → (v ≡ 0) ⊎ IsAmong known (own_numbers arch)
+    behind_word : (last : ℕ) → IsStretch policy.machines arch last → last < hi → (v ≡ 0) ⊎ IsAmong known (own_numbers arch)
     behind_word last s high =
         let top = numbers.greatest.0 in
         ⊎_elim
         (λ (low : lo < 0x40000000).
         let at = point_between known lo hi 0x40000000 numbers (omega (arith, low)) (omega (arith, short, high, s.least)) in
-        inl (other_word at.0 at.3 (other_in_stretch arch last at.0 s at.1 (omega (arith, at.2, short, s.least)))))
+        inl (other_word at.0 at.3 (within_stretch policy.machines order low_native arch listed last at.0 s at.1 (omega
+        (arith, at.2, short, s.least)))))
         (λ (from : 0x40000000 ≤ lo). ⊎_elim
-        (λ (upto : lo < hi). inl (other_word lo numbers.least (other_in_stretch arch last lo s from (omega (arith, upto, top, s.least)))))
+        (λ (upto : lo < hi). inl (other_word lo numbers.least
+        (within_stretch policy.machines order low_native arch listed last lo s from (omega (arith, upto, top, s.least)))))
         (λ (same : hi ≤ lo). ⊎_elim
         (λ (whole : last ≡ 0xffffffff). absurd (omega (arith, whole, high, top)))
         (λ (rest : s.rest ≡ from_to 0xffffffff 0xffffffff ∷ []). inr
@@ -274,30 +273,31 @@ module _ (policy : Policy) (known : List Lit) (v lo hi from to : ℕ) (order : I
         (cases_lt lo hi))
         (cases_lt lo 0x40000000)
 
-    foreign_agrees : ForeignNumbersAgree known v arch
+    foreign_agrees : ForeignNumbersAgree known v arch (foreign_numbers policy.machines arch)
     foreign_agrees = ⊎_elim
-        (λ (none : other_numbers arch ≡ []). inl none)
-        (λ (some : (last : ℕ) × IsStretch arch last). inr (⊎_elim
+        (λ (none : foreign_numbers policy.machines arch ≡ []). inl none)
+        (λ (some : (last : ℕ) × IsStretch policy.machines arch last). inr (⊎_elim
         (λ (low : hi < 0x40000000). inr
         (subst (IsAmong known) (sym some.1.own)
         (0, from_to 0 0x3fffffff, omega arith, refl, bounded known 0 lo hi numbers 0 0x3fffffff (omega arith) (omega (arith, low)))))
         (λ (from : 0x40000000 ≤ hi). ⊎_elim
         (λ (behind : some.0 < hi). behind_word some.0 some.1 behind)
-        (λ (upto : hi ≤ some.0). inl (other_word hi numbers.greatest (other_in_stretch arch some.0 hi some.1 from upto)))
+        (λ (upto : hi ≤ some.0). inl (other_word hi numbers.greatest
+        (within_stretch policy.machines order low_native arch listed some.0 hi some.1 from upto)))
         (cases_lt some.0 hi))
         (cases_lt hi 0x40000000)))
-        (stretch arch)
+        (stretch policy.machines order low_native arch listed)
 
-    machine_agrees : OneOrRest lo hi policy.default_word v arch → MachineAgrees policy [] [] known v arch
+    machine_agrees : OneOrRest lo hi policy.default_word v (foreign_numbers policy.machines arch) → MachineAgrees policy [] [] known v arch
     machine_agrees h = record { foreign = foreign_agrees; rules = rules_agree h }
 
   -- each listed machine agrees where the token is one machine's
   listed_agrees : (arch : Arch) → Contains policy.machines arch → IsRange known 1 (token_of arch) (token_of arch)
-      → OneOrRest lo hi policy.default_word v arch → (a : Arch) → Contains policy.machines a → ListedAgrees policy [] [] known v a
+      → OneOrRest lo hi policy.default_word v (foreign_numbers policy.machines arch) → (a : Arch) → Contains policy.machines a → ListedAgrees policy [] [] known v a
   listed_agrees arch listed token h a has = ⊎_elim
       (λ (is : token_of arch ≡ token_of a). inr (machine_agrees a has
       (subst (IsPoint known 1) is token.least)
-      (subst (OneOrRest lo hi policy.default_word v) (token_of-one policy.machines order arch a listed has is) h)))
+      (subst (OneOrRest lo hi policy.default_word v) (foreign_same policy.machines order arch a listed has is) h)))
       (λ (other : token_of arch ≡ token_of a → ⊥). ⊎_elim
       (λ (at : IsPoint known 1 (token_of a)).
       let p = token.between (token_of a) at in
@@ -314,37 +314,36 @@ module _ (policy : Policy) (known : List Lit) (v lo hi from to : ℕ) (order : I
       (point_or_not known 1 from to tokens (token_of a) (token_of-fits a))
 
 pub leaf_agrees : LeafAgrees
-leaf_agrees policy known v lo hi from to order short plain of says numbers tokens h = ⊎_elim
+leaf_agrees policy known v lo hi from to order short plain low_native of says numbers tokens h = ⊎_elim
     (λ (none : IsForeign policy known). record {
-      foreign = inr (foreign_word policy known v lo hi from to order short plain of says numbers tokens none);
-      machines = all_foreign policy known v lo hi from to order short plain of says numbers tokens none;
+      foreign = inr (foreign_word policy known v lo hi from to order short plain low_native of says numbers tokens none);
+      machines = all_foreign policy known v lo hi from to order short plain low_native of says numbers tokens none;
     })
     (λ (o : IsOfOne policy known v lo hi). record {
       foreign = inl (o.arch, o.listed, single known 1 (token_of o.arch) o.token);
       machines = each_of (ListedAgrees policy [] [] known v) policy.machines
-          (listed_agrees policy known v lo hi from to order short plain of says numbers tokens o.arch o.listed o.token o.numbers);
+          (listed_agrees policy known v lo hi from to order short plain low_native of says numbers tokens o.arch o.listed o.token o.numbers);
     })
     h
 
 pub own_is_small : (policy : Policy) (known : List Lit) (v lo hi from to : ℕ) → InOrder policy.machines → length known ≤ 512
-    → All IsPlainRule policy.rules
+    → All IsPlainRule policy.rules → AreSmallNative policy.machines
     → All IsOfCalls known → SaysThere policy known v
     → IsRange known 0 lo hi → IsRange known 1 from to → (arch : Arch) → Contains policy.machines arch
     → IsRange known 1 (token_of arch) (token_of arch)
-    → (policy.default_word ≡ v → ⊥) → (u : ℕ) → IsPoint known 0 u → IsOwn arch u → u < 512
-own_is_small policy known v lo hi from to order short plain of says numbers tokens arch listed token differ u at own =
-    own_small policy known v lo hi from to order short plain of says numbers tokens arch listed token.least differ u at
-    (listed.0, arch, listed.1, listed.2, (refl, own))
+    → (policy.default_word ≡ v → ⊥) → (u : ℕ) → IsPoint known 0 u → IsNativeNumber policy.machines arch u → u < 512
+own_is_small policy known v lo hi from to order short plain low_native of says numbers tokens arch listed token differ u at own =
+    own_small policy known v lo hi from to order short plain low_native of says numbers tokens arch listed token.least differ u at own
 
 -- where the word is 0 and the default one, nothing has to be told apart
 pub zero_agrees : (policy : Policy) (known : List Lit) (v lo hi from to : ℕ) → InOrder policy.machines → length known ≤ 512
-    → All IsPlainRule policy.rules
+    → All IsPlainRule policy.rules → AreSmallNative policy.machines
     → All IsOfCalls known → SaysThere policy known v
     → IsRange known 0 lo hi → IsRange known 1 from to → v ≡ 0 → policy.default_word ≡ v → Agrees policy [] [] known v
-zero_agrees policy known v lo hi from to order short plain of says numbers tokens is_zero default = record {
+zero_agrees policy known v lo hi from to order short plain low_native of says numbers tokens is_zero default = record {
   foreign = inr is_zero;
   machines = each_of (ListedAgrees policy [] [] known v) policy.machines
-      (λ a has. each_agrees policy known v lo hi from to order short plain of says numbers tokens default a has);
+      (λ a has. each_agrees policy known v lo hi from to order short plain low_native of says numbers tokens default a has);
 }
 
 -- a token that is ruled out is not possible

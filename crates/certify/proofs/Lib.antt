@@ -1,6 +1,7 @@
 pub mod CountLaws
 pub mod MoveLaws
 pub mod PointFacts
+pub mod ForeignLaws
 pub mod FreeLaws
 pub mod LeafLaws
 pub mod PathLaws
@@ -14,6 +15,7 @@ pub mod SizeLaws
 pub mod WholeLaws
 pub mod CheckedLaws
 pub mod TableLaws
+pub mod TokenLaws
 pub mod UnlikeLaws
 pub mod ShapeLaws
 pub mod CompiledLaws

@@ -1,12 +1,15 @@
 -- There is room for what is made.
-use Rattle.std.proofs.Common.{◌≡◌, ℕ, ◌+◌, ◌-◌, ◌<◌, ◌≤◌, ◌^◌, Bool, true, false, cond, eqb, List, [], ◌∷◌, length, ap}
-use Rattle.std.proofs.Common.{sym, ◌∙◌, subst, arith, inl, inr, ◌⊎◌, ⊎_elim}
-use Rattle.std.specs.Prelude.{Option, Some, None, slice_get, Result, Ok, Err, IfOk, bit_and, nat_le, not}
+use Rattle.std.proofs.Common.{◌≡◌, ℕ, ◌+◌, ◌-◌, ◌*◌, ◌<◌, ◌≤◌, ◌^◌, Bool, true, false, cond, eqb, List, [], ◌∷◌, length, ap}
+use Rattle.std.proofs.Common.{refl, sym, ◌∙◌, subst, arith, inl, inr, ◌⊎◌, ⊎_elim}
+use Rattle.std.specs.List.{list_any}
+use Rattle.std.specs.Prelude.{filter, take, Option, Some, None, slice_get, Result, Ok, Err, IfOk, bit_and, nat_le, not}
 use Rattle.std.proofs.lemmas.Bool.{cases_eq, eq-eqb, ne_eqb, leb-true}
 use Rattle.std.proofs.lemmas.Option.{same_Some}
 use Rattle.std.proofs.lemmas.List.{length-append}
+use Rattle.std.proofs.lemmas.List.Filters.{length-filter_both}
 use Rattle.std.proofs.Math.Nat.{le-max_left, le-max_right}
-use Rattle.call_tables.specs.Arch.{x86_64_of, aarch64_of}
+use Rattle.call_tables.specs.declared.arch.Arch.{Arch}
+use Rattle.call_tables.specs.Arch.{machines_of, same_arch}
 use Rattle.bpf_insn.specs.declared.code.Test.{Test}
 use Rattle.bpf_insn.specs.declared.code.Test.TheVariants.{Equal, AtLeast}
 use Rattle.bpf_insn.specs.declared.instruction.Insn.{Insn}
@@ -18,7 +21,7 @@ use Rattle.cert_state.specs.Literals.{all_bits}
 use Rattle.cert_state.proofs.BitLaws.{and_all}
 use Rattle.cert_form.specs.declared.node.Kind.TheVariants.{Dead}
 use Rattle.rule_compile.specs.Moves.{Forks, move_at}
-use Rattle.rule_compile.specs.Shape.{depth}
+use Rattle.rule_compile.specs.Shape.{depth, tokens}
 use Rattle.cert_walk.specs.declared.fault.CertifyError.{CertifyError}
 use Rattle.certify.specs.declared.plain.place.Place.{Place}
 use Rattle.certify.specs.declared.plain.place.Fork.{Fork}
@@ -30,6 +33,8 @@ use Rattle.certify.specs.inner.Store.{IsForked, IsMadeAt, chain_node_of}
 use Rattle.certify.proofs.CountLaws.{both_first, both_second, inside_parts}
 use Rattle.certify.proofs.GrowLaws.{made_within}
 use Rattle.certify.proofs.HalfLaws.{tokens_exclude}
+use Rattle.certify.proofs.TokenLaws.{first_fewer, first_tokens}
+use Rattle.profile.proofs.MachineLaws.{few}
 use Rattle.certify.proofs.MoveLaws.{forks_cost, move_of_is}
 
 -- ---- a fork has room for both ways
@@ -71,29 +76,38 @@ made_within_if policy p s t place less cost (Err e) within made = tt
 
 -- ---- a return's machines
 
-pub return_split : (n at x y i : ℕ) → at < n → x + y ≤ i → halves_cost 10 x + return_cost n (at + 1) y + 1 ≤ return_cost n at i
-return_split n at x y i inside parts = omega (arith, inside, parts)
+return_split : (n a b x y i : ℕ) → b ≡ a + 1 → b ≤ n → x + y ≤ i
+    → halves_cost 10 x + (2 * (n - b) + 1 + 2 * y) + 1 ≤ 2 * (n - a) + 1 + 2 * i
+return_split n a b x y i next most parts = omega (arith, next, most, parts)
 
+-- a machine whose token none before it has is told apart
 pub tokens_total : (policy : Policy) (known : List Lit) (t at : ℕ) → at < length policy.machines
+    → tokens (take (at + 1) policy.machines) ≡ tokens (take at policy.machines) + 1
     → halves_cost 10 (inside 512 policy.machines (Bits 1 all_bits t ∷ known))
-    + return_cost (length policy.machines) (at + 1) (inside 512 policy.machines (NotBits 1 all_bits t ∷ known)) + 1
-    ≤ return_cost (length policy.machines) at (inside 512 policy.machines known)
-tokens_total policy known t at less =
-    return_split (length policy.machines) at (inside 512 policy.machines (Bits 1 all_bits t ∷ known))
-    (inside 512 policy.machines (NotBits 1 all_bits t ∷ known))
-    (inside 512 policy.machines known) less
+    + return_cost policy.machines (at + 1) (inside 512 policy.machines (NotBits 1 all_bits t ∷ known)) + 1
+    ≤ return_cost policy.machines at (inside 512 policy.machines known)
+tokens_total policy known t at less next =
+    return_split (tokens policy.machines) (tokens (take at policy.machines)) (tokens (take (at + 1) policy.machines))
+    (inside 512 policy.machines (Bits 1 all_bits t ∷ known)) (inside 512 policy.machines (NotBits 1 all_bits t ∷ known))
+    (inside 512 policy.machines known) next (first_tokens policy.machines (at + 1) (omega (arith, less)))
     (inside_parts 512 policy.machines known (Bits 1 all_bits t) (NotBits 1 all_bits t) (tokens_exclude t))
 
--- a profile lists two at most
-pub two_machines : (policy : Policy) → IsProfile policy → length policy.machines ≤ 2
-two_machines policy is =
-    let family = is.machines_in_order.0 in ⊎_elim
-    (λ (e : policy.machines ≡ x86_64_of family ∷ []). omega (arith, ap length e))
-    (λ (more : (policy.machines ≡ aarch64_of family ∷ []) ⊎ (policy.machines ≡ x86_64_of family ∷ aarch64_of family ∷ [])). ⊎_elim
-    (λ (e : policy.machines ≡ aarch64_of family ∷ []). omega (arith, ap length e))
-    (λ (e : policy.machines ≡ x86_64_of family ∷ aarch64_of family ∷ []). omega (arith, ap length e))
-    more)
-    is.machines_in_order.1
+-- what is left costs no more past a machine
+pub past_machine : (machines : List Arch) (at calls : ℕ) → at < length machines → return_cost machines (at + 1) calls ≤ return_cost machines at calls
+past_machine machines at calls inside =
+    let fewer = first_fewer machines at inside in
+    let most = first_tokens machines (at + 1) (omega (arith, inside)) in
+    omega (arith, fewer, most)
+
+kept_at_most : (p : Arch → Bool) (xs : List Arch) → length (filter p xs) ≤ length xs
+kept_at_most p xs = let e = length-filter_both p (λ x. not (p x)) (λ x. refl) xs in omega (arith, e)
+
+-- a profile lists five at most
+pub five_machines : (policy : Policy) → IsProfile policy → length policy.machines ≤ 5
+five_machines policy is =
+    let order = is.machines_in_order in
+    let kept = kept_at_most (λ a. list_any (same_arch a) policy.machines) (machines_of order.0) in
+    omega (arith, ap length order.1, kept, few order.0)
 
 -- ---- a comparison's ways
 

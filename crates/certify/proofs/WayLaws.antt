@@ -1,13 +1,13 @@
 -- What is known where a path stands is known in a part of it.
 use Rattle.std.proofs.Common.{◌≡◌, ℕ, ◌+◌, ◌^◌, ◌<◌, ◌≤◌, List, [], ◌∷◌, length, refl, ap, sym, ◌∙◌, subst}
 use Rattle.std.proofs.Common.{arith, inl, inr, ◌⊎◌, ⊎_elim, Bool, true, false, cond}
-use Rattle.std.specs.Prelude.{Option, Some, None, Contains, slice_get}
+use Rattle.std.specs.Prelude.{Option, Some, None, Contains, slice_get, take}
 use Rattle.std.proofs.lemmas.List.Elements.{All-cons}
 use Rattle.std.proofs.lemmas.Option.{same_Some, none-some, slice_get-get_or, slice_get_within, get_or_from_slice_get}
 use Rattle.std.proofs.lemmas.Bool.{cases_lt}
 use Rattle.call_tables.specs.declared.arch.Arch.{Arch}
 use Rattle.call_tables.specs.Arch.{token_of}
-use Rattle.call_tables.specs.Numbers.{IsOwn, other_numbers}
+use Rattle.call_tables.specs.Numbers.{foreign_numbers}
 use Rattle.bpf_insn.specs.declared.instruction.Insn.{Insn}
 use Rattle.profile.specs.Policy.{Policy}
 use Rattle.cert_state.specs.declared.literal.Lit.{Lit}
@@ -31,8 +31,13 @@ use Rattle.cert_form.specs.Nodes.{literals}
 use Rattle.rule_compile.specs.Moves.{Move}
 use Rattle.rule_compile.specs.Moves.{Ends, Goes, Forks}
 use Rattle.rule_compile.specs.Moves.{move_at}
-use Rattle.rule_compile.specs.Shape.{call}
+use Rattle.rule_compile.specs.Shape.{call, tokens}
+use Rattle.call_tables.proofs.ArchLaws.{token_of-fits}
+use Rattle.cert_state.specs.Entailment.{Entails}
+use Rattle.certify.proofs.PointFacts.{point_or_not}
+use Rattle.certify.proofs.TokenLaws.{fresh_token, new_token}
 use Rattle.certify.specs.inner.Path.{AnswersThere, HoldsCall, IsPossible, LeadsOn, fact}
+use Rattle.certify.proofs.ForeignLaws.{IsNativeNumber}
 use Rattle.certify.proofs.PathLaws.{first_asks, paths_lead, rest_point}
 use Rattle.certify.proofs.MoveLaws.{fork_held, goes_held, goes_inside, taken_inside, other_inside}
 use Rattle.certify.proofs.LeafLaws.{call_is_record}
@@ -110,10 +115,10 @@ few_known s p place fits = omega (arith, fits.short, fits.few)
 pub machine_agrees_there : (policy : Policy) (p : List Insn) (s : Store) (place : Place) (v lo hi : ℕ) (arch : Arch)
     → IsMeant policy p → IsAtReturn policy p s place v → IsOfMachine policy s place arch
     → IsRange (known_at s place) 0 lo hi → (lo ≡ hi)
-    ⊎ ((policy.default_word ≡ v) ⊎ LieIn lo hi (other_numbers arch)) → Agrees policy [] [] (known_at s place) v
+    ⊎ ((policy.default_word ≡ v) ⊎ LieIn lo hi (foreign_numbers policy.machines arch)) → Agrees policy [] [] (known_at s place) v
 machine_agrees_there policy p s place v lo hi arch meant at of range h =
     leaf_agrees policy (known_at s place) v lo hi (token_of arch) (token_of arch) meant.profile.machines_in_order
-    (few_known s p place at.fits) meant.plain.rules (at.store.calls place.chain) (at.says meant) range of.token
+    (few_known s p place at.fits) meant.plain.rules meant.plain.small (at.store.calls place.chain) (at.says meant) range of.token
     (inr (record { arch = arch; listed = of.listed; token = of.token; numbers = h }))
 
 pub foreign_agrees_there : (policy : Policy) (p : List Insn) (s : Store) (place : Place) (v lo hi from to : ℕ)
@@ -122,15 +127,15 @@ pub foreign_agrees_there : (policy : Policy) (p : List Insn) (s : Store) (place 
     → Agrees policy [] [] (known_at s place) v
 foreign_agrees_there policy p s place v lo hi from to meant at range tokens none =
     leaf_agrees policy (known_at s place) v lo hi from to meant.profile.machines_in_order (few_known s p place at.fits)
-    meant.plain.rules (at.store.calls place.chain) (at.says meant) range tokens (inl none)
+    meant.plain.rules meant.plain.small (at.store.calls place.chain) (at.says meant) range tokens (inl none)
 
 -- where the word is not the default one, each number of the machine's own is small
 pub small_number : (policy : Policy) (p : List Insn) (s : Store) (place : Place) (v lo hi : ℕ) (arch : Arch) → IsMeant policy p
     → IsAtReturn policy p s place v → IsOfMachine policy s place arch → IsRange (known_at s place) 0 lo hi → (policy.default_word ≡ v → ⊥)
-    → (u : ℕ) → IsPoint (known_at s place) 0 u → IsOwn arch u → u < 512
+    → (u : ℕ) → IsPoint (known_at s place) 0 u → IsNativeNumber policy.machines arch u → u < 512
 small_number policy p s place v lo hi arch meant at of range differ u point own =
     own_is_small policy (known_at s place) v lo hi (token_of arch) (token_of arch) meant.profile.machines_in_order
-    (few_known s p place at.fits) meant.plain.rules (at.store.calls place.chain) (at.says meant) range of.token
+    (few_known s p place at.fits) meant.plain.rules meant.plain.small (at.store.calls place.chain) (at.says meant) range of.token
     arch of.listed of.token differ u point own
 
 -- the second way, once the first is gone
@@ -181,6 +186,19 @@ out_more policy s place n arch out here not k a less there at = ⊎_elim
     let same : a ≡ arch = same_Some a arch (sym there ∙ ap (slice_get policy.machines) e ∙ here) in
     not (subst (λ b. IsPoint (known_at s place) 1 (token_of b)) same at))
     (cases_lt k n)
+
+-- where it is possible, its token is none of those before
+pub new_there : (policy : Policy) (s : Store) (place : Place) (n : ℕ) (arch : Arch) (from to : ℕ) → IsRange (known_at s place) 1 from to
+    → AreOutBefore policy s place n → slice_get policy.machines n ≡ Some arch
+    → (Entails (known_at s place) (NotBits 1 all_bits (token_of arch)) → ⊥)
+    → tokens (take (n + 1) policy.machines) ≡ tokens (take n policy.machines) + 1
+new_there policy s place n arch from to range out here possible =
+    new_token policy.machines n arch arch (slice_get_within policy.machines n arch here)
+    (get_or_from_slice_get policy.machines n arch arch here)
+    (fresh_token policy.machines n (token_of arch) (λ k a less is same. ⊎_elim
+    (λ (at : IsPoint (known_at s place) 1 (token_of arch)). out k a less is (subst (IsPoint (known_at s place) 1) (sym same) at))
+    (λ (known : Entails (known_at s place) (NotBits 1 all_bits (token_of arch))). possible known)
+    (point_or_not (known_at s place) 1 from to range (token_of arch) (token_of-fits arch))))
 
 -- what is not possible is not in a part
 pub out_child : (policy : Policy) (s t : Store) (place c : Place) (l : Lit) (n : ℕ) → IsChild s t place c l

@@ -2,8 +2,8 @@
 ghost use Rattle.certify.specs.Right.{CompiledIsRight, ShapeIsRight};
 ghost use Rattle.certify.specs.Tables.{TableProfilesArePlain};
 
-/// A profile without conditions whose calls stand in their machines' tables is one that `certify` promises a certificate
-/// for.
+/// A profile without conditions, for machines with two tokens at most and x32 beside x86-64 alone, whose calls stand in tables
+/// of small numbers, is one that `certify` promises a certificate for.
 pub fn table_profiles_are_plain()
     ensures { TableProfilesArePlain }
 {}

@@ -4,7 +4,7 @@ use Rattle.std.specs.Option.{option_map}
 use Rattle.std.specs.Str.{bytes_eq}
 use denote.Ref.{Bor}
 use Rattle.call_tables.specs.declared.arch.Arch.{Arch}
-use Rattle.call_tables.specs.Arch.{machine_called}
+use Rattle.call_tables.specs.Arch.{native_called}
 use Rattle.command_line.specs.declared.Command.{Command}
 use Rattle.command_line.specs.declared.Command.TheVariants as command
 use Rattle.export.specs.declared.form.Form.{Form}
@@ -71,15 +71,15 @@ verdict (filter ∷ rec ∷ []) = Some (Verdict filter rec)
 verdict _ = None
 
 abbrev pub check : List (List ℕ) → Option Given
-check (machine ∷ bundle ∷ filter ∷ cert ∷ []) = option_map (λ native. Check native bundle filter cert) (machine_called machine)
+check (machine ∷ bundle ∷ filter ∷ cert ∷ []) = option_map (λ native. Check native bundle filter cert) (native_called machine)
 check _ = None
 
 abbrev pub certify : List (List ℕ) → Option Given
-certify (machine ∷ bundle ∷ filter ∷ []) = option_map (λ native. Certify native bundle filter) (machine_called machine)
+certify (machine ∷ bundle ∷ filter ∷ []) = option_map (λ native. Certify native bundle filter) (native_called machine)
 certify _ = None
 
 abbrev pub export_in : List ℕ → List ℕ → Option Form → Option Given
-export_in machine bundle (Some form) = option_map (λ native. Export native bundle form) (machine_called machine)
+export_in machine bundle (Some form) = option_map (λ native. Export native bundle form) (native_called machine)
 export_in machine bundle None = None
 
 abbrev pub export : List (List ℕ) → Option Given
@@ -88,21 +88,21 @@ export _ = None
 
 -- one bundle at least
 abbrev pub run : List (List ℕ) → Option Given
-run (machine ∷ bundle ∷ bundles) = option_map (λ native. Run native (bundle ∷ bundles)) (machine_called machine)
+run (machine ∷ bundle ∷ bundles) = option_map (λ native. Run native (bundle ∷ bundles)) (native_called machine)
 run _ = None
 
 -- one argument at least for the call
 abbrev pub explain : List (List ℕ) → Option Given
-explain (machine ∷ bundle ∷ call ∷ more) = option_map (λ native. Explain native bundle (call ∷ more)) (machine_called machine)
+explain (machine ∷ bundle ∷ call ∷ more) = option_map (λ native. Explain native bundle (call ∷ more)) (native_called machine)
 explain _ = None
 
 abbrev pub read : List (List ℕ) → Option Given
-read (machine ∷ bundle ∷ []) = option_map (λ native. Read native bundle) (machine_called machine)
+read (machine ∷ bundle ∷ []) = option_map (λ native. Read native bundle) (native_called machine)
 read _ = None
 
 -- one argument at least for the call
 abbrev pub record_for : List (List ℕ) → Option Given
-record_for (machine ∷ call ∷ more) = option_map (λ native. Record native (call ∷ more)) (machine_called machine)
+record_for (machine ∷ call ∷ more) = option_map (λ native. Record native (call ∷ more)) (native_called machine)
 record_for _ = None
 
 abbrev pub assemble : List (List ℕ) → Option Given
@@ -110,22 +110,22 @@ assemble (listing ∷ []) = Some (Assemble listing)
 assemble _ = None
 
 abbrev pub annotate : List (List ℕ) → Option Given
-annotate (machine ∷ filter ∷ []) = option_map (λ native. Annotate native filter) (machine_called machine)
+annotate (machine ∷ filter ∷ []) = option_map (λ native. Annotate native filter) (native_called machine)
 annotate _ = None
 
 abbrev pub draw : List (List ℕ) → Option Given
-draw (machine ∷ filter ∷ []) = option_map (λ native. Draw native filter) (machine_called machine)
+draw (machine ∷ filter ∷ []) = option_map (λ native. Draw native filter) (native_called machine)
 draw _ = None
 
 abbrev pub compare : List (List ℕ) → Option Given
-compare (machine ∷ first ∷ second ∷ []) = option_map (λ native. Compare native first second) (machine_called machine)
+compare (machine ∷ first ∷ second ∷ []) = option_map (λ native. Compare native first second) (native_called machine)
 compare _ = None
 
 -- the word `widen` may stand behind the file
 abbrev pub adapt : List (List ℕ) → Option Given
-adapt (machine ∷ config ∷ []) = option_map (λ native. Adapt native config false) (machine_called machine)
+adapt (machine ∷ config ∷ []) = option_map (λ native. Adapt native config false) (native_called machine)
 adapt (machine ∷ config ∷ word ∷ []) =
-    if bytes_eq word (codes "widen") then option_map (λ native. Adapt native config true) (machine_called machine) else None
+    if bytes_eq word (codes "widen") then option_map (λ native. Adapt native config true) (native_called machine) else None
 adapt _ = None
 
 abbrev pub manual : List (List ℕ) → Option Given

@@ -2,7 +2,7 @@
 ghost use Rattle.std.specs.Prelude.{◌≡◌};
 ghost use Rattle.std.specs.Option.{option_map};
 ghost use Rattle.command_line.specs.Arguments as spec;
-ghost use Rattle.call_tables.specs.Arch.{machine_called};
+ghost use Rattle.call_tables.specs.Arch.{native_called};
 ghost use Rattle.command_line.specs.Arguments.{Adapt, given, texts};
 
 use crate::{Command, form_named};
@@ -23,7 +23,7 @@ pub(crate) fn check<'a>(parts: &'a [&'a str]) -> Option<Command<'a>>
     let [machine, bundle, filter, certificate] = parts else {
         return None;
     };
-    let Some(native) = Arch::called(machine) else {
+    let Some(native) = Arch::native_called(machine) else {
         return None;
     };
     Some(Command::Check {
@@ -40,7 +40,7 @@ pub(crate) fn certify<'a>(parts: &'a [&'a str]) -> Option<Command<'a>>
     let [machine, bundle, filter] = parts else {
         return None;
     };
-    let Some(native) = Arch::called(machine) else {
+    let Some(native) = Arch::native_called(machine) else {
         return None;
     };
     Some(Command::Certify {
@@ -59,7 +59,7 @@ pub(crate) fn export<'a>(parts: &'a [&'a str]) -> Option<Command<'a>>
     let Some(form) = form_named(form) else {
         return None;
     };
-    let Some(native) = Arch::called(machine) else {
+    let Some(native) = Arch::native_called(machine) else {
         return None;
     };
     Some(Command::Export {
@@ -78,7 +78,7 @@ pub(crate) fn run<'a>(parts: &'a [&'a str]) -> Option<Command<'a>>
     if bundles.is_empty() {
         return None;
     }
-    let Some(native) = Arch::called(machine) else {
+    let Some(native) = Arch::native_called(machine) else {
         return None;
     };
     Some(Command::Run { native, bundles })
@@ -93,7 +93,7 @@ pub(crate) fn explain<'a>(parts: &'a [&'a str]) -> Option<Command<'a>>
     if call.is_empty() {
         return None;
     }
-    let Some(native) = Arch::called(machine) else {
+    let Some(native) = Arch::native_called(machine) else {
         return None;
     };
     Some(Command::Explain {
@@ -109,7 +109,7 @@ pub(crate) fn read<'a>(parts: &'a [&'a str]) -> Option<Command<'a>>
     let [machine, bundle] = parts else {
         return None;
     };
-    let Some(native) = Arch::called(machine) else {
+    let Some(native) = Arch::native_called(machine) else {
         return None;
     };
     Some(Command::Read { native, bundle })
@@ -124,7 +124,7 @@ pub(crate) fn record_for<'a>(parts: &'a [&'a str]) -> Option<Command<'a>>
     if call.is_empty() {
         return None;
     }
-    let Some(native) = Arch::called(machine) else {
+    let Some(native) = Arch::native_called(machine) else {
         return None;
     };
     Some(Command::Record { native, call })
@@ -145,7 +145,7 @@ pub(crate) fn annotate<'a>(parts: &'a [&'a str]) -> Option<Command<'a>>
     let [machine, filter] = parts else {
         return None;
     };
-    let Some(native) = Arch::called(machine) else {
+    let Some(native) = Arch::native_called(machine) else {
         return None;
     };
     Some(Command::Annotate { native, filter })
@@ -157,7 +157,7 @@ pub(crate) fn draw<'a>(parts: &'a [&'a str]) -> Option<Command<'a>>
     let [machine, filter] = parts else {
         return None;
     };
-    let Some(native) = Arch::called(machine) else {
+    let Some(native) = Arch::native_called(machine) else {
         return None;
     };
     Some(Command::Draw { native, filter })
@@ -169,7 +169,7 @@ pub(crate) fn compare<'a>(parts: &'a [&'a str]) -> Option<Command<'a>>
     let [machine, first, second] = parts else {
         return None;
     };
-    let Some(native) = Arch::called(machine) else {
+    let Some(native) = Arch::native_called(machine) else {
         return None;
     };
     Some(Command::Compare {
@@ -181,9 +181,9 @@ pub(crate) fn compare<'a>(parts: &'a [&'a str]) -> Option<Command<'a>>
 
 // A configuration for a machine.
 fn adapt_for<'a>(machine: &str, config: &'a str, may_widen: bool) -> Option<Command<'a>>
-    ensures { option_map given result ≡ option_map (λ native. Adapt native config.now may_widen) (machine_called machine.now) }
+    ensures { option_map given result ≡ option_map (λ native. Adapt native config.now may_widen) (native_called machine.now) }
 {
-    let Some(native) = Arch::called(machine) else {
+    let Some(native) = Arch::native_called(machine) else {
         return None;
     };
     Some(Command::Adapt {

@@ -9,7 +9,7 @@ use crate::difference::{Difference, unlike_words};
 use call_tables::Family;
 use cert_check::valid_is_right;
 use certify::{CertifyError, certify_accepted, convict};
-use explain::machine_of;
+use explain::machine_with;
 use kernel_check::Accepted;
 use profile::Profile;
 use std::alloc::{AllocError, Global};
@@ -63,6 +63,6 @@ pub(crate) fn hunted(
     ensures { IfSome result (IsDifference first.now second.now) }
 {
     let call = convict(alloc, second, program).ok()??.call;
-    let arch = machine_of(family, call.arch)?;
+    let arch = machine_with(family, call.arch, call.nr)?;
     unlike_words(first, second, arch, call.nr, call.args)
 }

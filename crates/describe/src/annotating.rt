@@ -4,7 +4,7 @@ use crate::lines::Lines;
 use bpf_insn::{Insn, Operation, Program, ViewError};
 use call_record::Word;
 use call_tables::{Arch, LEAST_X32_NUMBER};
-use explain::{ActionText, Told, machine_of};
+use explain::{ActionText, Told, machine_of, machine_with};
 use kernel_check::accept;
 use std::alloc::{AllocError, Global};
 use std::fmt::Write;
@@ -33,6 +33,7 @@ fn call_name(machine: Arch, number: u32) -> &'static str {
     if number == LEAST_X32_NUMBER {
         return "x32 calls";
     }
+    let machine = machine_with(machine.family(), machine.token(), number).unwrap_or(machine);
     machine.name(number).unwrap_or("no call")
 }
 

@@ -4,9 +4,6 @@ use std::alloc::{AllocError, Global};
 use std::fmt::Write;
 use strsim::levenshtein;
 
-// Above all numbers of calls that have names.
-const NUMBERS: u32 = 1024;
-
 // The most edits by which a name is near.
 const FAR: usize = 3;
 
@@ -21,26 +18,34 @@ fn distance(alloc: Global, arch: Arch, number: u32, name: &str) -> Result<usize,
 // The least distance of a machine's names from a name.
 fn least_distance(alloc: Global, arch: Arch, name: &str) -> Result<usize, AllocError> {
     let mut least = FAR;
-    for number in 0..NUMBERS {
-        least = least.min(distance(alloc, arch, number, name)?);
+    for numbers in arch.call_numbers() {
+        for number in numbers.first..numbers.last.saturating_add(1) {
+            least = least.min(distance(alloc, arch, number, name)?);
+        }
     }
     Ok(least)
 }
 
-// Adds a machine's names at a distance from a name, but none that the machine before it has.
+// Whether one of the machines has a call of the name.
+fn is_told(machines: &[Arch], name: &str) -> bool {
+    machines.iter().any(|arch| arch.number(name).is_some())
+}
+
+// Adds a machine's names at a distance from a name, but none that the machines before it have.
 fn put_at(
     text: &mut String,
     alloc: Global,
-    (arch, before): (Arch, Option<Arch>),
+    (arch, before): (Arch, &[Arch]),
     name: &str,
     least: usize,
 ) -> Result<(), AllocError> {
-    for number in 0..NUMBERS {
-        if distance(alloc, arch, number, name)? == least {
-            let other = arch.name(number).unwrap_or("");
-            let is_told = before.is_some_and(|before| before.number(other).is_some());
-            if !is_told {
-                write!(text, " {other}")?;
+    for numbers in arch.call_numbers() {
+        for number in numbers.first..numbers.last.saturating_add(1) {
+            if distance(alloc, arch, number, name)? == least {
+                let other = arch.name(number).unwrap_or("");
+                if !is_told(before, other) {
+                    write!(text, " {other}")?;
+                }
             }
         }
     }
@@ -54,13 +59,18 @@ pub(crate) fn put_nearest(
     family: Family,
     name: &str,
 ) -> Result<(), AllocError> {
-    let first = family.x86_64();
-    let second = family.aarch64();
-    let least = least_distance(alloc, first, name)?.min(least_distance(alloc, second, name)?);
+    let machines = family.machines();
+    let mut least = FAR;
+    for arch in machines {
+        least = least.min(least_distance(alloc, *arch, name)?);
+    }
     if least == FAR {
         return Ok(());
     }
     text.push_str("; nearest:")?;
-    put_at(text, alloc, (first, None), name, least)?;
-    put_at(text, alloc, (second, Some(first)), name, least)
+    for (place, arch) in machines.iter().enumerate() {
+        let before = machines.get(..place).unwrap_or(&[]);
+        put_at(text, alloc, (*arch, before), name, least)?;
+    }
+    Ok(())
 }

@@ -1,6 +1,6 @@
 //! The place where a bundle has a fault: the first in the order in which a bundle is read.
 use crate::place::{ARG, ENTRY, Key, NAMES, Place, ROOT, SECCOMP, SYSCALLS, Shape};
-use call_tables::{Arch, Family};
+use call_tables::Family;
 use serde_json::Value;
 
 /// A place with a fault: what stands there, if something does, and what has to.
@@ -138,7 +138,15 @@ fn at_keys<'a>(
 
 // Whether a name stands in the table of a machine of the family.
 fn is_known(family: Family, name: &str) -> bool {
-    family.x86_64().number(name).is_some() || family.aarch64().number(name).is_some()
+    family
+        .machines()
+        .iter()
+        .any(|arch| arch.number(name).is_some())
+}
+
+// Whether the name is that of a machine of the family.
+fn is_machine(family: Family, name: &str) -> bool {
+    family.machines().iter().any(|arch| arch.scmp() == name)
 }
 
 // Whether the fault stands at a member of a list of texts: names of machines or of calls.
@@ -147,7 +155,7 @@ fn stands_in(wanted: Wanted, value: &Value) -> bool {
         return wanted.number == 4;
     };
     match wanted.number {
-        7 => text != Arch::X86_64.scmp() && text != Arch::Aarch64.scmp(),
+        7 => !is_machine(wanted.family, text),
         9 => !is_known(wanted.family, text),
         _ => false,
     }

@@ -6,6 +6,7 @@ use Rattle.texts.specs.Lines.{line_feed}
 use Rattle.call_tables.specs.declared.arch.Arch.{Arch}
 use Rattle.call_tables.specs.declared.arch.Family.{Family}
 use Rattle.call_tables.specs.Arch.{machines_of, table_of, token_of, word_of}
+use Rattle.call_tables.specs.Numbers.{has_call}
 use Rattle.call_tables.specs.Table.{name_in}
 use Rattle.call_record.specs.declared.layout.Record.{Record}
 use Rattle.call_record.specs.Verdict.{action, datum, kill_process, kill_thread, trap, errno, user_notif, trace, log, allow}
@@ -65,6 +66,18 @@ condition_text c =
 abbrev pub machine_of : Family → ℕ → Option Arch
 machine_of family token = find (λ arch. token_of arch == token) (machines_of family)
 
+-- that which has a call with the token and the number
+abbrev pub owner_of : Family → ℕ → ℕ → Option Arch
+owner_of family token nr = find (has_call token nr) (machines_of family)
+
+abbrev pub or_else : Option Arch → Option Arch → Option Arch
+or_else (Some arch) other = Some arch
+or_else None other = other
+
+-- that one, or else the machine that has the token: the chosen lists have no machine for the numbers of x32
+abbrev pub machine_with : Family → ℕ → ℕ → Option Arch
+machine_with family token nr = or_else (owner_of family token nr) (machine_of family token)
+
 abbrev pub named_call : Option (List ℕ) → Arch → ℕ → List ℕ
 named_call (Some name) arch nr = codes "call " ++ name ++ codes ", number " ++ decimal nr ++ codes " of " ++ word_of arch ++ line_feed ∷ []
 named_call None arch nr = codes "call " ++ decimal nr ++ codes " of " ++ word_of arch ++ line_feed ∷ []
@@ -79,7 +92,7 @@ arguments_text args = flat_map (λ a. codes " " ++ hexadecimal a) args
 
 -- the line of a call, by the names of a family, and the line of its arguments
 abbrev pub call_lines : Family → Record → List ℕ
-call_lines family r = call_on (machine_of family r.arch) r.arch r.nr ++ codes "arguments" ++ arguments_text r.args ++ line_feed ∷ []
+call_lines family r = call_on (machine_with family r.arch r.nr) r.arch r.nr ++ codes "arguments" ++ arguments_text r.args ++ line_feed ∷ []
 
 abbrev pub verdict_line : ℕ → List ℕ
 verdict_line v = codes "verdict " ++ word.text_of v ++ codes " " ++ action_text v ++ line_feed ∷ []

@@ -1,5 +1,6 @@
 //! A call told in words.
 ghost use Rattle.std.specs.Prelude.{◌≡◌, ◌++◌, IfOk, string_bytes};
+ghost use Rattle.call_tables.specs.Numbers.{has_call};
 ghost use Rattle.explain.specs.Words as spec;
 
 use call_record::Record;
@@ -16,6 +17,37 @@ pub fn machine_of(family: Family, token: u32) -> Option<Arch>
         .iter()
         .copied()
         .find(|arch| arch.token() == token)
+}
+
+// Whether a call with a token and a number is a machine's.
+fn has_call(arch: Arch, token: u32, nr: u32) -> bool
+    ensures { result ≡ has_call token nr arch }
+{
+    if arch.token() != token {
+        return false;
+    }
+    arch.has_number(nr)
+}
+
+// The machine of a family that has a call with the token and the number.
+fn owner_of(family: Family, token: u32, nr: u32) -> Option<Arch>
+    ensures { result ≡ spec.owner_of family token nr }
+{
+    family
+        .machines()
+        .iter()
+        .copied()
+        .find(|arch| has_call(*arch, token, nr))
+}
+
+/// The machine of a family that has a call with the token and the number, or else one that has the token.
+pub fn machine_with(family: Family, token: u32, nr: u32) -> Option<Arch>
+    ensures { result ≡ spec.machine_with family token nr }
+{
+    match owner_of(family, token, nr) {
+        Some(arch) => Some(arch),
+        None => machine_of(family, token),
+    }
 }
 
 // Adds the line of a machine's call that has a name.
@@ -53,9 +85,9 @@ fn put_call(text: &mut String, arch: Arch, nr: u32) -> Result<(), AllocError>
 
 // Adds the line of a call, by its machine's token.
 fn put_number(text: &mut String, family: Family, token: u32, nr: u32) -> Result<(), AllocError>
-    ensures { IfOk result (λ _. string_bytes text.new ≡ string_bytes text.old ++ spec.call_on (spec.machine_of family token) token nr) }
+    ensures { IfOk result (λ _. string_bytes text.new ≡ string_bytes text.old ++ spec.call_on (spec.machine_with family token nr) token nr) }
 {
-    match machine_of(family, token) {
+    match machine_with(family, token, nr) {
         Some(arch) => put_call(text, arch, nr),
         None => put_foreign(text, token, nr),
     }

@@ -9,7 +9,7 @@ mod telling;
 mod told;
 mod words;
 
-pub use calls::machine_of;
+pub use calls::{machine_of, machine_with};
 pub use reason::Reason;
 pub use telling::explanation;
 pub use told::{Told, assembled, explain, record, refused_profile, version};

@@ -3,8 +3,9 @@ use Rattle.std.proofs.Common.{◌≡◌, ℕ, Bool, true, false, List, Option, S
 use Rattle.std.specs.Option.{option_map}
 use Rattle.std.specs.Cmp.Lexicographic.{nat_list_eq_equiv}
 use Rattle.call_tables.specs.declared.arch.Arch.{Arch}
-use Rattle.call_tables.specs.declared.arch.Arch.TheVariants.{X86_64, Aarch64, LinuxX86_64, LinuxAarch64}
-use Rattle.call_tables.specs.Machines.{x86_64_table, aarch64_table, linux_x86_64_table, linux_aarch64_table}
+use Rattle.call_tables.specs.declared.arch.Arch.TheVariants.{X86_64, Aarch64, LinuxX86_64, LinuxX86, LinuxX32, LinuxAarch64, LinuxArm}
+use Rattle.call_tables.specs.Machines.{first_rows, second_rows, third_rows, fourth_rows, x86_64_table, aarch64_table}
+use Rattle.call_tables.specs.Machines.{linux_x86_64_table, linux_x86_table, linux_x32_table, linux_aarch64_table, linux_arm_table}
 use Rattle.call_record.specs.declared.layout.Record.{Record}
 use Rattle.call_record.specs.declared.effect.Ends.{Ends}
 use Rattle.call_record.specs.declared.effect.Ends.TheVariants.{Nothing, Task, Group}
@@ -38,12 +39,43 @@ pub set_twice : (k l m : Containers) (id : List ℕ) (v w : Option Processes) �
 set_twice k l m id v w first second = λ q. second q ∙ twice_by (same_text id q) v w (l q) (k q) (first q)
 
 -- the call is an execve
+
+x86_64-first : row_of X86_64 (execve_of X86_64) ≡ Execve
+unfolding x86_64_table
+x86_64-first = refl
+
+aarch64-first : row_of Aarch64 (execve_of Aarch64) ≡ Execve
+unfolding aarch64_table
+aarch64-first = refl
+
+linux_x86_64-first : row_of LinuxX86_64 (execve_of LinuxX86_64) ≡ Execve
+unfolding linux_x86_64_table first_rows second_rows third_rows fourth_rows
+linux_x86_64-first = refl
+
+linux_x86-first : row_of LinuxX86 (execve_of LinuxX86) ≡ Execve
+unfolding linux_x86_table first_rows second_rows third_rows fourth_rows
+linux_x86-first = refl
+
+linux_x32-first : row_of LinuxX32 (execve_of LinuxX32) ≡ Execve
+unfolding linux_x32_table first_rows second_rows third_rows fourth_rows
+linux_x32-first = refl
+
+linux_aarch64-first : row_of LinuxAarch64 (execve_of LinuxAarch64) ≡ Execve
+unfolding linux_aarch64_table first_rows second_rows third_rows fourth_rows
+linux_aarch64-first = refl
+
+linux_arm-first : row_of LinuxArm (execve_of LinuxArm) ≡ Execve
+unfolding linux_arm_table first_rows second_rows third_rows fourth_rows
+linux_arm-first = refl
+
 pub first_row : (native : Arch) → row_of native (execve_of native) ≡ Execve
-unfolding x86_64_table aarch64_table linux_x86_64_table linux_aarch64_table
-first_row X86_64 = refl
-first_row Aarch64 = refl
-first_row LinuxX86_64 = refl
-first_row LinuxAarch64 = refl
+first_row X86_64 = x86_64-first
+first_row Aarch64 = aarch64-first
+first_row LinuxX86_64 = linux_x86_64-first
+first_row LinuxX86 = linux_x86-first
+first_row LinuxX32 = linux_x32-first
+first_row LinuxAarch64 = linux_aarch64-first
+first_row LinuxArm = linux_arm-first
 
 ends_by : (native : Arch) (first : Judge) (e : Ends) → let ps = ended_by_verdict e (first_task first) (admitted native first) in
     lives ps ≡ false → signalled 9 ps ≡ ps

@@ -84,6 +84,57 @@ pub(crate) const AARCH64_NUMBERS: &[(u32, Call)] = &[
     (435, Call::Lacking),
 ];
 
+/// The numbers of these calls on x86.
+pub(crate) const X86_NUMBERS: &[(u32, Call)] = &[
+    (2, Call::Fork),
+    (190, Call::Fork),
+    (120, Call::Clone),
+    (11, Call::Execve),
+    (1, Call::Exit),
+    (252, Call::ExitGroup),
+    (37, Call::Kill),
+    (20, Call::GetPid),
+    (224, Call::GetTid),
+    (64, Call::GetParent),
+    (354, Call::Seccomp),
+    (172, Call::Prctl),
+    (435, Call::Lacking),
+];
+
+/// The numbers of these calls on x32, with the bit that tells them from those of x86-64.
+pub(crate) const X32_NUMBERS: &[(u32, Call)] = &[
+    (0x4000_0039, Call::Fork),
+    (0x4000_003a, Call::Fork),
+    (0x4000_0038, Call::Clone),
+    (0x4000_0208, Call::Execve),
+    (0x4000_003c, Call::Exit),
+    (0x4000_00e7, Call::ExitGroup),
+    (0x4000_003e, Call::Kill),
+    (0x4000_0027, Call::GetPid),
+    (0x4000_00ba, Call::GetTid),
+    (0x4000_006e, Call::GetParent),
+    (0x4000_013d, Call::Seccomp),
+    (0x4000_009d, Call::Prctl),
+    (0x4000_01b3, Call::Lacking),
+];
+
+/// The numbers of these calls on ARM.
+pub(crate) const ARM_NUMBERS: &[(u32, Call)] = &[
+    (2, Call::Fork),
+    (190, Call::Fork),
+    (120, Call::Clone),
+    (11, Call::Execve),
+    (1, Call::Exit),
+    (248, Call::ExitGroup),
+    (37, Call::Kill),
+    (20, Call::GetPid),
+    (224, Call::GetTid),
+    (64, Call::GetParent),
+    (383, Call::Seccomp),
+    (172, Call::Prctl),
+    (435, Call::Lacking),
+];
+
 // The numbers of these calls on a machine.
 fn numbers_of(native: Arch) -> &'static [(u32, Call)]
     ensures { result.now ≡ numbers_in (table_of native) named_calls }
@@ -92,7 +143,10 @@ fn numbers_of(native: Arch) -> &'static [(u32, Call)]
         Arch::X86_64 => X86_64_NUMBERS,
         Arch::Aarch64 => AARCH64_NUMBERS,
         Arch::LinuxX86_64 => X86_64_NUMBERS,
+        Arch::LinuxX32 => X32_NUMBERS,
+        Arch::LinuxX86 => X86_NUMBERS,
         Arch::LinuxAarch64 => AARCH64_NUMBERS,
+        Arch::LinuxArm => ARM_NUMBERS,
     }
 }
 

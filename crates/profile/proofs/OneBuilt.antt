@@ -1,19 +1,18 @@
 -- What is built of the same parts is one profile.
-use Rattle.std.proofs.Common.{◌≡◌, ℕ, zero, suc, ◌≤◌, inl, inr, List, [], ◌∷◌, ◌++◌, length, refl, sym, ◌∙◌, ap, subst, arith}
+use Rattle.std.proofs.Common.{◌≡◌, ℕ, ◌≤◌, inl, inr, List, [], ◌∷◌, ◌++◌, length, refl, sym, ◌∙◌, ap, subst, arith}
 use Rattle.std.specs.Prelude.{Some, slice_get}
 use Rattle.std.specs.List.{Contains}
 use Rattle.std.proofs.lemmas.List.Elements.{All-contains}
 use Rattle.std.proofs.lemmas.Option.{slice_get_within, get_or_from_slice_get}
 use Rattle.call_tables.specs.declared.arch.Arch.{Arch}
-use Rattle.call_tables.specs.declared.arch.Family.{Family}
-use Rattle.call_tables.specs.declared.arch.Family.TheVariants.{Chosen, Whole}
-use Rattle.call_tables.specs.Arch.{x86_64_of, aarch64_of}
+use Rattle.call_tables.specs.Arch.{family_of}
 use Rattle.profile.specs.declared.rules.Rule.{Rule}
-use Rattle.profile.specs.Policy.{Policy, InOrder, InOrderOf, AreDifferent, most_rules}
+use Rattle.profile.specs.Machines.{in_order}
+use Rattle.profile.specs.Policy.{Policy, InOrder, AreDifferent, most_rules}
 use Rattle.profile.specs.Build.{KeepsOnce, IsBuiltOf, BuildingIsOne, AreTooMany}
 use Rattle.profile.specs.Build as build
 use Rattle.profile.proofs.KeptLaws.{kept_in, place_cases}
-use Rattle.profile.proofs.MachineLaws.{listed, family_in}
+use Rattle.profile.proofs.MachineLaws.{family_in, same_order}
 
 -- ---- rules
 
@@ -82,55 +81,15 @@ kept_differ _ _ (build.first rules kept x h new) i j rule at-i at-j =
 abbrev Within : List Arch → List Arch → Type 0
 Within xs ys = (a : Arch) → Contains xs a → Contains ys a
 
-only_x86_64 : (family : Family) → Contains (x86_64_of family ∷ []) (aarch64_of family) → ⊥
-only_x86_64 Chosen (zero, lt, at) = cc
-only_x86_64 Whole (zero, lt, at) = cc
-only_x86_64 family (suc k, lt, at) = omega (arith, lt)
-
-only_aarch64 : (family : Family) → Contains (aarch64_of family ∷ []) (x86_64_of family) → ⊥
-only_aarch64 Chosen (zero, lt, at) = cc
-only_aarch64 Whole (zero, lt, at) = cc
-only_aarch64 family (suc k, lt, at) = omega (arith, lt)
-
-first_in : (a : Arch) (more : List Arch) → Contains (a ∷ more) a
-first_in a more = (0, omega arith, refl)
-
-second_in : (family : Family) → Contains (x86_64_of family ∷ aarch64_of family ∷ []) (aarch64_of family)
-second_in family = (1, omega arith, refl)
-
-moved : (xs ys us vs : List Arch) → xs ≡ us → ys ≡ vs → Within xs ys → Within us vs
-moved xs ys us vs ex ey w a has = subst (λ zs. Contains zs a) ey (w a (subst (λ zs. Contains zs a) (sym ex) has))
-
--- machines of a family in order that list each other are the same
-module _ (family : Family) where
-  abbrev x : Arch
-  x = x86_64_of family
-
-  abbrev a : Arch
-  a = aarch64_of family
-
-  one_order_of : (xs ys : List Arch) → InOrderOf family xs → InOrderOf family ys → Within xs ys → Within ys xs → xs ≡ ys
-  one_order_of xs ys (inl e) (inl f) there back = e ∙ sym f
-  one_order_of xs ys (inl e) (inr (inl f)) there back = absurd (only_aarch64 family (moved xs ys _ _ e f there x (first_in x [])))
-  one_order_of xs ys (inl e) (inr (inr f)) there back = absurd (only_x86_64 family (moved ys xs _ _ f e back a (second_in family)))
-  one_order_of xs ys (inr (inl e)) (inl f) there back = absurd (only_x86_64 family (moved xs ys _ _ e f there a (first_in a [])))
-  one_order_of xs ys (inr (inl e)) (inr (inl f)) there back = e ∙ sym f
-  one_order_of xs ys (inr (inl e)) (inr (inr f)) there back =
-      absurd (only_aarch64 family (moved ys xs _ _ f e back x (first_in x (a ∷ []))))
-  one_order_of xs ys (inr (inr e)) (inl f) there back = absurd (only_x86_64 family (moved xs ys _ _ e f there a (second_in family)))
-  one_order_of xs ys (inr (inr e)) (inr (inl f)) there back =
-      absurd (only_aarch64 family (moved xs ys _ _ e f there x (first_in x (a ∷ []))))
-  one_order_of xs ys (inr (inr e)) (inr (inr f)) there back = e ∙ sym f
-
--- machines in order that list each other are of one family
-same_family : (f g : Family) (xs ys : List Arch) → InOrderOf f xs → InOrderOf g ys → Within xs ys → f ≡ g
-same_family f g xs ys p q there =
-    let some = listed f xs p in
-    sym (family_in f xs p some.0 some.1) ∙ family_in g ys q some.0 (there some.0 some.1)
-
+-- machines in order that list each other are of one family, and the same
 pub one_order : (xs ys : List Arch) → InOrder xs → InOrder ys → Within xs ys → Within ys xs → xs ≡ ys
-one_order xs ys (f, p) (g, q) there back =
-    one_order_of g xs ys (subst (λ family. InOrderOf family xs) (same_family f g xs ys p q there) p) q there back
+one_order [] [] p q there back = refl
+one_order [] (y ∷ ys) p q there back = let none = back y (0, omega arith, refl) in absurd (omega (arith, none.1))
+one_order (x ∷ xs) ys (f, p) (g, q) there back =
+    let first : Contains (x ∷ xs) x = (0, omega arith, refl) in
+    let of_f : family_of x ≡ f = All-contains (λ a. family_of a ≡ f) (x ∷ xs) x (family_in f (x ∷ xs) (x ∷ xs) p) first in
+    let of_g : family_of x ≡ g = All-contains (λ a. family_of a ≡ g) ys x (family_in g ys ys q) (there x first) in
+    p ∙ same_order f (x ∷ xs) ys there back ∙ ap (λ family. in_order family ys) (sym of_f ∙ of_g) ∙ sym q
 
 -- ---- profiles
 

@@ -1,12 +1,12 @@
 -- A clear profile says one word of a record: that of the first rule that matches.
-use Rattle.std.proofs.Common.{◌≡◌, ℕ, zero, suc, ◌<◌, ◌≤◌, ◌==◌, Bool, true, false, ◌⊎◌, inl, inr, List, [], ◌∷◌}
-use Rattle.std.proofs.Common.{Some, None, length, bit_and, refl, sym, ◌∙◌, subst, arith}
+use Rattle.std.proofs.Common.{◌≡◌, ℕ, suc, ◌≤◌, ◌==◌, Bool, true, false, ◌⊎◌, inl, inr, List, [], ◌∷◌}
+use Rattle.std.proofs.Common.{Some, None, bit_and, refl, sym, ◌∙◌, subst, arith}
 use Rattle.std.specs.Bool.{Decides}
-use Rattle.std.specs.List.{All, Any, Contains, HoldsAt, find, list_all, list_any}
+use Rattle.std.specs.List.{All, Contains, find, list_all}
 use Rattle.std.specs.Prelude.{nat_le}
 use Rattle.std.proofs.lemmas.Bool.Decides.{Decides-eqb, Decides-ltb, Decides-not, Decides-and}
-use Rattle.std.proofs.lemmas.Bool.Decides.{Decides-by_and, Decides-by_or, Decides-like, not_from_Decides, nat_tests}
-use Rattle.std.proofs.lemmas.List.Elements.{All-nil, All-cons, All-contains, All-weaker, at_read}
+use Rattle.std.proofs.lemmas.Bool.Decides.{Decides-by_and, Decides-like, not_from_Decides, nat_tests}
+use Rattle.std.proofs.lemmas.List.Elements.{All-nil, All-cons, All-contains, All-weaker}
 use Rattle.std.proofs.lemmas.Bool.{cases_Bool}
 use Rattle.call_record.specs.Words.{IsRecord, word, argument}
 use Rattle.call_tables.specs.declared.arch.Arch.{Arch}
@@ -21,6 +21,7 @@ use Rattle.profile.specs.Condition.{Meets}
 use Rattle.profile.specs.Rule.{Matches}
 use Rattle.profile.specs.Policy.{Policy, IsNative, IsClear, Says}
 use Rattle.profile.specs.Said as spec
+use Rattle.profile.proofs.MachineLaws.{Decides-any}
 
 Decides-leb : (a b : ℕ) → Decides (nat_le a b) (a ≤ b)
 Decides-leb a b = (λ h. grind (arith, nat_tests), λ h. grind (arith, nat_tests))
@@ -46,24 +47,7 @@ Decides-matches rule r =
     let all = Decides-and _ _ (Decides-and _ _ machine number) conditions in
     Decides-like _ (λ (h, hold). record { machine = h.0; number = h.1; conditions = hold }) (λ m. ((m.machine, m.number), m.conditions)) all
 
--- what holds at a place holds of some element
-any_at : {X : Type 0} (P : X → Type 0) (xs : List X) (k : ℕ) → k < length xs → HoldsAt P xs k → Any P xs
-any_at P [] k lt h = absurd (omega arith)
-any_at P (x ∷ xs) zero lt h = (0, x, omega arith, refl, h x)
-any_at P (x ∷ xs) (suc k) lt h =
-    let rest : Any P xs = any_at P xs k (omega arith) h in
-    (suc rest.0, rest.1, omega (arith, rest.2), rest.3, rest.4)
-
-at_any : {X : Type 0} (P : X → Type 0) (xs : List X) → Any P xs → (k : ℕ) × (k < length xs) × HoldsAt P xs k
-at_any P xs (k, x, lt, at, h) = (k, lt, at_read xs P k x lt (sym at) h)
-
-Decides-any : {X : Type 0} (t : X → Bool) (T : X → Type 0) → ((x : X) → Decides (t x) (T x)) → (xs : List X)
-    → Decides (list_any t xs) (Any T xs)
-Decides-any t T each xs =
-    Decides-like (list_any t xs) (λ (k, lt, h). any_at T xs k lt h) (at_any T xs)
-    (Decides-by_or t T (list_any t) each refl (λ _ _. refl) xs)
-
-Decides-has_call : (token nr : ℕ) (arch : Arch) → Decides (has_call token nr arch) (HasCall token nr arch)
+pub Decides-has_call : (token nr : ℕ) (arch : Arch) → Decides (has_call token nr arch) (HasCall token nr arch)
 Decides-has_call token nr arch =
     Decides-and _ _ (Decides-eqb (token_of arch) token)
     (Decides-any (is_within nr) (IsWithin nr)

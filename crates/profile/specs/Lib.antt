@@ -1,6 +1,7 @@
 pub mod Operator
 pub mod Condition
 pub mod Rule
+pub mod Machines
 pub mod Policy
 pub mod Said
 pub mod Build

@@ -1,13 +1,13 @@
 -- A profile as contracts see it, what each one is, and the word that it says of a record (OCI Runtime
 -- Specification, config-linux, Seccomp; seccomp(2)).
-use Rattle.std.specs.Prelude.{◌≡◌, ◌≤◌, ◌⊎◌, ℕ, List, [], ◌∷◌, length, Some, slice_get}
+use Rattle.std.specs.Prelude.{◌≡◌, ◌≤◌, ℕ, List, length, Some, slice_get}
 use Rattle.std.specs.List.{All, Any, Contains}
 use Rattle.call_record.specs.Words.{IsRecord, word}
 use Rattle.call_tables.specs.declared.arch.Arch.{Arch}
 use Rattle.call_tables.specs.declared.arch.Family.{Family}
-use Rattle.call_tables.specs.Arch.{x86_64_of, aarch64_of}
 use Rattle.call_tables.specs.Numbers.{HasCall}
 use Rattle.profile.specs.declared.rules.Rule.{Rule}
+use Rattle.profile.specs.Machines.{in_order}
 use Rattle.profile.specs.Rule.{Matches}
 
 pub record Policy : Type 0 where
@@ -31,13 +31,8 @@ pub record Says (p : Policy) (r : List ℕ) (v : ℕ) : Type 0 where
 -- ---- what each profile is
 
 -- machines of one family, each once, x86-64 first
-abbrev pub InOrderOf : Family → List Arch → Type 0
-InOrderOf family machines =
-    (machines ≡ x86_64_of family ∷ [])
-    ⊎ ((machines ≡ aarch64_of family ∷ []) ⊎ (machines ≡ x86_64_of family ∷ aarch64_of family ∷ []))
-
 abbrev pub InOrder : List Arch → Type 0
-InOrder machines = (family : Family) × InOrderOf family machines
+InOrder machines = (family : Family) × (machines ≡ in_order family machines)
 
 -- a rule stands at one place
 abbrev pub AreDifferent : List Rule → Type 0

@@ -1,31 +1,29 @@
 //! Which machines are listed.
-ghost use Rattle.std.specs.Prelude.{◌↔◌, IsTrue, IfSome, IfNone, All, Any, Contains};
-ghost use Rattle.std.specs.Prelude.{◌≡◌};
-ghost use Rattle.call_tables.specs.declared.arch.Arch.{Arch};
-ghost use Rattle.call_tables.specs.Arch.{family_of, AreOfFamily};
-ghost use Rattle.call_tables.specs.Numbers.{HasCall};
-ghost use Rattle.profile.specs.Policy.{InOrder};
+ghost use Rattle.std.specs.Prelude.{◌≡◌, ◌↔◌, IsTrue, IfSome, IfNone, All, Any, Contains};
+ghost use Rattle.std.specs.List.{list_any};
+ghost use Rattle.call_tables.specs.Arch.{family_of, same_arch, same_family, AreOfFamily};
+ghost use Rattle.call_tables.specs.Numbers.{HasCall, foreign_numbers, shares_token};
+ghost use Rattle.profile.specs.Machines.{in_order};
 ghost use Rattle.profile.specs.Build.{AreListed, IsFirstForeign};
 
 use crate::rules::Rule;
-use call_tables::{Arch, Family};
+use arrayvec::ArrayVec;
+use call_tables::{Arch, Family, Numbers};
+
+/// How many machines a family has at most.
+pub const MACHINES: usize = 5;
 
 /// The listed machines, of one family, each once, x86-64 first.
-pub fn in_order(family: Family, archs: &[Arch]) -> &'static [Arch]
-    requires some { (arch : Arch) × Contains archs.now arch }
-    requires of_family { AreOfFamily family archs.now }
-    ensures ordered { InOrder result.now }
-    ensures listed { (arch : Arch) → Contains result.now arch → Contains archs.now arch }
-    ensures all { All (Contains result.now) archs.now }
+pub fn in_order(family: Family, archs: &[Arch]) -> ArrayVec<Arch, MACHINES>
+    ensures { result.items ≡ in_order family archs.now }
 {
-    let both = family.machines();
-    if !lists(archs, family.x86_64()) {
-        return &both[1..];
+    let mut listed = ArrayVec::new();
+    for arch in family.machines() {
+        if lists(archs, *arch) {
+            listed.push(*arch);
+        }
     }
-    if !lists(archs, family.aarch64()) {
-        return &both[..1];
-    }
-    both
+    listed
 }
 
 /// Whether a call with this token and this number is one of these machines': the token is a machine's, and the number
@@ -43,6 +41,49 @@ fn has_call(arch: Arch, token: u32, number: u32) -> bool
         return false;
     }
     arch.has_number(number)
+}
+
+// Whether two machines are the same one.
+fn same_arch(a: Arch, b: Arch) -> bool
+    ensures { result ≡ same_arch a b }
+{
+    a == b
+}
+
+fn same_family(a: Family, b: Family) -> bool
+    ensures { result ≡ same_family a b }
+{
+    a == b
+}
+
+// Whether the other one is another machine of the family with the same token.
+fn shares_token(arch: Arch, other: Arch) -> bool
+    ensures { result ≡ shares_token arch other }
+{
+    if same_arch(other, arch) {
+        return false;
+    }
+    if !same_family(other.family(), arch.family()) {
+        return false;
+    }
+    other.token() == arch.token()
+}
+
+// Whether one of these machines does.
+fn is_shared_in(machines: &[Arch], arch: Arch) -> bool
+    ensures { result ≡ list_any (shares_token arch) machines.now }
+{
+    machines.iter().any(|other| shares_token(arch, *other))
+}
+
+/// The numbers of calls with a listed machine's token that are foreign to the listed machines, in order.
+pub fn foreign_numbers(machines: &[Arch], arch: Arch) -> &'static [Numbers]
+    ensures { result.now ≡ foreign_numbers machines.now arch }
+{
+    if is_shared_in(machines, arch) {
+        return &[];
+    }
+    arch.other_numbers()
 }
 
 /// Whether all machines are of the family.

@@ -7,8 +7,9 @@ use crate::clashes::first_clash;
 use crate::distinct::{Kept, keep_once};
 use crate::fault::BuildError;
 use crate::index::Index;
-use crate::machines::{are_for, are_of_family, first_foreign, in_order, lists};
+use crate::machines::{MACHINES, are_for, are_of_family, first_foreign, in_order, lists};
 use crate::rules::Rule;
+use arrayvec::ArrayVec;
 use call_record::{Record, Word};
 use call_tables::Arch;
 use std::alloc::Global;
@@ -18,7 +19,7 @@ use std::marker::Model;
 #[derive(Drop)]
 pub struct Profile {
     native: Arch,
-    machines: &'static [Arch],
+    machines: ArrayVec<Arch, MACHINES>,
     default_word: Word,
     rules: Vec<Rule>,
     index: Index,
@@ -32,14 +33,14 @@ impl Model for Profile {
 
     ghost view = { λ p. record {
       native = p.native;
-      machines = p.machines.now;
+      machines = p.machines.items;
       default_word = p.default_word;
       rules = p.rules.items;
     } };
 
     ghost invariant = { λ p. IsProfile (record {
       native = p.native;
-      machines = p.machines.now;
+      machines = p.machines.items;
       default_word = p.default_word;
       rules = p.rules.items;
     }) × IsIndexOf p.rules.items p.index };
@@ -67,10 +68,11 @@ impl Profile {
         ensures ok { IfOk result (IsBuiltOf native archs.now default_word rules.items) }
         ensures err { IfErr result (IsFirstCause native archs.now rules.items) }
     {
+        let family = native.family();
         if !lists(archs, native) {
             return Err(BuildError::NativeMissing);
         }
-        if !are_of_family(native.family(), archs) {
+        if !are_of_family(family, archs) {
             return Err(BuildError::MixedFamilies);
         }
         if let Some(place) = first_foreign(archs, &rules) {
@@ -86,7 +88,7 @@ impl Profile {
         }
         Ok(Profile {
             native,
-            machines: in_order(native.family(), archs),
+            machines: in_order(family, archs),
             default_word,
             rules,
             index,
@@ -105,7 +107,7 @@ impl Profile {
         ensures machines { result.now ≡ self.now.machines }
         ensures is_profile { IsProfile self.now }
     {
-        self.machines
+        self.machines.as_slice()
     }
 
     /// The word of a record that no rule matches.
@@ -145,7 +147,7 @@ impl Profile {
     fn is_native(&self, call: &Record) -> bool
         ensures { IsTrue result ↔ IsNative self.now (words call.now) }
     {
-        are_for(self.machines, call.arch, call.nr)
+        are_for(self.machines.as_slice(), call.arch, call.nr)
     }
 }
 

@@ -21,7 +21,8 @@ use Rattle.profile_json.specs.Fault.{repeated_index, stray_datum, overlap, unsup
 use Rattle.profile_json.specs.Parts.{EntryParts, rule_parts}
 use Rattle.profile_json.specs.Lookup.{Member, missing, other_type, holds, member, or_default, object, text, whole, list}
 use Rattle.profile_json.specs.Names.{editions, action_named, takes_data, op_named, arch_named, is_known, most_entries, most_names}
-use Rattle.profile_json.specs.Rules.{in_order, rules_under, rules_of}
+use Rattle.profile.specs.Machines.{in_order}
+use Rattle.profile_json.specs.Rules.{rules_under, rules_of}
 use Rattle.profile_json.specs.CallName.{short_name}
 use Rattle.profile_json.specs.Meaning.{IsText, IsSeccomp, NamesAction, ListsArchs, EntryMeans, EntriesMean}
 
@@ -124,11 +125,11 @@ pub data EntriesBreak (s : Data) (native : Arch) : Fault → Type 0 where
       → EntryBreaks (family_of native) d f → EntriesBreak s native f
   many_rules : (archs : List Arch) (entries : List EntryParts) (said kept : List Rule) → ListsArchs s native archs
       → EntriesMean (family_of native) s entries
-      → map rule_parts said ≡ rules_of (in_order archs) entries → KeepsOnce said kept → most_rules < length kept
+      → map rule_parts said ≡ rules_of (in_order (family_of native) archs) entries → KeepsOnce said kept → most_rules < length kept
       → EntriesBreak s native too_many
   overlapping : (archs : List Arch) (ds : List Data) (i j : ℕ) (d e : Data) (x y : EntryParts) (name : List ℕ) → ListsArchs s native archs
       → or_default [] (member list key.syscalls s) ≡ Some ds → i < j → slice_get ds i ≡ Some d → slice_get ds j ≡ Some e
-      → EntryMeans (family_of native) d x → EntryMeans (family_of native) e y → ClashUnder (in_order archs) x y name
+      → EntryMeans (family_of native) d x → EntryMeans (family_of native) e y → ClashUnder (in_order (family_of native) archs) x y name
       → EntriesBreak s native (overlap (short_name name) i j)
 
 -- the rules that the object under linux.seccomp breaks

@@ -5,7 +5,8 @@ use Rattle.call_tables.specs.declared.arch.Arch.{Arch}
 use Rattle.call_tables.specs.Arch.{family_of}
 use Rattle.profile.specs.declared.rules.Rule.{Rule}
 use Rattle.profile_json.specs.Parts.{EntryParts, rule_parts}
-use Rattle.profile_json.specs.Rules.{in_order, rules_of, ends_after}
+use Rattle.profile.specs.Machines.{in_order}
+use Rattle.profile_json.specs.Rules.{rules_of, ends_after}
 use Rattle.profile_json.specs.Meaning.{IsText, RootMeans, ListsArchs, EntriesMean}
 
 -- the rules that the entries of a text say on its machines, and for each entry how many there are up to its end
@@ -18,8 +19,8 @@ pub record AreRulesOf (native : Arch) (bytes : List ℕ) (rules : List Rule) (en
   pub lists_archs : ListsArchs seccomp native archs
   pub entries : List EntryParts
   pub entries_are : EntriesMean (family_of native) seccomp entries
-  pub rules_are : map rule_parts rules ≡ rules_of (in_order archs) entries
-  pub ends_are : ends ≡ ends_after 0 (in_order archs) entries
+  pub rules_are : map rule_parts rules ≡ rules_of (in_order (family_of native) archs) entries
+  pub ends_are : ends ≡ ends_after 0 (in_order (family_of native) archs) entries
 
 -- the rule at this place is one of the entry at that place, both counted from 0
 abbrev pub IsOfEntry : List ℕ → ℕ → ℕ → Type 0

@@ -16,7 +16,8 @@ use Rattle.profile_json.specs.Keys as key
 use Rattle.profile_json.specs.Parts.{CondParts, EntryParts, rule_parts}
 use Rattle.profile_json.specs.Lookup.{missing, holds, member, or_default, object, text, whole, list}
 use Rattle.profile_json.specs.Names.{editions, action_named, takes_data, word_of, op_named, arch_named, is_known, most_entries, most_names}
-use Rattle.profile_json.specs.Rules.{or_native, in_order, rules_of}
+use Rattle.profile.specs.Machines.{in_order}
+use Rattle.profile_json.specs.Rules.{or_native, rules_of}
 
 -- the text of these bytes is the value t
 abbrev pub IsText : List ℕ → Data → Type 0
@@ -118,7 +119,7 @@ pub record CallsMean (s : Data) (native : Arch) (p : Policy) : Type 0 where
   pub lists_archs : ListsArchs s native archs
   pub native_is : p.native ≡ native
   pub native_listed : Contains archs native
-  pub machines_are : p.machines ≡ in_order archs
+  pub machines_are : p.machines ≡ in_order (family_of native) archs
   pub entries : List EntryParts
   pub entries_are : EntriesMean (family_of native) s entries
   -- one rule for each entry, name and listed machine that has the name

@@ -1,11 +1,12 @@
 -- What the names of actions, operators, machines and calls stand for (OCI Runtime Specification 1.0.2, config-linux, Seccomp).
-use Rattle.std.specs.Prelude.{codes, ℕ, ◌+◌, List, [], ◌∷◌, Bool, true, false, ◌||◌, Option, Some, None, is_some, if◌then◌else◌}
+use Rattle.std.specs.Prelude.{codes, ℕ, ◌+◌, List, [], ◌∷◌, find, Bool, true, false, Option, Some, None, is_some, if◌then◌else◌}
+use Rattle.std.specs.List.{list_any}
 use Rattle.std.specs.Str.{bytes_eq}
 use Rattle.call_record.specs.Verdict as verdict
 use Rattle.call_tables.specs.declared.arch.Arch.{Arch}
 use Rattle.call_tables.specs.declared.arch.Family.{Family}
 use Rattle.call_tables.specs.declared.arch.Family.TheVariants.{Chosen, Whole}
-use Rattle.call_tables.specs.Arch.{scmp_of, table_of, x86_64_of, aarch64_of}
+use Rattle.call_tables.specs.Arch.{scmp_of, table_of, machines_of}
 use Rattle.call_tables.specs.Table.{number_in}
 use Rattle.profile.specs.declared.conditions.Op.{Op}
 use Rattle.profile.specs.declared.conditions.Op.TheVariants as op
@@ -67,13 +68,11 @@ op_named = named (
 
 -- the member of the native machine's family
 unfoldable pub arch_named : Family → List ℕ → Option Arch
-arch_named family =
-    named ((scmp_of (x86_64_of family), x86_64_of family) ∷ (scmp_of (aarch64_of family), aarch64_of family) ∷ [])
+arch_named family name = find (λ arch. bytes_eq name (scmp_of arch)) (machines_of family)
 
 -- the call stands in the table of some machine of the family, listed or not
 abbrev pub is_known : Family → List ℕ → Bool
-is_known family name =
-    is_some (number_in (table_of (x86_64_of family)) name) || is_some (number_in (table_of (aarch64_of family)) name)
+is_known family name = list_any (λ arch. is_some (number_in (table_of arch) name)) (machines_of family)
 
 -- how many entries a bundle may have
 abbrev pub most_entries : Family → ℕ

@@ -1,30 +1,15 @@
 -- The rules that entries say on the listed machines.
-use Rattle.std.specs.Prelude.{ℕ, ◌+◌, ◌==◌, List, [], ◌∷◌, length, filter, Bool, option_map}
-use Rattle.std.specs.List.{list_any, filter_map, flat_map}
+use Rattle.std.specs.Prelude.{ℕ, ◌+◌, List, [], ◌∷◌, length, option_map}
+use Rattle.std.specs.List.{filter_map, flat_map}
 use Rattle.call_tables.specs.declared.arch.Arch.{Arch}
-use Rattle.call_tables.specs.declared.arch.Arch.TheVariants.{X86_64, Aarch64, LinuxX86_64, LinuxAarch64}
 use Rattle.call_tables.specs.Arch.{table_of}
 use Rattle.call_tables.specs.Table.{number_in}
 use Rattle.profile_json.specs.Parts.{EntryParts, RuleParts}
-
--- a machine's place among all
-abbrev pub place_of : Arch → ℕ
-place_of X86_64 = 0
-place_of Aarch64 = 1
-place_of LinuxX86_64 = 2
-place_of LinuxAarch64 = 3
-
-abbrev pub same_arch : Arch → Arch → Bool
-same_arch a b = place_of a == place_of b
 
 -- no machine listed means the native one
 abbrev pub or_native : Arch → List Arch → List Arch
 or_native native [] = native ∷ []
 or_native native (a ∷ more) = a ∷ more
-
--- each listed machine once, x86-64 first
-abbrev pub in_order : List Arch → List Arch
-in_order archs = filter (λ a. list_any (same_arch a) archs) (X86_64 ∷ Aarch64 ∷ LinuxX86_64 ∷ LinuxAarch64 ∷ [])
 
 abbrev pub rule_of : EntryParts → Arch → ℕ → RuleParts
 rule_of e arch nr = record { arch = arch; nr = nr; conds = e.conds; word = e.word }

@@ -3,19 +3,18 @@ ghost use Rattle.std.specs.Prelude.{◌≡◌, true, IfOk, IfErr, IfSome};
 ghost use Rattle.std.specs.List.{list_any};
 ghost use Rattle.serde_json.specs.Data.{Data};
 ghost use Rattle.serde_json.specs.View.{view};
-ghost use Rattle.call_tables.specs.Arch.{family_of, AreOfFamily};
+ghost use Rattle.call_tables.specs.Arch.{family_of, same_arch, AreOfFamily};
 ghost use Rattle.profile_json.specs.Breaks.{Breaks};
 ghost use Rattle.profile_json.specs.Fault.{fault_of};
 ghost use Rattle.profile_json.specs.inner.Making.{IsMade, IsNotMade};
 ghost use Rattle.profile_json.specs.Meaning.{IsText, Means};
 ghost use Rattle.profile_json.specs.inner.Outcome.{GivesWithMemory};
 ghost use Rattle.profile_json.specs.inner.Reading as spec;
-ghost use Rattle.profile_json.specs.Rules.{same_arch};
 ghost use Rattle.profile_json.specs.inner.View.{said_parts};
 
 use crate::action::default_of;
 use crate::fault::ProfileError;
-use crate::machines::{archs_of, machines_of};
+use crate::machines::archs_of;
 use crate::overlaps::overlap_of;
 use crate::refused::refuse_keys;
 use crate::root::root_of;
@@ -23,7 +22,7 @@ use crate::rules::{Rules, rules_of};
 use crate::said::Said;
 use crate::syscalls::entries_of;
 use call_tables::Arch;
-use profile::{BuildError, Profile};
+use profile::{BuildError, Profile, in_order};
 use serde_json::Value;
 use std::alloc::Global;
 
@@ -74,9 +73,10 @@ fn profile_of(alloc: Global, said: &Said, native: Arch) -> Result<Profile, Profi
     requires native_listed { list_any (same_arch native) said.now.archs.items ≡ true }
     requires of_family { AreOfFamily (family_of native) said.now.archs.items }
     ensures ok { IfOk result (IsMade (said_parts said.now) native) }
-    ensures err { IfErr result (λ e. IfSome (fault_of e) (IsNotMade (said_parts said.now))) }
+    ensures err { IfErr result (λ e. IfSome (fault_of e) (IsNotMade (said_parts said.now) native)) }
 {
-    let machines = machines_of(native.family(), &said.archs);
+    let listed = in_order(native.family(), &said.archs);
+    let machines = listed.as_slice();
     let Rules { list, ends } = rules_of(alloc, &said.entries, machines)?;
     match Profile::build(alloc, native, machines, said.default_word, list) {
         Ok(profile) => Ok(profile),

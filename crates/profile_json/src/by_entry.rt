@@ -4,11 +4,10 @@ ghost use Rattle.profile_json.specs.ByEntry.{AreRulesOf};
 
 use crate::bundle::{said_of, value_of};
 use crate::fault::ProfileError;
-use crate::machines::machines_of;
 use crate::root::root_of;
 use crate::rules::rules_of;
 use call_tables::Arch;
-use profile::Rule;
+use profile::{Rule, in_order};
 use std::alloc::Global;
 
 /// The rules that a bundle says, in the order of its entries; an equal one may stand there again.
@@ -37,8 +36,8 @@ pub fn rules_by_entry(alloc: Global, text: &[u8], native: Arch) -> Result<EntryR
     let value = value_of(alloc, text, native)?;
     let seccomp = root_of(&value)?;
     let said = said_of(alloc, seccomp, native)?;
-    let machines = machines_of(native.family(), &said.archs);
-    let all = rules_of(alloc, &said.entries, machines)?;
+    let machines = in_order(native.family(), &said.archs);
+    let all = rules_of(alloc, &said.entries, machines.as_slice())?;
     Ok(EntryRules {
         rules: all.list,
         ends: all.ends,

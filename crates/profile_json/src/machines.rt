@@ -1,12 +1,9 @@
 //! The machines that a bundle lists.
-ghost use Rattle.std.specs.Prelude.{◌≡◌, map, true, IfOk, All, Contains};
+ghost use Rattle.std.specs.Prelude.{◌≡◌, map, true, IfOk};
 ghost use Rattle.std.specs.List.{list_any};
 ghost use Rattle.serde_json.specs.View.{view};
-ghost use Rattle.call_tables.specs.declared.arch.Arch.{Arch};
-ghost use Rattle.call_tables.specs.Arch.{AreOfFamily};
-ghost use Rattle.profile.specs.Policy.{InOrder};
+ghost use Rattle.call_tables.specs.Arch.{same_arch};
 ghost use Rattle.profile_json.specs.Names as names;
-ghost use Rattle.profile_json.specs.Rules.{same_arch, in_order};
 ghost use Rattle.profile_json.specs.inner.Outcome.{Gives, GivesWithMemory};
 ghost use Rattle.profile_json.specs.inner.Reading as spec;
 
@@ -14,7 +11,6 @@ use crate::fault::ProfileError;
 use crate::key::ARCHITECTURES;
 use crate::lookup::{list_or_empty, text_of};
 use call_tables::{Arch, Family};
-use profile::in_order;
 use serde_json::Value;
 use std::alloc::Global;
 
@@ -23,13 +19,11 @@ use std::alloc::Global;
 fn arch_named(family: Family, name: &str) -> Option<Arch>
     ensures { result ≡ names.arch_named family name.now }
 {
-    if name == family.x86_64().scmp() {
-        Some(family.x86_64())
-    } else if name == family.aarch64().scmp() {
-        Some(family.aarch64())
-    } else {
-        None
-    }
+    family
+        .machines()
+        .iter()
+        .copied()
+        .find(|arch| name == arch.scmp())
 }
 
 #[tactic(auto, unfolding(crate::specs::inner::Reading::arch_of))]
@@ -91,16 +85,4 @@ pub(crate) fn archs_of(
     } else {
         Err(ProfileError::NativeMissing)
     }
-}
-
-/// The listed machines, of one family, each once, x86-64 first.
-pub(crate) fn machines_of(family: Family, archs: &[Arch]) -> &'static [Arch]
-    requires some { (arch : Arch) × (list_any (same_arch arch) archs.now ≡ true) }
-    requires of_family { AreOfFamily family archs.now }
-    ensures machines { result.now ≡ in_order archs.now }
-    ensures ordered { InOrder result.now }
-    ensures all { All (Contains result.now) archs.now }
-    ensures of_family { AreOfFamily family result.now }
-{
-    in_order(family, archs)
 }

@@ -10,7 +10,10 @@ use call_tables::Family;
 pub(crate) fn is_known(family: Family, name: &str) -> bool
     ensures { result ≡ names.is_known family name.now }
 {
-    family.x86_64().number(name).is_some() || family.aarch64().number(name).is_some()
+    family
+        .machines()
+        .iter()
+        .any(|arch| arch.number(name).is_some())
 }
 
 /// The longest beginning of a name with at most 64 bytes and whole characters.

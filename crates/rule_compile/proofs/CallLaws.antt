@@ -1,11 +1,13 @@
 -- Code that answers all calls: from what it is written of.
-use Rattle.std.proofs.Common.{◌≡◌, ℕ, zero, suc, ◌+◌, ◌*◌, ◌%◌, ◌<◌, ◌≤◌, ◌^◌, ◌⊎◌, true, false, List, [], ◌∷◌, length, refl, ap}
+use Rattle.std.proofs.Common.{◌≡◌, ℕ, zero, suc, ◌==◌, ◌+◌, ◌*◌, ◌%◌, ◌<◌, ◌≤◌, ◌^◌, ◌⊎◌, true, false, List, [], ◌∷◌, length, refl, ap}
 use Rattle.std.proofs.Common.{sym, ◌∙◌, subst, arith, inl, inr}
 use Rattle.std.specs.Prelude.{Option, Some, None, slice_index_or, Result, Ok, Err, IfOk, OnOk}
 use Rattle.std.specs.List.{All, Contains}
 use Rattle.std.proofs.lemmas.Option.{same_Some}
 use Rattle.std.proofs.lemmas.List.Elements.{All-contains_itself, All-tail, All-weaker}
 use Rattle.std.proofs.lemmas.Bool.{cases_eq, eq-eqb, ne_eqb}
+use Rattle.std.proofs.lemmas.Bool.Decides.{Decides-eqb}
+use Rattle.std.proofs.lemmas.List.Folds.{Any-from_list_any}
 use Rattle.bpf_insn.specs.declared.code.Test.TheVariants.{Equal}
 use Rattle.bpf_insn.specs.declared.code.Operation.TheVariants.{LoadWord}
 use Rattle.bpf_insn.specs.declared.instruction.Insn.{Insn}
@@ -23,7 +25,7 @@ use Rattle.rule_compile.specs.declared.label.Exits.{Exits}
 use Rattle.rule_compile.specs.declared.ranges.Leaf.TheVariants.{Word}
 use Rattle.rule_compile.specs.declared.ranges.Range.{Range}
 use Rattle.rule_compile.specs.Moves.{move_at}
-use Rattle.rule_compile.specs.Shape.{IsCallFilter, IsPlain, answer, answer_by, call, depth, depth_by, weight, weight_by}
+use Rattle.rule_compile.specs.Shape.{IsCallFilter, IsPlain, answer, answer_by, call, depth, depth_by, has_token, tokens, weight, weight_by}
 use Rattle.rule_compile.specs.inner.Calls.{AnswersMachine, AnswersThese, Apart, CallsOf, IsOneOf}
 use Rattle.rule_compile.specs.inner.Code.{Grows, IsStart, IsTarget, insn_of, position}
 use Rattle.rule_compile.specs.inner.Emitted.{AreFine, loads}
@@ -181,8 +183,51 @@ apart_none p count code same = record {
   };
 }
 
+-- the token of a machine is one of the others', or it is one more
+one_token : (a : Arch) (archs : List Arch) → has_token (token_of a) archs ≡ true → tokens (a ∷ archs) ≡ tokens archs
+one_token a archs shared = rw shared refl
+
+more_tokens : (a : Arch) (archs : List Arch) → has_token (token_of a) archs ≡ false → tokens (a ∷ archs) ≡ tokens archs + 1
+more_tokens a archs new = rw new (omega arith)
+
+any_one_of : (archs : List Arch) (t k : ℕ) (a : Arch) → k < length archs → slice_index_or archs k a ≡ a → t ≡ token_of a → IsOneOf archs t
+any_one_of [] t k a within at is = absurd (omega (arith, within))
+any_one_of (x ∷ archs) t zero a within at is = inl (ap token_of at ∙ sym is)
+any_one_of (x ∷ archs) t (suc k) a within at is = inr (any_one_of archs t k a (omega (arith, within)) at is)
+
+pub shared_token : (archs : List Arch) (t : ℕ) → has_token t archs ≡ true → IsOneOf archs t
+shared_token archs t shared =
+    let at = Any-from_list_any (λ other. token_of other == t) archs shared in
+    any_one_of archs t at.0 at.1 at.2 at.3 (sym ((Decides-eqb (token_of at.1) t).0 at.4))
+
+-- where another machine has the token, its calls are told there
+pub apart_shared : (p : Policy) (a : Arch) (archs : List Arch) (count : ℕ) (old mid : List Insn) (to : Target)
+    → has_token (token_of a) archs ≡ true → Apart p archs count old mid to → Apart p (a ∷ archs) count old mid to
+apart_shared p a archs count old mid to shared rest = record {
+  grows = rest.grows;
+  placed = rest.placed;
+  told = λ plain none_yet all.
+      let others = rest.told plain none_yet (All-tail (IsListed p) a archs all) in
+      let same = one_token a archs shared in
+      record {
+        listed = λ t u small one. elim one [
+          | inl e ↦ others.listed t u small (subst (IsOneOf archs) e (shared_token archs (token_of a) shared))
+          | inr other ↦ others.listed t u small other
+        ];
+        foreign = λ t u none. others.foreign t u (λ other. none (inr other));
+        short = omega (arith, same, others.short);
+        light = omega (arith, same, others.light);
+        shallow = omega (arith, same, others.shallow);
+        fine = others.fine;
+        front = others.front;
+      };
+}
+
 module _ (p : Policy) (a : Arch) (archs : List Arch) (count : ℕ) (old mid top : List Insn) (listed : (archs : List Arch)
-    → All (IsListed p) (a ∷ archs) → IsListed p a) where
+    → All (IsListed p) (a ∷ archs) → IsListed p a) (new_token : has_token (token_of a) archs ≡ false) where
+  one_more : tokens (a ∷ archs) ≡ tokens archs + 1
+  one_more = more_tokens a archs new_token
+
   pub apart_skip : (below own_to : Target) → Apart p archs count old mid below → CallsOf p a count mid top own_to
       → own_to ≡ Return 0 → Apart p (a ∷ archs) count old top below
   apart_skip below own_to rest calls is = record {
@@ -205,9 +250,9 @@ module _ (p : Policy) (a : Arch) (archs : List Arch) (count : ℕ) (old mid top 
             ]
           ];
           foreign = λ t u none. still t u ∙ others.foreign t u (λ other. none (inr other));
-          short = omega (arith, ap length same, others.short);
-          light = omega (arith, ap (λ code. cost code below) same, others.light);
-          shallow = omega (arith, ap (λ code. deep code below) same, others.shallow);
+          short = omega (arith, ap length same, one_more, others.short);
+          light = omega (arith, ap (λ code. cost code below) same, one_more, others.light);
+          shallow = omega (arith, ap (λ code. deep code below) same, one_more, others.shallow);
           fine = λ fine. subst AreFine (sym same) (others.fine fine);
           front = subst (λ code. IsAtFront old code below) (sym same) others.front;
         };
@@ -247,26 +292,15 @@ module _ (p : Policy) (a : Arch) (archs : List Arch) (count : ℕ) (old mid top 
               ]
             ];
             foreign = λ t u none. other_goes t u (λ e. none (inl e)) ∙ others.foreign t u (λ other. none (inr other));
-            short = omega (arith, b.short, own.short, others.short);
-            light = omega (arith, light, same_cost, own.light, others.light);
-            shallow = omega (arith, shallow, same_deep, own.shallow, others.shallow);
+            short = omega (arith, b.short, own.short, one_more, others.short);
+            light = omega (arith, light, same_cost, own.light, one_more, others.light);
+            shallow = omega (arith, shallow, same_deep, own.shallow, one_more, others.shallow);
             fine = λ fine. b.fine (own.fine (others.fine fine));
             front = start;
           };
     }
 
 -- ---- the whole
-
-any_one_of : (archs : List Arch) (t k : ℕ) (a : Arch) → k < length archs → slice_index_or archs k a ≡ a → t ≡ token_of a → IsOneOf archs t
-any_one_of [] t k a within at is = absurd (omega (arith, within))
-any_one_of (x ∷ archs) t zero a within at is = inl (ap token_of at ∙ sym is)
-any_one_of (x ∷ archs) t (suc k) a within at is = inr (any_one_of archs t k a (omega (arith, within)) at is)
-
-pub few_machines : (machines : List Arch) → InOrder machines → length machines ≤ 2
-few_machines machines order = elim order.1 [
-  | inl one ↦ omega (arith, ap length one)
-  | inr more ↦ elim more [ inl one ↦ omega (arith, ap length one) | inr two ↦ omega (arith, ap length two) ]
-]
 
 -- each machine of a profile is listed
 pub each_listed : (p : Policy) → InOrder p.machines → All (IsListed p) p.machines
@@ -282,8 +316,8 @@ apart_whole p machines count old mid to same none empty apart =
 
 module _ (p : Policy) (plain : IsPlain p) (mid : List Insn) (to : Target) (apart : Apart p p.machines 0 [] mid to)
     (order : InOrder p.machines) where
-  few : length p.machines ≤ 2
-  few = few_machines p.machines order
+  few : tokens p.machines ≤ 2
+  few = plain.few
 
   these : AnswersThese p p.machines [] mid to
   these = apart.told plain refl (each_listed p order)
@@ -315,9 +349,9 @@ module _ (p : Policy) (plain : IsPlain p) (mid : List Insn) (to : Target) (apart
   pub whole_load : (first : Label) (new : List Insn) → to ≡ Place first → new ≡ insn_of LoadWord 4 ∷ mid → IsCallFilter p new
   whole_load first new is written =
       let front : IsStart mid first = subst (IsAtFront [] mid) is these.front in
-      let light : cost mid (Place first) ≤ 4121 * length p.machines + 6 = subst
-      (λ q. cost mid q ≤ 4121 * length p.machines + 6) is these.light in
-      let shallow : deep mid (Place first) ≤ 306 + length p.machines = subst (λ q. deep mid q ≤ 306 + length p.machines) is these.shallow in
+      let light : cost mid (Place first) ≤ 4121 * tokens p.machines + 6 = subst
+      (λ q. cost mid q ≤ 4121 * tokens p.machines + 6) is these.light in
+      let shallow : deep mid (Place first) ≤ 306 + tokens p.machines = subst (λ q. deep mid q ≤ 306 + tokens p.machines) is these.shallow in
       let one : position mid first ≡ 0 = start_first mid first front in
       let weighs : weight new 0 ≡ 1 + weight mid 0 = ap (λ code. weight code 0) written ∙ load_weighs mid 4 in
       let deeps : depth new 0 ≡ depth mid 0 = ap (λ code. depth code 0) written ∙ load_shallow mid 4 in

@@ -5,6 +5,7 @@ pub mod CallLaws
 pub mod ConditionLaws
 pub mod DecidesLaws
 pub mod FindLaws
+pub mod ForeignLaws
 pub mod GoesLaws
 pub mod HalvesLaws
 pub mod HeldLaws

@@ -1,11 +1,11 @@
 -- The calls that are noted for an outline.
 use Rattle.std.proofs.Common.{◌≡◌, ℕ, List, [], ◌∷◌, length, sym, ◌∙◌, subst}
 use Rattle.std.specs.Prelude.{Some, slice_get, slice_index}
-use Rattle.std.specs.List.{All, Contains}
+use Rattle.std.specs.List.{All, Any, Contains}
 use Rattle.std.proofs.lemmas.List.Elements.{All-cons, All-contains, All-head, All-nil, All-push, All-tail, All-weaker}
 use Rattle.call_tables.specs.declared.arch.Arch.{Arch}
 use Rattle.call_tables.specs.Arch.{token_of}
-use Rattle.call_tables.specs.Numbers.{IsOwn}
+use Rattle.call_tables.specs.Numbers.{HasCall}
 use Rattle.profile.specs.Policy.{IsClear, Policy}
 use Rattle.profile.specs.Said.{said}
 use Rattle.rule_compile.specs.declared.asked.Open.{Open}
@@ -23,7 +23,7 @@ use Rattle.rule_compile.specs.Outline.{IsAskedOf, IsCallOf, IsOfCall, StandInTur
 use Rattle.rule_compile.specs.Rules.{IsClearAt}
 use Rattle.rule_compile.specs.inner.Left.{SomeHeld}
 use Rattle.rule_compile.specs.inner.Noted.{AreEarly, AreCalls, ArePartsOf, AsksOf, IsKnownCall, NotesNumber, no_call, one_call}
-use Rattle.rule_compile.specs.inner.Numbers.{IsFor, IsListed}
+use Rattle.rule_compile.specs.inner.Numbers.{IsFor}
 use Rattle.rule_compile.specs.inner.Runs.{IsBefore}
 use Rattle.rule_compile.specs.inner.Stands.{AreAmong, AreBlocks, AreThose, DecidesRules, HasMore, IsFound}
 use Rattle.rule_compile.proofs.BlocksLaws.{stands_more}
@@ -58,7 +58,7 @@ parts_all P blocks os other (part ∷ parts) whole each is =
 
 -- ---- a call of a number
 
-module _ (p : Policy) (clear : IsClear p.rules) (m : Arch) (number : ℕ) (listed : IsListed p m) (is_own : IsOwn m number)
+module _ (p : Policy) (clear : IsClear p.rules) (m : Arch) (number : ℕ) (is_own : Any (HasCall (token_of m) number) p.machines)
     (own : List Placed) (those : AreThose p.rules (token_of m) number own) (blocks : List Block) (call : Call)
     (token_is : call.token ≡ token_of m) (number_is : call.number ≡ number) where
   token_at : (r : List ℕ) → IsOfCall call r → slice_index r 1 ≡ token_of m
@@ -72,7 +72,7 @@ module _ (p : Policy) (clear : IsClear p.rules) (m : Arch) (number : ℕ) (liste
       let token = token_at r of_call in
       let at = number_at r of_call in
       let is_r = of_call.is_record in
-      let native = native_own p m r listed token (subst (IsOwn m) (sym at) is_own) in
+      let native = native_own p m r token (subst (λ n. Any (HasCall (token_of m) n) p.machines) (sym at) is_own) in
       by_those p.rules (token_of m) number p.default_word own those r token at blocks call.leaf is_r decides (clear_on p r clear is_r)
       (said p r) (said_is p r clear is_r native)
 
@@ -164,14 +164,14 @@ module _ (p : Policy) (old new : List Block) (g : HasMore old new) (blocks : Are
 
 -- ---- what was noted
 
-pub calls_noted : (p : Policy) (clear : IsClear p.rules) (m : Arch) (number : ℕ) (a b : Blocks) → IsListed p m → IsOwn m number
+pub calls_noted : (p : Policy) (clear : IsClear p.rules) (m : Arch) (number : ℕ) (a b : Blocks) → Any (HasCall (token_of m) number) p.machines
     → HasMore a.blocks.items b.blocks.items → AreBlocks b.blocks.items → NotesNumber a b p.rules (token_of m) number p.default_word
     → AreCalls p a → AreCalls p b
-calls_noted p clear m number a b listed is_own g blocks (no_call is) all =
+calls_noted p clear m number a b is_own g blocks (no_call is) all =
     subst (All (IsKnownCall p b.blocks.items)) (sym is) (calls_more p a.blocks.items b.blocks.items g blocks a.calls.items all)
-calls_noted p clear m number a b listed is_own g blocks (one_call own those noted) all =
+calls_noted p clear m number a b is_own g blocks (one_call own those noted) all =
     let bs = b.blocks.items in
-    let known = call_known p clear m number listed is_own own those bs noted.call noted.token_is noted.number_is blocks noted.decides noted.asks in
+    let known = call_known p clear m number is_own own those bs noted.call noted.token_is noted.number_is blocks noted.decides noted.asks in
     subst (All (IsKnownCall p bs)) (sym noted.is)
     (All-push (IsKnownCall p bs) a.calls.items noted.call (calls_more p a.blocks.items bs g blocks a.calls.items all) known)
 

@@ -3,7 +3,7 @@ use Rattle.std.proofs.Common.{◌≡◌, ◌↔◌, ◌<◌, ◌≤◌, List, []
 use Rattle.std.specs.List.{All}
 use Rattle.std.specs.Prelude.{Err, IfOk, IsErrOf, Ok, Result}
 use Rattle.std.proofs.lemmas.Bool.{cases_lt}
-use Rattle.std.proofs.lemmas.List.Elements.{All-head}
+use Rattle.std.proofs.lemmas.List.Elements.{All-head, All-tail}
 use Rattle.bpf_insn.specs.Bytes.{insns_of, max_insns}
 use Rattle.bpf_insn.specs.declared.instruction.Insn.{Insn}
 use Rattle.call_tables.specs.declared.arch.Arch.{Arch}
@@ -24,6 +24,14 @@ listed_first p a archs all = All-head (IsListed p) a archs all
 pub head_parts : {X : Type 0} (xs : List X) (d : X) → 1 ≤ length xs → xs ≡ get_or xs 0 d ∷ take (length xs - 1) (drop 1 xs)
 head_parts [] d some = absurd (omega (arith, some))
 head_parts (y ∷ ys) d some = list_parts (y ∷ ys) y some refl
+
+-- what is listed, but for the first
+pub others_listed : (p : Policy) (archs : List Arch) → 1 ≤ length archs → All (IsListed p) archs
+    → All (IsListed p) (take (length archs - 1) (drop 1 archs))
+others_listed p [] some all = absurd (omega (arith, some))
+others_listed p (a ∷ archs) some all =
+    All-tail (IsListed p) a (take (length (a ∷ archs) - 1) (drop 1 (a ∷ archs)))
+    (subst (All (IsListed p)) (head_parts (a ∷ archs) a some) all)
 
 -- ---- from a plan to a filter
 

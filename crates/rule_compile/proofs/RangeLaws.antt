@@ -3,33 +3,33 @@ use Rattle.std.proofs.Common.{◌≡◌, ℕ, zero, suc, ◌+◌, ◌-◌, ◌�
 use Rattle.std.proofs.Common.{arith, max, inl, inr, length-append, take}
 use Rattle.std.proofs.Math.Seq.{take-append_seam}
 use Rattle.std.specs.Prelude.{replicate, slice_index, slice_index_or}
-use Rattle.std.proofs.lemmas.List.{get_or_past, get_or-replicate}
-use Rattle.std.specs.List.{All, Contains}
+use Rattle.std.proofs.lemmas.List.{get_or_default, get_or_past, get_or-replicate}
+use Rattle.std.specs.List.{All, Any, Contains}
 use Rattle.std.proofs.lemmas.List.Elements.{All-append, All-cons, All-contains, All-head, All-nil}
 use Rattle.std.proofs.lemmas.Bool.{cases_lt}
 use Rattle.call_record.specs.Words.{IsRecord, argument}
 use Rattle.call_tables.specs.declared.arch.Arch.{Arch}
 use Rattle.call_tables.specs.declared.numbers.Numbers.{Numbers}
 use Rattle.call_tables.specs.Arch.{token_of}
-use Rattle.call_tables.specs.Numbers.{IsOther, IsOwn, from_to, other_numbers}
+use Rattle.call_tables.specs.Numbers.{IsWithin as IsAmong, foreign_numbers, from_to}
 use Rattle.call_tables.proofs.ArchLaws.{token_of-fits}
-use Rattle.call_tables.proofs.NumberLaws.{all_own, low_is_own, other_in_stretch, own_not_other, own_or_other, stretch, within_stretch}
+use Rattle.call_tables.proofs.ForeignLaws.{native_or_foreign}
 use Rattle.profile.specs.declared.rules.Rule.{Rule}
 use Rattle.profile.specs.declared.conditions.Cond.{Cond}
 use Rattle.profile.specs.Condition.{Meets}
 use Rattle.profile.specs.Rule.{Matches}
 use Rattle.profile.specs.Policy.{IsNative, Policy, Says}
-use Rattle.profile.proofs.MachineLaws.{token_of-one}
 use Rattle.profile.proofs.SaidLaws.{each_record_is_said_one_word}
 use Rattle.rule_compile.specs.declared.ranges.Leaf.{Leaf}
 use Rattle.rule_compile.specs.declared.ranges.Leaf.TheVariants.{Word}
 use Rattle.rule_compile.specs.declared.ranges.Range.{Range}
 use Rattle.rule_compile.specs.Shape.{IsPlain, IsPlainRule, call}
-use Rattle.rule_compile.specs.inner.Numbers.{AreFew, AreOwn, AreUnconditional, Between, IsExtended, IsFor, IsListed, IsNext, IsWorded, behind}
+use Rattle.rule_compile.specs.inner.Numbers.{AreFew, AreOwn, AreUnconditional, Between, IsExtended, IsFor, IsListed, IsNext, IsWorded}
 use Rattle.rule_compile.specs.inner.Numbers.{LeafFor, NoneFor, Reached, Tiles, more, nothing, ruled, said_of, unruled, wider}
 use Rattle.rule_compile.specs.Decides.{IsWithin}
 use Rattle.rule_compile.specs.inner.Ranges.{AreInOrder}
 use Rattle.rule_compile.proofs.FindLaws.{all_left, all_right}
+use Rattle.rule_compile.proofs.ForeignLaws.{EndsAt, StandsAt, ends_at, foreign_split, native_not_foreign, stands_at}
 
 -- what is left where the last one is taken off
 pub popped : (old new front : List Range) (x : Range) (count : ℕ) → count ≡ length old → old ≡ front ++ x ∷ []
@@ -187,19 +187,15 @@ module _ (p : Policy) (plain : IsPlain p) (t u : ℕ) (small_t : t < 2 ^ 32) (sm
     unmatched = λ native. absurd (not native);
   })
 
--- a call of a listed machine is native where its number is one of the machine's own, and else foreign
-native_own : (p : Policy) (m : Arch) (u : ℕ) → IsListed p m → IsOwn m u → IsNative p (call (token_of m) u)
-native_own p m u listed own = (listed.1.0, m, listed.1.1, listed.1.2, (refl, own))
-
-foreign_other : (p : Policy) (m : Arch) (u : ℕ) → IsListed p m → IsOther m u → IsNative p (call (token_of m) u) → ⊥
-foreign_other p m u listed other (k, a, inside, at, has) =
-    let same : a ≡ m = token_of-one p.machines listed.0 a m (k, inside, at) listed.1 has.0 in
-    own_not_other m u (subst (λ x. IsOwn x u) same has.1) other
+-- a call of a listed machine whose number is foreign is not native
+foreign_other : (p : Policy) (m : Arch) (u : ℕ) → IsListed p m → Any (IsAmong u) (foreign_numbers p.machines m)
+    → IsNative p (call (token_of m) u) → ⊥
+foreign_other p m u listed foreign native = native_not_foreign p.machines m u listed.0 listed.1 native foreign
 
 -- ---- the next number, and all after the last
 
 module _ (p : Policy) (m : Arch) (most from end next : ℕ) (old mid : List Range) (before : from < end) (small_end : end ≤ 2 ^ 32)
-    (own : AreOwn m from end) (many : 513 ≤ most) (reached : Reached p m most end from old)
+    (own : AreOwn p m from end) (many : 513 ≤ most) (reached : Reached p m most end from old)
     (is_next : IsNext p.rules (token_of m) from end next) (first : IsExtended old from next (Word p.default_word) mid) where
   mid_tiles : Tiles 0 mid (max from next)
   mid_tiles = tiles_extended old mid from next (Word p.default_word) reached.tiles first
@@ -211,7 +207,7 @@ module _ (p : Policy) (m : Arch) (most from end next : ℕ) (old mid : List Rang
       (λ u low high.
       let within : u < end = omega (arith, high, is_next.most) in
       said_default p plain (token_of m) u (token_of-fits m) (omega (arith, within, small_end))
-      (native_own p m u listed (own u low within)) (is_next.none u low high))
+      (own u low within listed) (is_next.none u low high))
 
   pub reached_end : next ≡ end → Reached p m most end (max from next) mid
   reached_end last =
@@ -238,7 +234,7 @@ module _ (p : Policy) (m : Arch) (most from end next : ℕ) (old mid : List Rang
     leaf_word : IsPlain p → IsListed p m → (w : ℕ) × (leaf ≡ Word w) × (said_of p (token_of m) next ≡ w)
     leaf_word plain listed =
         let small : next < 2 ^ 32 = omega (arith, inside, small_end) in
-        let native = native_own p m next listed (own next is_next.least inside) in
+        let native = own next is_next.least inside listed in
         elim (decided (unconditional plain)) [
           | ruled rule has is leaf_is ↦ (
             rule.word,
@@ -284,135 +280,137 @@ module _ (p : Policy) (m : Arch) (most from end next : ℕ) (old mid : List Rang
 
 -- ---- from one stretch of foreign numbers to the next
 
+tiles_le : (xs : List Range) (a b : ℕ) → Tiles a xs b → a ≤ b
+tiles_le [] a b t = omega (arith, t)
+tiles_le (x ∷ xs) a b t = let rest = tiles_le xs (x.last + 1) b t.2 in omega (arith, t.1, rest)
+
+-- ranges that end where they begin are none
+tiles_none : (xs : List Range) (a b : ℕ) → Tiles a xs b → a ≡ b → length xs ≡ 0
+tiles_none [] a b t same = refl
+tiles_none (x ∷ xs) a b t same =
+    let rest = tiles_le xs (x.last + 1) b t.2 in
+    absurd (omega (arith, t.1, rest, same))
+
 pub between_none : (p : Policy) (m : Arch) → Between p m 0 0 []
 between_none p m = record {
   tiles = refl;
   worded = λ plain listed. All-nil (IsWorded (said_of p (token_of m)));
-  few = λ plain. omega arith;
+  few = λ plain. inl (omega arith);
   place = refl;
 }
 
--- the one stretch that there may be
-record IsOne (m : Arch) (k : ℕ) (foreign : Numbers) : Type 0 where
-  first_place : k ≡ 0
-  begins : foreign.first ≡ 0x40000000
-  ends : (0xfffffffe ≤ foreign.last) × (foreign.last ≤ 0xffffffff)
-  others : (u : ℕ) → foreign.first ≤ u → u ≤ foreign.last → IsOther m u
-  behind_is : behind (other_numbers m) 1 ≡ foreign.last + 1
-
-is_one : (m : Arch) (k : ℕ) (foreign d : Numbers) → k < length (other_numbers m) → foreign ≡ slice_index_or (other_numbers m) k d
-    → IsOne m k foreign
-is_one m k foreign d inside at = elim (stretch m) [
-  | inl none ↦ absurd (omega (arith, inside, ap length none))
-  | inr (last, s) ↦
-      let zeroth : k ≡ 0 = omega (arith, inside, ap length s.is) in
-      let is : foreign ≡ from_to 0x40000000 last =
-      at ∙ ap (λ n. slice_index_or (other_numbers m) n d) zeroth ∙ ap (λ all. slice_index_or all 0 d) s.is in
-      let first : foreign.first ≡ 0x40000000 = ap (λ (n : Numbers). n.first) is in
-      let final : foreign.last ≡ last = ap (λ (n : Numbers). n.last) is in
-      record {
-        first_place = zeroth;
-        begins = first;
-        ends = (omega (arith, final, s.least), omega (arith, final, s.most));
-        others = λ u low high. other_in_stretch m last u s (omega (arith, low, first)) (omega (arith, high, final));
-        behind_is = ap (λ all. behind all 1) s.is ∙ ap (λ n. n + 1) (sym final);
-      }
-]
-
-module _ (p : Policy) (m : Arch) (k upto : ℕ) (foreign d : Numbers) (old : List Range) (between : Between p m k upto old)
-    (inside : k < length (other_numbers m)) (at : foreign ≡ slice_index_or (other_numbers m) k d) where
-  which : IsOne m k foreign
-  which = is_one m k foreign d inside at
-
-  from_zero : upto ≡ 0
-  from_zero = between.place ∙ ap (behind (other_numbers m)) which.first_place
+module _ (p : Policy) (m : Arch) (k upto : ℕ) (foreign : Numbers) (old : List Range) (between : Between p m k upto old)
+    (inside : k < length (foreign_numbers p.machines m)) (at : foreign ≡ slice_index_or (foreign_numbers p.machines m) k (from_to 0 0)) where
+  this : StandsAt (foreign_numbers p.machines m) k foreign
+  this = stands_at (foreign_numbers p.machines m) k foreign (foreign_split p.machines m) inside at
 
   pub own_upto : upto ≤ foreign.first
-  own_upto = omega (arith, from_zero)
+  own_upto = omega (arith, between.place, this.ordered)
 
   pub first_small : foreign.first ≤ 2 ^ 32
-  first_small = omega (arith, which.begins)
+  first_small = omega (arith, this.some, this.small)
 
   pub last_small : foreign.last + 1 ≤ 2 ^ 32
-  last_small = let e = which.ends in omega (arith, e.1)
+  last_small = omega (arith, this.small)
 
-  pub others_between : (u : ℕ) → foreign.first ≤ u → u ≤ foreign.last → IsOther m u
-  others_between = which.others
+  pub others_between : (u : ℕ) → foreign.first ≤ u → u ≤ foreign.last → Any (IsAmong u) (foreign_numbers p.machines m)
+  others_between u low high = (
+    k,
+    foreign,
+    inside,
+    get_or_default (foreign_numbers p.machines m) k foreign (from_to 0 0) inside ∙ sym at,
+    (low, high),
+  )
 
-  pub own_before : AreOwn m upto foreign.first
-  own_before u low high = low_is_own m u (omega (arith, high, which.begins))
+  pub own_before : AreOwn p m upto foreign.first
+  own_before u low high listed =
+      elim (native_or_foreign p.machines m u (omega (arith, high, this.some, this.small)) listed.1) [
+        | inl native ↦ native
+        | inr other ↦ absurd (this.own u (omega (arith, low, between.place)) high other)
+      ]
 
   pub own_reached : Reached p m 513 foreign.first upto old
   own_reached = record {
     tiles = between.tiles;
     worded = between.worded;
-    few = λ plain. inl (omega (arith, from_zero), omega (arith, from_zero, between.few plain, which.first_place));
+    few = λ plain. elim this.before [
+      | inl first ↦
+          let none = tiles_none old 0 upto between.tiles (sym (between.place ∙ first)) in
+          inl (omega (arith, between.place, first), omega (arith, none))
+      | inr further ↦ elim (between.few plain) [
+        | inl one ↦ inr (inl (omega (arith, between.place, further.0), omega (arith, between.place, further.1), omega (arith, one)))
+        | inr past ↦ absurd (omega (arith, past.0, inside))
+      ]
+    ];
   }
 
   module _ (mid new : List Range) (reached : Reached p m 513 foreign.first foreign.first mid)
       (last : IsExtended mid foreign.first (foreign.last + 1) (Word 0) new) where
-    pub between_next : Between p m (k + 1) (max foreign.first (foreign.last + 1)) new
-    between_next =
-        let one = which in
+    few_next_to : IsPlain p → (length new ≤ 1) ⊎ ((k + 1 ≡ length (foreign_numbers p.machines m)) × (length new ≤ 514))
+    few_next_to plain =
         let more = count_extended mid new foreign.first (foreign.last + 1) (Word 0) last in
-        record {
-          tiles = tiles_extended mid new foreign.first (foreign.last + 1) (Word 0) reached.tiles last;
-          worded = λ plain listed.
-              worded_extended mid new foreign.first (foreign.last + 1) (Word 0) (said_of p (token_of m)) 0 reached.tiles
-              (reached.worded plain listed) last refl
-              (λ u low high.
-              said_foreign p plain (token_of m) u (token_of-fits m) (omega (arith, high, one.ends.1))
-              (foreign_other p m u listed (one.others u low (omega (arith, high)))));
-          few = λ plain. elim (reached.few plain) [
-            | inl few ↦ absurd (omega (arith, few.0, one.begins))
+        elim this.further [
+          | inl first ↦
+              let none = tiles_none mid 0 foreign.first reached.tiles (sym first) in
+              inl (omega (arith, none, more))
+          | inr further ↦ elim (reached.few plain) [
+            | inl few ↦ absurd (omega (arith, few.0, further.0))
             | inr behind ↦ elim behind [
               | inl few ↦ absurd (omega (arith, few.1))
-              | inr all ↦ omega (arith, all.1, more, one.first_place)
+              | inr all ↦ inr (further.1, omega (arith, all.1, more))
             ]
-          ];
-          place =
-              let e : max foreign.first (foreign.last + 1) ≡ foreign.last + 1 = omega (arith, one.begins, one.ends.0) in
-              e ∙ sym one.behind_is ∙ ap (λ n. behind (other_numbers m) (n + 1)) (sym one.first_place);
-        }
+          ]
+        ]
+
+    pub between_next : Between p m (k + 1) (max foreign.first (foreign.last + 1)) new
+    between_next = record {
+      tiles = tiles_extended mid new foreign.first (foreign.last + 1) (Word 0) reached.tiles last;
+      worded = λ plain listed.
+          worded_extended mid new foreign.first (foreign.last + 1) (Word 0) (said_of p (token_of m)) 0 reached.tiles
+          (reached.worded plain listed) last refl
+          (λ u low high.
+          said_foreign p plain (token_of m) u (token_of-fits m) (omega (arith, high, this.small))
+          (foreign_other p m u listed (others_between u low (omega (arith, high)))));
+      few = few_next_to;
+      place =
+          let e : max foreign.first (foreign.last + 1) ≡ foreign.last + 1 = omega (arith, this.some) in
+          e ∙ sym this.place;
+    }
 
 -- behind all of them
-module _ (p : Policy) (m : Arch) (k upto : ℕ) (old : List Range) (between : Between p m k upto old) (all : k ≡ length (other_numbers m)) where
-  last_cases : ((upto ≡ 0) × (k ≡ 0) × (other_numbers m ≡ [])) ⊎ ((0xffffffff ≤ upto) × (upto ≤ 2 ^ 32) × (k ≡ 1) × ((u : ℕ) → upto ≤ u → u < 2 ^ 32 → IsOwn m u))
-  last_cases = elim (stretch m) [
-    | inl none ↦
-        let zeroth : k ≡ 0 = all ∙ ap length none in
-        inl (between.place ∙ ap (behind (other_numbers m)) zeroth, zeroth, none)
-    | inr (last, s) ↦
-        let one : k ≡ 1 = all ∙ ap length s.is in
-        let at : upto ≡ last + 1 =
-        between.place ∙ ap (behind (other_numbers m)) one ∙ ap (λ these. behind these 1) s.is in
-        inr (
-          omega (arith, at, s.least),
-          omega (arith, at, s.most),
-          one,
-          λ u low high. elim (own_or_other m u high) [
-            | inl own ↦ own
-            | inr other ↦ let within = within_stretch m last u s other in absurd (omega (arith, within.1, low, at))
-          ],
-        )
-  ]
+module _ (p : Policy) (m : Arch) (k upto : ℕ) (old : List Range) (between : Between p m k upto old)
+    (all : k ≡ length (foreign_numbers p.machines m)) where
+  ends : EndsAt (foreign_numbers p.machines m) upto
+  ends =
+      subst (EndsAt (foreign_numbers p.machines m)) (sym between.place)
+      (ends_at (foreign_numbers p.machines m) k (foreign_split p.machines m) all)
 
   pub last_upto : upto ≤ 2 ^ 32
-  last_upto = elim last_cases [ inl none ↦ omega (arith, none.0) | inr some ↦ some.1 ]
+  last_upto = ends.small
 
-  pub last_own : AreOwn m upto (2 ^ 32)
-  last_own u low high = elim last_cases [ inl none ↦ all_own m u none.2 high | inr some ↦ some.3 u low high ]
+  pub last_own : AreOwn p m upto (2 ^ 32)
+  last_own u low high listed = elim (native_or_foreign p.machines m u high listed.1) [
+    | inl native ↦ native
+    | inr other ↦ absurd (ends.past u low other)
+  ]
+
+  most_there : IsPlain p → length old ≤ 514
+  most_there plain = elim (between.few plain) [ inl one ↦ omega (arith, one) | inr past ↦ past.1 ]
 
   pub last_reached : Reached p m 515 (2 ^ 32) upto old
   last_reached = record {
     tiles = between.tiles;
     worded = between.worded;
-    few = λ plain. elim last_cases [
-      | inl none ↦ inl (omega (arith, none.0), omega (arith, none.0, none.1, between.few plain))
-      | inr some ↦ elim (cases_lt upto (2 ^ 32)) [
-        | inl less ↦ inr (inl (omega (arith, some.0), less, omega (arith, some.2, between.few plain)))
-        | inr not ↦ inr (inr (omega (arith, not, some.1), omega (arith, some.2, between.few plain)))
-      ]
+    few = λ plain. elim ends.far [
+      | inl first ↦
+          let none = tiles_none old 0 upto between.tiles (sym first) in
+          inl (omega (arith, first), omega (arith, none))
+      | inr far ↦
+          let most = most_there plain in
+          elim (cases_lt upto (2 ^ 32)) [
+            | inl less ↦ inr (inl (far, less, omega (arith, most)))
+            | inr not ↦ inr (inr (omega (arith, not, last_upto), omega (arith, most)))
+          ]
     ];
   }
 

@@ -1,6 +1,6 @@
 -- What a profile says of a record, by the rules that match it.
 use Rattle.std.proofs.Common.{◌≡◌, ℕ, suc, ◌==◌, ◌⊎◌, length, true, List, [], ◌∷◌, inl, inr, sym, ◌∙◌, subst, arith, refl}
-use Rattle.std.specs.List.{All, Contains}
+use Rattle.std.specs.List.{All, Any, Contains}
 use Rattle.std.specs.Prelude.{slice_index}
 use Rattle.std.proofs.lemmas.Bool.{cases_Bool}
 use Rattle.std.proofs.lemmas.Bool.Decides.{Decides-eqb, not_from_Decides}
@@ -8,18 +8,17 @@ use Rattle.std.proofs.lemmas.List.Elements.{All-cons, All-contains, All-nil}
 use Rattle.call_record.specs.Words.{IsRecord, argument}
 use Rattle.call_tables.specs.declared.arch.Arch.{Arch}
 use Rattle.call_tables.specs.Arch.{token_of}
-use Rattle.call_tables.specs.Numbers.{IsOther, IsOwn}
-use Rattle.call_tables.proofs.NumberLaws.{own_not_other}
+use Rattle.call_tables.specs.Numbers.{HasCall, IsWithin, foreign_numbers}
 use Rattle.profile.specs.declared.conditions.Cond.{Cond}
 use Rattle.profile.specs.declared.rules.Rule.{Rule}
 use Rattle.profile.specs.Condition.{Meets}
 use Rattle.profile.specs.Policy.{IsClear, IsNative, Policy, Says}
 use Rattle.profile.specs.Rule.{Matches}
 use Rattle.profile.specs.Said.{matches, said}
-use Rattle.profile.proofs.MachineLaws.{token_of-one}
 use Rattle.profile.proofs.SaidLaws.{Decides-matches, each_record_is_said_one_word}
 use Rattle.rule_compile.specs.inner.Numbers.{IsFor, IsListed}
 use Rattle.rule_compile.specs.inner.Stands.{IsClearOn, IsSaidBy, SaysNumber}
+use Rattle.rule_compile.proofs.ForeignLaws.{native_not_foreign}
 
 -- some rule matches the record, or none does
 pub some_or_none : (rules : List Rule) (r : List ℕ)
@@ -77,15 +76,17 @@ module _ (p : Policy) (r : List ℕ) (clear : IsClear p.rules) (is_r : IsRecord 
   pub clear_on : IsClearOn p.rules r
   clear_on a b has_a has_b ma mb = clear r is_r a b has_a has_b ma mb
 
--- a call of a listed machine is native where its number is one of the machine's own, and else foreign
-pub native_own : (p : Policy) (m : Arch) (r : List ℕ) → IsListed p m → slice_index r 1 ≡ token_of m → IsOwn m (slice_index r 0) → IsNative p r
-native_own p m r listed token own = (listed.1.0, m, listed.1.1, listed.1.2, (sym token, own))
+-- a call with the token of a machine is native where its number is a listed machine's own
+pub native_own : (p : Policy) (m : Arch) (r : List ℕ) → slice_index r 1 ≡ token_of m → Any (HasCall (token_of m) (slice_index r 0)) p.machines
+    → IsNative p r
+native_own p m r token own = subst (λ t. Any (HasCall t (slice_index r 0)) p.machines) (sym token) own
 
-pub foreign_other : (p : Policy) (m : Arch) (r : List ℕ) → IsListed p m → slice_index r 1 ≡ token_of m → IsOther m (slice_index r 0)
-    → IsNative p r → ⊥
-foreign_other p m r listed token other (k, a, inside, at, has) =
-    let same : a ≡ m = token_of-one p.machines listed.0 a m (k, inside, at) listed.1 (has.0 ∙ token) in
-    own_not_other m (slice_index r 0) (subst (λ x. IsOwn x (slice_index r 0)) same has.1) other
+-- and not where it is foreign
+pub foreign_other : (p : Policy) (m : Arch) (r : List ℕ) → IsListed p m → slice_index r 1 ≡ token_of m
+    → Any (IsWithin (slice_index r 0)) (foreign_numbers p.machines m) → IsNative p r → ⊥
+foreign_other p m r listed token foreign native =
+    native_not_foreign p.machines m (slice_index r 0) listed.0 listed.1
+    (subst (λ t. Any (HasCall t (slice_index r 0)) p.machines) token native) foreign
 
 -- ---- a rule without conditions, and rules with the default word
 

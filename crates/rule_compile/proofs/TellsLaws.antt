@@ -1,5 +1,5 @@
 -- Code that gives each call its word, for every profile.
-use Rattle.std.proofs.Common.{◌≡◌, ℕ, zero, suc, ◌<◌, ◌^◌, List, [], ◌∷◌, ◌++◌, length, length-append, inl, inr, refl, ap, sym, ◌∙◌, subst, arith}
+use Rattle.std.proofs.Common.{◌≡◌, ℕ, zero, suc, ◌<◌, ◌^◌, List, [], ◌∷◌, ◌++◌, length, length-append, inl, inr, refl, ap, sym, ◌∙◌, subst, true, arith}
 use Rattle.std.specs.Prelude.{Err, Ok, OnOk, Result, Some, None, slice_get, slice_index, slice_index_or, if◌then◌else◌}
 use Rattle.std.specs.List.{All}
 use Rattle.std.proofs.lemmas.Bool.{cases_eq, cases_lt, eq-eqb, ne_eqb}
@@ -22,13 +22,14 @@ use Rattle.rule_compile.specs.declared.outline.Block.{Block}
 use Rattle.rule_compile.specs.declared.ranges.Leaf.TheVariants as leaf
 use Rattle.rule_compile.specs.declared.ranges.Range.{Range}
 use Rattle.rule_compile.specs.declared.written.Written.{Written}
+use Rattle.rule_compile.specs.Shape.{has_token}
 use Rattle.rule_compile.specs.inner.Calls.{IsOneOf}
 use Rattle.rule_compile.specs.inner.Code.{Grows, IsStart, IsTarget, insn_of, position}
 use Rattle.rule_compile.specs.inner.Goes.{Branches, Reaches}
 use Rattle.rule_compile.specs.inner.Numbers.{Tiles}
 use Rattle.rule_compile.specs.inner.Runs.{AreIn, AreWritten, Leads, LeadsByWord, gives_from, runs}
 use Rattle.rule_compile.specs.inner.Stands.{AreBlocks, DecidesCalls, HasMore, TellsCalls, TellsThese}
-use Rattle.rule_compile.proofs.CallLaws.{one_of_or_not}
+use Rattle.rule_compile.proofs.CallLaws.{one_of_or_not, shared_token}
 use Rattle.rule_compile.proofs.DecidesLaws.{decides_less, more_length}
 use Rattle.rule_compile.proofs.GoesLaws.{target_kept}
 use Rattle.rule_compile.proofs.RangeLaws.{tiles_cover}
@@ -80,6 +81,17 @@ calls_tell p t blocks code ranges to tiles decides leads a r is_r token =
 
 pub tells_none : (p : Policy) (code : List Insn) → TellsThese p [] code (Return 0)
 tells_none p code = record { listed = λ r is_r is. absurd is; foreign = λ r is_r not. refl }
+
+-- where another machine has the token, its calls are told there
+pub tells_shared : (p : Policy) (arch : Arch) (archs : List Arch) (code : List Insn) (to : Target) → has_token (token_of arch) archs ≡ true
+    → TellsThese p archs code to → TellsThese p (arch ∷ archs) code to
+tells_shared p arch archs code to shared others = record {
+  listed = λ r is_r one. elim one [
+    | inl same ↦ others.listed r is_r (subst (IsOneOf archs) same (shared_token archs (token_of arch) shared))
+    | inr other ↦ others.listed r is_r other
+  ];
+  foreign = λ r is_r none. others.foreign r is_r (λ other. none (inr other));
+}
 
 module _ (p : Policy) (arch : Arch) (archs : List Arch) (mid top : List Insn) (g : Grows mid top) (no calls : Target) (at : IsTarget mid no)
     (others : TellsThese p archs mid no) (own : TellsCalls p (token_of arch) top calls) where

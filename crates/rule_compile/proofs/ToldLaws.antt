@@ -2,13 +2,13 @@
 use Rattle.std.proofs.Common.{◌≡◌, ℕ, ◌+◌, ◌-◌, ◌<◌, ◌≤◌, List, [], ◌∷◌, ◌++◌, length, refl, sym, ◌∙◌, subst}
 use Rattle.std.proofs.Common.{arith, max, inl, inr}
 use Rattle.std.specs.Prelude.{slice_index}
-use Rattle.std.specs.List.{All}
+use Rattle.std.specs.List.{All, Any}
 use Rattle.std.proofs.lemmas.List.Elements.{All-append, All-cons, All-head, All-nil, All-weaker}
 use Rattle.std.proofs.lemmas.Bool.{cases_lt}
 use Rattle.call_record.specs.Words.{IsRecord}
 use Rattle.call_tables.specs.declared.arch.Arch.{Arch}
 use Rattle.call_tables.specs.Arch.{token_of}
-use Rattle.call_tables.specs.Numbers.{IsOther, IsOwn}
+use Rattle.call_tables.specs.Numbers.{HasCall, IsWithin, foreign_numbers}
 use Rattle.profile.specs.declared.rules.Rule.{Rule}
 use Rattle.profile.specs.Policy.{IsClear, Policy}
 use Rattle.profile.specs.Rule.{Matches}
@@ -94,7 +94,7 @@ next_is p m t from end next rules token is next_one =
     subst (λ n. IsNext p.rules n from end next) token (subst (λ rs. IsNext rs t from end next) is next_one)
 
 module _ (p : Policy) (m : Arch) (blocks : List Block) (clear : IsClear p.rules) (from end next : ℕ) (old mid : List Range) (before : from < end)
-    (own : AreOwn m from end) (told : ToldSoFar p m blocks from old) (is_next : IsNext p.rules (token_of m) from end next)
+    (own : AreOwn p m from end) (told : ToldSoFar p m blocks from old) (is_next : IsNext p.rules (token_of m) from end next)
     (first : IsExtended old from next (Word p.default_word) mid) where
   unruled : (r : List ℕ) → slice_index r 1 ≡ token_of m → NoneFor (token_of m) (slice_index r 0) p.rules → All (λ rule. Matches rule r → ⊥) p.rules
   unruled r token none = All-weaker (λ rule. IsFor (token_of m) (slice_index r 0) rule → ⊥) (λ rule. Matches rule r → ⊥)
@@ -103,7 +103,7 @@ module _ (p : Policy) (m : Arch) (blocks : List Block) (clear : IsClear p.rules)
   default_told : IsListed p m → (r : List ℕ) → IsRecord r → slice_index r 1 ≡ token_of m → from ≤ slice_index r 0 → slice_index r 0 < next
       → Decides blocks r (said p r) (Word p.default_word)
   default_told listed r is_r token low high =
-      let native = native_own p m r listed token (own (slice_index r 0) low (omega (arith, high, is_next.most))) in
+      let native = native_own p m r token (own (slice_index r 0) low (omega (arith, high, is_next.most)) listed) in
       let none = unruled r token (is_next.none (slice_index r 0) low high) in
       subst (λ v. Decides blocks r v (Word p.default_word)) (sym (said_by p r clear is_r native p.default_word (inr (none, refl)))) by_word
 
@@ -122,8 +122,8 @@ module _ (p : Policy) (m : Arch) (blocks : List Block) (clear : IsClear p.rules)
         → Decides grown r (said p r) leaf
     at_next listed r is_r token low high =
         let is : slice_index r 0 ≡ next = omega (arith, low, high, is_next.least) in
-        let number_own = subst (IsOwn m) (sym is) (own next is_next.least inside) in
-        let native = native_own p m r listed token number_own in
+        let number_own = subst (λ n. Any (HasCall (token_of m) n) p.machines) (sym is) (own next is_next.least inside listed) in
+        let native = native_own p m r token number_own in
         decided r is_r token is (clear_on p r clear is_r) (said p r) (said_is p r clear is_r native)
 
     pub told_next : ToldSoFar p m grown (max (max from next) (next + 1)) new
@@ -140,7 +140,7 @@ module _ (p : Policy) (m : Arch) (blocks : List Block) (clear : IsClear p.rules)
 -- ---- foreign numbers
 
 pub told_foreign : (p : Policy) (m : Arch) (blocks : List Block) (clear : IsClear p.rules) (from end : ℕ) (old new : List Range)
-    → ((u : ℕ) → from ≤ u → u < end → IsOther m u) → ToldSoFar p m blocks from old → IsExtended old from end (Word 0) new
+    → ((u : ℕ) → from ≤ u → u < end → Any (IsWithin u) (foreign_numbers p.machines m)) → ToldSoFar p m blocks from old → IsExtended old from end (Word 0) new
     → ToldSoFar p m blocks (max from end) new
 told_foreign p m blocks clear from end old new others told last = record {
   tiles = tiles_extended old new from end (Word 0) told.tiles last;

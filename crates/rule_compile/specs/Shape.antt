@@ -1,13 +1,16 @@
 -- What may be counted on of the filter of a profile whose rules have no conditions.
-use Rattle.std.specs.Prelude.{◌≡◌, ℕ, zero, suc, ◌+◌, ◌<◌, ◌≤◌, ◌^◌, if◌then◌else◌, List, [], ◌∷◌, Option, Some, None, max}
+use Rattle.std.specs.Prelude.{◌≡◌, ◌==◌, Bool, ℕ, zero, suc, ◌+◌, ◌<◌, ◌≤◌, ◌^◌, if◌then◌else◌, List, [], ◌∷◌, Option, Some, None, max}
 use Rattle.std.specs.Prelude.{replicate, slice_index}
-use Rattle.std.specs.List.{All}
+use Rattle.std.specs.List.{All, Any, list_any}
 use Rattle.bpf_insn.specs.declared.code.Operation.{Operation}
 use Rattle.bpf_insn.specs.declared.code.Operation.TheVariants.{ReturnK, Jump, Branch}
 use Rattle.bpf_insn.specs.declared.instruction.Insn.{Insn}
 use Rattle.bpf_insn.specs.Code.{operation_of}
 use Rattle.bpf_insn.specs.Machine.{holds}
 use Rattle.kernel_check.specs.Accepted.{IsAccepted}
+use Rattle.call_tables.specs.declared.arch.Arch.{Arch}
+use Rattle.call_tables.specs.Arch.{token_of}
+use Rattle.call_tables.specs.Numbers.{HasCall}
 use Rattle.profile.specs.declared.rules.Rule.{Rule}
 use Rattle.profile.specs.Policy.{Policy, IsClear}
 use Rattle.profile.specs.Said.{said}
@@ -15,17 +18,34 @@ use Rattle.rule_compile.specs.Moves.{Move, Ends, Goes, Forks, move_at}
 
 -- ---- the profiles
 
--- each number of a table is below this
+-- each number of a table is below this, but for those of x32 and the private ones of ARM
 abbrev pub above_all_numbers : ℕ
 above_all_numbers = 512
 
--- no condition, and the number is a small one, as each number of a table is
+-- no condition, and the number is a small one, as most numbers of tables are
 abbrev pub IsPlainRule : Rule → Type 0
 IsPlainRule rule = (rule.conds.items ≡ []) × (rule.nr < above_all_numbers)
 
--- no rule has a condition, and no number has two words
+-- one of the machines has the token
+abbrev pub has_token : ℕ → List Arch → Bool
+has_token token archs = list_any (λ arch. token_of arch == token) archs
+
+-- how many tokens the machines have
+abbrev pub tokens : List Arch → ℕ
+tokens [] = 0
+tokens (arch ∷ archs) = if has_token (token_of arch) archs then tokens archs else suc (tokens archs)
+
+-- each small number with the token of one of the machines is one's own: x32 stands beside x86-64
+abbrev pub AreSmallNative : List Arch → Type 0
+AreSmallNative machines =
+    All (λ arch. (nr : ℕ) → nr < above_all_numbers → Any (HasCall (token_of arch) nr) machines) machines
+
+-- no rule has a condition, no number has two words, each small number is a listed machine's, and the machines have two tokens at
+-- most: a filter has room for the calls of so many
 pub record IsPlain (policy : Policy) : Type 0 where
   pub rules : All IsPlainRule policy.rules
+  pub small : AreSmallNative policy.machines
+  pub few : tokens policy.machines ≤ 2
   pub clear : IsClear policy.rules
 
 -- ---- what a filter answers

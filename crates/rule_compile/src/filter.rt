@@ -1,5 +1,5 @@
 //! The filter of a profile.
-ghost use Rattle.std.specs.Prelude.{◌≡◌, ◌↔◌, ◌≤◌, ◌<◌, ◌+◌, ◌*◌, ℕ, List, [], None, Some, length, vec_len, All, OnOk, IfErr, IfOk, IsErrOf, MatchOption};
+ghost use Rattle.std.specs.Prelude.{◌≡◌, ◌↔◌, ◌≤◌, ◌<◌, ℕ, List, [], None, Some, length, vec_len, All, OnOk, IfErr, IfOk, IsErrOf, MatchOption};
 ghost use Rattle.bpf_insn.specs.Bytes.{insns_of, max_insns, spelling, view_fault};
 ghost use Rattle.call_record.specs.Words.{IsRecord};
 ghost use Rattle.call_tables.specs.Arch.{token_of};
@@ -8,7 +8,7 @@ ghost use Rattle.profile.specs.Said.{said};
 ghost use Rattle.rule_compile.specs.Outline.{IsOutlineOf};
 ghost use Rattle.rule_compile.specs.Plan.{IsPlanOf, IsPlannedTooLong};
 ghost use Rattle.rule_compile.specs.Right.{IsRightFilter};
-ghost use Rattle.rule_compile.specs.Shape.{IsCallFilter, IsPlain};
+ghost use Rattle.rule_compile.specs.Shape.{IsCallFilter, IsPlain, has_token};
 ghost use Rattle.rule_compile.specs.inner.Calls.{Apart, CallsOf};
 ghost use Rattle.rule_compile.specs.inner.Noted.{AreCalls};
 ghost use Rattle.rule_compile.specs.inner.Numbers.{IsListed};
@@ -35,8 +35,8 @@ use std::alloc::{AllocError, Global};
 /// A filter of the profile, as the bytes of its instructions: the kernel accepts it, and its verdict on each call record is
 /// the one that the profile says, conditions included.
 ///
-/// Where no rule has a condition, and each number is one of a table, there is a filter if there is memory, and its paths are
-/// few and short.
+/// Where no rule has a condition, each number is a small one of a table, and the machines have two tokens at most, there is a
+/// filter if there is memory, and its paths are few and short.
 pub fn compile(alloc: Global, profile: &Profile) -> Result<Vec<u8>, CompileError>
     ensures program { IfOk result (λ bytes. view_fault bytes.items ≡ None) }
     ensures right { IfOk result (λ bytes. IsRightFilter profile.now (insns_of bytes.items)) }
@@ -173,6 +173,9 @@ fn tell_machines_apart(
         return Ok(Target::Return(Word::KILL_THREAD));
     };
     let no = tell_machines_apart(code, alloc, profile, others, blocks, written)?;
+    if has_token(others, machine.token()) {
+        return Ok(no);
+    }
     match native(calls_of(code, alloc, profile, *machine, blocks, written)?) {
         None => Ok(no),
         Some(yes) => {
@@ -181,6 +184,13 @@ fn tell_machines_apart(
             Ok(Target::Place(start))
         }
     }
+}
+
+// Whether one of the machines has the token: its calls are told there.
+fn has_token(machines: &[Arch], token: u32) -> bool
+    ensures { result ≡ has_token token machines.now }
+{
+    machines.iter().any(|arch| arch.token() == token)
 }
 
 // The calls of a machine, if not each of them gets the word of a foreign record.

@@ -16,7 +16,7 @@ use crate::blocks::Blocks;
 use crate::question::Subject;
 use call_record::Word;
 use call_tables::Arch;
-use profile::{Profile, Rule};
+use profile::{Profile, Rule, foreign_numbers};
 use std::alloc::{AllocError, Global};
 
 /// What decides a call.
@@ -203,7 +203,7 @@ impl Ranges {
         ranges
     }
 
-    // Adds the numbers up to an end that are missing, which are the machine's own.
+    // Adds the numbers up to an end that are missing, of which none is foreign.
     fn add_own(
         &mut self,
         alloc: Global,
@@ -214,7 +214,7 @@ impl Ranges {
     ) -> Result<(), AllocError>
         requires upto { self.old.end ≤ end }
         requires small { end ≤ 2 ^ 32 }
-        requires own { AreOwn machine self.old.end end }
+        requires own { AreOwn profile.now machine self.old.end end }
         requires sound { AreSound blocks.old }
         ensures sound { OnOk result (AreSound blocks.new) }
         ensures more { OnOk result (HasMore blocks.old.blocks.items blocks.new.blocks.items) }
@@ -241,7 +241,7 @@ impl Ranges {
     ) -> Result<(), AllocError>
         requires before { self.old.end < end }
         requires small { end ≤ 2 ^ 32 }
-        requires own { AreOwn machine self.old.end end }
+        requires own { AreOwn profile.now machine self.old.end end }
         requires sound { AreSound blocks.old }
         ensures sound { OnOk result (AreSound blocks.new) }
         ensures more { OnOk result (HasMore blocks.old.blocks.items blocks.new.blocks.items) }
@@ -333,7 +333,7 @@ pub(crate) fn ranges_of(
     ensures worded { IsPlain profile.now → IsListed profile.now machine → IfOk result (λ ranges. All (IsWorded (said_of profile.now (token_of machine))) ranges.items) }
 {
     let mut ranges = Ranges::new(alloc);
-    for foreign in machine.other_numbers() {
+    for foreign in foreign_numbers(profile.machines(), machine) {
         ranges.add_own(alloc, profile, machine, u64::from(foreign.first), blocks)?;
         ranges.extend(u64::from(foreign.last) + 1, Leaf::Word(Word::KILL_THREAD))?;
     }

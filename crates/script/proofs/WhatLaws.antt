@@ -8,17 +8,18 @@ use Rattle.std.proofs.lemmas.Bool.{and_parts}
 use Rattle.std.proofs.lemmas.Option.{same_Some}
 use Rattle.std.proofs.lemmas.Slice.Eq.{bytes_eq-Decides}
 use Rattle.call_tables.specs.declared.arch.Arch.{Arch}
-use Rattle.call_tables.specs.declared.arch.Arch.TheVariants.{X86_64, Aarch64, LinuxX86_64, LinuxAarch64}
+use Rattle.call_tables.specs.declared.arch.Arch.TheVariants.{X86_64, Aarch64, LinuxX86_64, LinuxX86, LinuxX32, LinuxAarch64, LinuxArm}
 use Rattle.call_tables.specs.declared.arch.Family.{Family}
 use Rattle.call_tables.specs.declared.arch.Family.TheVariants.{Chosen, Whole}
-use Rattle.call_tables.specs.Machines.{aarch64_table, x86_64_table, linux_x86_64_table, linux_aarch64_table}
-use Rattle.call_tables.specs.Arch.{table_of, word_of, family_of, machine_called}
+use Rattle.call_tables.specs.Machines.{first_rows, second_rows, third_rows, fourth_rows, x86_64_table, aarch64_table}
+use Rattle.call_tables.specs.Machines.{linux_x86_64_table, linux_x86_table, linux_x32_table, linux_aarch64_table, linux_arm_table}
+use Rattle.call_tables.specs.Arch.{table_of, word_of, family_of, same_family, machine_called, native_called}
 use Rattle.call_tables.specs.Table.{Table, number_in}
 use Rattle.texts.specs.Splits.{split_at}
 use Rattle.texts.proofs.Options.{bind_some, chosen, map_some, tested}
 use Rattle.texts.proofs.Splits.{split_at_sound}
 use Rattle.script.specs.Grammar.{IsForeign, IsWhat, colon, lacks}
-use Rattle.script.specs.inner.Reading.{called, foreign_at, native_or, numbered, same_family, what_at, word_at}
+use Rattle.script.specs.inner.Reading.{called, foreign_at, native_or, numbered, what_at, word_at}
 use Rattle.script.proofs.NumberLaws.{word_at-is, word_at-some}
 
 -- No call's name has a colon.
@@ -45,24 +46,42 @@ unfolding aarch64_table
 aarch64-plain = refl
 
 linux_x86_64-plain : list_all is_plain linux_x86_64_table ≡ true
-unfolding linux_x86_64_table
+unfolding linux_x86_64_table first_rows second_rows third_rows fourth_rows
 linux_x86_64-plain = refl
 
+linux_x86-plain : list_all is_plain linux_x86_table ≡ true
+unfolding linux_x86_table first_rows second_rows third_rows fourth_rows
+linux_x86-plain = refl
+
+linux_x32-plain : list_all is_plain linux_x32_table ≡ true
+unfolding linux_x32_table first_rows second_rows third_rows fourth_rows
+linux_x32-plain = refl
+
 linux_aarch64-plain : list_all is_plain linux_aarch64_table ≡ true
-unfolding linux_aarch64_table
+unfolding linux_aarch64_table first_rows second_rows third_rows fourth_rows
 linux_aarch64-plain = refl
+
+linux_arm-plain : list_all is_plain linux_arm_table ≡ true
+unfolding linux_arm_table first_rows second_rows third_rows fourth_rows
+linux_arm-plain = refl
 
 table-plain : (arch : Arch) → list_all is_plain (table_of arch) ≡ true
 table-plain X86_64 = x86_64-plain
 table-plain Aarch64 = aarch64-plain
 table-plain LinuxX86_64 = linux_x86_64-plain
+table-plain LinuxX86 = linux_x86-plain
+table-plain LinuxX32 = linux_x32-plain
 table-plain LinuxAarch64 = linux_aarch64-plain
+table-plain LinuxArm = linux_arm-plain
 
 foreign_is_not_plain : (arch : Arch) (ds : List ℕ) → lacks colon (word_of arch ++ colon ∷ ds) ≡ true → ⊥
 foreign_is_not_plain X86_64 ds h = cc
 foreign_is_not_plain Aarch64 ds h = cc
 foreign_is_not_plain LinuxX86_64 ds h = cc
+foreign_is_not_plain LinuxX86 ds h = cc
+foreign_is_not_plain LinuxX32 ds h = cc
 foreign_is_not_plain LinuxAarch64 ds h = cc
+foreign_is_not_plain LinuxArm ds h = cc
 
 unnamed : (native arch : Arch) (text : List ℕ) (nr : ℕ) → IsForeign (family_of native) text arch nr → number_in (table_of native) text ≡ None
 unnamed native arch text nr f = by_name (number_in (table_of native) text) refl where
@@ -92,16 +111,23 @@ called_some own arch word rest more h = by_side (chosen (bytes_eq word (word_of 
   by_side (inl g) = (bytes_eq-Decides word (word_of own)).0 g.0 ∙ ap word_of (same_Some own arch g.1)
   by_side (inr g) = more g.1
 
-machine_called-some : (word : List ℕ) (arch : Arch) → machine_called word ≡ Some arch → word ≡ word_of arch
-unfolding machine_called
-machine_called-some word arch h =
+native_called-some : (word : List ℕ) (arch : Arch) → native_called word ≡ Some arch → word ≡ word_of arch
+unfolding native_called
+native_called-some word arch h =
     called_some X86_64 arch word _ (called_some Aarch64 arch word _ (called_some LinuxX86_64 arch word _
     (called_some LinuxAarch64 arch word None (λ e. absurd (cc))))) h
 
+machine_called-some : (word : List ℕ) (arch : Arch) → machine_called word ≡ Some arch → word ≡ word_of arch
+unfolding machine_called
+machine_called-some word arch h =
+    called_some LinuxX86 arch word _ (called_some LinuxX32 arch word _ (called_some LinuxArm arch word (native_called word)
+    (native_called-some word arch))) h
+
 same_family-is : (family other : Family) → same_family family other ≡ true → family ≡ other
 same_family-is Chosen Chosen h = refl
+same_family-is Chosen Whole h = absurd (cc)
+same_family-is Whole Chosen h = absurd (cc)
 same_family-is Whole Whole h = refl
-same_family-is family other h = absurd (cc)
 
 foreign_at-some : (family : Family) (text : List ℕ) (p : Arch × ℕ) → foreign_at family text ≡ Some p → IsForeign family text p.0 p.1
 unfolding foreign_at
@@ -116,11 +142,14 @@ foreign_at-some family text p h =
 
 foreign_at-spelled : (arch : Arch) (ds : List ℕ)
     → foreign_at (family_of arch) (word_of arch ++ colon ∷ ds) ≡ option_map (λ (nr : ℕ). (arch, nr)) (word_at ds)
-unfolding foreign_at machine_called
+unfolding foreign_at machine_called native_called
 foreign_at-spelled X86_64 ds = refl
 foreign_at-spelled Aarch64 ds = refl
 foreign_at-spelled LinuxX86_64 ds = refl
+foreign_at-spelled LinuxX86 ds = refl
+foreign_at-spelled LinuxX32 ds = refl
 foreign_at-spelled LinuxAarch64 ds = refl
+foreign_at-spelled LinuxArm ds = refl
 
 foreign_at-is : (family : Family) (text : List ℕ) (arch : Arch) (nr : ℕ) → IsForeign family text arch nr
     → foreign_at family text ≡ Some (arch, nr)

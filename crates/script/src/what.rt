@@ -1,7 +1,7 @@
 //! Which call a task makes.
 ghost use Rattle.std.specs.Prelude.{◌≡◌};
-ghost use Rattle.call_tables.specs.Arch.{family_of};
-ghost use Rattle.script.specs.inner.Reading.{foreign_at, same_family, what_at};
+ghost use Rattle.call_tables.specs.Arch.{family_of, same_family};
+ghost use Rattle.script.specs.inner.Reading.{foreign_at, what_at};
 
 use crate::numbers::word;
 use call_tables::{Arch, Family};

@@ -1,35 +1,34 @@
--- The whole tables stand in order, and their lists of places fit them: computed over each.
+-- The rows of Linux stand in order, and no machine has a number twice: computed over them.
 use Rattle.std.proofs.Common.{◌≡◌, true, refl}
-use Rattle.call_tables.specs.declared.places.TheConstants.{LINUX_AARCH64_PLACES, LINUX_X86_64_PLACES}
-use Rattle.call_tables.specs.Machines.{linux_x86_64_table, linux_aarch64_table}
+use Rattle.call_tables.specs.Machines.{first_rows, second_rows, third_rows, fourth_rows, linux_rows}
+use Rattle.call_tables.specs.Machines.{linux_x86_64_table, linux_x86_table, linux_x32_table, linux_aarch64_table, linux_arm_table}
 use Rattle.call_tables.specs.Table.{is_one_to_one}
-use Rattle.call_tables.specs.inner.Order.{Ascends, are_placed, are_sorted}
+use Rattle.call_tables.specs.inner.Order.{Ascends, are_sorted}
 use Rattle.call_tables.specs.inner.OrderLaws.{ascends, one_to_one}
 
-pub linux_x86_64-sorted : are_sorted linux_x86_64_table ≡ true
-unfolding linux_x86_64_table
-linux_x86_64-sorted = refl
+pub linux-sorted : are_sorted linux_rows ≡ true
+unfolding first_rows second_rows third_rows fourth_rows
+linux-sorted = refl
 
-pub linux_x86_64-ascends : Ascends linux_x86_64_table
-linux_x86_64-ascends = ascends linux_x86_64_table linux_x86_64-sorted
-
-pub linux_x86_64-placed : are_placed LINUX_X86_64_PLACES.now 0 linux_x86_64_table ≡ true
-unfolding linux_x86_64_table
-linux_x86_64-placed = refl
+pub linux-ascends : Ascends linux_rows
+linux-ascends = ascends linux_rows linux-sorted
 
 pub linux_x86_64-one_to_one : is_one_to_one linux_x86_64_table ≡ true
-linux_x86_64-one_to_one = one_to_one LINUX_X86_64_PLACES.now 0 linux_x86_64_table linux_x86_64-ascends linux_x86_64-placed
+unfolding linux_x86_64_table first_rows second_rows third_rows fourth_rows
+linux_x86_64-one_to_one = one_to_one 0 linux_rows linux-ascends refl
 
-pub linux_aarch64-sorted : are_sorted linux_aarch64_table ≡ true
-unfolding linux_aarch64_table
-linux_aarch64-sorted = refl
+pub linux_x86-one_to_one : is_one_to_one linux_x86_table ≡ true
+unfolding linux_x86_table first_rows second_rows third_rows fourth_rows
+linux_x86-one_to_one = one_to_one 1 linux_rows linux-ascends refl
 
-pub linux_aarch64-ascends : Ascends linux_aarch64_table
-linux_aarch64-ascends = ascends linux_aarch64_table linux_aarch64-sorted
-
-pub linux_aarch64-placed : are_placed LINUX_AARCH64_PLACES.now 0 linux_aarch64_table ≡ true
-unfolding linux_aarch64_table
-linux_aarch64-placed = refl
+pub linux_x32-one_to_one : is_one_to_one linux_x32_table ≡ true
+unfolding linux_x32_table first_rows second_rows third_rows fourth_rows
+linux_x32-one_to_one = one_to_one 2 linux_rows linux-ascends refl
 
 pub linux_aarch64-one_to_one : is_one_to_one linux_aarch64_table ≡ true
-linux_aarch64-one_to_one = one_to_one LINUX_AARCH64_PLACES.now 0 linux_aarch64_table linux_aarch64-ascends linux_aarch64-placed
+unfolding linux_aarch64_table first_rows second_rows third_rows fourth_rows
+linux_aarch64-one_to_one = one_to_one 3 linux_rows linux-ascends refl
+
+pub linux_arm-one_to_one : is_one_to_one linux_arm_table ≡ true
+unfolding linux_arm_table first_rows second_rows third_rows fourth_rows
+linux_arm-one_to_one = one_to_one 4 linux_rows linux-ascends refl

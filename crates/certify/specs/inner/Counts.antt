@@ -1,6 +1,6 @@
 -- How many nodes the paths of a filter of calls take.
-use Rattle.std.specs.Prelude.{◌≡◌, ◌==◌, ◌&&◌, ℕ, zero, suc, ◌+◌, ◌-◌, ◌*◌, ◌/◌, ◌≤◌, nat_le, Bool, true, not, if◌then◌else◌}
-use Rattle.std.specs.Prelude.{List, [], ◌∷◌, Some, max, bit_and, length}
+use Rattle.std.specs.Prelude.{◌≡◌, ◌==◌, ◌&&◌, ℕ, zero, suc, ◌+◌, ◌-◌, ◌*◌, ◌/◌, ◌≤◌, nat_le, Bool, true, false, not, if◌then◌else◌}
+use Rattle.std.specs.Prelude.{List, [], ◌∷◌, Some, max, bit_and, length, take}
 use Rattle.call_tables.specs.declared.arch.Arch.{Arch}
 use Rattle.call_tables.specs.Arch.{token_of}
 use Rattle.bpf_insn.specs.declared.code.Operand.{Operand}
@@ -11,7 +11,7 @@ use Rattle.bpf_insn.specs.Code.{operation_of}
 use Rattle.cert_state.specs.declared.literal.Lit.{Lit}
 use Rattle.cert_state.specs.declared.literal.Lit.TheVariants.{In, Bits, NotBits}
 use Rattle.cert_state.specs.Literals.{index_of}
-use Rattle.rule_compile.specs.Shape.{weight, depth}
+use Rattle.rule_compile.specs.Shape.{depth, has_token, tokens, weight}
 use Rattle.certify.specs.declared.plain.place.Place.{Place}
 use Rattle.certify.specs.declared.plain.store.Store.{Store}
 
@@ -35,10 +35,16 @@ unfoldable pub count_below : ℕ → (ℕ → Bool) → ℕ
 count_below zero test = 0
 count_below (suc n) test = (if test n then 1 else 0) + count_below n test
 
--- how many calls of the machines are possible, by their numbers below n
+-- what is counted unless it is counted elsewhere
+abbrev pub unless : Bool → ℕ → ℕ
+unless true n = 0
+unless false n = n
+
+-- how many calls of the machines are possible, by their tokens and their numbers below n
 unfoldable pub inside : ℕ → List Arch → List Lit → ℕ
 inside n [] known = 0
-inside n (arch ∷ archs) known = count_below n (λ nr. allows known (token_of arch) nr) + inside n archs known
+inside n (arch ∷ archs) known =
+    unless (has_token (token_of arch) archs) (count_below n (λ nr. allows known (token_of arch) nr)) + inside n archs known
 
 -- no call meets both
 abbrev pub Exclude : Lit → Lit → Type 0
@@ -55,9 +61,9 @@ pub record HasRoom (s : Store) (place : Place) (cost height : ℕ) : Type 0 wher
 abbrev pub path_cost : List Insn → ℕ → ℕ → ℕ
 path_cost p pc calls = weight p pc + 2 * calls
 
--- what a return costs, where machines from one of the list on may still be told apart
-abbrev pub return_cost : ℕ → ℕ → ℕ → ℕ
-return_cost machines at calls = 2 * (machines - at) + 1 + 2 * calls
+-- what a return costs, where machines from one of the list on may still be told apart: a token that is told apart costs two nodes
+abbrev pub return_cost : List Arch → ℕ → ℕ → ℕ
+return_cost machines at calls = 2 * (tokens machines - tokens (take at machines)) + 1 + 2 * calls
 
 -- what a return of one machine costs: once the foreign numbers are apart, each further node has a call of its own
 abbrev pub halves_cost : ℕ → ℕ → ℕ

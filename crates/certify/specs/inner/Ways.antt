@@ -1,8 +1,8 @@
 -- What is known where a path stands.
-use Rattle.std.specs.Prelude.{◌≡◌, ℕ, ◌+◌, ◌^◌, ◌<◌, ◌⊎◌, List, Some, Contains, slice_get}
+use Rattle.std.specs.Prelude.{◌≡◌, ℕ, ◌+◌, ◌^◌, ◌<◌, ◌⊎◌, List, Any, Some, Contains, slice_get}
 use Rattle.call_tables.specs.declared.arch.Arch.{Arch}
 use Rattle.call_tables.specs.Arch.{token_of}
-use Rattle.call_tables.specs.Numbers.{IsOther}
+use Rattle.call_tables.specs.Numbers.{IsWithin, foreign_numbers}
 use Rattle.bpf_insn.specs.declared.instruction.Insn.{Insn}
 use Rattle.bpf_insn.specs.Code.{operation_of}
 use Rattle.profile.specs.Policy.{Policy}
@@ -51,16 +51,17 @@ AreOutBefore policy s place n =
 -- ---- halvings that tell the numbers apart
 
 -- all numbers that are possible are foreign
-abbrev pub AreForeign : List Lit → Arch → Type 0
-AreForeign known arch = (u : ℕ) → IsPoint known 0 u → IsOther arch u
+abbrev pub AreForeign : Policy → List Lit → Arch → Type 0
+AreForeign policy known arch = (u : ℕ) → IsPoint known 0 u → Any (IsWithin u) (foreign_numbers policy.machines arch)
 
 -- they are small, and no two are so far from each other
 abbrev pub AreNear : List Lit → ℕ → Type 0
 AreNear known distance = (u w : ℕ) → IsPoint known 0 u → IsPoint known 0 w → (w < u + distance) × (w < above_all_numbers)
 
 -- so many halvings are left, at first 10, that the numbers come apart where they have to
-abbrev pub IsEnough : List Lit → Arch → ℕ → Type 0
-IsEnough known arch halvings = (halvings ≡ 10) ⊎ (AreForeign known arch ⊎ ((halvings < 10) × AreNear known (2 ^ halvings)))
+abbrev pub IsEnough : Policy → List Lit → Arch → ℕ → Type 0
+IsEnough policy known arch halvings =
+    (halvings ≡ 10) ⊎ (AreForeign policy known arch ⊎ ((halvings < 10) × AreNear known (2 ^ halvings)))
 
 -- no other token is possible
 abbrev pub IsOnlyToken : Store → Place → Arch → Type 0

@@ -1,12 +1,11 @@
 //! A return, at which the calls that lead there are told apart until the profile says one word of them.
-ghost use Rattle.std.specs.Prelude.{◌≡◌, ◌≤◌, ◌<◌, ◌+◌, ◌-◌, ◌/◌, [], length, slice_get, IfErr, IfOk, IfSome, IsTrue, ◌↔◌, Contains};
-ghost use Rattle.call_tables.specs.Numbers.{IsOwn, other_numbers};
+ghost use Rattle.std.specs.Prelude.{◌≡◌, ◌≤◌, ◌<◌, ◌+◌, ◌-◌, ◌/◌, [], length, slice_get, Any, IfErr, IfOk, IfSome, IsTrue, ◌↔◌, Contains};
 ghost use Rattle.bpf_insn.specs.Program.{insns};
 ghost use Rattle.cert_check.specs.Agree.{Agrees};
 ghost use Rattle.cert_state.specs.Entailment.{IsDead};
 ghost use Rattle.cert_walk.specs.declared.fault.CertifyError.TheVariants.{OutOfMemory};
 ghost use Rattle.certify.specs.inner.Counts.{HasRoom, halves_cost, inside, return_cost};
-ghost use Rattle.certify.specs.inner.Leaf.{LieIn, SaysThere};
+ghost use Rattle.certify.specs.inner.Leaf.{BeginsWithin, LieIn, SaysThere};
 ghost use Rattle.certify.specs.inner.Meant.{IsMeant};
 ghost use Rattle.certify.specs.inner.Ways.{AreOutBefore, IsAtReturn, IsEnough, IsOfMachine, IsOnlyToken, IsReturnOf};
 ghost use Rattle.certify.specs.inner.Store.{IsMadeAt, IsPlace, IsStore, known_at};
@@ -15,13 +14,13 @@ use crate::plain::place::Place;
 use crate::plain::store::Store;
 use crate::plain::unlike::is_unlike;
 use bpf_insn::Program;
-use call_tables::{Arch, LEAST_X32_NUMBER, Numbers};
+use call_tables::{Arch, Numbers};
 use cert_form::Kind;
 use cert_state::Lit;
 use cert_walk::CertifyError;
-use profile::Profile;
+use profile::{Profile, foreign_numbers};
 
-// So many halvings tell any two numbers of a table apart, once the foreign ones are apart.
+// So many halvings tell any two numbers of a table that are below 512 apart, once the foreign ones are apart.
 const HALVINGS: u32 = 10;
 
 /// The node of a place where no call is possible.
@@ -76,7 +75,7 @@ fn numbers(
 ) -> Result<u32, CertifyError>
     requires at { IsAtReturn profile.now (insns program.now) store.old place word }
     requires of { IsOfMachine profile.now store.old place arch }
-    requires enough { IsMeant profile.now (insns program.now) → IsEnough (known_at store.old place) arch halvings }
+    requires enough { IsMeant profile.now (insns program.now) → IsEnough profile.now (known_at store.old place) arch halvings }
     requires room { IsMeant profile.now (insns program.now) → HasRoom store.old place
         (halves_cost halvings (inside 512 profile.now.machines (known_at store.old place))) halvings }
     ensures made { IfOk result (IsMadeAt profile.now (insns program.now) place store.old store.new
@@ -87,13 +86,14 @@ fn numbers(
         return dead(store, profile, program, place);
     };
     let default = profile.default_word().0;
-    if low == high || default == word || are_foreign(arch, low, high) {
+    let foreign = foreign_numbers(profile.machines(), arch);
+    if low == high || default == word || are_foreign(foreign, low, high) {
         return ends(store, profile, program, place, word);
     }
     if halvings == 0 {
         return Err(CertifyError::Undecided(u32::from(place.pc)));
     }
-    let cut = middle(arch, low, high);
+    let cut = middle(foreign, low, high);
     let below = Lit::In(0, 0, cut);
     let above = Lit::In(0, cut + 1, u32::MAX);
     let fork = store.fork(place, (place.pc, below), (place.pc, above))?;
@@ -104,12 +104,10 @@ fn numbers(
 }
 
 // Whether the numbers from one to another are all foreign.
-fn are_foreign(arch: Arch, low: u32, high: u32) -> bool
-    ensures { IsTrue result ↔ LieIn low high (other_numbers arch) }
+fn are_foreign(foreign: &[Numbers], low: u32, high: u32) -> bool
+    ensures { IsTrue result ↔ LieIn low high foreign.now }
 {
-    arch.other_numbers()
-        .iter()
-        .any(|numbers| has_both(*numbers, low, high))
+    foreign.iter().any(|numbers| has_both(*numbers, low, high))
 }
 
 fn has_both(numbers: Numbers, low: u32, high: u32) -> bool
@@ -121,22 +119,30 @@ fn has_both(numbers: Numbers, low: u32, high: u32) -> bool
     high <= numbers.last
 }
 
+// Whether the last one of some numbers is foreign, of one stretch, and the first one stands before that.
+fn begins_within(numbers: Numbers, low: u32, high: u32) -> bool
+    ensures { IsTrue result ↔ BeginsWithin low high numbers }
+{
+    if low < numbers.first {
+        return numbers.contain(high);
+    }
+    false
+}
+
 // Where the numbers from one to another are cut: in the middle, but that foreign ones come apart first.
-fn middle(arch: Arch, low: u32, high: u32) -> u32
+fn middle(foreign: &[Numbers], low: u32, high: u32) -> u32
     requires { low < high }
     ensures from { low ≤ result }
     ensures to { result < high }
-    ensures foreign { (IsOwn arch high → ⊥) → low < 0x40000000 → result + 1 ≡ 0x40000000 }
-    ensures half { IsOwn arch high → result ≡ low + (high - low) / 2 }
+    ensures foreign { Any (BeginsWithin low high) foreign.now → Any (λ numbers. BeginsWithin low high numbers × (result + 1 ≡ numbers.first)) foreign.now }
+    ensures half { (Any (BeginsWithin low high) foreign.now → ⊥) → result ≡ low + (high - low) / 2 }
 {
-    let half = low + (high - low) / 2;
-    if arch.has_number(high) {
-        return half;
+    for numbers in foreign {
+        if begins_within(*numbers, low, high) {
+            return numbers.first - 1;
+        }
     }
-    if low < LEAST_X32_NUMBER {
-        return LEAST_X32_NUMBER - 1;
-    }
-    half
+    low + (high - low) / 2
 }
 
 // A return of calls of one machine, if any is possible.
@@ -198,10 +204,10 @@ pub(crate) fn tokens(
     requires at { IsAtReturn profile.now (insns program.now) store.old place word }
     requires out { AreOutBefore profile.now store.old place at }
     requires room { IsMeant profile.now (insns program.now) → HasRoom store.old place
-        (return_cost (length profile.now.machines) at (inside 512 profile.now.machines (known_at store.old place)))
+        (return_cost profile.now.machines at (inside 512 profile.now.machines (known_at store.old place)))
         (length profile.now.machines - at + 10) }
     ensures made { IfOk result (IsMadeAt profile.now (insns program.now) place store.old store.new
-        (return_cost (length profile.now.machines) at (inside 512 profile.now.machines (known_at store.old place)))) }
+        (return_cost profile.now.machines at (inside 512 profile.now.machines (known_at store.old place)))) }
     ensures never { IsMeant profile.now (insns program.now) → IfErr result (λ e. e ≡ OutOfMemory) }
 {
     let Some((_low, _high)) = store.range(place.chain, 0) else {

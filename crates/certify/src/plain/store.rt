@@ -1,5 +1,5 @@
 //! Entries and nodes as they are made.
-ghost use Rattle.std.specs.Prelude.{◌≡◌, ◌+◌, ◌*◌, ◌≤◌, ◌<◌, ◌⊎◌, ◌++◌, ◌∷◌, [], length, slice_set as list_set, IfErr, IfOk, OnOk, MatchOption, IsTrue};
+ghost use Rattle.std.specs.Prelude.{◌↔◌, ◌≡◌, ◌+◌, ◌*◌, ◌≤◌, ◌<◌, ◌⊎◌, ◌++◌, ◌∷◌, [], length, slice_set as list_set, IfErr, IfOk, OnOk, MatchOption, IsTrue};
 ghost use Rattle.cert_form.specs.Nodes.{literals};
 ghost use Rattle.cert_form.specs.Spelling.{IsKind};
 ghost use Rattle.cert_state.specs.declared.literal.Lit.TheVariants.{NotBits};
@@ -123,7 +123,7 @@ impl Store {
     pub(crate) fn rules_out(&self, chain: u32, token: u32) -> bool
         requires store { IsStore self.now }
         requires chain { chain ≤ length self.now.entries.items }
-        ensures { IsTrue result → Entails (literals self.now.entries.items chain) (NotBits 1 0xffffffff token) }
+        ensures { IsTrue result ↔ Entails (literals self.now.entries.items chain) (NotBits 1 0xffffffff token) }
     {
         let known = Chain {
             entries: &self.entries,

@@ -56,7 +56,7 @@ pub(crate) fn enter(
     requires way { IsOnWay profile.now (insns program.now) store.old place }
     requires room { IsMeant profile.now (insns program.now) → HasRoom store.old place
         (path_cost (insns program.now) place.pc (inside 512 profile.now.machines (known_at store.old place)))
-        (depth (insns program.now) place.pc + 12) }
+        (depth (insns program.now) place.pc + 15) }
     ensures made { IfOk result (IsMadeAt profile.now (insns program.now) place store.old store.new
         (path_cost (insns program.now) place.pc (inside 512 profile.now.machines (known_at store.old place)))) }
     ensures never { IsMeant profile.now (insns program.now) → IfErr result (λ e. e ≡ OutOfMemory) }

@@ -6,11 +6,14 @@ use Rattle.std.proofs.lemmas.Option.{same_Some}
 use Rattle.call_tables.specs.declared.arch.Arch.{Arch}
 use Rattle.call_tables.specs.Arch.{table_of}
 use Rattle.call_tables.specs.Table.{number_in, name_in}
+use Rattle.call_tables.specs.Numbers.{HasCall, IsOwn}
 use Rattle.call_tables.proofs.ArchLaws.{table_of-inverse}
+use Rattle.call_tables.proofs.OwnLaws.{table_of-own}
+use Rattle.call_record.specs.Words.{word}
 use Rattle.profile.specs.Policy.{InOrder}
-use Rattle.profile.proofs.MachineLaws.{token_of-one}
+use Rattle.profile.proofs.MachineLaws.{has_call-one}
 use Rattle.profile.specs.declared.rules.Rule.{Rule}
-use Rattle.profile.specs.Rule.{Overlap, Clash}
+use Rattle.profile.specs.Rule.{Matches, Overlap, Clash}
 use Rattle.profile_json.specs.Parts.{EntryParts, RuleParts, rule_parts}
 use Rattle.profile_json.specs.Rules.{rule_of, rules_under, rules_of_entry}
 use Rattle.profile_json.specs.Breaks.{ClashUnder}
@@ -82,6 +85,15 @@ clash_under machines x y name unlike in_x in_y any =
       clash = (words, o.both);
     }
 
+-- a record that a rule under a name matches is a call of the rule's machine
+call_of : (machines : List Arch) (x : EntryParts) (name : List ℕ) (rule : Rule) (r : List ℕ) → IsUnder machines x name (rule_parts rule)
+    → Matches rule r → HasCall (word r 1) (word r 0) rule.arch
+call_of machines x name rule r p m =
+    let arch : rule.arch ≡ p.arch = ap (λ (s : RuleParts). s.arch) p.is in
+    let nr : rule.nr ≡ p.nr = ap (λ (s : RuleParts). s.nr) p.is in
+    let own : IsOwn p.arch p.nr = table_of-own p.arch name p.nr p.nr_is in
+    (sym m.machine, subst (λ a. IsOwn a (word r 0)) (sym arch) (subst (IsOwn p.arch) (sym (m.number ∙ nr)) own))
+
 -- rules that clash are of one call, and so of one name: a search over the names finds it
 pub must_clash : (machines : List Arch) (x y : EntryParts) (a b : Rule) → InOrder machines → Contains (rules_of_entry machines x) (rule_parts a)
     → Contains (rules_of_entry machines y) (rule_parts b) → Clash a b → NoClash machines x y → ⊥
@@ -94,8 +106,9 @@ must_clash machines x y a b order in_x in_y clash none =
     let one_nr : a.nr ≡ b.nr = sym r.2.number ∙ r.3.number in
     let arch_a : a.arch ≡ p.arch = ap (λ (s : RuleParts). s.arch) p.is in
     let arch_b : b.arch ≡ q.arch = ap (λ (s : RuleParts). s.arch) q.is in
-    let one_arch : a.arch ≡ b.arch = token_of-one machines order a.arch b.arch (subst (Contains machines) (sym arch_a) p.listed)
-    (subst (Contains machines) (sym arch_b) q.listed) (sym r.2.machine ∙ r.3.machine) in
+    let one_arch : a.arch ≡ b.arch = has_call-one machines order a.arch b.arch (subst (Contains machines) (sym arch_a) p.listed)
+    (subst (Contains machines) (sym arch_b) q.listed) (word r.0 1) (word r.0 0) (call_of machines x m.0 a r.0 p r.2)
+    (call_of machines y n.0 b r.0 q r.3) in
     let nr_a : a.nr ≡ p.nr = ap (λ (s : RuleParts). s.nr) p.is in
     let nr_b : b.nr ≡ q.nr = ap (λ (s : RuleParts). s.nr) q.is in
     let archs : q.arch ≡ p.arch = sym arch_b ∙ sym one_arch ∙ arch_a in

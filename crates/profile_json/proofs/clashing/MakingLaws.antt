@@ -3,15 +3,17 @@ use Rattle.std.proofs.Common.{◌≡◌, ℕ, List, map, Option, Some, None, IsS
 use Rattle.std.specs.List.{Contains, slice_get}
 use Rattle.std.proofs.lemmas.Option.{slice_get-map}
 use Rattle.call_tables.specs.declared.arch.Arch.{Arch}
+use Rattle.call_tables.specs.declared.arch.Family.{Family}
 use Rattle.call_tables.specs.Arch.{family_of, AreOfFamily}
 use Rattle.profile.specs.declared.rules.Rule.{Rule}
 use Rattle.profile.specs.declared.fault.BuildError.{BuildError}
 use Rattle.profile.specs.declared.fault.BuildError.TheVariants.{NativeMissing, MixedFamilies, ForeignRule, Overlap, TooMany}
+use Rattle.profile.specs.Machines.{in_order}
 use Rattle.profile.specs.Policy.{InOrder}
 use Rattle.profile.specs.Build.{IsFirstCause, AreMachinesFor, IsFirstClash, IsFirstForeign, AreListed, ClashAt, AreTooMany}
 use Rattle.profile_json.specs.Fault.{Fault, too_many}
 use Rattle.profile_json.specs.Parts.{EntryParts, RuleParts, rule_parts}
-use Rattle.profile_json.specs.Rules.{in_order, rules_of_entry, rules_of, rules_under}
+use Rattle.profile_json.specs.Rules.{rules_of_entry, rules_of, rules_under}
 use Rattle.profile_json.specs.inner.Reading.{Said}
 use Rattle.profile_json.specs.inner.Clashes.{HasClash, IsOverlap}
 use Rattle.profile_json.specs.inner.Making.{IsNotMade, many, clash}
@@ -21,6 +23,12 @@ use Rattle.profile_json.proofs.clashing.Clashing.{IsUnder, under_back}
 pub if_is_some_and : {X : Type 0} (o : Option X) {P Q : X → Type 0} → IsSomeAnd o P → ((x : X) → P x → Q x) → IfSome o Q
 if_is_some_and None h then = absurd h
 if_is_some_and (Some x) h then = then x h
+
+-- the machines are those that are listed, in order
+pub order_of : (native : Arch) (family : Family) (archs these items machines : List Arch) → machines ≡ items → items ≡ in_order family these
+    → family ≡ family_of native → these ≡ archs → machines ≡ in_order (family_of native) archs
+order_of native family archs these items machines is ordered of listed =
+    is ∙ ordered ∙ ap (λ f. in_order f these) of ∙ ap (in_order (family_of native)) listed
 
 pub has_clash : (native : Arch) (machines : List Arch) (es : List EntryParts) (rules : List Rule) (e : BuildError) (i j : ℕ) → InOrder machines
     → map rule_parts rules ≡ rules_of machines es → e ≡ Overlap i j → IsFirstCause native machines rules e → HasClash machines es j
@@ -70,14 +78,14 @@ no_foreign native machines es rules e i said is stands =
     at.2 (subst (Contains machines) arch from.listed)
 
 pub too_many_rules : (said : Said) (native : Arch) (machines : List Arch) (rules : List Rule) (e : BuildError)
-    → machines ≡ in_order said.archs → map rule_parts rules ≡ rules_of machines said.entries → e ≡ TooMany
-    → IsFirstCause native machines rules e → IsNotMade said too_many
+    → machines ≡ in_order (family_of native) said.archs → map rule_parts rules ≡ rules_of machines said.entries → e ≡ TooMany
+    → IsFirstCause native machines rules e → IsNotMade said native too_many
 too_many_rules said native machines rules e order are is stands =
     let cause : AreMachinesFor native machines × AreListed machines rules × AreTooMany rules =
     subst (IsFirstCause native machines rules) is stands in
     let at : AreTooMany rules = cause.2 in
     many rules (are ∙ ap (λ ms. rules_of ms said.entries) order) at
 
-pub clash_refused : (said : Said) (machines : List Arch) (f : Fault) → machines ≡ in_order said.archs → IsOverlap machines said.entries f
-    → IsNotMade said f
-clash_refused said machines f order is = clash f (subst (λ ms. IsOverlap ms said.entries f) order is)
+pub clash_refused : (said : Said) (native : Arch) (machines : List Arch) (f : Fault) → machines ≡ in_order (family_of native) said.archs
+    → IsOverlap machines said.entries f → IsNotMade said native f
+clash_refused said native machines f order is = clash f (subst (λ ms. IsOverlap ms said.entries f) order is)

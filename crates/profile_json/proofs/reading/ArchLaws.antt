@@ -1,31 +1,27 @@
 -- Listed machines: what reading gives is meant, and what it refuses is broken.
-use Rattle.std.proofs.Common.{◌≡◌, ℕ, ◌==◌, List, [], ◌∷◌, cond, if◌then◌else◌, Ok, Err, Some, None, true, inl, inr, refl}
+use Rattle.std.proofs.Common.{◌≡◌, ℕ, Bool, List, [], ◌∷◌, cond, Ok, Err, Some, None, true, inl, inr, refl}
 use Rattle.std.proofs.Common.{sym, ◌∙◌, ap, subst}
 use Rattle.std.specs.Option.{ok_or}
-use Rattle.std.specs.List.{AllZip, Contains, list_any}
+use Rattle.std.specs.List.{AllZip, Contains, list_any, position_or_len}
 use Rattle.std.specs.Str.{bytes_eq}
-use Rattle.std.proofs.lemmas.Bool.{cases_Bool}
-use Rattle.std.proofs.lemmas.Bool.Decides.{Decides-eqb}
-use Rattle.std.proofs.lemmas.List.Elements.{All-nil, All-cons}
-use Rattle.std.proofs.lemmas.List.Folds.{list_any_at}
-use Rattle.std.proofs.lemmas.Map.Views.{Contains-from_any}
+use Rattle.std.proofs.lemmas.List.Elements.{All-nil, All-cons, All-contains}
+use Rattle.std.proofs.lemmas.List.Folds.{find_at}
 use Rattle.std.proofs.lemmas.Option.{same_Some}
 use Rattle.serde_json.specs.Data.{Data}
 use Rattle.call_tables.specs.declared.arch.Arch.{Arch}
-use Rattle.call_tables.specs.declared.arch.Arch.TheVariants.{X86_64, Aarch64, LinuxX86_64, LinuxAarch64}
 use Rattle.call_tables.specs.declared.arch.Family.{Family}
-use Rattle.call_tables.specs.Arch.{family_of, x86_64_of, aarch64_of, scmp_of, AreOfFamily}
-use Rattle.call_tables.proofs.ArchLaws.{family_of-x86_64_of, family_of-aarch64_of}
+use Rattle.call_tables.specs.Arch.{family_of, machines_of, same_arch, scmp_of, AreOfFamily}
+use Rattle.profile.proofs.MachineLaws.{Decides-listed, machines-of_family}
 use Rattle.profile_json.specs.Keys as key
 use Rattle.profile_json.specs.Fault.{Fault, wrong_type, unknown_arch, native_missing}
 use Rattle.profile_json.specs.Lookup.{member, or_default, text, list}
-use Rattle.profile_json.specs.Names.{named, arch_named}
-use Rattle.profile_json.specs.Rules.{place_of, same_arch, or_native}
+use Rattle.profile_json.specs.Names.{arch_named}
+use Rattle.profile_json.specs.Rules.{or_native}
 use Rattle.profile_json.specs.inner.Outcome.{◌>>=◌}
 use Rattle.profile_json.specs.inner.Reading.{typed, each, arch_of, archs_or_native, archs_of}
 use Rattle.profile_json.specs.Meaning.{NamesArch, ListsArchs}
 use Rattle.profile_json.specs.Breaks.{ArchsBreak, no_list, no_text, unknown, not_native}
-use Rattle.profile_json.proofs.Lists.{related, one_related}
+use Rattle.profile_json.proofs.Lists.{contains_at, related, one_related}
 use Rattle.profile_json.proofs.reading.Steps.{bind_ok, bind_err, ok_or_ok, ok_or_err, cond_ok, cond_err, each_ok, each_err, none_some}
 use Rattle.profile_json.proofs.reading.Steps.{ok_same, not_ok, true_false}
 
@@ -54,27 +50,11 @@ value_breaks : (s : Data) (native : Arch) (ds : List Data) (d : Data) (f : Fault
 value_breaks s native ds d _ at in_ds (has_no_text e) = no_text ds d at in_ds e
 value_breaks s native ds d _ at in_ds (is_unknown name e u) = unknown ds d name at in_ds e u
 
--- the machine at a place
-abbrev arch_at : ℕ → Arch
-arch_at n = if n == 0 then X86_64 else if n == 1 then Aarch64 else if n == 2 then LinuxX86_64 else LinuxAarch64
-
-arch_at-place_of : (a : Arch) → arch_at (place_of a) ≡ a
-arch_at-place_of X86_64 = refl
-arch_at-place_of Aarch64 = refl
-arch_at-place_of LinuxX86_64 = refl
-arch_at-place_of LinuxAarch64 = refl
-
-pub same_is : (a b : Arch) → same_arch a b ≡ true → a ≡ b
-same_is a b h = sym (arch_at-place_of a) ∙ ap arch_at ((Decides-eqb (place_of a) (place_of b)).0 h) ∙ arch_at-place_of b
-
-same_self : (a : Arch) → same_arch a a ≡ true
-same_self a = (Decides-eqb (place_of a) (place_of a)).1 refl
-
 pub lists_native : (a : Arch) (archs : List Arch) → list_any (same_arch a) archs ≡ true → Contains archs a
-lists_native a archs h = Contains-from_any same_is a archs h
+lists_native a archs = (Decides-listed archs a).0
 
-pub native_lists : (a : Arch) (archs : List Arch) → Contains archs a → list_any (same_arch a) archs ≡ true
-native_lists a archs h = list_any_at (same_arch a) archs h.0 a h.1 (ap (same_arch a) h.2 ∙ same_self a)
+native_lists : (a : Arch) (archs : List Arch) → Contains archs a → list_any (same_arch a) archs ≡ true
+native_lists a archs = (Decides-listed archs a).1
 
 lists_of : (s : Data) (native : Arch) (ds : List Data) (archs : List Arch) → or_default [] (member list key.architectures s) ≡ Some ds
     → archs_or_native native ds ≡ Ok archs → ListsArchs s native archs
@@ -164,13 +144,9 @@ archs_unbroken s native archs _ m has (not_native others lists lost) =
 named_is : (family : Family) (name : List ℕ) (a : Arch) → arch_named family name ≡ Some a → family_of a ≡ family
 unfolding arch_named
 named_is family name a h =
-    elim (cases_Bool (bytes_eq name (scmp_of (x86_64_of family)))) [
-      | inl first ↦ ap family_of (same_Some a (x86_64_of family) (sym h ∙ rw first refl)) ∙ family_of-x86_64_of family
-      | inr other ↦ elim (cases_Bool (bytes_eq name (scmp_of (aarch64_of family)))) [
-        | inl second ↦ ap family_of (same_Some a (aarch64_of family) (sym h ∙ rw (other, second) refl)) ∙ family_of-aarch64_of family
-        | inr none ↦ absurd (none_some (arch_named family name) a (rw (other, none) refl) h)
-      ]
-    ]
+    let test : Arch → Bool = λ arch. bytes_eq name (scmp_of arch) in
+    All-contains (λ arch. family_of arch ≡ family) (machines_of family) a (machines-of_family family)
+    (contains_at (machines_of family) (position_or_len test (machines_of family)) a (sym (find_at test (machines_of family)) ∙ h))
 
 named_of_family : (family : Family) (ds : List Data) (archs : List Arch) → AllZip (NamesArch family) ds archs → AreOfFamily family archs
 named_of_family family [] [] each = All-nil (λ a. family_of a ≡ family)

@@ -1,25 +1,23 @@
 -- A bundle as a whole: what is read and made is meant, and what is refused is broken.
-use Rattle.std.proofs.Common.{◌≡◌, ℕ, zero, suc, List, [], ◌∷◌, ◌&&◌, cond, Bool, Result, Ok, Err, Option, Some, None, IfSome}
-use Rattle.std.proofs.Common.{IsSomeAnd, true}
-use Rattle.std.proofs.Common.{false, inl, inr, refl, sym, ◌∙◌, ap, subst}
-use Rattle.std.specs.List.{All, AllZip, Contains, list_any, slice_get}
+use Rattle.std.proofs.Common.{◌≡◌, ℕ, zero, suc, List, [], ◌∷◌, Result, Ok, Err, Option, Some, None, IfSome}
+use Rattle.std.proofs.Common.{IsSomeAnd}
+use Rattle.std.proofs.Common.{inl, inr, refl, sym, ◌∙◌, ap, subst}
+use Rattle.std.specs.List.{AllZip, Contains, slice_get}
 use Rattle.std.proofs.lemmas.List.Elements.{All-contains}
-use Rattle.std.proofs.Math.Bool.{and-true}
-use Rattle.std.proofs.lemmas.Map.Views.{any-filter_same}
 use Rattle.std.proofs.lemmas.Option.{same_Some}
 use Rattle.serde_json.specs.Data.{Data}
 use Rattle.call_tables.specs.declared.arch.Arch.{Arch}
-use Rattle.call_tables.specs.declared.arch.Arch.TheVariants.{X86_64, Aarch64, LinuxX86_64, LinuxAarch64}
 use Rattle.call_tables.specs.declared.arch.Family.{Family}
-use Rattle.call_tables.specs.declared.arch.Family.TheVariants.{Chosen, Whole}
 use Rattle.call_tables.specs.Arch.{family_of}
 use Rattle.profile.specs.Policy.{Policy}
-use Rattle.profile.specs.Policy.{InOrder}
+use Rattle.profile.specs.Machines.{in_order}
+use Rattle.profile.proofs.MachineLaws.{stays}
+use Rattle.profile.proofs.OneBuilt.{one_order}
 use Rattle.profile_json.specs.Keys as key
 use Rattle.profile_json.specs.Fault.{Fault, overlap}
 use Rattle.profile_json.specs.Parts.{EntryParts}
 use Rattle.profile_json.specs.CallName.{short_name}
-use Rattle.profile_json.specs.Rules.{same_arch, in_order, rules_of}
+use Rattle.profile_json.specs.Rules.{rules_of}
 use Rattle.profile_json.specs.inner.Outcome.{◌>>=◌}
 use Rattle.profile_json.specs.inner.Reading.{Said, default_of, refused_of, archs_of, entries_of, root_of, said_of}
 use Rattle.profile_json.specs.Meaning.{IsText, RootMeans, WordMeans, KeysMean, ListsArchs, EntryMeans, EntriesMean, Means}
@@ -30,7 +28,7 @@ use Rattle.profile_json.proofs.reading.Steps.{bind_ok, bind_err, ok_same, not_ok
 use Rattle.profile_json.proofs.reading.RootLaws.{root_breaks}
 use Rattle.profile_json.proofs.reading.ActionLaws.{word_means, word_breaks}
 use Rattle.profile_json.proofs.reading.KeyLaws.{keys_mean, keys_break}
-use Rattle.profile_json.proofs.reading.ArchLaws.{lists_archs, archs_refused, same_is, lists_native, native_lists}
+use Rattle.profile_json.proofs.reading.ArchLaws.{lists_archs, archs_refused, listed_of_family}
 use Rattle.profile_json.proofs.reading.EntryLaws.{entries_mean, EntriesRefused, is_no_list, are_many, in_one_entry, entries_refused}
 
 -- what is read of the object under linux.seccomp
@@ -101,76 +99,17 @@ said_breaks s native f h =
       ]
     ]
 
--- ---- machines in order
-
-same_test : (b c : Bool) → (b ≡ true → c ≡ true) → (c ≡ true → b ≡ true) → b ≡ c
-same_test true true f g = refl
-same_test true false f g = sym (f refl)
-same_test false true f g = g refl
-same_test false false f g = refl
-
-ordered : (machines : List Arch) → InOrder machines → in_order machines ≡ machines
-ordered machines (Chosen, inl e) = ap in_order e ∙ sym e
-ordered machines (Chosen, inr (inl e)) = ap in_order e ∙ sym e
-ordered machines (Chosen, inr (inr e)) = ap in_order e ∙ sym e
-ordered machines (Whole, inl e) = ap in_order e ∙ sym e
-ordered machines (Whole, inr (inl e)) = ap in_order e ∙ sym e
-ordered machines (Whole, inr (inr e)) = ap in_order e ∙ sym e
-
-abbrev kept : Bool → Arch → List Arch → List Arch
-kept b a rest = cond b (a ∷ rest) rest
-
-abbrev chosen : Bool → Bool → Bool → Bool → List Arch
-chosen a b c d = kept a X86_64 (kept b Aarch64 (kept c LinuxX86_64 (kept d LinuxAarch64 [])))
-
--- which machines are listed decides their order
-in_order_by : (xs ys : List Arch) → ((a : Arch) → list_any (same_arch a) xs ≡ list_any (same_arch a) ys) → in_order xs ≡ in_order ys
-in_order_by xs ys agree =
-    let p : Arch → List Arch → Bool = λ a zs. list_any (same_arch a) zs in
-    ap (λ b. chosen b (p Aarch64 xs) (p LinuxX86_64 xs) (p LinuxAarch64 xs)) (agree X86_64)
-    ∙ ap (λ b. chosen (p X86_64 ys) b (p LinuxX86_64 xs) (p LinuxAarch64 xs)) (agree Aarch64)
-    ∙ ap (λ b. chosen (p X86_64 ys) (p Aarch64 ys) b (p LinuxAarch64 xs)) (agree LinuxX86_64)
-    ∙ ap (chosen (p X86_64 ys) (p Aarch64 ys) (p LinuxX86_64 ys)) (agree LinuxAarch64)
-
-abbrev all_machines : List Arch
-all_machines = X86_64 ∷ Aarch64 ∷ LinuxX86_64 ∷ LinuxAarch64 ∷ []
-
-among_all : (a : Arch) → list_any (same_arch a) all_machines ≡ true
-among_all X86_64 = refl
-among_all Aarch64 = refl
-among_all LinuxX86_64 = refl
-among_all LinuxAarch64 = refl
-
--- a machine is among those in order where it is listed
-listed_in_order : (archs : List Arch) (a : Arch) → list_any (same_arch a) (in_order archs) ≡ list_any (same_arch a) archs
-listed_in_order archs a =
-    let listed : Arch → Bool = λ b. list_any (same_arch b) archs in
-    any-filter_same (same_arch a) listed (listed a) (λ k same. ap listed (sym (same_is a k same))) all_machines
-    ∙ ap (λ b. listed a && b) (among_all a) ∙ and-true (listed a)
-
--- machines in order are told by which there are
-pub one_order : (machines archs : List Arch) → InOrder machines → ((a : Arch) → Contains machines a → Contains archs a)
-    → All (Contains machines) archs
-    → machines ≡ in_order archs
-one_order machines archs order listed all =
-    let agree : (a : Arch) → list_any (same_arch a) machines ≡ list_any (same_arch a) archs =
-    λ a. same_test (list_any (same_arch a) machines) (list_any (same_arch a) archs)
-    (λ t. native_lists a archs (listed a (lists_native a machines t)))
-    (λ t. native_lists a machines (All-contains (Contains machines) archs a all (lists_native a archs t))) in
-    sym (ordered machines order) ∙ in_order_by machines archs agree
-
-in_order_again : (archs : List Arch) → in_order (in_order archs) ≡ in_order archs
-in_order_again archs = in_order_by (in_order archs) archs (listed_in_order archs)
-
 -- ---- the whole
 
 pub bundle_means : (t s : Data) (native : Arch) (x : Said) (p : Policy) → RootMeans t s → SaidMeans s native x → IsMade x native p
     → Means t native p
 bundle_means t s native x p root said made =
     let built = made.built in
-    let machines : p.machines ≡ in_order x.archs =
-    one_order p.machines (in_order x.archs) built.is_profile.machines_in_order built.machines_listed built.machines_all
-    ∙ in_order_again x.archs in
+    let listed : List Arch = in_order (family_of native) x.archs in
+    let order = stays (family_of native) x.archs listed (listed_of_family s native x.archs said.archs) refl in
+    let machines : p.machines ≡ listed =
+    one_order p.machines listed built.is_profile.machines_in_order order built.machines_listed
+    (λ a has. All-contains (Contains p.machines) listed a built.machines_all has) in
     record {
       seccomp = s;
       root = root;
@@ -200,7 +139,7 @@ entry_at family (d ∷ ds) [] i e z h = absurd z
 entry_at family (d ∷ ds) (y ∷ ys) zero e z h = (d, refl, subst (EntryMeans family d) (same_Some y e h) z.0)
 entry_at family (d ∷ ds) (y ∷ ys) (suc i) e z h = entry_at family ds ys i e z.1 h
 
-pub not_made_breaks : (s : Data) (native : Arch) (x : Said) (f : Fault) → SaidMeans s native x → IsNotMade x f → SeccompBreaks s native f
+pub not_made_breaks : (s : Data) (native : Arch) (x : Said) (f : Fault) → SaidMeans s native x → IsNotMade x native f → SeccompBreaks s native f
 not_made_breaks s native x _ said (many rules are more) =
     broken.SeccompBreaks.entries _ (broken.EntriesBreak.many_rules x.archs x.entries rules more.0 said.archs said.entries are more.1 more.2)
 not_made_breaks s native x f said (clash _ o) =
@@ -224,7 +163,7 @@ said_fault bytes native t s (Some f) text root h =
     broken.in_value t f text (broken.ValueBreaks.seccomp s f root.seccomp (said_breaks s native f h))
 
 pub made_fault : (bytes : List ℕ) (native : Arch) (t s : Data) (x : Said) (o : Option Fault) → IsText bytes t → RootMeans t s
-    → SaidMeans s native x → IfSome o (IsNotMade x) → IfSome o (Breaks bytes native)
+    → SaidMeans s native x → IfSome o (IsNotMade x native) → IfSome o (Breaks bytes native)
 made_fault bytes native t s x None text root said h = tt
 made_fault bytes native t s x (Some f) text root said h =
     broken.in_value t f text (broken.ValueBreaks.seccomp s f root.seccomp (not_made_breaks s native x f said h))

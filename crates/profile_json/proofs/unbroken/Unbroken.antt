@@ -9,6 +9,7 @@ use Rattle.call_tables.specs.declared.arch.Arch.{Arch}
 use Rattle.call_tables.specs.declared.arch.Family.{Family}
 use Rattle.call_tables.specs.Arch.{family_of}
 use Rattle.profile.specs.declared.rules.Rule.{Rule}
+use Rattle.profile.specs.Machines.{in_order}
 use Rattle.profile.specs.Policy.{Policy}
 use Rattle.profile.proofs.KeptLaws.{in_kept}
 use Rattle.profile.proofs.OneBuilt.{one_kept_of, same_policy}
@@ -16,7 +17,7 @@ use Rattle.profile_json.specs.Keys as key
 use Rattle.profile_json.specs.Fault.{Fault}
 use Rattle.profile_json.specs.Parts.{EntryParts, rule_parts}
 use Rattle.profile_json.specs.Lookup.{member, or_default, list}
-use Rattle.profile_json.specs.Rules.{in_order, rules_under, rules_of_entry, rules_of}
+use Rattle.profile_json.specs.Rules.{rules_under, rules_of_entry, rules_of}
 use Rattle.profile_json.specs.Meaning.{none, WordMeans, EntryMeans, EntriesMean, CallsMean, Means}
 use Rattle.profile_json.specs.Breaks.{ClashUnder, EntriesBreak, no_list, many, in_entry, many_rules, overlapping, SeccompBreaks}
 use Rattle.profile_json.specs.Breaks.{default_word, keys, archs, entries, ValueBreaks, root, seccomp, no_value, in_value}
@@ -53,21 +54,21 @@ module _ (s : Data) (native : Arch) (p : Policy) (m : CallsMean s native p) wher
       let e = related_at (EntryMeans (family_of native)) means.values m.entries i d means.each in_d in
       subst (Contains m.entries) (one_entry (family_of native) d e.0 x e.2 is) (contains_at m.entries i e.0 e.1)
 
-  said_is : map rule_parts m.said ≡ rules_of (in_order m.archs) m.entries
+  said_is : map rule_parts m.said ≡ rules_of (in_order (family_of native) m.archs) m.entries
   said_is = m.said_is ∙ ap (λ machines. rules_of machines m.entries) m.machines_are
 
   -- a rule of an entry is kept
   rule_kept : (x : EntryParts) (name : List ℕ) (r : Rule) → Contains m.entries x → Contains x.names name
-      → Contains (rules_under (in_order m.archs) x name) (rule_parts r) → Contains p.rules r
+      → Contains (rules_under (in_order (family_of native) m.archs) x name) (rule_parts r) → Contains p.rules r
   rule_kept x name r in_x in_name is =
-      let machines : List Arch = in_order m.archs in
+      let machines : List Arch = in_order (family_of native) m.archs in
       let of_entry = contains_flat (rules_under machines x) x.names name (rule_parts r) in_name is in
       let of_all = contains_flat (rules_of_entry machines) m.entries x (rule_parts r) in_x of_entry in
       let back = contains_map_back rule_parts m.said (rule_parts r) (subst (λ rs. Contains rs (rule_parts r)) (sym said_is) of_all) in
       in_kept m.said p.rules m.kept r (subst (Contains m.said) (rule_same back.0 r back.2) back.1)
 
   clash_unbroken : (x y : EntryParts) (name : List ℕ) → Contains m.entries x → Contains m.entries y
-      → ClashUnder (in_order m.archs) x y name → ⊥
+      → ClashUnder (in_order (family_of native) m.archs) x y name → ⊥
   clash_unbroken x y name in_x in_y c =
       let a = rule_kept x name c.first in_x c.in_first c.first_is in
       let b = rule_kept y name c.second in_y c.in_second c.second_is in
@@ -88,8 +89,8 @@ module _ (s : Data) (native : Arch) (p : Policy) (m : CallsMean s native p) wher
   entries_unbroken _ (many_rules machines es said kept lists means is keeps long) =
       let archs_same : machines ≡ m.archs = one_archs s native machines m.archs lists m.lists_archs in
       let entries_same : es ≡ m.entries = one_entries (family_of native) s es m.entries means m.entries_are in
-      let rules_are : rules_of (in_order machines) es ≡ rules_of (in_order m.archs) m.entries =
-      ap (λ listed. rules_of (in_order listed) es) archs_same ∙ ap (rules_of (in_order m.archs)) entries_same in
+      let rules_are : rules_of (in_order (family_of native) machines) es ≡ rules_of (in_order (family_of native) m.archs) m.entries =
+      ap (λ listed. rules_of (in_order (family_of native) listed) es) archs_same ∙ ap (rules_of (in_order (family_of native) m.archs)) entries_same in
       let kept_same : kept ≡ p.rules = one_kept_of said m.said kept p.rules keeps m.kept
       (rules_same said m.said (is ∙ rules_are ∙ sym said_is)) in
       let as_many : length kept ≡ length p.rules = ap length kept_same in
@@ -97,7 +98,7 @@ module _ (s : Data) (native : Arch) (p : Policy) (m : CallsMean s native p) wher
       omega (arith, as_many, few, long)
   entries_unbroken _ (overlapping machines ds i j d e x y name lists at lt at_i at_j is_x is_y clash) =
       let archs_same : machines ≡ m.archs = one_archs s native machines m.archs lists m.lists_archs in
-      let there : ClashUnder (in_order m.archs) x y name = subst (λ listed. ClashUnder (in_order listed) x y name) archs_same clash in
+      let there : ClashUnder (in_order (family_of native) m.archs) x y name = subst (λ listed. ClashUnder (in_order (family_of native) listed) x y name) archs_same clash in
       clash_unbroken x y name (among ds i d x at at_i is_x) (among ds j e y at at_j is_y) there
 
 -- ---- the whole
@@ -126,7 +127,7 @@ one_policy : (s : Data) (native : Arch) (p q : Policy) → p.default_word ≡ q.
     → p ≡ q
 one_policy s native p q words m n =
     let archs : m.archs ≡ n.archs = one_archs s native m.archs n.archs m.lists_archs n.lists_archs in
-    let machines : p.machines ≡ q.machines = m.machines_are ∙ ap in_order archs ∙ sym n.machines_are in
+    let machines : p.machines ≡ q.machines = m.machines_are ∙ ap (in_order (family_of native)) archs ∙ sym n.machines_are in
     let entries : m.entries ≡ n.entries = one_entries (family_of native) s m.entries n.entries m.entries_are n.entries_are in
     let parts : map rule_parts m.said ≡ map rule_parts n.said = m.said_is ∙ ap (λ ms. rules_of ms m.entries) machines
     ∙ ap (rules_of q.machines) entries ∙ sym n.said_is in

@@ -18,7 +18,8 @@ use Rattle.profile_json.specs.Fault.{stray_datum, unsupported_key, too_many}
 use Rattle.profile_json.specs.Parts.{CondParts, EntryParts}
 use Rattle.profile_json.specs.Lookup.{Member, missing, other_type, holds, member, or_default, object, text, whole, list}
 use Rattle.profile_json.specs.Names.{editions, action_named, takes_data, word_of, op_named, arch_named, is_known, most_entries, most_names}
-use Rattle.profile_json.specs.Rules.{or_native, same_arch}
+use Rattle.call_tables.specs.Arch.{same_arch}
+use Rattle.profile_json.specs.Rules.{or_native}
 use Rattle.profile_json.specs.CallName.{short_name}
 use Rattle.profile_json.specs.inner.Outcome.{◌>>=◌}
 

@@ -6,7 +6,7 @@ use Rattle.call_tables.specs.declared.arch.Arch.{Arch}
 use Rattle.call_tables.specs.Arch.{token_of}
 use Rattle.profile.specs.Policy.{Policy}
 use Rattle.rule_compile.specs.declared.label.Target.{Target}
-use Rattle.rule_compile.specs.Shape.{IsPlain, call}
+use Rattle.rule_compile.specs.Shape.{IsPlain, call, tokens}
 use Rattle.rule_compile.specs.inner.Code.{Grows, IsTarget}
 use Rattle.rule_compile.specs.inner.Emitted.{AreFine}
 use Rattle.rule_compile.specs.inner.Goes.{cost, deep, goes}
@@ -37,9 +37,9 @@ IsOneOf (arch ∷ archs) token = (token_of arch ≡ token) ⊎ IsOneOf archs tok
 pub record AnswersThese (policy : Policy) (machines : List Arch) (old new : List Insn) (to : Target) : Type 0 where
   pub listed : (token u : ℕ) → u < 2 ^ 32 → IsOneOf machines token → goes new to (Some 1) (call token u) ≡ Some (said_of policy token u)
   pub foreign : (token u : ℕ) → (IsOneOf machines token → ⊥) → goes new to (Some 1) (call token u) ≡ Some 0
-  pub short : length new ≤ length old + 1546 * length machines
-  pub light : cost new to ≤ 4121 * length machines + 6
-  pub shallow : deep new to ≤ 306 + length machines
+  pub short : length new ≤ length old + 1546 * tokens machines
+  pub light : cost new to ≤ 4121 * tokens machines + 6
+  pub shallow : deep new to ≤ 306 + tokens machines
   pub fine : AreFine old → AreFine new
   pub front : IsAtFront old new to
 

@@ -1,10 +1,10 @@
 -- The ranges of all call numbers of one machine.
-use Rattle.std.specs.Prelude.{ℕ, zero, suc, ◌*◌, ◌≡◌, ◌≤◌, ◌<◌, ◌+◌, ◌-◌, ◌⊎◌, List, [], ◌∷◌, ◌++◌, length, slice_index_or}
-use Rattle.std.specs.List.{All, Contains}
+use Rattle.std.specs.Prelude.{ℕ, zero, suc, ◌≡◌, ◌≤◌, ◌<◌, ◌+◌, ◌-◌, ◌⊎◌, List, [], ◌∷◌, ◌++◌, length, slice_index_or}
+use Rattle.std.specs.List.{All, Any, Contains}
 use Rattle.call_tables.specs.declared.arch.Arch.{Arch}
 use Rattle.call_tables.specs.Arch.{token_of}
 use Rattle.call_tables.specs.declared.numbers.Numbers.{Numbers}
-use Rattle.call_tables.specs.Numbers.{IsOwn, from_to, other_numbers}
+use Rattle.call_tables.specs.Numbers.{HasCall, foreign_numbers, from_to}
 use Rattle.profile.specs.Policy.{InOrder, Policy}
 use Rattle.profile.specs.Said.{said}
 use Rattle.profile.specs.declared.rules.Rule.{Rule}
@@ -76,9 +76,10 @@ said_of policy token nr = said policy (call token nr)
 abbrev pub IsListed : Policy → Arch → Type 0
 IsListed policy machine = InOrder policy.machines × Contains policy.machines machine
 
--- the numbers from one to an end are the machine's own
-abbrev pub AreOwn : Arch → ℕ → ℕ → Type 0
-AreOwn machine from end = (nr : ℕ) → from ≤ nr → nr < end → IsOwn machine nr
+-- the numbers from one to an end are those of listed machines with the machine's token, if it is listed
+abbrev pub AreOwn : Policy → Arch → ℕ → ℕ → Type 0
+AreOwn policy machine from end =
+    (nr : ℕ) → from ≤ nr → nr < end → IsListed policy machine → Any (HasCall (token_of machine) nr) policy.machines
 
 -- how many ranges there are of the numbers so far: as many as numbers, or so many at most behind all that have rules
 abbrev pub AreFew : ℕ → ℕ → ℕ → ℕ → Type 0
@@ -96,9 +97,10 @@ abbrev pub behind : List Numbers → ℕ → ℕ
 behind all zero = 0
 behind all (suc k) = (slice_index_or all k (from_to 0 0)).last + 1
 
--- the ranges of a machine's numbers so far, up to the end of so many stretches of foreign ones
+-- the ranges of a machine's numbers so far, up to the end of so many stretches of foreign ones: one at most while there are more
+-- stretches
 pub record Between (policy : Policy) (machine : Arch) (k upto : ℕ) (ranges : List Range) : Type 0 where
   pub tiles : Tiles 0 ranges upto
   pub worded : IsPlain policy → IsListed policy machine → All (IsWorded (said_of policy (token_of machine))) ranges
-  pub few : IsPlain policy → length ranges ≤ 514 * k
-  pub place : upto ≡ behind (other_numbers machine) k
+  pub few : IsPlain policy → (length ranges ≤ 1) ⊎ ((k ≡ length (foreign_numbers policy.machines machine)) × (length ranges ≤ 514))
+  pub place : upto ≡ behind (foreign_numbers policy.machines machine) k

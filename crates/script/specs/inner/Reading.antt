@@ -8,8 +8,7 @@ use Rattle.texts.specs.Numbers.{decimal_at, hexadecimal_at}
 use Rattle.texts.specs.Splits.{behind, split_at}
 use Rattle.call_tables.specs.declared.arch.Arch.{Arch}
 use Rattle.call_tables.specs.declared.arch.Family.{Family}
-use Rattle.call_tables.specs.declared.arch.Family.TheVariants.{Chosen, Whole}
-use Rattle.call_tables.specs.Arch.{table_of, family_of, machine_called}
+use Rattle.call_tables.specs.Arch.{table_of, family_of, same_family, machine_called}
 use Rattle.call_tables.specs.Table.{number_in}
 use Rattle.script.specs.Grammar.{colon}
 use Rattle.script.specs.Pairs.{is_paired, spelled_bytes}
@@ -32,11 +31,6 @@ unfoldable pub word_at : List ℕ → Option ℕ
 word_at text = do
   n ← number_at text
   if nat_lt n (2 ^ 32) then Some n else None
-
-abbrev pub same_family : Family → Family → Bool
-same_family Chosen Chosen = true
-same_family Whole Whole = true
-same_family family other = false
 
 -- a machine of the family and a number
 abbrev pub numbered : Family → List ℕ → Arch → Option (Arch × ℕ)

@@ -14,7 +14,6 @@ use Rattle.certify.specs.inner.Meant.{IsMeant}
 use Rattle.certify.specs.inner.Store.{known_at}
 use Rattle.certify.specs.inner.Counts.{inside, path_cost}
 use Rattle.certify.proofs.CountLaws.{inside_most}
-use Rattle.certify.proofs.RoomLaws.{two_machines}
 use Rattle.certify.proofs.SizeLaws.{is_writable}
 use Rattle.certify.proofs.WholeLaws.{meant_whole, root_place, root_way, valid_whole}
 use Rattle.certify.proofs.plain.plain_certificate.Goals as goal
@@ -29,8 +28,9 @@ enter-requires-clause-room c = λ meant.
     let few = meant.shape.few in
     let short = meant.shape.short in
     let policy = c.args.profile.now in
-    let most = inside_most 512 policy.machines (known_at c.new-store.result root_place) (two_machines policy meant.profile) in
-    record { nodes = omega (arith, few, most, ap length c.new-store.ensures.nodes); literals = omega (arith, short) }
+    let most = inside_most policy.machines (known_at c.new-store.result root_place) in
+    let two = meant.plain.few in
+    record { nodes = omega (arith, few, most, two, ap length c.new-store.ensures.nodes); literals = omega (arith, short) }
 
 pub returns-in_err-_root-clause-never : goal.returns-in_err-_root-clause-never
 returns-in_err-_root-clause-never c = λ is shape.

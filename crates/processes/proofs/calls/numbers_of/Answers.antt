@@ -1,4 +1,5 @@
-use Rattle.processes.proofs.NumberLaws.{x86_64_numbers, aarch64_numbers, linux_x86_64_numbers, linux_aarch64_numbers}
+use Rattle.processes.proofs.NumberLaws.{x86_64_numbers, aarch64_numbers, linux_x86_64_numbers, linux_x86_numbers, linux_x32_numbers}
+use Rattle.processes.proofs.NumberLaws.{linux_aarch64_numbers, linux_arm_numbers}
 use Rattle.processes.proofs.calls.numbers_of.Goals as goal
 
 pub returns-in-X86_64 : goal.returns-in-X86_64
@@ -10,5 +11,14 @@ returns-in-Aarch64 c = rw c.in-Aarch64.is aarch64_numbers
 pub returns-in-LinuxX86_64 : goal.returns-in-LinuxX86_64
 returns-in-LinuxX86_64 c = rw c.in-LinuxX86_64.is linux_x86_64_numbers
 
+pub returns-in-LinuxX32 : goal.returns-in-LinuxX32
+returns-in-LinuxX32 c = rw c.in-LinuxX32.is linux_x32_numbers
+
+pub returns-in-LinuxX86 : goal.returns-in-LinuxX86
+returns-in-LinuxX86 c = rw c.in-LinuxX86.is linux_x86_numbers
+
 pub returns-in-LinuxAarch64 : goal.returns-in-LinuxAarch64
 returns-in-LinuxAarch64 c = rw c.in-LinuxAarch64.is linux_aarch64_numbers
+
+pub returns-in-LinuxArm : goal.returns-in-LinuxArm
+returns-in-LinuxArm c = rw c.in-LinuxArm.is linux_arm_numbers

@@ -1,20 +1,34 @@
-use Rattle.std.proofs.Common.{◌≡◌, true, false, List, ◌-◌, length, take, drop, sym, ap, subst}
-use Rattle.std.specs.List.{Contains}
-use Rattle.call_tables.specs.declared.arch.Arch.{Arch}
-use Rattle.profile.proofs.MachineLaws.{all_in_both, all_in_x86_64, all_in_aarch64}
+use Rattle.std.proofs.Common.{◌≡◌, true, false, ◌<◌, length, ◌∙◌, ap, arith}
+use Rattle.std.specs.Prelude.{filter}
+use Rattle.std.specs.List.{list_any}
+use Rattle.std.proofs.lemmas.List.{take_all}
+use Rattle.call_tables.specs.Arch.{same_arch}
+use Rattle.profile.proofs.MachineLaws.{few, picks, passes}
 use Rattle.profile.proofs.machines.in_order.Goals as goal
+use Rattle.profile.proofs.machines.in_order.Goals.{then-lists, else-lists}
 
-pub returns-then-not-lists-clause-all : goal.returns-then-not-lists-clause-all
-returns-then-not-lists-clause-all c =
-    all_in_aarch64 c.args.family c.args.archs.now _ c.requires.of_family
-    (ap (λ (ms : List Arch). take (length ms - 1) (drop 1 ms)) c.machines-both.ensures)
-    (λ has. (let listed : c.lists.result ≡ true = c.lists.ensures.1 (subst (Contains c.args.archs.now) (sym c.x86_64.ensures) has) in let missing : c.lists.result ≡ false = c.if-not-lists.true in cc))
+pub push-requires : goal.push-requires
+push-requires c =
+    let room : length c.loop-arch.listed.items < 5 =
+    omega (arith, few c.args.family, ap length c.machines-arch-items.ensures, c.loop-arch.invariant.1, c.loop-arch-test.true) in
+    (omega arith, room)
 
-pub returns-then-not-lists-2-clause-all : goal.returns-then-not-lists-2-clause-all
-returns-then-not-lists-2-clause-all c =
-    all_in_x86_64 c.args.family c.args.archs.now _ c.requires.of_family (ap (λ (ms : List Arch). take 1 ms) c.machines-both.ensures)
-    (λ has. (let listed : c.lists-2.result ≡ true = c.lists-2.ensures.1 (subst (Contains c.args.archs.now) (sym c.aarch64.ensures) has) in
-    let missing : c.lists-2.result ≡ false = c.if-not-lists-2.true in cc))
+pub loop-arch-preserved : goal.loop-arch-preserved
+loop-arch-preserved c =
+    elim c.if-lists.branch [
+      | then-lists w ↦
+          rw w.listed-is
+          (picks c.args.archs.now c.machines-arch-items.result.now c.loop-arch.listed.items w.push.new.self.items c.loop-arch.arch-index _
+          c.loop-arch-test.true c.loop-arch.invariant (c.lists.ensures.0 w.if-lists.true) w.push.ensures.items)
+      | else-lists w ↦
+          rw w.listed-is
+          (passes c.args.archs.now c.machines-arch-items.result.now c.loop-arch.listed.items c.loop-arch.listed.items c.loop-arch.arch-index
+          _ c.loop-arch-test.true c.loop-arch.invariant
+          (λ has. let hit : c.lists.result ≡ true = c.lists.ensures.1 has in let miss : c.lists.result ≡ false = w.if-lists.false in cc))
+    ]
 
-pub returns-clause-all : goal.returns-clause-all
-returns-clause-all c = all_in_both c.args.family c.args.archs.now _ c.requires.of_family c.machines-both.ensures
+pub returns : goal.returns
+returns c =
+    c.loop-arch.invariant.0
+    ∙ ap (filter (λ a. list_any (same_arch a) c.args.archs.now))
+    (take_all c.loop-arch.arch-index c.machines-arch-items.result.now c.loop-arch-test.false ∙ c.machines-arch-items.ensures)

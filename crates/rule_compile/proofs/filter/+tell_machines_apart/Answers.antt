@@ -1,14 +1,14 @@
-use Rattle.std.proofs.Common.{◌≡◌, ◌-◌, List, ap, length, subst, sym, take, drop, vec_len}
+use Rattle.std.proofs.Common.{◌≡◌, ◌-◌, ◌∙◌, List, ap, drop, false, length, subst, sym, take, true, vec_len}
 use Rattle.bpf_insn.specs.declared.code.Test.TheVariants.{Equal}
 use Rattle.call_tables.specs.declared.arch.Arch.{Arch}
 use Rattle.rule_compile.specs.declared.label.Exits.{Exits}
 use Rattle.rule_compile.specs.declared.label.Target.TheVariants.{Place}
 use Rattle.rule_compile.specs.declared.blocks.Blocks.{Blocks}
-use Rattle.rule_compile.specs.Shape.{IsPlain}
+use Rattle.rule_compile.specs.Shape.{IsPlain, has_token}
 use Rattle.rule_compile.specs.inner.Calls.{Apart, CallsOf}
 use Rattle.rule_compile.specs.inner.Goes.{Branches}
-use Rattle.rule_compile.proofs.CallLaws.{apart_branch, apart_skip, calls_count}
-use Rattle.rule_compile.proofs.PlanLaws.{head_parts, listed_first}
+use Rattle.rule_compile.proofs.CallLaws.{apart_branch, apart_shared, apart_skip, calls_count}
+use Rattle.rule_compile.proofs.PlanLaws.{head_parts, listed_first, others_listed}
 use Rattle.std.specs.List.{All}
 use Rattle.std.proofs.lemmas.List.Elements.{All-head, All-tail}
 use Rattle.rule_compile.specs.inner.Numbers.{IsListed}
@@ -17,8 +17,38 @@ use Rattle.rule_compile.specs.Steady.{Whole}
 use Rattle.rule_compile.specs.inner.Steadily.{IsSteadyAt}
 use Rattle.rule_compile.proofs.LoadLaws.{start_steady}
 use Rattle.rule_compile.proofs.SteadyLaws.{are_steady_kept, steady_kept}
-use Rattle.rule_compile.proofs.TellsLaws.{tells_branch, tells_skip, written_grows}
+use Rattle.rule_compile.proofs.TellsLaws.{tells_branch, tells_shared, tells_skip, written_grows}
 use Rattle.rule_compile.proofs.filter.+tell_machines_apart.Goals as goal
+
+pub returns-then-has_token-clause-apart : goal.returns-then-has_token-clause-apart
+returns-then-has_token-clause-apart t c =
+    let p = c.args.profile.now in
+    let old = c.args.code.now in
+    let ms = c.args.machines.now in
+    let archs : List Arch = take (length ms - 1) (drop 1 ms) in
+    let count = vec_len c.args.blocks.now.blocks in
+    let mid = c.tell_machines_apart.new.code in
+    let shared : has_token c.token.result archs ≡ true = sym c.has_token.ensures ∙ c.if-has_token.true in
+    subst (λ all. Apart p all count old mid c.in_ok-no.no) (sym (head_parts ms _ c.in-len1-up.len_at_least))
+    (apart_shared p _ archs count old mid c.in_ok-no.no (subst (λ n. has_token n archs ≡ true) c.token.ensures shared)
+    c.in_ok-no.ensures.apart)
+
+pub returns-then-has_token-clause-tells : goal.returns-then-has_token-clause-tells
+returns-then-has_token-clause-tells t c all wr =
+    let p = c.args.profile.now in
+    let ms = c.args.machines.now in
+    let archs : List Arch = take (length ms - 1) (drop 1 ms) in
+    let mid = c.tell_machines_apart.new.code in
+    let parts = head_parts ms _ c.in-len1-up.len_at_least in
+    let listed = subst (All (IsListed p)) parts all in
+    let shared : has_token c.token.result archs ≡ true = sym c.has_token.ensures ∙ c.if-has_token.true in
+    subst (λ all. TellsThese p all mid c.in_ok-no.no) (sym parts)
+    (tells_shared p _ archs mid c.in_ok-no.no (subst (λ n. has_token n archs ≡ true) c.token.ensures shared)
+    (c.in_ok-no.ensures.tells (All-tail (IsListed p) _ archs listed) wr))
+
+pub returns-then-has_token-clause-calls : goal.returns-then-has_token-clause-calls
+returns-then-has_token-clause-calls t c all noted =
+    c.in_ok-no.ensures.calls (others_listed c.args.profile.now c.args.machines.now c.in-len1-up.len_at_least all) noted
 
 pub returns-in-None-clause-apart : goal.returns-in-None-clause-apart
 returns-in-None-clause-apart t c =
@@ -29,9 +59,10 @@ returns-in-None-clause-apart t c =
     let count = vec_len c.args.blocks.now.blocks in
     let same : IsPlain p → vec_len c.tell_machines_apart.new.blocks.blocks ≡ count = λ plain. ap (λ
     (blocks : Blocks). vec_len blocks.blocks) (c.in_ok-no.ensures.no_block plain) in
+    let new_token : has_token c.token.result archs ≡ false = sym c.has_token.ensures ∙ c.if-has_token.false in
     subst (λ all. Apart p all count old c.calls_of.new.code c.in_ok-no.no) (sym (head_parts ms _ c.in-len1-up.len_at_least))
     (apart_skip p _ archs count old c.tell_machines_apart.new.code c.calls_of.new.code
-    (λ others all. listed_first p _ others all) c.in_ok-no.no
+    (λ others all. listed_first p _ others all) (subst (λ n. has_token n archs ≡ false) c.token.ensures new_token) c.in_ok-no.no
     c.in_ok-calls_of.field-0 c.in_ok-no.ensures.apart
     (calls_count p _ count _ c.tell_machines_apart.new.code c.calls_of.new.code c.in_ok-calls_of.field-0
     c.in_ok-calls_of.ensures.calls same) c.in-None.ensures)
@@ -49,12 +80,14 @@ returns-in_ok-start-in-Some-clause-apart t c =
     let top = c.calls_of.new.code in
     let new = c.branch-code.new.self in
     let exits : Exits = record { yes = c.in-Some.yes; no = c.in_ok-no.no } in
+    let new_token : has_token c.token.result archs ≡ false = sym c.has_token.ensures ∙ c.if-has_token.false in
     subst (λ all. Apart p all count old new (Place c.in_ok-start-in-Some.start)) (sym (head_parts ms _ c.in-len1-up.len_at_least))
-    (apart_branch p _ archs count old mid top (λ others all. listed_first p _ others all) new exits c.in_ok-start-in-Some.start
+    (apart_branch p _ archs count old mid top (λ others all. listed_first p _ others all)
+    (subst (λ n. has_token n archs ≡ false) c.token.ensures new_token) new exits c.in_ok-start-in-Some.start
     c.in_ok-no.ensures.apart
     (subst (CallsOf p _ count mid top) (sym c.in-Some.ensures)
     (calls_count p _ count _ mid top c.in_ok-calls_of.field-0 c.in_ok-calls_of.ensures.calls same))
-    (subst (λ k. Branches top new Equal k exits) c.token.ensures c.in_ok-start-in-Some.ensures.written)
+    (subst (λ k. Branches top new Equal k exits) c.token-in-Some.ensures c.in_ok-start-in-Some.ensures.written)
     c.in_ok-start-in-Some.ensures.start)
 
 pub returns-in-None-clause-tells : goal.returns-in-None-clause-tells
@@ -88,7 +121,7 @@ returns-in_ok-start-in-Some-clause-tells t c all wr =
     subst (λ all. TellsThese p all new (Place c.in_ok-start-in-Some.start)) (sym parts)
     (tells_branch p _ archs mid top c.in_ok-calls_of.ensures.calls.grows c.in_ok-no.no c.in_ok-calls_of.field-0
     c.in_ok-no.ensures.apart.placed others own new c.in-Some.yes c.in_ok-start-in-Some.start c.in-Some.ensures
-    (subst (λ k. Branches top new Equal k exits) c.token.ensures c.in_ok-start-in-Some.ensures.written)
+    (subst (λ k. Branches top new Equal k exits) c.token-in-Some.ensures c.in_ok-start-in-Some.ensures.written)
     c.in_ok-start-in-Some.ensures.start)
 
 pub returns-in_ok-start-in-Some-clause-written : goal.returns-in_ok-start-in-Some-clause-written

@@ -2,7 +2,8 @@ use Rattle.std.proofs.Common.{◌≡◌, ◌+◌, ◌^◌, ◌<◌, ◌∙◌, L
 use Rattle.std.proofs.lemmas.List.Elements.{All-weaker}
 use Rattle.std.specs.Prelude.{slice_index_or}
 use Rattle.call_tables.specs.declared.numbers.Numbers.{Numbers}
-use Rattle.call_tables.specs.Numbers.{from_to, other_numbers}
+use Rattle.call_tables.specs.declared.arch.Arch.{Arch}
+use Rattle.call_tables.specs.Numbers.{foreign_numbers, from_to}
 use Rattle.rule_compile.specs.declared.ranges.Leaf.TheVariants.{Word}
 use Rattle.rule_compile.specs.declared.ranges.Range.{Range}
 use Rattle.rule_compile.specs.inner.Numbers.{AreOwn, Between, IsExtended, Reached}
@@ -16,21 +17,24 @@ use Rattle.rule_compile.proofs.ranges.ranges_of.Goals as goal
 
 pub add_own-requires-clause-own : goal.add_own-requires-clause-own
 add_own-requires-clause-own c =
+    let p = c.args.profile.now in
     let m = c.args.machine in
-    let these = c.other_numbers-foreign-items.result.now in
+    let these = c.foreign_numbers-foreign-items.result.now in
+    let are : these ≡ foreign_numbers p.machines m =
+    c.foreign_numbers-foreign-items.ensures ∙ ap (λ (ms : List Arch). foreign_numbers ms m) c.machines.ensures.machines in
     let k = c.loop-foreign.foreign-index in
-    let inside : k < length (other_numbers m) = subst (λ (all : List Numbers). k < length all) c.other_numbers-foreign-items.ensures
-    c.loop-foreign-test.true in
-    subst (AreOwn m c.loop-foreign.ranges.end) (sym c.from.ensures)
-    (own_before c.args.profile.now m k c.loop-foreign.ranges.end (get_or these k (from_to 0 0)) (from_to 0 0)
-    c.loop-foreign.ranges.ranges.items c.loop-foreign.invariant.between inside
-    (ap (λ (all : List Numbers). slice_index_or all k (from_to 0 0)) c.other_numbers-foreign-items.ensures))
+    let inside : k < length (foreign_numbers p.machines m) = subst (λ (all : List Numbers). k < length all) are c.loop-foreign-test.true in
+    subst (AreOwn p m c.loop-foreign.ranges.end) (sym c.from.ensures)
+    (own_before p m k c.loop-foreign.ranges.end (get_or these k (from_to 0 0)) c.loop-foreign.ranges.ranges.items
+    c.loop-foreign.invariant.between inside (ap (λ (all : List Numbers). slice_index_or all k (from_to 0 0)) are))
 
 pub loop-foreign-preserved : goal.loop-foreign-preserved
 loop-foreign-preserved c =
     let p = c.args.profile.now in
     let m = c.args.machine in
-    let these = c.other_numbers-foreign-items.result.now in
+    let these = c.foreign_numbers-foreign-items.result.now in
+    let are : these ≡ foreign_numbers p.machines m =
+    c.foreign_numbers-foreign-items.ensures ∙ ap (λ (ms : List Arch). foreign_numbers ms m) c.machines.ensures.machines in
     let k = c.loop-foreign.foreign-index in
     let upto = c.loop-foreign.ranges.end in
     let foreign = get_or these k (from_to 0 0) in
@@ -38,17 +42,16 @@ loop-foreign-preserved c =
     let mid = c.add_own.new.self.ranges.items in
     let new = c.extend.new.self.ranges.items in
     let between = c.loop-foreign.invariant.between in
-    let inside : k < length (other_numbers m) = subst (λ (all : List Numbers). k < length all) c.other_numbers-foreign-items.ensures
-    c.loop-foreign-test.true in
-    let at : foreign ≡ slice_index_or (other_numbers m) k (from_to 0 0) =
-    ap (λ (all : List Numbers). slice_index_or all k (from_to 0 0)) c.other_numbers-foreign-items.ensures in
+    let inside : k < length (foreign_numbers p.machines m) = subst (λ (all : List Numbers). k < length all) are c.loop-foreign-test.true in
+    let at : foreign ≡ slice_index_or (foreign_numbers p.machines m) k (from_to 0 0) =
+    ap (λ (all : List Numbers). slice_index_or all k (from_to 0 0)) are in
     let first : c.from.result ≡ foreign.first = c.from.ensures in
     let final : c.from-in-loop-foreign.result ≡ foreign.last = c.from-in-loop-foreign.ensures in
     let reached : Reached p m 513 foreign.first foreign.first mid =
     subst (λ n. Reached p m 513 n n mid) first
     (c.in_ok-add_own.ensures.reached 513 (omega arith)
     (subst (λ n. Reached p m 513 n upto old) (sym first)
-    (own_reached p m k upto foreign (from_to 0 0) old between inside at))) in
+    (own_reached p m k upto foreign old between inside at))) in
     let last : IsExtended mid foreign.first (foreign.last + 1) (Word 0) new =
     subst (λ n. IsExtended mid foreign.first (n + 1) (Word 0) new) final
     (subst (λ n. IsExtended mid n (c.from-in-loop-foreign.result + 1) (Word 0) new) (c.in_ok-add_own.ensures.end ∙ first)
@@ -59,7 +62,7 @@ loop-foreign-preserved c =
     ∙ ap (λ n. max foreign.first (n + 1)) final in
     record {
       between = subst (λ n. Between p m (k + 1) n new) (sym end)
-          (between_next p m k upto foreign (from_to 0 0) old between inside at mid new reached last);
+          (between_next p m k upto foreign old between inside at mid new reached last);
       no_block = λ plain. c.in_ok-add_own.ensures.no_block plain ∙ c.loop-foreign.invariant.no_block plain;
       sound = c.in_ok-add_own.ensures.sound;
       more = more_on c.loop-foreign.invariant.more c.in_ok-add_own.ensures.more;
@@ -71,7 +74,7 @@ loop-foreign-preserved c =
           (c.in_ok-add_own.ensures.told c.loop-foreign.invariant.told) in
           subst (λ n. ToldSoFar p m blocks n new) (sym end)
           (told_foreign p m blocks c.requires.clear foreign.first (foreign.last + 1) mid new
-          (λ u low high. others_between p m k upto foreign (from_to 0 0) old between inside at u low (omega (arith, high))) so_far last);
+          (λ u low high. others_between p m k upto foreign old between inside at u low (omega (arith, high))) so_far last);
     }
 
 pub loop-foreign-init : goal.loop-foreign-init
@@ -105,15 +108,27 @@ returns-clause-decides c listed =
 
 pub add_own-requires-2-clause-own : goal.add_own-requires-2-clause-own
 add_own-requires-2-clause-own c =
-    let all : c.loop-foreign.foreign-index ≡ length (other_numbers c.args.machine) =
-    omega (arith, c.loop-foreign-test.false, c.loop-foreign.auto.foreign-index-end, ap length c.other_numbers-foreign-items.ensures) in
+    let all : c.loop-foreign.foreign-index ≡ length (foreign_numbers c.args.profile.now.machines c.args.machine) =
+    omega (
+      arith,
+      c.loop-foreign-test.false,
+      c.loop-foreign.auto.foreign-index-end,
+      ap length c.foreign_numbers-foreign-items.ensures,
+      ap (λ (ms : List Arch). length (foreign_numbers ms c.args.machine)) c.machines.ensures.machines,
+    ) in
     last_own c.args.profile.now c.args.machine c.loop-foreign.foreign-index c.loop-foreign.ranges.end
     c.loop-foreign.ranges.ranges.items c.loop-foreign.invariant.between all
 
 pub returns-clause-tiled : goal.returns-clause-tiled
 returns-clause-tiled c =
-    let all : c.loop-foreign.foreign-index ≡ length (other_numbers c.args.machine) =
-    omega (arith, c.loop-foreign-test.false, c.loop-foreign.auto.foreign-index-end, ap length c.other_numbers-foreign-items.ensures) in
+    let all : c.loop-foreign.foreign-index ≡ length (foreign_numbers c.args.profile.now.machines c.args.machine) =
+    omega (
+      arith,
+      c.loop-foreign-test.false,
+      c.loop-foreign.auto.foreign-index-end,
+      ap length c.foreign_numbers-foreign-items.ensures,
+      ap (λ (ms : List Arch). length (foreign_numbers ms c.args.machine)) c.machines.ensures.machines,
+    ) in
     let reached : Reached c.args.profile.now c.args.machine 515 (2 ^ 32) (2 ^ 32) c.add_own-2.new.self.ranges.items =
     c.in_ok-add_own-2.ensures.reached 515 (omega arith)
     (last_reached c.args.profile.now c.args.machine c.loop-foreign.foreign-index c.loop-foreign.ranges.end
@@ -125,8 +140,14 @@ returns-clause-some c = tiles_some c.add_own-2.new.self.ranges.items (2 ^ 32) (o
 
 pub returns-clause-few : goal.returns-clause-few
 returns-clause-few c =
-    let all : c.loop-foreign.foreign-index ≡ length (other_numbers c.args.machine) =
-    omega (arith, c.loop-foreign-test.false, c.loop-foreign.auto.foreign-index-end, ap length c.other_numbers-foreign-items.ensures) in
+    let all : c.loop-foreign.foreign-index ≡ length (foreign_numbers c.args.profile.now.machines c.args.machine) =
+    omega (
+      arith,
+      c.loop-foreign-test.false,
+      c.loop-foreign.auto.foreign-index-end,
+      ap length c.foreign_numbers-foreign-items.ensures,
+      ap (λ (ms : List Arch). length (foreign_numbers ms c.args.machine)) c.machines.ensures.machines,
+    ) in
     let reached : Reached c.args.profile.now c.args.machine 515 (2 ^ 32) (2 ^ 32) c.add_own-2.new.self.ranges.items =
     c.in_ok-add_own-2.ensures.reached 515 (omega arith)
     (last_reached c.args.profile.now c.args.machine c.loop-foreign.foreign-index c.loop-foreign.ranges.end
@@ -135,8 +156,14 @@ returns-clause-few c =
 
 pub returns-clause-worded : goal.returns-clause-worded
 returns-clause-worded c =
-    let all : c.loop-foreign.foreign-index ≡ length (other_numbers c.args.machine) =
-    omega (arith, c.loop-foreign-test.false, c.loop-foreign.auto.foreign-index-end, ap length c.other_numbers-foreign-items.ensures) in
+    let all : c.loop-foreign.foreign-index ≡ length (foreign_numbers c.args.profile.now.machines c.args.machine) =
+    omega (
+      arith,
+      c.loop-foreign-test.false,
+      c.loop-foreign.auto.foreign-index-end,
+      ap length c.foreign_numbers-foreign-items.ensures,
+      ap (λ (ms : List Arch). length (foreign_numbers ms c.args.machine)) c.machines.ensures.machines,
+    ) in
     let reached : Reached c.args.profile.now c.args.machine 515 (2 ^ 32) (2 ^ 32) c.add_own-2.new.self.ranges.items =
     c.in_ok-add_own-2.ensures.reached 515 (omega arith)
     (last_reached c.args.profile.now c.args.machine c.loop-foreign.foreign-index c.loop-foreign.ranges.end

@@ -1,6 +1,7 @@
-use Rattle.std.proofs.Common.{◌≡◌, ◌+◌, ◌-◌, ◌≤◌, ◌⊎◌, inl, inr, refl, sym, subst, ◌∙◌, arith, length, ◌∷◌}
+use Rattle.std.proofs.Common.{◌≡◌, ◌+◌, ◌-◌, ◌≤◌, ◌⊎◌, inl, inr, refl, sym, subst, ◌∙◌, ap, arith, length, ◌∷◌}
 use Rattle.std.proofs.Common.{List, ℕ, true, false}
-use Rattle.call_tables.specs.Numbers.{other_numbers}
+use Rattle.call_tables.specs.declared.arch.Arch.{Arch}
+use Rattle.call_tables.specs.Numbers.{foreign_numbers}
 use Rattle.bpf_insn.specs.Program.{insns}
 use Rattle.cert_state.specs.declared.literal.Lit.{Lit}
 use Rattle.cert_state.specs.declared.literal.Lit.TheVariants.{In}
@@ -14,7 +15,7 @@ use Rattle.certify.specs.inner.Store.{known_at}
 use Rattle.certify.specs.inner.Ways.{IsEnough}
 use Rattle.certify.proofs.NodeLaws.{nodes_keep}
 use Rattle.certify.proofs.GrowLaws.{longer_than, made_fork}
-use Rattle.certify.proofs.HalfLaws.{IsHalved, halves_total, high_enough, low_enough, some_left}
+use Rattle.certify.proofs.HalfLaws.{IsCut, IsHalved, halves_total, high_enough, low_enough, some_left}
 use Rattle.certify.proofs.RoomLaws.{room_no, room_yes}
 use Rattle.certify.proofs.WayLaws.{at_child, machine_agrees_there, no_child, of_child, stays_short, yes_child}
 use Rattle.certify.proofs.plain.splits.+numbers.Goals as goal
@@ -25,14 +26,16 @@ use Rattle.certify.proofs.plain.splits.+numbers.Goals.{then-low-high-via-else-lo
 pub ends-requires-clause-agrees : goal.ends-requires-clause-agrees
 ends-requires-clause-agrees t c =
     let policy = c.args.profile.now in
+    let are : c.foreign_numbers-foreign.result.now ≡ foreign_numbers policy.machines c.args.arch =
+    c.foreign_numbers-foreign.ensures ∙ ap (λ (ms : List Arch). foreign_numbers ms c.args.arch) c.machines.ensures.machines in
     let numbers : (c.in-Some.low ≡ c.in-Some.high)
-    ⊎ ((policy.default_word ≡ c.args.word) ⊎ LieIn c.in-Some.low c.in-Some.high (other_numbers c.args.arch)) =
+    ⊎ ((policy.default_word ≡ c.args.word) ⊎ LieIn c.in-Some.low c.in-Some.high (foreign_numbers policy.machines c.args.arch)) =
     elim c.then-low-high.branch [
       | then-low-high-via-then-low-high w ↦ inl w.if-low-high.true
       | then-low-high-via-else-low-high+then-default-word w ↦ inr
           (inl (sym c.default_word.ensures ∙ sym c.default.view_is ∙ w.if-default-word.true))
       | then-low-high-via-else-low-high+else-default-word+then-are_foreign w ↦ inr
-          (inr (w.are_foreign.ensures.0 w.if-are_foreign.true))
+          (inr (subst (LieIn c.in-Some.low c.in-Some.high) are (w.are_foreign.ensures.0 w.if-are_foreign.true)))
     ] in
     λ meant. machine_agrees_there policy (insns c.args.program.now) c.args.store.now c.args.place c.args.word c.in-Some.low
     c.in-Some.high c.args.arch
@@ -40,9 +43,13 @@ ends-requires-clause-agrees t c =
 
 pub returns-then-halvings-eq0-clause-never : goal.returns-then-halvings-eq0-clause-never
 returns-then-halvings-eq0-clause-never t c = λ meant.
-    absurd (some_left (known_at c.args.store.now c.args.place) c.args.arch c.in-Some.low c.in-Some.high c.args.halvings
+    let policy = c.args.profile.now in
+    let are : c.foreign_numbers-foreign.result.now ≡ foreign_numbers policy.machines c.args.arch =
+    c.foreign_numbers-foreign.ensures ∙ ap (λ (ms : List Arch). foreign_numbers ms c.args.arch) c.machines.ensures.machines in
+    absurd (some_left c.args.profile.now meant.profile.machines_in_order meant.plain.small (known_at c.args.store.now c.args.place) c.args.arch c.requires.of.listed c.in-Some.low c.in-Some.high c.args.halvings
     c.in-Some.ensures c.if-low-high.false
-    (c.requires.enough meant) (λ all. let e : false ≡ true = sym c.if-are_foreign.false ∙ c.are_foreign.ensures.1 all in cc) c.if-halvings-eq0.true)
+    (c.requires.enough meant) (λ all. let e : false ≡ true = sym c.if-are_foreign.false
+    ∙ c.are_foreign.ensures.1 (subst (LieIn c.in-Some.low c.in-Some.high) (sym are) all) in cc) c.if-halvings-eq0.true)
 
 pub middle-cut-requires : goal.middle-cut-requires
 middle-cut-requires t c =
@@ -53,6 +60,8 @@ middle-cut-requires t c =
 pub numbers-requires : goal.numbers-requires
 numbers-requires t c =
     let policy = c.args.profile.now in
+    let are : c.foreign_numbers-foreign.result.now ≡ foreign_numbers policy.machines c.args.arch =
+    c.foreign_numbers-foreign.ensures ∙ ap (λ (ms : List Arch). foreign_numbers ms c.args.arch) c.machines.ensures.machines in
     let p = insns c.args.program.now in
     let s = c.args.store.now in
     let u = c.fork.new.self in
@@ -70,13 +79,14 @@ numbers-requires t c =
       range = c.in-Some.ensures;
       enough = c.requires.enough meant;
       some = c.if-halvings-eq0.false;
-      cuts = record {
+      cuts = subst (λ all. IsCut all c.in-Some.low c.in-Some.high cut) are (record {
         from = c.middle-cut.ensures.from;
         upto = c.middle-cut.ensures.to;
         foreign = c.middle-cut.ensures.foreign;
         half = c.middle-cut.ensures.half;
-      };
-      some_own = λ all. let e : false ≡ true = sym c.if-are_foreign.false ∙ c.are_foreign.ensures.1 all in cc;
+      });
+      some_own = λ all. let e : false ≡ true = sym c.if-are_foreign.false
+          ∙ c.are_foreign.ensures.1 (subst (LieIn c.in-Some.low c.in-Some.high) (sym are) all) in cc;
       differ = λ e. c.if-default-word.false (c.default.view_is ∙ c.default_word.ensures ∙ e);
     } in
     let child = yes_child s u place l m fork f.forked in
@@ -87,7 +97,7 @@ numbers-requires t c =
         (
           of_child policy p s u place fork.yes l child c.args.arch (λ e. omega (arith, e)) c.requires.of,
           (
-            (λ meant. subst (λ ls. IsEnough ls c.args.arch less) (sym child.known)
+            (λ meant. subst (λ ls. IsEnough policy ls c.args.arch less) (sym child.known)
                 (low_enough policy p s place c.args.word c.in-Some.low c.in-Some.high c.args.arch cut c.args.halvings meant
                 (halved meant))),
             (λ meant. room_yes s u place l m fork (count (known_at u fork.yes)) (count (m ∷ known_at s place))
@@ -106,6 +116,8 @@ numbers-requires t c =
 pub numbers-requires-2 : goal.numbers-requires-2
 numbers-requires-2 t c =
     let policy = c.args.profile.now in
+    let are : c.foreign_numbers-foreign.result.now ≡ foreign_numbers policy.machines c.args.arch =
+    c.foreign_numbers-foreign.ensures ∙ ap (λ (ms : List Arch). foreign_numbers ms c.args.arch) c.machines.ensures.machines in
     let p = insns c.args.program.now in
     let s = c.args.store.now in
     let u = c.numbers.new.store in
@@ -123,13 +135,14 @@ numbers-requires-2 t c =
       range = c.in-Some.ensures;
       enough = c.requires.enough meant;
       some = c.if-halvings-eq0.false;
-      cuts = record {
+      cuts = subst (λ all. IsCut all c.in-Some.low c.in-Some.high cut) are (record {
         from = c.middle-cut.ensures.from;
         upto = c.middle-cut.ensures.to;
         foreign = c.middle-cut.ensures.foreign;
         half = c.middle-cut.ensures.half;
-      };
-      some_own = λ all. let e : false ≡ true = sym c.if-are_foreign.false ∙ c.are_foreign.ensures.1 all in cc;
+      });
+      some_own = λ all. let e : false ≡ true = sym c.if-are_foreign.false
+          ∙ c.are_foreign.ensures.1 (subst (LieIn c.in-Some.low c.in-Some.high) (sym are) all) in cc;
       differ = λ e. c.if-default-word.false (c.default.view_is ∙ c.default_word.ensures ∙ e);
     } in
     let count : List Lit → ℕ = λ ls. halves_cost less (inside 512 policy.machines ls) in
@@ -141,7 +154,7 @@ numbers-requires-2 t c =
         (
           of_child policy p s u place fork.no m child c.args.arch (λ e. omega (arith, e)) c.requires.of,
           (
-            (λ meant. subst (λ ls. IsEnough ls c.args.arch less) (sym child.known)
+            (λ meant. subst (λ ls. IsEnough policy ls c.args.arch less) (sym child.known)
                 (high_enough policy p s place c.args.word c.in-Some.low c.in-Some.high c.args.arch cut c.args.halvings meant
                 (halved meant))),
             (λ meant. room_no policy p s c.fork.new.self u place l m fork first (count (known_at u fork.no))
@@ -174,6 +187,8 @@ set-requires-clause-short t c =
 pub returns-clause-made : goal.returns-clause-made
 returns-clause-made t c =
     let policy = c.args.profile.now in
+    let are : c.foreign_numbers-foreign.result.now ≡ foreign_numbers policy.machines c.args.arch =
+    c.foreign_numbers-foreign.ensures ∙ ap (λ (ms : List Arch). foreign_numbers ms c.args.arch) c.machines.ensures.machines in
     let p = insns c.args.program.now in
     let s = c.args.store.now in
     let u = c.numbers.new.store in
@@ -196,13 +211,14 @@ returns-clause-made t c =
       range = c.in-Some.ensures;
       enough = c.requires.enough meant;
       some = c.if-halvings-eq0.false;
-      cuts = record {
+      cuts = subst (λ all. IsCut all c.in-Some.low c.in-Some.high cut) are (record {
         from = c.middle-cut.ensures.from;
         upto = c.middle-cut.ensures.to;
         foreign = c.middle-cut.ensures.foreign;
         half = c.middle-cut.ensures.half;
-      };
-      some_own = λ all. let e : false ≡ true = sym c.if-are_foreign.false ∙ c.are_foreign.ensures.1 all in cc;
+      });
+      some_own = λ all. let e : false ≡ true = sym c.if-are_foreign.false
+          ∙ c.are_foreign.ensures.1 (subst (LieIn c.in-Some.low c.in-Some.high) (sym are) all) in cc;
       differ = λ e. c.if-default-word.false (c.default.view_is ∙ c.default_word.ensures ∙ e);
     } in
     let count : List Lit → ℕ = λ ls. halves_cost less (inside 512 policy.machines ls) in

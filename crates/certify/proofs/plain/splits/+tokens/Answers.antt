@@ -1,4 +1,4 @@
-use Rattle.std.proofs.Common.{◌≡◌, ◌+◌, ◌-◌, ◌<◌, ◌≤◌, inl, refl, sym, subst, ◌∙◌, arith, length, ◌∷◌, Some}
+use Rattle.std.proofs.Common.{◌≡◌, ◌+◌, ◌-◌, ◌<◌, ◌≤◌, inl, refl, sym, subst, ◌∙◌, arith, length, ◌∷◌, Some, true, false}
 use Rattle.std.specs.Prelude.{slice_get}
 use Rattle.std.proofs.lemmas.Option.{slice_get_within}
 use Rattle.call_tables.specs.Arch.{token_of}
@@ -13,10 +13,10 @@ use Rattle.certify.specs.inner.Made.{StandsAt}
 use Rattle.certify.specs.inner.Store.{known_at}
 use Rattle.certify.proofs.NodeLaws.{nodes_keep}
 use Rattle.certify.proofs.LeafLaws.{ruled_out, zero_agrees}
-use Rattle.certify.proofs.RoomLaws.{room_no, room_yes, tokens_total}
+use Rattle.certify.proofs.RoomLaws.{past_machine, room_no, room_yes, tokens_total}
 use Rattle.certify.proofs.GrowLaws.{longer_than, made_fork}
 use Rattle.certify.proofs.WayLaws.{at_child, few_known, foreign_agrees_there, listed_at, no_child, none_left, not_bits, only_bits}
-use Rattle.certify.proofs.WayLaws.{out_child, out_more, stays_short, yes_child}
+use Rattle.certify.proofs.WayLaws.{new_there, out_child, out_more, stays_short, yes_child}
 use Rattle.certify.proofs.plain.splits.+tokens.Goals as goal
 
 pub dead-requires-in_default-range-clause-dead : goal.dead-requires-in_default-range-clause-dead
@@ -28,7 +28,7 @@ ends-requires-clause-agrees t c = λ meant.
     zero_agrees c.args.profile.now (known_at c.args.store.now c.args.place) c.args.word c.in-Some._low c.in-Some._high
     c.in-Some-range.from c.in-Some-range.to meant.profile.machines_in_order
     (few_known c.args.store.now (insns c.args.program.now) c.args.place c.requires.at.fits)
-    meant.plain.rules (c.requires.at.store.calls c.args.place.chain) (c.requires.at.says meant) c.in-Some.ensures
+    meant.plain.rules meant.plain.small (c.requires.at.store.calls c.args.place.chain) (c.requires.at.says meant) c.in-Some.ensures
     c.in-Some-range.ensures is.0 is.1
 
 pub ends-requires-in_default-machine_at-clause-agrees : goal.ends-requires-in_default-machine_at-clause-agrees
@@ -67,7 +67,8 @@ tokens-requires t c =
               (λ at. let b = range.between (token_of c.in-Some-machine_at.arch) at in
               c.if-from-token.false (omega (arith, b, c.if-from-to.true, c.token-token.ensures))),
           (λ meant. let nodes = (c.requires.room meant).nodes in let literals = (c.requires.room meant).literals in
-              record { nodes = omega (arith, nodes); literals = omega (arith, literals) }),
+              let past = past_machine policy.machines c.args.at (inside 512 policy.machines (known_at s c.args.place)) within in
+              record { nodes = omega (arith, nodes, past); literals = omega (arith, literals) }),
         ),
       ),
     )
@@ -95,19 +96,25 @@ machine-requires-2-clause-room t c =
     let policy = c.args.profile.now in
     let s = c.args.store.now in
     let place = c.args.place in
+    let arch_here = c.in-Some-machine_at.arch in
+    let there : slice_get policy.machines c.args.at ≡ Some arch_here = sym c.in-Some-machine_at.ensures.found in
+    let tokens_are : IsRange (known_at s place) 1 c.in-Some-range.from c.in-Some-range.to = c.in-Some-range.ensures in
+    let new = new_there policy s place c.args.at arch_here c.in-Some-range.from c.in-Some-range.to tokens_are c.requires.out there
+    (λ known. let e : false ≡ true = sym c.if-rules_out.false
+    ∙ c.rules_out.ensures.1 (subst (λ n. Entails (known_at s place) (NotBits 1 0xffffffff n)) (sym c.token-token.ensures) known) in cc) in
     let fork = c.in_ok-fork.fork in
     let f = c.in_ok-fork.ensures in
     let own : Lit = Bits 1 0xffffffff c.token-token.result in
     let other : Lit = NotBits 1 0xffffffff c.token-token.result in
     let n = length policy.machines in
     let within = slice_get_within policy.machines c.args.at c.in-Some-machine_at.arch (sym c.in-Some-machine_at.ensures.found) in
-    let rest = return_cost n (c.args.at + 1) (inside 512 policy.machines (other ∷ known_at s place)) in
-    let cost = return_cost n c.args.at (inside 512 policy.machines (known_at s place)) in
+    let rest = return_cost policy.machines (c.args.at + 1) (inside 512 policy.machines (other ∷ known_at s place)) in
+    let cost = return_cost policy.machines c.args.at (inside 512 policy.machines (known_at s place)) in
     λ meant. room_yes s c.fork.new.self place own other fork
     (halves_cost 10 (inside 512 policy.machines (known_at c.fork.new.self fork.yes))) rest cost
     10 (n - c.args.at + 10) f.forked (c.requires.room meant)
     (subst (λ ls. halves_cost 10 (inside 512 policy.machines ls) + rest + 1 ≤ cost) (sym f.forked.yes_known)
-    (tokens_total policy (known_at s place) c.token-token.result c.args.at within))
+    (tokens_total policy (known_at s place) c.token-token.result c.args.at within new))
     (omega (arith, within))
 
 pub tokens-requires-then-rules_out : goal.tokens-requires-then-rules_out
@@ -120,7 +127,7 @@ tokens-requires-then-rules_out t c =
     let less : length policy.machines - (c.args.at + 1) < t = omega (arith, c.decreases, within) in
     let out : Entails (known_at s c.args.place) (NotBits 1 0xffffffff (token_of arch)) =
     subst (λ n. Entails (known_at s c.args.place) (NotBits 1 0xffffffff n)) c.token-token.ensures
-    (c.rules_out.ensures c.if-rules_out.true) in (
+    (c.rules_out.ensures.0 c.if-rules_out.true) in (
       less,
       (
         c.requires.at,
@@ -129,7 +136,8 @@ tokens-requires-then-rules_out t c =
               (ruled_out (known_at s c.args.place) (token_of arch) c.in-Some._low (c.requires.at.store.calls c.args.place.chain)
               c.in-Some.ensures.least out),
           (λ meant. let nodes = (c.requires.room meant).nodes in let literals = (c.requires.room meant).literals in
-              record { nodes = omega (arith, nodes); literals = omega (arith, literals) }),
+              let past = past_machine policy.machines c.args.at (inside 512 policy.machines (known_at s c.args.place)) within in
+              record { nodes = omega (arith, nodes, past); literals = omega (arith, literals) }),
         ),
       ),
     )
@@ -145,6 +153,12 @@ tokens-requires-2 t c =
     let v = c.fork.new.self in
     let u = c.machine-2.new.store in
     let place = c.args.place in
+    let arch_here = c.in-Some-machine_at.arch in
+    let there : slice_get policy.machines c.args.at ≡ Some arch_here = sym c.in-Some-machine_at.ensures.found in
+    let tokens_are : IsRange (known_at s place) 1 c.in-Some-range.from c.in-Some-range.to = c.in-Some-range.ensures in
+    let new = new_there policy s place c.args.at arch_here c.in-Some-range.from c.in-Some-range.to tokens_are c.requires.out there
+    (λ known. let e : false ≡ true = sym c.if-rules_out.false
+    ∙ c.rules_out.ensures.1 (subst (λ n. Entails (known_at s place) (NotBits 1 0xffffffff n)) (sym c.token-token.ensures) known) in cc) in
     let fork = c.in_ok-fork.fork in
     let f = c.in_ok-fork.ensures in
     let own : Lit = Bits 1 0xffffffff c.token-token.result in
@@ -155,8 +169,8 @@ tokens-requires-2 t c =
     let within = slice_get_within policy.machines c.args.at arch here in
     let less : n - (c.args.at + 1) < t = omega (arith, c.decreases, within) in
     let first = halves_cost 10 (inside 512 policy.machines (known_at v fork.yes)) in
-    let rest = return_cost n (c.args.at + 1) (inside 512 policy.machines (known_at u fork.no)) in
-    let cost = return_cost n c.args.at (inside 512 policy.machines (known_at s place)) in
+    let rest = return_cost policy.machines (c.args.at + 1) (inside 512 policy.machines (known_at u fork.no)) in
+    let cost = return_cost policy.machines c.args.at (inside 512 policy.machines (known_at s place)) in
     let child = no_child policy p s v u place own other fork c.in_ok-first.first first f.forked c.in_ok-first.ensures.made in (
       less,
       (
@@ -171,8 +185,8 @@ tokens-requires-2 t c =
               meant f.forked c.in_ok-first.ensures.made (c.requires.room meant)
               (subst (λ ls. halves_cost 10 (inside 512 policy.machines ls) + rest + 1 ≤ cost) (sym f.forked.yes_known)
               (subst (λ ls. halves_cost 10 (inside 512 policy.machines (own ∷ known_at s place))
-              + return_cost n (c.args.at + 1) (inside 512 policy.machines ls) + 1 ≤ cost)
-              (sym child.known) (tokens_total policy (known_at s place) c.token-token.result c.args.at within)))
+              + return_cost policy.machines (c.args.at + 1) (inside 512 policy.machines ls) + 1 ≤ cost)
+              (sym child.known) (tokens_total policy (known_at s place) c.token-token.result c.args.at within new)))
               (omega (arith, within))),
         ),
       ),
@@ -197,6 +211,12 @@ returns-clause-made t c =
     let v = c.fork.new.self in
     let u = c.machine-2.new.store in
     let place = c.args.place in
+    let arch_here = c.in-Some-machine_at.arch in
+    let there : slice_get policy.machines c.args.at ≡ Some arch_here = sym c.in-Some-machine_at.ensures.found in
+    let tokens_are : IsRange (known_at s place) 1 c.in-Some-range.from c.in-Some-range.to = c.in-Some-range.ensures in
+    let new = new_there policy s place c.args.at arch_here c.in-Some-range.from c.in-Some-range.to tokens_are c.requires.out there
+    (λ known. let e : false ≡ true = sym c.if-rules_out.false
+    ∙ c.rules_out.ensures.1 (subst (λ n. Entails (known_at s place) (NotBits 1 0xffffffff n)) (sym c.token-token.ensures) known) in cc) in
     let fork = c.in_ok-fork.fork in
     let f = c.in_ok-fork.ensures in
     let own : Lit = Bits 1 0xffffffff c.token-token.result in
@@ -207,16 +227,16 @@ returns-clause-made t c =
     let n = length policy.machines in
     let within = slice_get_within policy.machines c.args.at c.in-Some-machine_at.arch (sym c.in-Some-machine_at.ensures.found) in
     let own_cost = halves_cost 10 (inside 512 policy.machines (known_at v fork.yes)) in
-    let rest = return_cost n (c.args.at + 1) (inside 512 policy.machines (known_at u fork.no)) in
-    let cost = return_cost n c.args.at (inside 512 policy.machines (known_at s place)) in
+    let rest = return_cost policy.machines (c.args.at + 1) (inside 512 policy.machines (known_at u fork.no)) in
+    let cost = return_cost policy.machines c.args.at (inside 512 policy.machines (known_at s place)) in
     let child = no_child policy p s v u place own other fork first own_cost f.forked c.in_ok-first.ensures.made in
     made_fork policy p s v u c.tokens-2.new.store c.set.new.self place (Split own other first second) own other fork first
     second own_cost rest cost
     c.requires.at.store c.requires.at.fits.chain f.forked c.in_ok-first.ensures.made c.in_ok-second.ensures.made
     (λ meant. subst (λ ls. halves_cost 10 (inside 512 policy.machines ls) + rest + 1 ≤ cost) (sym f.forked.yes_known)
     (subst (λ ls. halves_cost 10 (inside 512 policy.machines (own ∷ known_at s place))
-    + return_cost n (c.args.at + 1) (inside 512 policy.machines ls) + 1 ≤ cost)
-    (sym child.known) (tokens_total policy (known_at s place) c.token-token.result c.args.at within)))
+    + return_cost policy.machines (c.args.at + 1) (inside 512 policy.machines ls) + 1 ≤ cost)
+    (sym child.known) (tokens_total policy (known_at s place) c.token-token.result c.args.at within new)))
     c.set.ensures.store c.set.ensures.entries c.set.ensures.nodes
     (λ meant ms a b x y.
     (nodes_keep policy p ms (length s.nodes.items) stands.insn place.held place.pc (known_at s place) stands.inside).split own

@@ -16,7 +16,7 @@ use Rattle.certify.specs.inner.Store.{chain_node_of, known_at}
 use Rattle.certify.proofs.GrowLaws.{longer_than, length_more, made_fork, made_step}
 use Rattle.certify.proofs.MoveLaws.{ends_cost, goes_cost, goes_inside, other_inside, some_weight, taken_inside}
 use Rattle.certify.proofs.NodeLaws.{nodes_keep}
-use Rattle.certify.proofs.RoomLaws.{forks_total, made_within_if, other_lower, room_no, room_yes, taken_lower, two_machines}
+use Rattle.certify.proofs.RoomLaws.{five_machines, forks_total, made_within_if, other_lower, room_no, room_yes, taken_lower}
 use Rattle.certify.proofs.WayLaws.{no_child, stays_short, way_ends, way_forks, way_goes, way_moves, yes_child}
 use Rattle.certify.proofs.plain.ways.+enter.Goals as goal
 
@@ -81,10 +81,11 @@ tokens-requires-clause-room t c = λ meant.
     let place = c.args.place in
     let five = ends_cost p place.pc c.get-insn.result place.held c.get-insn.ensures c.in-Some-Ends.word
     (sym c.in-Some-Ends.ensures ∙ ap (λ m. Some (move_by m)) c.in-Some-Ends.field-0-is) in
-    let two = two_machines policy meant.profile in
+    let two = meant.plain.few in
+    let most = five_machines policy meant.profile in
     let nodes = (c.requires.room meant).nodes in
     let literals = (c.requires.room meant).literals in
-    record { nodes = omega (arith, five, two, nodes); literals = omega (arith, two, literals) }
+    record { nodes = omega (arith, five, two, nodes); literals = omega (arith, most, literals) }
 
 pub returns-in-Some-Ends-clause-made : goal.returns-in-Some-Ends-clause-made
 returns-in-Some-Ends-clause-made t c =
@@ -93,12 +94,12 @@ returns-in-Some-Ends-clause-made t c =
     let s = c.args.store.now in
     let place = c.args.place in
     let calls = inside 512 policy.machines (known_at s place) in
-    made_within_if policy p s c.tokens.new.store place (return_cost (length policy.machines) 0 calls)
+    made_within_if policy p s c.tokens.new.store place (return_cost policy.machines 0 calls)
     (path_cost p place.pc calls) c.tokens.result
     (λ meant.
     let five = ends_cost p place.pc c.get-insn.result place.held c.get-insn.ensures c.in-Some-Ends.word
     (sym c.in-Some-Ends.ensures ∙ ap (λ m. Some (move_by m)) c.in-Some-Ends.field-0-is) in
-    let two = two_machines policy meant.profile in
+    let two = meant.plain.few in
     omega (arith, five, two)) c.tokens.ensures.made
 
 pub after-pc-requires : goal.after-pc-requires
@@ -219,7 +220,7 @@ enter-requires-in-Some-Forks t c =
     let calls : List Lit → ℕ = λ ls. inside 512 policy.machines ls in
     let cost = path_cost p place.pc (calls (known_at s place)) in
     let rest = path_cost p (place.pc + 1 + insn.jf) (calls (m ∷ known_at s place)) in
-    let lower : depth p fork.yes.pc + 12 + 1 ≤ depth p place.pc + 12 =
+    let lower : depth p fork.yes.pc + 15 + 1 ≤ depth p place.pc + 15 =
     omega (
       arith,
       taken_lower policy p place.pc insn place.held c.get-insn.ensures small test w move (known_at s place) l m
@@ -231,7 +232,7 @@ enter-requires-in-Some-Forks t c =
         way_forks policy p s place way insn c.get-insn.ensures small u fork.yes test w true l move c.fact.ensures.fact
             (yes_child s u place l m fork f.forked) at,
         λ meant. room_yes s u place l m fork (path_cost p fork.yes.pc (calls (known_at u fork.yes))) rest cost
-            (depth p fork.yes.pc + 12) (depth p place.pc + 12)
+            (depth p fork.yes.pc + 15) (depth p place.pc + 15)
             f.forked (c.requires.room meant)
             (subst (λ ls. path_cost p fork.yes.pc (calls ls) + rest + 1 ≤ cost) (sym f.forked.yes_known)
             (subst (λ k. path_cost p k (calls (l ∷ known_at s place)) + rest + 1 ≤ cost) (sym at)
@@ -270,7 +271,7 @@ enter-requires-in-Some-Forks-2 t c =
     let rest = path_cost p fork.no.pc (calls (known_at u fork.no)) in
     let one = c.in_ok-first-in-Some-Forks.ensures.made in
     let child = no_child policy p s v u place l m fork c.in_ok-first-in-Some-Forks.first first f.forked one in
-    let lower : depth p fork.no.pc + 12 + 1 ≤ depth p place.pc + 12 =
+    let lower : depth p fork.no.pc + 15 + 1 ≤ depth p place.pc + 15 =
     omega (
       arith,
       other_lower policy p place.pc insn place.held c.get-insn.ensures small test w move (known_at s place) l m
@@ -281,7 +282,7 @@ enter-requires-in-Some-Forks-2 t c =
       (
         way_forks policy p s place way insn c.get-insn.ensures small u fork.no test w false m move
             c.fact-in-Some-Forks.ensures.fact child at,
-        λ meant. room_no policy p s v u place l m fork first rest cost (depth p fork.no.pc + 12) (depth p place.pc + 12)
+        λ meant. room_no policy p s v u place l m fork first rest cost (depth p fork.no.pc + 15) (depth p place.pc + 15)
             c.in_ok-first-in-Some-Forks.first
             meant f.forked one (c.requires.room meant)
             (subst (λ ls. path_cost p fork.yes.pc (calls ls) + rest + 1 ≤ cost) (sym f.forked.yes_known)

@@ -10,6 +10,7 @@ use Rattle.profile.specs.inner.Places.{IsIndexOf}
 use Rattle.profile.specs.Build.{AreListed, IsFirstForeign, IsFirstCause}
 use Rattle.profile.proofs.Clashing.{first_clash_in}
 use Rattle.profile.proofs.BuildLaws.{not_kept, overlapping, profile_of}
+use Rattle.profile.proofs.MachineLaws.{all_of, only_of, stays}
 use Rattle.profile.proofs.policy.Profile.build.Goals as goal
 
 of_family : (f g : Family) (archs : List Arch) → f ≡ g → AreOfFamily f archs → AreOfFamily g archs
@@ -17,7 +18,7 @@ of_family f g archs same h = subst (λ family. AreOfFamily family archs) same h
 
 pub returns-in-Some-clause-err : goal.returns-in-Some-clause-err
 returns-in-Some-clause-err c = (
-  (c.lists.ensures.0 c.if-not-lists.false, of_family _ _ _ c.family.ensures (c.are_of_family.ensures.0 c.if-not-are_of_family.false)),
+  (c.lists.ensures.0 c.if-not-lists.false, of_family _ _ _ c.family-family.ensures (c.are_of_family.ensures.0 c.if-not-are_of_family.false)),
   subst (λ (rules : List Rule). IsFirstForeign c.args.archs.now rules c.in-Some.place) c.deref.ensures.value c.in-Some.ensures.some,
 )
 
@@ -51,7 +52,7 @@ returns-in-Some-first_clash-clause-err c =
     let at-second : get_or places j 0 ≡ c.index-in-Some-first_clash.result.now =
     get_or_default places j 0 c.index-in-Some-first_clash.result.now first.2 ∙ sym c.index-in-Some-first_clash.ensures in
     let cause = overlapping c.args.native archs rules kept places i j
-    (c.lists.ensures.0 c.if-not-lists.false, of_family _ _ _ c.family.ensures (c.are_of_family.ensures.0 c.if-not-are_of_family.false)) listed
+    (c.lists.ensures.0 c.if-not-lists.false, of_family _ _ _ c.family-family.ensures (c.are_of_family.ensures.0 c.if-not-are_of_family.false)) listed
     c.in_ok-rules.ensures.ok c.in_ok-rules.ensures.few first.0 in
     subst (λ (n : ℕ). IsFirstCause c.args.native archs rules (Overlap c.index.result.now n)) at-second
     (subst (λ (m : ℕ). IsFirstCause c.args.native archs rules (Overlap m (get_or places j 0))) at-first cause)
@@ -59,13 +60,16 @@ returns-in-Some-first_clash-clause-err c =
 pub returns-clause-ok : goal.returns-clause-ok
 returns-clause-ok c = record {
   is_profile =
-      profile_of _ c.args.archs.now c.args.rules.items (c.lists.ensures.0 c.if-not-lists.false) c.in_order.ensures.ordered
-      c.in_order.ensures.all (subst (AreListed c.args.archs.now) c.deref.ensures.value c.in_default.ensures.none)
+      profile_of _ c.args.archs.now c.args.rules.items (c.lists.ensures.0 c.if-not-lists.false)
+      (stays c.family-family.result c.args.archs.now _ (c.are_of_family.ensures.0 c.if-not-are_of_family.false) c.in_order.ensures)
+      (all_of c.family-family.result c.args.archs.now _ (c.are_of_family.ensures.0 c.if-not-are_of_family.false) c.in_order.ensures)
+      (subst (AreListed c.args.archs.now) c.deref.ensures.value c.in_default.ensures.none)
       c.in_ok-rules.ensures.ok.once c.in_ok-rules.ensures.few
       (subst IsClear c.deref-2.ensures.value c.in_default-first_clash.ensures.none);
   native_is = refl;
-  machines_listed = c.in_order.ensures.listed;
-  machines_all = c.in_order.ensures.all;
+  machines_listed =
+      only_of c.family-family.result c.args.archs.now _ (c.are_of_family.ensures.0 c.if-not-are_of_family.false) c.in_order.ensures;
+  machines_all = all_of c.family-family.result c.args.archs.now _ (c.are_of_family.ensures.0 c.if-not-are_of_family.false) c.in_order.ensures;
   default_is = refl;
   rules_kept = c.in_ok-rules.ensures.ok.once;
 }
@@ -73,7 +77,7 @@ returns-clause-ok c = record {
 pub returns-in_err-rules-clause-err : goal.returns-in_err-rules-clause-err
 returns-in_err-rules-clause-err c =
     let cause = not_kept c.args.native c.args.archs.now c.args.rules.items c.in_err-rules.field-0.0
-    (c.lists.ensures.0 c.if-not-lists.false, of_family _ _ _ c.family.ensures (c.are_of_family.ensures.0 c.if-not-are_of_family.false))
+    (c.lists.ensures.0 c.if-not-lists.false, of_family _ _ _ c.family-family.ensures (c.are_of_family.ensures.0 c.if-not-are_of_family.false))
     (subst (AreListed c.args.archs.now) c.deref.ensures.value c.in_default.ensures.none) c.in_err-rules.ensures.err in
     search (rules, cause)
 
@@ -83,8 +87,10 @@ first_clash-requires c =
 
 pub invariant_of-result : goal.invariant_of-result
 invariant_of-result c = (
-  profile_of _ c.args.archs.now c.args.rules.items (c.lists.ensures.0 c.if-not-lists.false) c.in_order.ensures.ordered
-      c.in_order.ensures.all (subst (AreListed c.args.archs.now) c.deref.ensures.value c.in_default.ensures.none)
+  profile_of _ c.args.archs.now c.args.rules.items (c.lists.ensures.0 c.if-not-lists.false)
+      (stays c.family-family.result c.args.archs.now _ (c.are_of_family.ensures.0 c.if-not-are_of_family.false) c.in_order.ensures)
+      (all_of c.family-family.result c.args.archs.now _ (c.are_of_family.ensures.0 c.if-not-are_of_family.false) c.in_order.ensures)
+      (subst (AreListed c.args.archs.now) c.deref.ensures.value c.in_default.ensures.none)
       c.in_ok-rules.ensures.ok.once c.in_ok-rules.ensures.few
       (subst IsClear c.deref-2.ensures.value c.in_default-first_clash.ensures.none),
   c.in_ok-rules.ensures.index,

@@ -130,5 +130,5 @@ returns-clause-calls c listed all =
     let noted : NotesNumber a b p.rules (token_of m) next p.default_word =
     subst (λ n. NotesNumber a b p.rules n next p.default_word) c.token-token.ensures
     (subst (λ w. NotesNumber a b p.rules t next w) c.default_word-default.ensures of_rules) in
-    calls_noted p c.rules-rules.ensures.is_profile.clear m next a b listed (c.requires.own next is_next.least inside) c.in_ok-leaf.ensures.more
+    calls_noted p c.rules-rules.ensures.is_profile.clear m next a b (c.requires.own next is_next.least inside listed) c.in_ok-leaf.ensures.more
     c.in_ok-leaf.ensures.sound.blocks_are noted all

@@ -1,20 +1,19 @@
 use Rattle.std.proofs.Common.{rules, [], sym, ◌∙◌}
-use Rattle.call_tables.proofs.PlaceLaws.{Lent}
-use Rattle.call_tables.proofs.HalvingLaws.{halves, finds, goes_right, goes_left, front_sorted, behind_sorted}
-use Rattle.call_tables.proofs.whole.+number_of.Goals as goal
+use Rattle.call_tables.proofs.HalvingLaws.{Lent, halves, finds, goes_right, goes_left, front_sorted, behind_sorted}
+use Rattle.call_tables.proofs.rows.+row_of.Goals as goal
 
 -- what stands for the first entry of a list that has none
 abbrev nothing : Lent
-nothing = (record { ref_ptr = (0, 0); now = [] }, 0)
+nothing = (record { ref_ptr = (0, 0); now = [] }, [])
 
-pub number_of-requires : goal.number_of-requires
-number_of-requires t c =
+pub row_of-requires : goal.row_of-requires
+row_of-requires t c =
     let cut = halves c.args.table.now c.split_at.result.0.now c.split_at.result.1.now _ nothing c.split_at.ensures.front c.split_at.ensures.back
     c.in-len1-up.len_at_least in
     (search rules, behind_sorted _ _ _ _ c.args.name.now c.requires.1.1 cut)
 
-pub number_of-requires-in-Greater : goal.number_of-requires-in-Greater
-number_of-requires-in-Greater t c =
+pub row_of-requires-in-Greater : goal.row_of-requires-in-Greater
+row_of-requires-in-Greater t c =
     let cut = halves c.args.table.now c.split_at.result.0.now c.split_at.result.1.now _ nothing c.split_at.ensures.front c.split_at.ensures.back
     c.in-len1-up.len_at_least in
     (search rules, front_sorted _ _ _ _ c.args.name.now c.requires.1.1 cut)
@@ -29,10 +28,10 @@ pub returns-in-Less : goal.returns-in-Less
 returns-in-Less t c =
     let cut = halves c.args.table.now c.split_at.result.0.now c.split_at.result.1.now _ nothing c.split_at.ensures.front c.split_at.ensures.back
     c.in-len1-up.len_at_least in
-    c.number_of.ensures ∙ goes_right _ _ _ _ c.args.name.now c.requires.1.1 cut (sym c.cmp.ensures ∙ c.in-Less.is)
+    c.row_of.ensures ∙ goes_right _ _ _ _ c.args.name.now c.requires.1.1 cut (sym c.cmp.ensures ∙ c.in-Less.is)
 
 pub returns-in-Greater : goal.returns-in-Greater
 returns-in-Greater t c =
     let cut = halves c.args.table.now c.split_at.result.0.now c.split_at.result.1.now _ nothing c.split_at.ensures.front c.split_at.ensures.back
     c.in-len1-up.len_at_least in
-    c.number_of-in-Greater.ensures ∙ goes_left _ _ _ _ c.args.name.now c.requires.1.1 cut (sym c.cmp.ensures ∙ c.in-Greater.is)
+    c.row_of-in-Greater.ensures ∙ goes_left _ _ _ _ c.args.name.now c.requires.1.1 cut (sym c.cmp.ensures ∙ c.in-Greater.is)
