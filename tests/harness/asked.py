@@ -1,12 +1,11 @@
 """Questions to `ask` and its answers, from and to the texts of rows."""
 import re
 
-from harness.calls import TOKENS
+from harness.calls import DEBUG_NAMES as MACHINES, TOKENS
 from harness.rows import Fault
 from harness.texts import number
 
-# The names of machines in answers, and of operators in answers and in questions, where they stand by their places.
-MACHINES = {"X86_64": "x86-64", "Aarch64": "aarch64", "LinuxX86_64": "linux-x86-64", "LinuxAarch64": "linux-aarch64"}
+# The names of operators in answers, and in questions, where they stand by their places.
 OPS = {"Ne": "NE", "Lt": "LT", "Le": "LE", "Eq": "EQ", "Ge": "GE", "Gt": "GT", "MaskedEq": "MASKED_EQ"}
 PLACES = {name: place for place, name in enumerate(OPS.values())}
 RULE = re.compile(r"Rule \{ arch: (\w+), nr: (\d+), conds: \[(.*)\], word: Word\((\d+)\) \}")

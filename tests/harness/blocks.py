@@ -168,7 +168,7 @@ def ask_every_call(block):
     native = head.text.split(" ")[1]
     for row in rows:
         if row.text.startswith("every-call "):
-            names = [name for name in names_of(native) if name != "-"]
+            names = [*names_of(native).values()]
             lines = [line for name in names for line in (f"admit c {row.text.split(' ')[1]}", f"call c 1 {name}")]
             told = yield from by_kernels(native, bundles_in(rows), lines)
             row.tell(*(f"{name}: {line}" for name, answer in zip(names, told[1::2]) for line in answer))

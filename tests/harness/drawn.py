@@ -4,6 +4,8 @@ import struct
 ALL = 2**64 - 1
 ALLOW, KILL_THREAD = 0x7FFF0000, 0
 TOKENS = {"x86-64": 0xC000003E, "aarch64": 0xC00000B7}
+# The bit of x32 calls.
+LEAST_X32 = 0x40000000
 
 WORDS = (KILL_THREAD, KILL_THREAD, KILL_THREAD, ALLOW, ALLOW, 0x50001, 0x50002, 0x80000000)
 NUMBERS = (0, 1, 1, 2, 3, 5, 7, 435)
@@ -62,7 +64,7 @@ def draw_value(dice):
 
 def draw_entry(dice, machine, most):
     """One rule, or two of one word with opposite conditions."""
-    number, word = dice.pick(NUMBERS), dice.pick(WORDS)
+    number, word = dice.pick(NUMBERS) | (LEAST_X32 if machine == "linux-x32" else 0), dice.pick(WORDS)
     if dice.below(2) == 0:
         place, value = dice.below(2), draw_value(dice)
         pair = dice.pick(PAIRS)
@@ -76,11 +78,11 @@ def draw_entry(dice, machine, most):
 
 
 def draw_profile(dice, machines, entries, most):
-    """The rules of a profile of two machines, or of one twice, and its default word: of so many entries with so many conditions
+    """The rules of a profile of some machines, or of one twice, and its default word: of so many entries with so many conditions
     at most. Rules that clash with earlier ones are left out. Of some calls each record meets one of two rules."""
     rules = []
     for _ in range(entries):
-        for rule in draw_entry(dice, machines[dice.below(2)], most):
+        for rule in draw_entry(dice, dice.pick(machines), most):
             if not any(rule[2] != other[2] and overlap(rule, other) for other in rules):
                 rules.append(rule)
     return rules, dice.pick(WORDS)

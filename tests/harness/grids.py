@@ -5,8 +5,8 @@ from harness.drawn import ALL
 from harness.texts import number
 
 HALVES = (0, 1, 2, 0x7FFFFFFF, 0x80000000, 0xFFFFFFFF)
-# The greatest number that is no x32 call, and the least that is one.
-X32 = (0x3FFFFFFF, 0x40000000)
+# The ends of the numbers of x32 calls: the last before them, the first and the last one, and the next.
+X32 = (0x3FFFFFFF, 0x40000000, 0xFFFFFFFE, 0xFFFFFFFF)
 # How far numbers lie apart that are near each other, in one half or in both.
 STEPS = (0, 1, 1 << 32, (1 << 32) + 1, (1 << 32) - 1)
 
@@ -19,9 +19,9 @@ def grid(numbers, arguments):
 
 
 def of_halves():
-    """Small numbers, those on both sides of the least x32 call, and great ones, with any halves of two arguments."""
+    """Small numbers, a great one, and those at the ends of x32's, with any halves of two arguments."""
     values = [high << 32 | low for high, low in product(HALVES, HALVES)]
-    return grid((*range(9), 435, *X32, 2**32 - 1), product(values, values))
+    return grid((*range(9), 435, *X32), product(values, values))
 
 
 def rules_in(told):
@@ -53,7 +53,7 @@ def changed(args, place, value):
 
 
 def near(told, further=()):
-    """The numbers of a profile's rules and of the least x32 call, and their neighbours, with arguments that meet a rule; and of each
+    """The numbers of a profile's rules, their neighbours, and those at the ends of x32's, with arguments that meet a rule; and of each
     number arguments where one is near a number of a rule's conditions, or is one of another rule's."""
     rules = [*rules_in(told)]
     by_number, all_met = {}, [(0,) * 6, (1,) * 6, (ALL,) * 6]

@@ -145,8 +145,8 @@ def conforms(line):
     told, filtered = yield from compiled(line)
     if not is_digits(filtered):
         return [filtered]
-    both = MACHINES["linux-" if told[0].startswith("native linux-") else ""]
-    calls_there = (nr for machine in both for nr, name in enumerate(names_of(machine)) if name != "-")
+    family = MACHINES["linux-" if told[0].startswith("native linux-") else ""]
+    calls_there = (nr for machine in family for nr in names_of(machine))
     return (yield from agrees(line, filtered, near(told, calls_there)))
 
 

@@ -11,6 +11,7 @@ import struct
 import subprocess
 import tempfile
 
+from harness.calls import calls
 from harness.limits import ENDLESS
 from harness.places import CCELL, TOP
 
@@ -190,15 +191,16 @@ def faults_of_calls(page, text):
     counts = re.search(r"chosen lists: (\d+) and (\d+) calls", text)
     if counts and counts.groups() != (str(len(chosen)), str(len(chosen) - chosen.count("-"))):
         faults.append(f"its chosen lists have {len(chosen)} calls")
-    whole = [line.split() for line in read("docs/linux-6.18-calls.txt").splitlines() if not line.startswith("#")]
-    both = [numbers.split("/") for _, numbers in whole]
-    counts = re.search(r"(\d+) on x86-64 and (\d+) on AArch64", text)
-    if counts and counts.groups() != tuple(str(sum(it[place] != "-" for it in both)) for place in (0, 1)):
-        faults.append("the whole tables have other numbers of calls")
-    for (name, _), numbers in zip(whole, both) if counts else []:
-        if [number_of("linux-x86-64", name), number_of("linux-aarch64", name)] != numbers:
-            faults.append(f"{name} is not {'/'.join(numbers)}")
-    return faults
+    counts = re.search(r"(\d+) on x86-64, (\d+) on x86, (\d+) on x32, (\d+) on AArch64 and (\d+) on ARM", text)
+    return faults + (faults_of_whole_tables(counts.groups()) if counts else [])
+
+
+def faults_of_whole_tables(counts):
+    """The list of all calls of Linux, and how many each machine has."""
+    whole = [line for line in read("docs/linux-6.18-calls.txt").splitlines() if not line.startswith("#")]
+    columns = zip(*(line.split()[1].split("/") for line in whole))
+    faults = [] if counts == tuple(str(len(it) - it.count("-")) for it in columns) else ["the whole tables have other numbers of calls"]
+    return faults + [f"not as the program has it: {line}" for line in sorted({*whole} ^ {*calls("linux-", "")})]
 
 
 def faults_of_files(page, text):

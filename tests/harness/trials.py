@@ -12,7 +12,12 @@ from harness.library import agrees, certified, check_told, compiled, without_pla
 from harness.texts import is_digits
 
 X, A = "x86-64", "aarch64"
-MACHINES = ((X, X), (X, X), (X, X), (A, A), (X, A), (X, A), (A, X), (A, X))
+# Lists of machines, the native one first. x32 has the token of x86-64.
+L = "linux-x86-64"
+LISTS = (
+    *((X, X), (X, X), (X, X), (A, A), (X, A), (X, A), (A, X), (A, X)),
+    *((L, "linux-x86"), (L, "linux-x32"), (L, "linux-x86", "linux-x32"), ("linux-aarch64", "linux-arm")),
+)
 
 # How many certificates are made of an accepted one, and how many changes of its nodes each has.
 MADE = 8
@@ -24,11 +29,11 @@ WRONG = "a yes that is wrong"
 
 
 def random_profiles(seed, count):
-    """Whether the filters of so many random profiles, of one machine or both and of one to twelve entries, get certificates that the
+    """Whether the filters of so many random profiles, of one to three machines and of one to twelve entries, get certificates that the
     checker takes, and answer what the profiles say."""
     dice, lines = Dice(seed), []
     for _ in range(count):
-        machines = dice.pick(MACHINES)
+        machines = dice.pick(LISTS)
         rules, default = draw_profile(dice, machines, dice.below(12) + 1, 6)
         lines.append(build(text_of(machines, rules, default)))
     told = yield from side_by_side([try_profile(line) for line in lines])

@@ -3,17 +3,19 @@
 use crate::question::Question;
 use bpf_interp::verdict;
 use call_record::Record;
-use call_tables::Arch;
 use kernel_check::Accepted;
 use profile::Profile;
 use std::alloc::{AllocError, Global};
 
-/// The records of both machines and of none, with each of some numbers and each of some arguments.
+/// The records with the token of each machine and with none, with each of some numbers and each of some arguments.
 #[derive(Drop)]
 pub struct Grid {
     numbers: Vec<u32>,
     arguments: Vec<[u64; 6]>,
 }
+
+// The token of each machine, and one that none has.
+const TOKENS: [u32; 5] = [0xc000_003e, 0x4000_0003, 0xc000_00b7, 0x4000_0028, 0];
 
 // The record of these parts, with 0 for the pointer.
 fn call_of(nr: u32, arch: u32, args: [u64; 6]) -> Record {
@@ -49,7 +51,7 @@ impl Grid {
 
     /// The first record where the filter's verdict is not the word of the profile.
     pub fn first_difference(&self, accepted: &Accepted<'_>, profile: &Profile) -> Option<Record> {
-        for arch in [Arch::X86_64.token(), Arch::Aarch64.token(), 0] {
+        for arch in TOKENS {
             for nr in &self.numbers {
                 for args in &self.arguments {
                     let call = call_of(*nr, arch, *args);
