@@ -4,28 +4,28 @@ use Rattle.std.specs.Option.{option_map}
 use Rattle.call_record.specs.declared.layout.Record.{Record}
 use Rattle.cert_check.specs.declared.checked.Checked.{Checked}
 use Rattle.processes.specs.Attached.{Attached, attached_of}
-use Rattle.lifecycle.specs.declared.command.Command.{Command}
-use Rattle.lifecycle.specs.declared.command.Command.TheVariants as command
+use Rattle.lifecycle.specs.declared.command.Command as code
+use Rattle.lifecycle.specs.declared.command.Command.TheVariants as variant
 
-pub data Order : Type 0 where
-  Create : (id : List ℕ) → (given : Checked) → Order
-  Start : (id : List ℕ) → Order
-  Kill : (id : List ℕ) → (sig : ℕ) → Order
-  Delete : (id : List ℕ) → Order
-  State : (id : List ℕ) → Order
+pub data Command : Type 0 where
+  Create : (id : List ℕ) → (given : Checked) → Command
+  Start : (id : List ℕ) → Command
+  Kill : (id : List ℕ) → (sig : ℕ) → Command
+  Delete : (id : List ℕ) → Command
+  State : (id : List ℕ) → Command
   -- a task of this number presents a record, and may attach a program to it
-  Call : (id : List ℕ) → (task : ℕ) → (r : Record) → (a : Attached) → Order
+  Call : (id : List ℕ) → (task : ℕ) → (r : Record) → (a : Attached) → Command
 
-abbrev pub order_of : Command → Order
-order_of (command.Create id given) = Create id.now given
-order_of (command.Start id) = Start id.now
-order_of (command.Kill id sig) = Kill id.now sig
-order_of (command.Delete id) = Delete id.now
-order_of (command.State id) = State id.now
-order_of (command.Call id task r attached) = Call id.now task r (attached_of (option_map (λ a. a.now) attached))
+abbrev pub command_of : code.Command → Command
+command_of (variant.Create id given) = Create id.now given
+command_of (variant.Start id) = Start id.now
+command_of (variant.Kill id sig) = Kill id.now sig
+command_of (variant.Delete id) = Delete id.now
+command_of (variant.State id) = State id.now
+command_of (variant.Call id task r attached) = Call id.now task r (attached_of (option_map (λ a. a.now) attached))
 
 -- the id that it names
-abbrev pub id_of : Order → List ℕ
+abbrev pub id_of : Command → List ℕ
 id_of (Create id given) = id
 id_of (Start id) = id
 id_of (Kill id sig) = id
