@@ -8,7 +8,7 @@ ghost use Rattle.cert_paths.specs.inner.Cuts.{Covers-prop, IsLit-prop};
 
 use crate::chain::Known;
 use call_tables::Arch;
-use cert_state::{Lit, entails, range};
+use cert_state::{Facts, Lit, range};
 use profile::{Cond, Op, Profile, Rule, foreign_numbers};
 
 /// Two literals of a word, of which one holds of each record.
@@ -54,15 +54,15 @@ impl Cut {
     }
 
     // Whether it tells something: neither of the two is known already.
-    fn is_open(&self, known: &Known<'_>) -> bool {
-        !entails(known, &self.one) && !entails(known, &self.other)
+    fn is_open(&self, facts: &Facts<'_, Known<'_>>) -> bool {
+        !facts.entails(&self.one) && !facts.entails(&self.other)
     }
 }
 
 // The cut, if it tells something.
-fn if_open(cut: Option<Cut>, known: &Known<'_>) -> Option<Cut> {
+fn if_open(cut: Option<Cut>, facts: &Facts<'_, Known<'_>>) -> Option<Cut> {
     let cut = cut?;
-    if cut.is_open(known) {
+    if cut.is_open(facts) {
         return Some(cut);
     }
     None
@@ -74,59 +74,59 @@ fn halves(number: u64) -> (u32, u32) {
 }
 
 // Where the halves of an argument are cut for a comparison with bits under a mask.
-fn cut_by_bits(known: &Known<'_>, word: u8, mask: u64, datum: u64) -> Option<Cut> {
+fn cut_by_bits(facts: &Facts<'_, Known<'_>>, word: u8, mask: u64, datum: u64) -> Option<Cut> {
     let (high_mask, low_mask) = halves(mask);
     let (high, low) = halves(datum);
-    match if_open(Cut::bits(word.saturating_add(1), high_mask, high), known) {
+    match if_open(Cut::bits(word.saturating_add(1), high_mask, high), facts) {
         Some(cut) => Some(cut),
-        None => if_open(Cut::bits(word, low_mask, low), known),
+        None => if_open(Cut::bits(word, low_mask, low), facts),
     }
 }
 
 // Where a word is cut for a comparison by order: in front of a number, or behind it.
-fn cut_beside(known: &Known<'_>, word: u8, number: u32) -> Option<Cut> {
-    match if_open(Cut::below(word, number), known) {
+fn cut_beside(facts: &Facts<'_, Known<'_>>, word: u8, number: u32) -> Option<Cut> {
+    match if_open(Cut::below(word, number), facts) {
         Some(cut) => Some(cut),
-        None => if_open(Cut::below(word, number.checked_add(1)?), known),
+        None => if_open(Cut::below(word, number.checked_add(1)?), facts),
     }
 }
 
 // Where the halves of an argument are cut for a comparison by order.
-fn cut_by_order(known: &Known<'_>, word: u8, value: u64) -> Option<Cut> {
+fn cut_by_order(facts: &Facts<'_, Known<'_>>, word: u8, value: u64) -> Option<Cut> {
     let (high, low) = halves(value);
-    match cut_beside(known, word.saturating_add(1), high) {
+    match cut_beside(facts, word.saturating_add(1), high) {
         Some(cut) => Some(cut),
-        None => cut_beside(known, word, low),
+        None => cut_beside(facts, word, low),
     }
 }
 
 // Where the argument of a condition is cut. Argument j stands in the words 4 + 2 j and 5 + 2 j, the low half first.
-fn cut_of_condition(known: &Known<'_>, cond: &Cond) -> Option<Cut> {
+fn cut_of_condition(facts: &Facts<'_, Known<'_>>, cond: &Cond) -> Option<Cut> {
     let word = cond.index.saturating_mul(2).saturating_add(4);
     match cond.op {
-        Op::Eq | Op::Ne => cut_by_bits(known, word, u64::MAX, cond.value),
-        Op::MaskedEq => cut_by_bits(known, word, cond.value, cond.datum),
-        Op::Lt | Op::Le | Op::Ge | Op::Gt => cut_by_order(known, word, cond.value),
+        Op::Eq | Op::Ne => cut_by_bits(facts, word, u64::MAX, cond.value),
+        Op::MaskedEq => cut_by_bits(facts, word, cond.value, cond.datum),
+        Op::Lt | Op::Le | Op::Ge | Op::Gt => cut_by_order(facts, word, cond.value),
     }
 }
 
 // Where a rule is cut that is not settled: at its machine, its number, or a condition.
-fn cut_of_rule(known: &Known<'_>, rule: &Rule) -> Option<Cut> {
+fn cut_of_rule(facts: &Facts<'_, Known<'_>>, rule: &Rule) -> Option<Cut> {
     let machine = Cut::bits(TOKEN, u32::MAX, rule.arch.token());
-    if let Some(cut) = if_open(machine, known) {
+    if let Some(cut) = if_open(machine, facts) {
         return Some(cut);
     }
-    if entails(known, &Lit::NotBits(TOKEN, u32::MAX, rule.arch.token())) {
+    if facts.entails(&Lit::NotBits(TOKEN, u32::MAX, rule.arch.token())) {
         return None;
     }
-    if let Some(cut) = if_open(Cut::bits(NUMBER, u32::MAX, rule.nr), known) {
+    if let Some(cut) = if_open(Cut::bits(NUMBER, u32::MAX, rule.nr), facts) {
         return Some(cut);
     }
-    if entails(known, &Lit::NotBits(NUMBER, u32::MAX, rule.nr)) {
+    if facts.entails(&Lit::NotBits(NUMBER, u32::MAX, rule.nr)) {
         return None;
     }
     for cond in rule.conds.as_slice() {
-        if let Some(cut) = cut_of_condition(known, cond) {
+        if let Some(cut) = cut_of_condition(facts, cond) {
             return Some(cut);
         }
     }
@@ -134,16 +134,16 @@ fn cut_of_rule(known: &Known<'_>, rule: &Rule) -> Option<Cut> {
 }
 
 // Where a machine is cut from others, and foreign numbers with its token from the rest.
-fn cut_of_machine(profile: &Profile, known: &Known<'_>, machine: Arch) -> Option<Cut> {
-    if let Some(cut) = if_open(Cut::bits(TOKEN, u32::MAX, machine.token()), known) {
+fn cut_of_machine(profile: &Profile, facts: &Facts<'_, Known<'_>>, machine: Arch) -> Option<Cut> {
+    if let Some(cut) = if_open(Cut::bits(TOKEN, u32::MAX, machine.token()), facts) {
         return Some(cut);
     }
     for foreign in foreign_numbers(profile.machines(), machine) {
-        if let Some(cut) = if_open(Cut::below(NUMBER, foreign.first), known) {
+        if let Some(cut) = if_open(Cut::below(NUMBER, foreign.first), facts) {
             return Some(cut);
         }
         if let Some(next) = foreign.last.checked_add(1)
-            && let Some(cut) = if_open(Cut::below(NUMBER, next), known)
+            && let Some(cut) = if_open(Cut::below(NUMBER, next), facts)
         {
             return Some(cut);
         }
@@ -153,13 +153,14 @@ fn cut_of_machine(profile: &Profile, known: &Known<'_>, machine: Arch) -> Option
 
 // Where a profile is cut that is not settled.
 fn cut_of_profile(profile: &Profile, known: &Known<'_>) -> Option<Cut> {
+    let facts = Facts::of(known);
     for machine in profile.machines() {
-        if let Some(cut) = cut_of_machine(profile, known, *machine) {
+        if let Some(cut) = cut_of_machine(profile, &facts, *machine) {
             return Some(cut);
         }
     }
     for rule in profile.rules() {
-        if let Some(cut) = cut_of_rule(known, rule) {
+        if let Some(cut) = cut_of_rule(&facts, rule) {
             return Some(cut);
         }
     }
