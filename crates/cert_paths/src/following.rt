@@ -24,6 +24,7 @@ use crate::cuts::{Cut, next_cut};
 use crate::fault::PathsError;
 use crate::paths::Paths;
 use crate::place::{Next, Place};
+use crate::unlike::is_unlike;
 use bpf_insn::{Insn, Test};
 use call_record::Word;
 use cert_check::{is_settled, stated_is_settled};
@@ -109,7 +110,8 @@ fn split(paths: &mut Paths, from: Place, cut: Cut) -> Result<Kind, PathsError>
     Ok(Kind::Split(one, other, first, second))
 }
 
-// The node of a place at a return: what is known is cut until the profile is settled.
+// The node of a place at a return: what is known is cut until the profile is settled. A record that is seen to get another word
+// than the profile says ends that: else all words would be cut.
 fn at_return(
     paths: &mut Paths,
     profile: &Profile,
@@ -126,6 +128,9 @@ fn at_return(
     let known = paths.known(from);
     if is_settled(profile, &known, Word(word)) {
         return Ok(Kind::Return);
+    }
+    if is_unlike(profile, &known, word) {
+        return Err(PathsError::Unsettled(u32::from(from.pc)));
     }
     let Some(cut) = next_cut(profile, &known) else {
         settles(profile);

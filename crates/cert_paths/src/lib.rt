@@ -14,6 +14,7 @@ mod fault;
 mod following;
 mod paths;
 mod place;
+mod unlike;
 
 pub use fault::PathsError;
 pub use following::by_paths;

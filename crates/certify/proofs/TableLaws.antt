@@ -70,13 +70,15 @@ module _ (machines : List Arch) (nr : ℕ) (less : nr < above_all_numbers) where
   listed_own : (arch : Arch) → Contains machines arch → IsOwn arch nr → Any (HasCall (token_of arch) nr) machines
   listed_own arch listed own = (listed.0, arch, listed.1, listed.2, (refl, own))
 
+  x86_64_native : Contains machines LinuxX86_64 → Any (HasCall (token_of LinuxX86_64) nr) machines
+  x86_64_native listed = listed_own LinuxX86_64 listed (first_own 0x3fffffff (from_to 0xffffffff 0xffffffff ∷ []) (omega (arith, less)))
+
   small_native : IsX32Beside machines → (arch : Arch) → Contains machines arch → Any (HasCall (token_of arch) nr) machines
   small_native beside X86_64 listed = listed_own X86_64 listed (first_own 0x3fffffff [] (omega (arith, less)))
   small_native beside Aarch64 listed = listed_own Aarch64 listed (first_own 0xffffffff [] (omega (arith, less)))
-  small_native beside LinuxX86_64 listed =
-      listed_own LinuxX86_64 listed (first_own 0x3fffffff (from_to 0xffffffff 0xffffffff ∷ []) (omega (arith, less)))
+  small_native beside LinuxX86_64 listed = x86_64_native listed
   small_native beside LinuxX86 listed = listed_own LinuxX86 listed (first_own 0xffffffff [] (omega (arith, less)))
-  small_native beside LinuxX32 listed = small_native beside LinuxX86_64 (beside listed)
+  small_native beside LinuxX32 listed = x86_64_native (beside listed)
   small_native beside LinuxAarch64 listed = listed_own LinuxAarch64 listed (first_own 0xffffffff [] (omega (arith, less)))
   small_native beside LinuxArm listed = listed_own LinuxArm listed (first_own 0xffffffff [] (omega (arith, less)))
 

@@ -66,22 +66,25 @@ fn broken(
     check_accepted(alloc, profile, program, bytes).err()
 }
 
-// Why there is no certificate that follows each path.
-fn told(error: PathsError) -> CertifyError
+// Why there is no certificate: none follows each path of the filter, and before that a maker may have told why it makes none.
+fn told(error: PathsError, before: Option<CertifyError>) -> CertifyError
     ensures { IsSize error → IsOfSize result }
 {
-    match error {
-        PathsError::Unsettled(pc) => CertifyError::Undecided(pc),
-        PathsError::TooLarge => CertifyError::TooLarge,
-        PathsError::OutOfMemory => CertifyError::OutOfMemory,
+    match (error, before) {
+        (PathsError::Unsettled(_), Some(error)) => error,
+        (PathsError::Unsettled(pc), None) => CertifyError::Undecided(pc),
+        (PathsError::TooLarge, _) => CertifyError::TooLarge,
+        (PathsError::OutOfMemory, _) => CertifyError::OutOfMemory,
     }
 }
 
-// The certificate that follows each path of a filter.
+// The certificate that follows each path of a filter, asked for last. Where a path is not settled, it is told what a maker told
+// before, if one told something.
 fn followed(
     alloc: Global,
     profile: &Profile,
     program: &Accepted<'_>,
+    before: Option<CertifyError>,
 ) -> Result<Vec<u8>, CertifyError>
     ensures valid { IfOk result (λ bytes. IsValidCertificate profile.now (accepted_insns program.now) bytes.items) }
     ensures sure { IsRight profile.now (accepted_insns program.now) → IsSteady (accepted_insns program.now) 0 Nothing
@@ -89,7 +92,7 @@ fn followed(
 {
     match by_paths(alloc, profile, program) {
         Ok(certificate) => Ok(certificate),
-        Err(error) => Err(told(error)),
+        Err(error) => Err(told(error, before)),
     }
 }
 
@@ -108,14 +111,35 @@ fn once_checked(
     match broken(alloc, profile, program, &bytes) {
         None => Ok(bytes),
         Some(CheckError::OutOfMemory) => Err(CertifyError::OutOfMemory),
-        Some(_) => followed(alloc, profile, program),
+        Some(_) => followed(alloc, profile, program, None),
+    }
+}
+
+// A certificate to which the checker says yes, with the filter's outline where the compiler made it. Each maker is asked in turn.
+fn by_any(
+    alloc: Global,
+    profile: &Profile,
+    program: &Accepted<'_>,
+    outline: Option<&Outline>,
+) -> Result<Vec<u8>, CertifyError>
+    ensures valid { IfOk result (λ bytes. IsValidCertificate profile.now (accepted_insns program.now) bytes.items) }
+    ensures sure { IsRight profile.now (accepted_insns program.now) → IsSteady (accepted_insns program.now) 0 Nothing
+        → IfErr result IsOfSize }
+    ensures never { IsPlain profile.now → IsCallFilter profile.now (accepted_insns program.now)
+        → IfErr result (λ e. e ≡ OutOfMemory) }
+{
+    match certified(alloc, profile, program, outline) {
+        Ok(bytes) => once_checked(alloc, profile, program, bytes),
+        Err(CertifyError::OutOfMemory) => Err(CertifyError::OutOfMemory),
+        Err(error) => followed(alloc, profile, program, Some(error)),
     }
 }
 
 /// A certificate that the filter gives each call record the word that the profile says. The checker says yes to it.
 ///
-/// That there is none says nothing of the filter, but where no rule has a condition and the filter has the shape of such a
-/// profile's: then memory was refused.
+/// That there is none says nothing of the filter, but for two kinds. Of a right filter that compares steadily, as each of the
+/// compiler's is, an error tells of memory or of the format's limits. Where no rule has a condition and the filter has the shape
+/// of such a profile's, memory was refused.
 pub fn certify_accepted(
     alloc: Global,
     profile: &Profile,
@@ -123,11 +147,13 @@ pub fn certify_accepted(
 ) -> Result<Vec<u8>, CertifyError>
     // The certificate keeps each rule of the checker.
     ensures valid { IfOk result (λ bytes. IsValidCertificate profile.now (accepted_insns program.now) bytes.items) }
+    // A right filter that compares steadily is certified, if memory and the format have room for it.
+    ensures sure { IsRight profile.now (accepted_insns program.now) → IsSteady (accepted_insns program.now) 0 Nothing
+        → IfErr result IsOfSize }
     ensures never { IsPlain profile.now → IsCallFilter profile.now (accepted_insns program.now)
         → IfErr result (λ e. e ≡ OutOfMemory) }
 {
-    let bytes = certified(alloc, profile, program, None)?;
-    once_checked(alloc, profile, program, bytes)
+    by_any(alloc, profile, program, None)
 }
 
 /// The same of any program: where the kernel would not accept it, it is undecided.
@@ -139,6 +165,9 @@ pub fn certify(
     ensures accepted { OnOk result (IsAccepted (insns program.now)) }
     // The certificate keeps each rule of the checker.
     ensures valid { IfOk result (λ bytes. IsValidCertificate profile.now (insns program.now) bytes.items) }
+    // A right filter that the kernel accepts and that compares steadily is certified, if memory and the format have room for it.
+    ensures sure { IsAccepted (insns program.now) → IsRight profile.now (insns program.now) → IsSteady (insns program.now) 0 Nothing
+        → IfErr result IsOfSize }
     ensures never { IsPlain profile.now → IsCallFilter profile.now (insns program.now) → IfErr result (λ e. e ≡ OutOfMemory) }
 {
     match accept(program) {
@@ -147,8 +176,8 @@ pub fn certify(
     }
 }
 
-/// The same of the filter that the compiler made of the profile, with its outline. Of a right filter that compares steadily, as
-/// each of the compiler's is, an error tells of memory or of the format's limits.
+/// The same as `certify_accepted` of the filter that the compiler made of the profile, with its outline, by which it is certified
+/// sooner.
 pub fn certify_made(
     alloc: Global,
     profile: &Profile,
@@ -161,9 +190,5 @@ pub fn certify_made(
     ensures never { IsPlain profile.now → IsCallFilter profile.now (accepted_insns program.now)
         → IfErr result (λ e. e ≡ OutOfMemory) }
 {
-    match certified(alloc, profile, program, Some(outline)) {
-        Ok(bytes) => once_checked(alloc, profile, program, bytes),
-        Err(CertifyError::OutOfMemory) => Err(CertifyError::OutOfMemory),
-        Err(_) => followed(alloc, profile, program),
-    }
+    by_any(alloc, profile, program, Some(outline))
 }

@@ -17,7 +17,7 @@ use Rattle.cert_check.specs.Checked.{profile_of, program_of}
 use Rattle.cert_check.specs.Right.{IsRight}
 use Rattle.processes.specs.First.{by_profile}
 use Rattle.processes.specs.Views.{same_text}
-use Rattle.lifecycle.specs.Orders.{Order}
+use Rattle.lifecycle.specs.Commands.{Command}
 use Rattle.lifecycle.specs.Worlds.{First}
 use Rattle.lifecycle.specs.Runs.{IsRun}
 use Rattle.lifecycle.proofs.FilterLaws.{refused_is_not_carried_out}
@@ -118,7 +118,7 @@ whole : (script text : List ℕ) (left : Option (List ℕ)) → Consumes (Some s
 whole script text None taken end = absurd taken
 whole script text (Some rest) taken end = sym (taken ∙ (ap (λ (l : List ℕ). text ++ l) end ∙ append-nil text))
 
-script_read : (bundles : Bundles) (script : List ℕ) (left : Option (List ℕ)) (commands : List (Option Order))
+script_read : (bundles : Bundles) (script : List ℕ) (left : Option (List ℕ)) (commands : List (Option Command))
     → HasReadAll bundles (Some script) left commands → IsScript bundles script commands
 script_read bundles script left commands h = record {
   first = h.lines.first;
@@ -133,7 +133,7 @@ pub headline : Headline
 headline = record {
   yes = λ native bundle filter cert found.
       (found.0, right_for native bundle found.0 (insns_of filter) found.1 found.2.accepted found.2.right);
-  machine = λ orders old new replies is. subst (λ (F : First). IsRun F orders old replies new) same_first is;
+  machine = λ commands old new replies is. subst (λ (F : First). IsRun F commands old replies new) same_first is;
   refused = refused_is_not_carried_out;
   run = λ native texts script before after left h. (
     answer_of by_profile h.answered.0,

@@ -96,7 +96,7 @@ module _ {I O : Type 0} (left : I → Option (List ℕ)) (given : I → Failures
   script_is_answered result (inr (inl h)) e = absurd (none_refused h.outcome h.answer (sym h.told ∙ e))
   script_is_answered result (inr (inr h)) e = absurd (none_lacking result _ h.told e)
 
--- ---- bundles without conditions
+-- ---- plain bundles
 
 -- there is no first of such texts without a checked filter
 none_is_refused : (native : Arch) (texts : List (List ℕ)) (u : Unready) → All (IsPlainBundle native) texts

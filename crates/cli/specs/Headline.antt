@@ -18,7 +18,7 @@ use Rattle.cert_check.specs.declared.checked.Checked.{Checked}
 use Rattle.cert_check.specs.Checked.{profile_of, program_of}
 use Rattle.processes.specs.First.{by_profile, by_program}
 use Rattle.lifecycle.specs.declared.command.Reply.{Reply}
-use Rattle.lifecycle.specs.Orders.{Order}
+use Rattle.lifecycle.specs.Commands.{Command}
 use Rattle.lifecycle.specs.Promises.{RefusedIsNotCarriedOut}
 use Rattle.lifecycle.specs.Runs.{IsRun}
 use Rattle.lifecycle.specs.Worlds.{World}
@@ -57,7 +57,7 @@ pub record IsAnswerTo (native : Arch) (texts : List (List ℕ)) (script answer :
   pub bundles : Bundles
   pub native_is : bundles.native ≡ native
   pub names : (name : List ℕ) → NameGives native texts name (first_called name (named bundles))
-  pub commands : List (Option Order)
+  pub commands : List (Option Command)
   pub lines : IsScript bundles script commands
   pub replies : answer ≡ answer_of by_profile commands
 
@@ -65,10 +65,10 @@ pub record Headline : Type 0 where
   -- Where the checker says yes, the filter is right for the profile that the bundle means.
   pub yes : (native : Arch) (bundle filter cert : List ℕ) → IsFinding native bundle filter cert Yes
       → (policy : Policy) × IsRightFor native bundle policy (insns_of filter)
-  -- Whatever is ordered, with each profile in the place of its filter it is the same run.
-  pub machine : (orders : List Order) (old new : World) (replies : List Reply) → IsRun by_program orders old replies new
-      → IsRun by_profile orders old replies new
-  -- Whatever is ordered, a call that a container's profile refuses is not carried out.
+  -- Whatever is commanded, with each profile in the place of its filter it is the same run.
+  pub machine : (commands : List Command) (old new : World) (replies : List Reply) → IsRun by_program commands old replies new
+      → IsRun by_profile commands old replies new
+  -- Whatever is commanded, a call that a container's profile refuses is not carried out.
   pub refused : RefusedIsNotCarriedOut
   -- What `ccell run` writes of a script is the answer to it.
   pub run : (native : Arch) (texts : List (List ℕ)) (script before after : List ℕ) (left : Option (List ℕ))

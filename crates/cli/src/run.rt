@@ -107,8 +107,7 @@ pub fn run_bundles<'a, I: Source, O: Sink>(
     // An answer of true says that the script was read to its end and answered.
     ensures done { result ≡ Ok true → HasAnswered native (map (λ t. t.items) texts.now)
         (I.left input.old) (I.left input.new) (O.held out.old) (O.held out.new) }
-    // Of bundles that mean profiles without conditions none is refused: the script is run, unless memory is refused
-    // first.
+    // Of bundles that mean plain profiles none is refused: the script is run, unless memory is refused first.
     ensures own { All (IsPlainBundle native) (map (λ t. t.items) texts.now)
         → RunsScript I.left I.failures O.held O.failures input.old input.new out.old out.new
         native (map (λ t. t.items) texts.now) result }

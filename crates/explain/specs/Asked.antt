@@ -11,7 +11,7 @@ use Rattle.call_record.specs.declared.layout.Record.{Record}
 use Rattle.call_record.specs.Record.{words}
 use Rattle.call_record.specs.Words.{words_of}
 use Rattle.script.specs.Grammar.{LineIs}
-use Rattle.script.specs.Orders.{Call}
+use Rattle.script.specs.Commands.{Call}
 
 -- the line of a script that the words make: a call of the first task of a container c
 abbrev pub line_of : List (Bor (List ℕ)) → List ℕ
@@ -27,8 +27,8 @@ pub record IsRecordOf (arch : Arch) (nr : ℕ) (args : List ℕ) (r : Record) : 
   pub pointer : r.ip ≡ 0
   pub arguments : r.args ≡ args
 
--- the line orders a call without a program, and the record is that of the call
-pub record IsOrdered (native : Arch) (line : List ℕ) (r : Record) : Type 0 where
+-- the line is a call without a program, and the record is that of the call
+pub record IsOnLine (native : Arch) (line : List ℕ) (r : Record) : Type 0 where
   pub id : List ℕ
   pub task : ℕ
   pub arch : Arch
@@ -40,7 +40,7 @@ pub record IsOrdered (native : Arch) (line : List ℕ) (r : Record) : Type 0 whe
 -- the words are the fields of such a line
 pub record IsAsked (native : Arch) (given : List (Bor (List ℕ))) (r : Record) : Type 0 where
   pub fields : list_any (λ w. has_space w.now) given ≡ false
-  pub ordered : IsOrdered native (line_of given) r
+  pub on_line : IsOnLine native (line_of given) r
 
 -- the digits are those of the record's bytes, two for each
 pub record IsSpelled (digits : List ℕ) (r : Record) : Type 0 where

@@ -54,9 +54,9 @@ fn record_of(arch: Arch, nr: u32, args: [u64; 6]) -> Record
     }
 }
 
-// The record of the call that a line of a script orders, without a program.
+// The record of the call that a line of a script is, if it has no program.
 fn call_on(native: Arch, line: &str) -> Option<Record>
-    ensures { IfSome result (λ r. spec.IsOrdered native line.now r) }
+    ensures { IfSome result (λ r. spec.IsOnLine native line.now r) }
 {
     match read_line(native, line.as_bytes()) {
         Some(

@@ -1,4 +1,4 @@
--- What stays true of a container through each order stays true of it as long as it is there.
+-- What stays true of a container through each command stays true of it as long as it is there.
 use Rattle.std.proofs.Common.{◌≡◌, ℕ, suc, Bool, true, false, List, [], ◌∷◌, Option, Some, None, if◌then◌else◌, is_some, take, refl}
 use Rattle.std.proofs.Common.{sym, ap, subst, ◌∙◌, nat_lt}
 use Rattle.call_record.specs.declared.layout.Record.{Record}
@@ -13,8 +13,8 @@ use Rattle.lifecycle.specs.declared.command.Reply.TheVariants.{Accepted, Refused
 use Rattle.lifecycle.specs.declared.command.Status.{Status}
 use Rattle.lifecycle.specs.declared.command.Status.TheVariants.{Created, Running, Stopped}
 use Rattle.lifecycle.specs.declared.fault.Refusal.TheVariants.{BadId, BadSignal, IdTaken}
-use Rattle.lifecycle.specs.Orders.{Order, id_of}
-use Rattle.lifecycle.specs.Orders.Order.{Create, Start, Kill, Delete, State, Call}
+use Rattle.lifecycle.specs.Commands.{Command, id_of}
+use Rattle.lifecycle.specs.Commands.Command.{Create, Start, Kill, Delete, State, Call}
 use Rattle.lifecycle.specs.Steps.{Result, acted, call, delete, first_call, kill, left_after, run, running, start, step}
 use Rattle.lifecycle.specs.Worlds.{Container, First, World, container_at, put, unstarted}
 use Rattle.lifecycle.proofs.Isolation.{found_other, found_own, same_is}
@@ -67,8 +67,8 @@ module _ (P : Container → Type 0) where
     calls n r a Created c h = h
     calls n r a Stopped c h = h
 
-    -- an order to a container that is there
-    acts : (F : First) (o : Order) (c : Container) → P c → Leaves (acted F o (Some c))
+    -- a command to a container that is there
+    acts : (F : First) (o : Command) (c : Container) → P c → Leaves (acted F o (Some c))
     acts F (Create id given) c h = either Leaves (is_id id) (Refused IdTaken, Some c) (Refused BadId, Some c) h h
     acts F (Start id) c h = starts c.status c h
     acts F (Kill id sig) c h = kills sig c.status c h
@@ -77,7 +77,7 @@ module _ (P : Container → Type 0) where
     acts F (Call id task r a) c h = calls task r a c.status c h
 
     -- and to one that is not
-    makes : (F : First) → ((given : Checked) → P (created F given)) → (o : Order) → Leaves (acted F o None)
+    makes : (F : First) → ((given : Checked) → P (created F given)) → (o : Command) → Leaves (acted F o None)
     makes F new (Create id given) = either Leaves (is_id id) (Accepted, Some (created F given)) (Refused BadId, None) (new given) tt
     makes F new (Start id) = tt
     makes F new (Kill id sig) = tt
@@ -85,12 +85,12 @@ module _ (P : Container → Type 0) where
     makes F new (State id) = tt
     makes F new (Call id task r a) = tt
 
-    any : (F : First) → ((given : Checked) → P (created F given)) → (o : Order) (c : Option Container) → At c → Leaves (acted F o c)
+    any : (F : First) → ((given : Checked) → P (created F given)) → (o : Command) (c : Option Container) → At c → Leaves (acted F o c)
     any F new o None h = makes F new o
     any F new o (Some c) h = acts F o c h
 
-    -- what an order leaves, in its world
-    steps : (F : First) (o : Order) (w : World) (id : List ℕ) → At (container_at id w)
+    -- what a command leaves, in its world
+    steps : (F : First) (o : Command) (w : World) (id : List ℕ) → At (container_at id w)
         → (id_of o ≡ id → Leaves (acted F o (container_at (id_of o) w)))
         → At (container_at id (step F o w).1)
     steps F o w id h own = by (same_text (id_of o) id) refl
@@ -106,8 +106,8 @@ module _ (P : Container → Type 0) where
             let r = acted F o (container_at (id_of o) w) in
             subst At (sym (found_other (id_of o) id t r.1 w)) h
 
-    -- What holds of each container as it is created holds of each after any orders.
-    pub holds_after : (F : First) → ((given : Checked) → P (created F given)) → (id : List ℕ) (os : List Order) (w : World)
+    -- What holds of each container as it is created holds of each after any commands.
+    pub holds_after : (F : First) → ((given : Checked) → P (created F given)) → (id : List ℕ) (os : List Command) (w : World)
         → ((q : List ℕ) → At (container_at q w))
         → At (container_at id (run F os w).1)
     holds_after F new id [] w h = h id
@@ -115,7 +115,7 @@ module _ (P : Container → Type 0) where
         holds_after F new id os (step F o w).1 (λ q. steps F o w q (h q) (λ is. any F new o (container_at (id_of o) w) (h (id_of o))))
 
     -- What holds of a container holds of it as long as it is there.
-    pub stays_after : (F : First) (id : List ℕ) (os : List Order) (w : World)
+    pub stays_after : (F : First) (id : List ℕ) (os : List Command) (w : World)
         → ((n : ℕ) → is_some (container_at id (run F (take n os) w).1) ≡ true)
         → At (container_at id w) → At (container_at id (run F os w).1)
     stays_after F id [] w there h = h

@@ -9,7 +9,7 @@ use Rattle.processes.specs.Tasks.{Processes}
 use Rattle.processes.specs.Views.{Containers, SetAt, Same, same_text}
 use Rattle.lifecycle.specs.declared.command.Reply.{Reply}
 use Rattle.lifecycle.specs.declared.entry.Entry.{Entry}
-use Rattle.lifecycle.specs.Orders.{Order, id_of}
+use Rattle.lifecycle.specs.Commands.{Command, id_of}
 use Rattle.lifecycle.specs.Worlds.{Container, World, First, container_at, put}
 use Rattle.lifecycle.specs.Steps.{acted, step}
 use Rattle.lifecycle.specs.Entries.{Entries, container_of, world_from}
@@ -32,15 +32,15 @@ put_back id (Some c) [] h = absurd (cc)
 put_back id None (e ∷ w) h = back_by id None e w (same_text id e.0) refl h (put_back id None w)
 put_back id (Some c) (e ∷ w) h = back_by id (Some c) e w (same_text id e.0) refl h (put_back id (Some c) w)
 
--- what an order makes of the container that it names is put in the world
-pub changed : (F : First) (o : Order) (w new : World) (before after : Option Container) (reply : Reply) → container_at (id_of o) w ≡ before
+-- what a command makes of the container that it names is put in the world
+pub changed : (F : First) (o : Command) (w new : World) (before after : Option Container) (reply : Reply) → container_at (id_of o) w ≡ before
     → acted F o before ≡ (reply, after) → new ≡ put (id_of o) after w → (reply, new) ≡ step F o w
 changed F o w new before after reply there acts is =
     let all : acted F o (container_at (id_of o) w) ≡ (reply, after) = ap (acted F o) there ∙ acts in
     ap (λ (v : World). (reply, v)) is ∙ ap (λ (r : Reply × Option Container). (r.0, put (id_of o) r.1 w)) (sym all)
 
--- an order that leaves the container leaves the world
-pub unchanged : (F : First) (o : Order) (w : World) (before : Option Container) (reply : Reply) → container_at (id_of o) w ≡ before
+-- a command that leaves the container leaves the world
+pub unchanged : (F : First) (o : Command) (w : World) (before : Option Container) (reply : Reply) → container_at (id_of o) w ≡ before
     → acted F o before ≡ (reply, before) → (reply, w) ≡ step F o w
 unchanged F o w before reply there acts = changed F o w w before before reply there acts (sym (put_back (id_of o) before w there))
 

@@ -24,8 +24,8 @@ use Rattle.lifecycle.specs.declared.command.Reply.{Reply}
 use Rattle.lifecycle.specs.declared.command.Reply.TheVariants.{Presented}
 use Rattle.lifecycle.specs.declared.command.Status.{Status}
 use Rattle.lifecycle.specs.declared.command.Status.TheVariants.{Created, Running, Stopped}
-use Rattle.lifecycle.specs.Orders.{Order}
-use Rattle.lifecycle.specs.Orders.Order.{Start, Call}
+use Rattle.lifecycle.specs.Commands.{Command}
+use Rattle.lifecycle.specs.Commands.Command.{Start, Call}
 use Rattle.lifecycle.specs.Promises.{FirstFilterIsOldest, IsDeniedStart, IsOldest, MadeBy, NotCarriedOut, RefusedIsNotCarriedOut, RefusesIn}
 use Rattle.lifecycle.specs.Promises.{world_after}
 use Rattle.lifecycle.specs.Runs.{IsRun}
@@ -65,8 +65,8 @@ sound_kept = record {
   event = λ c n r a h. keeps_behind (only c.first) n r a c.processes h;
 }
 
--- so of each container that there is after some orders
-pub sound_after : (F : First) (os : List Order) (id : List ℕ) (c : Container) → container_at id (world_after F os) ≡ Some c → Sound c
+-- so of each container that there is after some commands
+pub sound_after : (F : First) (os : List Command) (id : List ℕ) (c : Container) → container_at id (world_after F os) ≡ Some c → Sound c
 sound_after F os id c there = subst (At Sound) there (holds_after Sound sound_kept F (λ given. tt) id os [] (λ q. tt))
 
 pub each_all : (P : Process → Type 0) (ts : List Process) → Each P ts → All P ts
@@ -129,18 +129,18 @@ start_refused native first refusal =
     let no_way = refused first t r ([], refl) refusal in
     (verdict_on r t, ap start_reply (denied t r NoBytes (admitted native first) no_way))
 
--- the container that an order made
-there_by : (F : First) (orders : List Order) (id : List ℕ) (given : Checked) → MadeBy F orders id given
-    → (c : Container) × (container_at id (world_after F orders) ≡ Some c) × AsGiven F given c
-there_by F orders id given m = by (container_at id (world_after F orders)) refl
+-- the container that a command made
+there_by : (F : First) (commands : List Command) (id : List ℕ) (given : Checked) → MadeBy F commands id given
+    → (c : Container) × (container_at id (world_after F commands) ≡ Some c) × AsGiven F given c
+there_by F commands id given m = by (container_at id (world_after F commands)) refl
   where
-    by : (o : Option Container) → container_at id (world_after F orders) ≡ o
-        → (c : Container) × (container_at id (world_after F orders) ≡ Some c) × AsGiven F given c
-    by None e = let bad : false ≡ true = sym (ap is_some e) ∙ is_there F orders id given m in absurd (cc)
-    by (Some c) e = (c, e, as_given F orders id given m c e)
+    by : (o : Option Container) → container_at id (world_after F commands) ≡ o
+        → (c : Container) × (container_at id (world_after F commands) ≡ Some c) × AsGiven F given c
+    by None e = let bad : false ≡ true = sym (ap is_some e) ∙ is_there F commands id given m in absurd (cc)
+    by (Some c) e = (c, e, as_given F commands id given m c e)
 
--- a call in the world after some orders
-call_step : (os : List Order) (id : List ℕ) (given : Checked) → MadeBy by_profile os id given → (task : ℕ) (r : Record) (a : Attached)
+-- a call in the world after some commands
+call_step : (os : List Command) (id : List ℕ) (given : Checked) → MadeBy by_profile os id given → (task : ℕ) (r : Record) (a : Attached)
     → IsRefusal (said (profile_of given) (words r)) → NotCarriedOut (step by_profile (Call id task r a) (world_after by_profile os)).0
 call_step os id given m task r a refusal =
     let c = there_by by_profile os id given m in
@@ -149,7 +149,7 @@ call_step os id given m task r a refusal =
     (call_refused c.0.status c.0 task r a (sound_after by_profile os id c.0 c.1) word)
 
 -- and a start of a created container
-start_step : (os : List Order) (id : List ℕ) (given : Checked) → MadeBy by_profile os id given
+start_step : (os : List Command) (id : List ℕ) (given : Checked) → MadeBy by_profile os id given
     → (c : Container) → container_at id (world_after by_profile os) ≡ Some c → c.status ≡ Created
     → IsRefusal (said (profile_of given) (words (execve_of (profile_of given).native)))
     → IsDeniedStart (step by_profile (Start id) (world_after by_profile os)).0
@@ -178,7 +178,7 @@ refused_is_not_carried_out os = record {
 }
 
 -- and in a run of the runtime's, where it had no containers before
-pub refused_in_run : (os : List Order) (replies : List Reply) (w w' : World) → IsRun by_profile os w replies w' → w ≡ []
+pub refused_in_run : (os : List Command) (replies : List Reply) (w w' : World) → IsRun by_profile os w replies w' → w ≡ []
     → RefusesIn os replies
 refused_in_run os replies w w' ran none =
     let from_none : run by_profile os [] ≡ (replies, w') = subst (λ (v : World). run by_profile os v ≡ (replies, w')) none ran in

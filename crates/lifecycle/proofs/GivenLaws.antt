@@ -1,4 +1,4 @@
--- Each container was made by an order, and has what the order gave.
+-- Each container was made by a command, and has what the command gave.
 use Rattle.std.proofs.Common.{◌≡◌, ◌⊎◌, inl, inr, ℕ, zero, suc, Bool, true, false, List, [], ◌∷◌, ◌++◌, Option, Some, None, is_some}
 use Rattle.std.proofs.Common.{length, take, refl, sym, ap, subst, ◌∙◌, arith}
 use Rattle.std.proofs.lemmas.List.{take_all}
@@ -14,48 +14,48 @@ use Rattle.processes.specs.declared.outcome.Outcome.TheVariants.{Done, Failed, A
 use Rattle.processes.proofs.Changes.{either, native_stays, native_stays_signalled}
 use Rattle.lifecycle.specs.declared.command.Reply.TheVariants.{Accepted, Refused}
 use Rattle.lifecycle.specs.declared.fault.Refusal.TheVariants.{BadId}
-use Rattle.lifecycle.specs.Orders.{Order, id_of}
-use Rattle.lifecycle.specs.Orders.Order.{Create, Start, Kill, Delete, State, Call}
+use Rattle.lifecycle.specs.Commands.{Command, id_of}
+use Rattle.lifecycle.specs.Commands.Command.{Create, Start, Kill, Delete, State, Call}
 use Rattle.lifecycle.specs.Promises.{FirstIsGiven, MadeBy, world_after}
 use Rattle.lifecycle.specs.Steps.{acted, first_call, left_after, run, step}
 use Rattle.lifecycle.specs.Worlds.{Container, First, World, container_at, put}
 use Rattle.lifecycle.proofs.Containers.{At, IsKept, Leaves, created, stays_after}
 use Rattle.lifecycle.proofs.Isolation.{found_other, found_own, same_is}
 
--- ---- the order that made a container
+-- ---- the command that made a container
 
 -- one run after another
-pub run_on : (F : First) (xs ys : List Order) (w : World) → (run F (xs ++ ys) w).1 ≡ (run F ys (run F xs w).1).1
+pub run_on : (F : First) (xs ys : List Command) (w : World) → (run F (xs ++ ys) w).1 ≡ (run F ys (run F xs w).1).1
 run_on F [] ys w = refl
 run_on F (x ∷ xs) ys w = run_on F xs ys (step F x w).1
 
 module _ (F : First) (id : List ℕ) where
-  -- there is a container with the id, in a world and after each of these orders
-  abbrev pub Stays : List Order → World → Type 0
+  -- there is a container with the id, in a world and after each of these commands
+  abbrev pub Stays : List Command → World → Type 0
   Stays [] w = is_some (container_at id w) ≡ true
   Stays (o ∷ os) w = (is_some (container_at id w) ≡ true) × Stays os (step F o w).1
 
-  now : (os : List Order) (w : World) → Stays os w → is_some (container_at id w) ≡ true
+  now : (os : List Command) (w : World) → Stays os w → is_some (container_at id w) ≡ true
   now [] w s = s
   now (o ∷ os) w s = s.0
 
-  later : (os : List Order) (w : World) → Stays os w → (n : ℕ) → is_some (container_at id (run F (take n os) w).1) ≡ true
+  later : (os : List Command) (w : World) → Stays os w → (n : ℕ) → is_some (container_at id (run F (take n os) w).1) ≡ true
   later [] w s zero = s
   later [] w s (suc n) = s
   later (o ∷ os) w s zero = s.0
   later (o ∷ os) w s (suc n) = later os (step F o w).1 s.1 n
 
-  -- the order among these that made the container, from a world on
-  pub record Made (os : List Order) (w : World) : Type 0 where
-    pub before : List Order
+  -- the command among these that made the container, from a world on
+  pub record Made (os : List Command) (w : World) : Type 0 where
+    pub before : List Command
     pub given : Checked
-    pub since : List Order
+    pub since : List Command
     pub in_all : os ≡ before ++ Create id given ∷ since
     pub none_before : container_at id (run F before w).1 ≡ None
     pub there_since : Stays since (step F (Create id given) (run F before w).1).1
 
-  -- an order after which there is a container made it, where there was none before
-  makes_by : (o : Order) → is_some (acted F o None).1 ≡ true → (given : Checked) × (o ≡ Create (id_of o) given)
+  -- a command after which there is a container made it, where there was none before
+  makes_by : (o : Command) → is_some (acted F o None).1 ≡ true → (given : Checked) × (o ≡ Create (id_of o) given)
   makes_by (Create q given) h = (given, refl)
   makes_by (Start q) h = let bad : false ≡ true = h in absurd (cc)
   makes_by (Kill q sig) h = let bad : false ≡ true = h in absurd (cc)
@@ -63,7 +63,7 @@ module _ (F : First) (id : List ℕ) where
   makes_by (State q) h = let bad : false ≡ true = h in absurd (cc)
   makes_by (Call q task r a) h = let bad : false ≡ true = h in absurd (cc)
 
-  makes : (o : Order) (w : World) → container_at id w ≡ None → is_some (container_at id (step F o w).1) ≡ true
+  makes : (o : Command) (w : World) → container_at id w ≡ None → is_some (container_at id (step F o w).1) ≡ true
       → (given : Checked) × (o ≡ Create id given)
   makes o w none some = by (same_text (id_of o) id) refl
     where
@@ -80,7 +80,7 @@ module _ (F : First) (id : List ℕ) where
           let r = acted F o (container_at (id_of o) w) in
           let bad : false ≡ true = sym (ap is_some (found_other (id_of o) id t r.1 w ∙ none)) ∙ some in absurd (cc)
 
-  search_from : (os : List Order) (w : World) → is_some (container_at id (run F os w).1) ≡ true → Stays os w ⊎ Made os w
+  search_from : (os : List Command) (w : World) → is_some (container_at id (run F os w).1) ≡ true → Stays os w ⊎ Made os w
   search_from [] w h = inl h
   search_from (o ∷ os) w h = by (search_from os (step F o w).1 h)
     where
@@ -92,9 +92,9 @@ module _ (F : First) (id : List ℕ) where
             before = [];
             given = m.0;
             since = os;
-            in_all = ap (λ (x : Order). x ∷ os) m.1;
+            in_all = ap (λ (x : Command). x ∷ os) m.1;
             none_before = e;
-            there_since = subst (λ (x : Order). Stays os (step F x w).1) m.1 s;
+            there_since = subst (λ (x : Command). Stays os (step F x w).1) m.1 s;
           })
 
       by : Stays os (step F o w).1 ⊎ Made os (step F o w).1 → Stays (o ∷ os) w ⊎ Made (o ∷ os) w
@@ -103,19 +103,19 @@ module _ (F : First) (id : List ℕ) where
         before = o ∷ m.before;
         given = m.given;
         since = m.since;
-        in_all = ap (λ (xs : List Order). o ∷ xs) m.in_all;
+        in_all = ap (λ (xs : List Command). o ∷ xs) m.in_all;
         none_before = m.none_before;
         there_since = m.there_since;
       })
 
-  from_nothing : (os : List Order) → is_some (container_at id (run F os []).1) ≡ true → Made os []
+  from_nothing : (os : List Command) → is_some (container_at id (run F os []).1) ≡ true → Made os []
   from_nothing os h = by (search_from os [] h)
     where
       by : Stays os [] ⊎ Made os [] → Made os []
       by (inl s) = let bad : false ≡ true = now os [] s in absurd (cc)
       by (inr m) = m
 
-  pub made : (os : List Order) (c : Container) → container_at id (world_after F os) ≡ Some c → (given : Checked) × MadeBy F os id given
+  pub made : (os : List Command) (c : Container) → container_at id (world_after F os) ≡ Some c → (given : Checked) × MadeBy F os id given
   made os c there =
       let m = from_nothing os (ap is_some there) in
       let after = (step F (Create id m.given) (run F m.before []).1).1 in (
@@ -153,15 +153,15 @@ given_kept F given = record {
   event = λ c n r a h. (h.0, native_stays n r a c.processes ∙ h.1);
 }
 
--- the world after all is that after the orders since, from the world after the one that made it
-module _ (F : First) (orders : List Order) (id : List ℕ) (given : Checked) (m : MadeBy F orders id given) where
+-- the world after all is that after the commands since, from the world after the one that made it
+module _ (F : First) (commands : List Command) (id : List ℕ) (given : Checked) (m : MadeBy F commands id given) where
   abbrev begun : World
   begun = (step F (Create id given) (world_after F m.before)).1
 
-  goes_on : (os : List Order) → world_after F (m.before ++ Create id given ∷ os) ≡ (run F os begun).1
+  goes_on : (os : List Command) → world_after F (m.before ++ Create id given ∷ os) ≡ (run F os begun).1
   goes_on os = run_on F m.before (Create id given ∷ os) []
 
-  last : world_after F orders ≡ (run F m.since begun).1
+  last : world_after F commands ≡ (run F m.since begun).1
   last = ap (world_after F) m.in_all ∙ goes_on m.since
 
   as_begun : At (AsGiven F given) (container_at id begun)
@@ -173,7 +173,7 @@ module _ (F : First) (orders : List Order) (id : List ℕ) (given : Checked) (m 
       subst (At (AsGiven F given)) (sym (found_own id r.1 (world_after F m.before))) own
 
   -- it is as given still
-  pub as_given : (c : Container) → container_at id (world_after F orders) ≡ Some c → AsGiven F given c
+  pub as_given : (c : Container) → container_at id (world_after F commands) ≡ Some c → AsGiven F given c
   as_given c there =
       let stays : At (AsGiven F given) (container_at id (run F m.since begun).1) =
       stays_after (AsGiven F given) (given_kept F given) F id m.since begun
@@ -181,11 +181,11 @@ module _ (F : First) (orders : List Order) (id : List ℕ) (given : Checked) (m 
       subst (At (AsGiven F given)) (ap (container_at id) (sym last) ∙ there) stays
 
   -- and it is there
-  pub is_there : is_some (container_at id (world_after F orders)) ≡ true
+  pub is_there : is_some (container_at id (world_after F commands)) ≡ true
   is_there =
       let whole : take (length m.since) m.since ≡ m.since = take_all (length m.since) m.since (omega arith) in
-      ap (λ (os : List Order). is_some (container_at id (world_after F os)))
-      (m.in_all ∙ ap (λ (os : List Order). m.before ++ Create id given ∷ os) (sym whole))
+      ap (λ (os : List Command). is_some (container_at id (world_after F os)))
+      (m.in_all ∙ ap (λ (os : List Command). m.before ++ Create id given ∷ os) (sym whole))
       ∙ m.there_since (length m.since)
 
 pub first_is_given : FirstIsGiven

@@ -14,7 +14,7 @@ use Rattle.cert_check.specs.declared.checked.Checked.{Checked}
 use Rattle.cert_check.specs.Checked.{profile_of, program_of}
 use Rattle.processes.specs.First.{by_program, by_profile}
 use Rattle.lifecycle.specs.declared.command.Reply.{Reply}
-use Rattle.lifecycle.specs.Orders.{Order}
+use Rattle.lifecycle.specs.Commands.{Command}
 use Rattle.lifecycle.specs.Worlds.{First, World}
 use Rattle.lifecycle.specs.Steps.{run, step}
 
@@ -33,10 +33,10 @@ same_first =
     fun_ext (λ c. ap (λ (w : Record → ℕ). record { word = w; count = length (program_of c) })
     (fun_ext (λ r. ap (λ (o : Option ℕ). unwrap_or o 0) (gives c r))))
 
-pub same_run : (os : List Order) (w : World) → run by_program os w ≡ run by_profile os w
+pub same_run : (os : List Command) (w : World) → run by_program os w ≡ run by_profile os w
 same_run os w = ap (λ F. run F os w) same_first
 
 -- a step by either is the same step
-pub profiles_step : (result : Result Reply AllocError) (o : Order) (w u : World) → IfOk result (λ r. (r, u) ≡ step by_program o w)
+pub profiles_step : (result : Result Reply AllocError) (o : Command) (w u : World) → IfOk result (λ r. (r, u) ≡ step by_program o w)
     → IfOk result (λ r. (r, u) ≡ step by_profile o w)
 profiles_step result o w u is = subst (λ (F : First). IfOk result (λ r. (r, u) ≡ step F o w)) same_first is

@@ -3,7 +3,7 @@ use Rattle.std.proofs.Common.{◌≡◌, ℕ, ◌==◌, ◌&&◌, Bool, true, fa
 use Rattle.std.specs.Cmp.Lexicographic.{nat_list_eq_equiv}
 use Rattle.std.proofs.lemmas.Bool.{eqb-true}
 use Rattle.processes.specs.Views.{same_text}
-use Rattle.lifecycle.specs.Orders.{Order, id_of}
+use Rattle.lifecycle.specs.Commands.{Command, id_of}
 use Rattle.lifecycle.specs.Worlds.{Container, World, First, container_at, put}
 use Rattle.lifecycle.specs.Steps.{acted, run}
 use Rattle.lifecycle.specs.Own.{own, own_replies, IsIsolated}
@@ -56,7 +56,7 @@ found_other a b n (Some c) [] = rw (nat_list_eq_equiv.symm b a, n) refl
 found_other a b n (Some c) (e ∷ w) = other_some a b n c e w (same_text a e.0) refl (found_other a b n (Some c) w)
 
 -- From worlds that agree on a container, the replies to the commands that name it are those of a run of these alone.
-pub isolated : (F : First) (id : List ℕ) (cmds : List Order) (w v : World) → container_at id w ≡ container_at id v
+pub isolated : (F : First) (id : List ℕ) (cmds : List Command) (w v : World) → container_at id w ≡ container_at id v
     → own_replies id cmds (run F cmds w).0 ≡ (run F (own id cmds) v).0
 isolated F id [] w v e = refl
 isolated F id (cmd ∷ cmds) w v e = by_test (same_text id (id_of cmd)) refl (isolated F id cmds)
@@ -102,7 +102,7 @@ not_same a b n = by (same_text b a) refl
     by true h = absurd (n (sym (same_is b a h)))
     by false h = h
 
--- An order sees the container that it names, and changes no other.
+-- A command sees the container that it names, and changes no other.
 pub isolation : IsIsolated
 isolation = record {
   reply = λ F o w v e. ap (λ (c : Option Container). (acted F o c).0) e;

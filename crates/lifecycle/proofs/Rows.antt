@@ -13,8 +13,8 @@ use Rattle.processes.proofs.Rows.{allow_all, allowing, call, judging}
 use Rattle.lifecycle.specs.declared.command.Status.TheVariants.{Created, Running, Stopped}
 use Rattle.lifecycle.specs.declared.fault.Refusal.TheVariants.{NoContainer, NotCreated, StartDenied, NotAlive, BadSignal, NotStopped}
 use Rattle.lifecycle.specs.declared.command.Reply.TheVariants.{Accepted, Refused, Presented, IsIn}
-use Rattle.lifecycle.specs.Orders.{Order}
-use Rattle.lifecycle.specs.Orders.Order.{Start, Kill, Delete, State, Call}
+use Rattle.lifecycle.specs.Commands.{Command}
+use Rattle.lifecycle.specs.Commands.Command.{Start, Kill, Delete, State, Call}
 use Rattle.lifecycle.specs.Steps.{run}
 use Rattle.lifecycle.specs.Worlds.{Container, First, World, unstarted}
 
@@ -25,10 +25,10 @@ error_2 = Some (6 ∷ 0 ∷ 0 ∷ 0 ∷ 2 ∷ 0 ∷ 5 ∷ 0 ∷ [])
 abbrev pub created : Judge → Container
 created judge = record { status = Created; first = judge; processes = unstarted X86_64 }
 
-abbrev pub asks : List ℕ → ℕ → List ℕ → Order
+abbrev pub asks : List ℕ → ℕ → List ℕ → Command
 asks id task name = Call id task (call X86_64 name 0 0) NoBytes
 
-abbrev pub loads : List ℕ → ℕ → ℕ → Option (List ℕ) → Order
+abbrev pub loads : List ℕ → ℕ → ℕ → Option (List ℕ) → Command
 loads id task operation bytes = Call id task (call X86_64 (codes "seccomp") operation 0) (attached_of bytes)
 
 abbrev pub first_names : List (List ℕ)
@@ -43,7 +43,7 @@ c2 = codes "c2"
 abbrev pub two : World
 two = (c1, created (allowing first_names)) ∷ (c2, created (allowing first_names)) ∷ []
 
-abbrev pub script : List Order
+abbrev pub script : List Command
 script =
     asks c1 1 (codes "read") ∷ Start c1 ∷ Start c1 ∷ asks c1 1 (codes "fork") ∷ asks c1 2 (codes "read") ∷ asks c1 2 (codes "write")
     ∷ loads c1 1 1 None ∷ loads c1 1 0 None ∷ loads c1 1 1 (Some (5 ∷ 0 ∷ 0 ∷ 0 ∷ 0 ∷ 0 ∷ 0 ∷ 0 ∷ [])) ∷ loads c1 2 1 allow_all
@@ -62,7 +62,7 @@ unfolding x86_64_table aarch64_table strictest_of operation_of is_accepted
 replies F = refl
 
 -- a container whose filter refuses its first execve, and one that is signalled
-abbrev pub denied : List Order
+abbrev pub denied : List Command
 denied = Start c1 ∷ State c1 ∷ Kill c1 9 ∷ Delete c1 ∷ State c1 ∷ Kill c2 65 ∷ Kill c2 15 ∷ Delete c2 ∷ []
 
 refused : (F : First) → run F denied ((c1, created (allowing (codes "read" ∷ []))) ∷ (c2, created (allowing (codes "read" ∷ []))) ∷ []) ≡ (
@@ -74,7 +74,7 @@ unfolding x86_64_table strictest_of operation_of is_accepted
 refused F = refl
 
 -- a running container goes on with the threads of group 1, and a signal ends them all
-abbrev pub goes_on : List Order
+abbrev pub goes_on : List Command
 goes_on =
     Start c1 ∷ Call c1 1 (call X86_64 (codes "clone") 0x10000 0) NoBytes ∷ asks c1 1 (codes "exit") ∷ State c1 ∷ Kill c1 1 ∷ State c1
     ∷ Kill c1 15 ∷ State c1 ∷ asks c1 2 (codes "read") ∷ []

@@ -1,4 +1,4 @@
--- A task keeps its filters, whatever is ordered.
+-- A task keeps its filters, whatever is commanded.
 use Rattle.std.proofs.Common.{◌≡◌, ℕ, Bool, true, false, List, [], ◌∷◌, Option, Some, None, if◌then◌else◌, refl, sym, ap, subst}
 use Rattle.std.proofs.Common.{◌∙◌, arith, nat_lt, All, Contains}
 use Rattle.std.proofs.lemmas.List.Elements.{All-cons, All-contains}
@@ -22,8 +22,8 @@ use Rattle.lifecycle.specs.declared.command.Reply.TheVariants.{Accepted, Refused
 use Rattle.lifecycle.specs.declared.command.Status.{Status}
 use Rattle.lifecycle.specs.declared.command.Status.TheVariants.{Created, Running, Stopped}
 use Rattle.lifecycle.specs.declared.fault.Refusal.TheVariants.{BadId, BadSignal, IdTaken}
-use Rattle.lifecycle.specs.Orders.{Order, id_of}
-use Rattle.lifecycle.specs.Orders.Order.{Create, Start, Kill, Delete, State, Call}
+use Rattle.lifecycle.specs.Commands.{Command, id_of}
+use Rattle.lifecycle.specs.Commands.Command.{Create, Start, Kill, Delete, State, Call}
 use Rattle.lifecycle.specs.Promises.{LoadsTellFilters, OldFiltersStay, goes_on_after, world_after}
 use Rattle.lifecycle.specs.Steps.{acted, call, delete, first_call, kill, left_after, running, start}
 use Rattle.lifecycle.specs.Worlds.{Container, First, container_at, put}
@@ -74,7 +74,7 @@ steady_kept = record {
 steady_first : (F : First) (given : Checked) → Steady (created F given)
 steady_first F given = record { order = omega arith; told = record { judges = λ k. F given; agree = tt }; waits = λ e. refl }
 
-steady_after : (F : First) (os : List Order) (id : List ℕ) (c : Container) → container_at id (world_after F os) ≡ Some c → Steady c
+steady_after : (F : First) (os : List Command) (id : List ℕ) (c : Container) → container_at id (world_after F os) ≡ Some c → Steady c
 steady_after F os id c there = subst (At Steady) there (holds_after Steady steady_kept F (steady_first F) id os [] (λ q. tt))
 
 -- ---- load numbers
@@ -98,7 +98,7 @@ loads_tell_filters F os id c there t u f g in_t in_u in_f in_g same =
     (agree_all told.judges top v.filters (All-contains (Agrees told.judges top) c.processes.tasks v all in_v)) in_h in
     same_filter f g same (known t in_t f in_f ∙ (ap told.judges same ∙ sym (known u in_u g in_g)))
 
--- ---- what an order leaves of a task
+-- ---- what a command leaves of a task
 
 -- the live task of this number has these filters behind newer ones or none
 abbrev pub Later : ℕ → List Filter → Container → Type 0
@@ -147,7 +147,7 @@ module _ (m : ℕ) (t : Process) where
   call_later id n r a Created c h e = same_later m t c e
   call_later id n r a Stopped c h e = same_later m t c e
 
-  acts_later : (F : First) (o : Order) (c : Container) → Steady c → goes_on_after o m c.status c.processes ≡ Some t
+  acts_later : (F : First) (o : Command) (c : Container) → Steady c → goes_on_after o m c.status c.processes ≡ Some t
       → Leaves (Later m t.filters) (acted F o (Some c))
   acts_later F (Create id given) c h e =
       either (Leaves (Later m t.filters)) (is_id id) (Refused IdTaken, Some c) (

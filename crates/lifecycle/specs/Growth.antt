@@ -5,8 +5,8 @@ use Rattle.processes.specs.Kernel.{can_grow}
 use Rattle.lifecycle.specs.declared.command.Status.{Status}
 use Rattle.lifecycle.specs.declared.command.Status.TheVariants.{Created, Running}
 use Rattle.lifecycle.specs.declared.command.Reply.{Reply}
-use Rattle.lifecycle.specs.Orders.{Order}
-use Rattle.lifecycle.specs.Orders.Order.{Create, Start, Kill, Delete, State, Call}
+use Rattle.lifecycle.specs.Commands.{Command}
+use Rattle.lifecycle.specs.Commands.Command.{Create, Start, Kill, Delete, State, Call}
 use Rattle.lifecycle.specs.Worlds.{Container, World, container_at}
 
 -- there is a container of an id in this status, and this holds of it
@@ -16,8 +16,8 @@ pub record IsThere (id : List ℕ) (status : Status) (P : Container → Type 0) 
   pub status_is : container.status ≡ status
   pub holds : P container
 
--- An order may want memory where it makes a container, starts one, or is a call in a running one for which its kernel may.
-abbrev pub MayGrow : Order → World → Type 0
+-- A command may want memory where it makes a container, starts one, or is a call in a running one for which its kernel may.
+abbrev pub MayGrow : Command → World → Type 0
 MayGrow (Create id given) w = (is_id id ≡ true) × (container_at id w ≡ None)
 MayGrow (Start id) w = IsThere id Created (λ c. Unit {0}) w
 MayGrow (Call id task r a) w = IsThere id Running (λ c. can_grow task r a c.processes ≡ true) w
@@ -25,7 +25,7 @@ MayGrow (Kill id sig) w = ⊥
 MayGrow (Delete id) w = ⊥
 MayGrow (State id) w = ⊥
 
--- the first order that is left undone may want memory, or there was none for the replies
-abbrev pub NextMayGrow : List Order → List Reply → World → Type 0
-NextMayGrow orders replies w =
-    (length replies ≡ 0) ⊎ ((o : Order) × (slice_get orders (length replies) ≡ Some o) × MayGrow o w)
+-- the first command that is left undone may want memory, or there was none for the replies
+abbrev pub NextMayGrow : List Command → List Reply → World → Type 0
+NextMayGrow commands replies w =
+    (length replies ≡ 0) ⊎ ((o : Command) × (slice_get commands (length replies) ≡ Some o) × MayGrow o w)

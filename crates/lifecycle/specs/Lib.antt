@@ -1,5 +1,5 @@
 pub mod Fault
-pub mod Orders
+pub mod Commands
 pub mod Worlds
 pub mod Steps
 pub mod Own

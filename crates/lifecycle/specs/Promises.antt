@@ -1,4 +1,4 @@
--- What holds of every container, whatever was ordered before.
+-- What holds of every container, whatever was commanded before.
 use Rattle.std.specs.Prelude.{◌≡◌, ◌⊎◌, ℕ, List, [], ◌∷◌, ◌++◌, Option, None, Some, if◌then◌else◌, is_some, slice_get, take, true}
 use Rattle.std.specs.List.{All, Contains}
 use Rattle.call_record.specs.declared.layout.Record.{Record}
@@ -19,18 +19,18 @@ use Rattle.lifecycle.specs.declared.command.Reply.TheVariants.{Presented, Refuse
 use Rattle.lifecycle.specs.declared.command.Status.{Status}
 use Rattle.lifecycle.specs.declared.command.Status.TheVariants.{Created, Running}
 use Rattle.lifecycle.specs.declared.fault.Refusal.TheVariants.{StartDenied}
-use Rattle.lifecycle.specs.Orders.{Order, id_of}
-use Rattle.lifecycle.specs.Orders.Order.{Call, Create, Start}
+use Rattle.lifecycle.specs.Commands.{Command, id_of}
+use Rattle.lifecycle.specs.Commands.Command.{Call, Create, Start}
 use Rattle.lifecycle.specs.Steps.{run, step}
 use Rattle.lifecycle.specs.Worlds.{Container, First, World, container_at}
 
--- the world after these orders, where there were no containers before
-abbrev pub world_after : First → List Order → World
-world_after F orders = (run F orders []).1
+-- the world after these commands, where there were no containers before
+abbrev pub world_after : First → List Command → World
+world_after F commands = (run F commands []).1
 
--- the replies to these orders, where there were no containers before
-abbrev pub replies_to : First → List Order → List Reply
-replies_to F orders = (run F orders []).0
+-- the replies to these commands, where there were no containers before
+abbrev pub replies_to : First → List Command → List Reply
+replies_to F commands = (run F commands []).0
 
 -- the reply at a place is of a kind
 pub record ReplyAt (P : Reply → Type 0) (replies : List Reply) (i : ℕ) : Type 0 where
@@ -38,10 +38,10 @@ pub record ReplyAt (P : Reply → Type 0) (replies : List Reply) (i : ℕ) : Typ
   pub at : slice_get replies i ≡ Some reply
   pub is : P reply
 
--- each reply is that of the order at its place, in the world after the orders before it
+-- each reply is that of the command at its place, in the world after the commands before it
 abbrev pub RepliesAreSteps : Type 0
-RepliesAreSteps = (F : First) (orders : List Order) (i : ℕ) (o : Order) → slice_get orders i ≡ Some o
-    → slice_get (replies_to F orders) i ≡ Some (step F o (world_after F (take i orders))).0
+RepliesAreSteps = (F : First) (commands : List Command) (i : ℕ) (o : Command) → slice_get commands i ≡ Some o
+    → slice_get (replies_to F commands) i ≡ Some (step F o (world_after F (take i commands))).0
 
 -- What the program of a checked filter gives and what its profile says are one first judge.
 abbrev pub OneFirstJudge : Type 0
@@ -49,26 +49,26 @@ OneFirstJudge = (given : Checked) → by_program given ≡ by_profile given
 
 -- ---- what a container was created with
 
--- The order that made the container of an id, with its checked filter: before it there was none, and there has been one
--- since, after it and after each later order.
-pub record MadeBy (F : First) (orders : List Order) (id : List ℕ) (given : Checked) : Type 0 where
-  pub before : List Order
-  pub since : List Order
-  pub in_all : orders ≡ before ++ Create id given ∷ since
+-- The command that made the container of an id, with its checked filter: before it there was none, and there has been one
+-- since, after it and after each later command.
+pub record MadeBy (F : First) (commands : List Command) (id : List ℕ) (given : Checked) : Type 0 where
+  pub before : List Command
+  pub since : List Command
+  pub in_all : commands ≡ before ++ Create id given ∷ since
   pub none_before : container_at id (world_after F before) ≡ None
   pub there_since : (n : ℕ) → is_some (container_at id (world_after F (before ++ Create id given ∷ take n since))) ≡ true
 
--- Each container was made by such an order, and its first judge and its machine are those of the checked filter that the
--- order gave.
+-- Each container was made by such a command, and its first judge and its machine are those of the checked filter that the
+-- command gave.
 pub record FirstIsGiven : Type 0 where
-  pub made : (F : First) (orders : List Order) (id : List ℕ) (c : Container) → container_at id (world_after F orders) ≡ Some c
-      → (given : Checked) × MadeBy F orders id given
-  pub first : (F : First) (orders : List Order) (id : List ℕ) (c : Container) (given : Checked)
-      → container_at id (world_after F orders) ≡ Some c
-      → MadeBy F orders id given → c.first ≡ F given
-  pub native : (F : First) (orders : List Order) (id : List ℕ) (c : Container) (given : Checked)
-      → container_at id (world_after F orders) ≡ Some c
-      → MadeBy F orders id given → c.processes.native ≡ (profile_of given).native
+  pub made : (F : First) (commands : List Command) (id : List ℕ) (c : Container) → container_at id (world_after F commands) ≡ Some c
+      → (given : Checked) × MadeBy F commands id given
+  pub first : (F : First) (commands : List Command) (id : List ℕ) (c : Container) (given : Checked)
+      → container_at id (world_after F commands) ≡ Some c
+      → MadeBy F commands id given → c.first ≡ F given
+  pub native : (F : First) (commands : List Command) (id : List ℕ) (c : Container) (given : Checked)
+      → container_at id (world_after F commands) ≡ Some c
+      → MadeBy F commands id given → c.processes.native ≡ (profile_of given).native
 
 -- ---- the oldest filter
 
@@ -79,34 +79,34 @@ IsOldest judge t = (newer : List Filter) × (t.filters ≡ newer ++ record { loa
 -- The filter that a container was created with is the oldest of each of its tasks.
 abbrev pub FirstFilterIsOldest : Type 0
 FirstFilterIsOldest =
-    (F : First) (orders : List Order) (id : List ℕ) (c : Container) → container_at id (world_after F orders) ≡ Some c
+    (F : First) (commands : List Command) (id : List ℕ) (c : Container) → container_at id (world_after F commands) ≡ Some c
     → All (IsOldest c.first) c.processes.tasks
 
 -- ---- the filters that a task has
 
--- the live task of a container that goes on under number m after an order to it: only in a running one a call is carried
+-- the live task of a container that goes on under number m after a command to it: only in a running one a call is carried
 -- out
-abbrev pub goes_on_after : Order → ℕ → Status → Processes → Option Process
+abbrev pub goes_on_after : Command → ℕ → Status → Processes → Option Process
 goes_on_after (Call id task r a) m Running ps = goes_on task r m ps
 goes_on_after o m status ps = live_task m ps.tasks
 
--- and after an order to whichever container
-abbrev pub goes_on_in : List ℕ → Order → ℕ → Container → Option Process
+-- and after a command to whichever container
+abbrev pub goes_on_in : List ℕ → Command → ℕ → Container → Option Process
 goes_on_in id o m c = if same_text id (id_of o) then goes_on_after o m c.status c.processes else live_task m c.processes.tasks
 
--- A task that lives before an order and after it has its old filters, with newer ones in front of them or none: under its
+-- A task that lives before a command and after it has its old filters, with newer ones in front of them or none: under its
 -- own number, or, the caller of an execve, under its group's.
 abbrev pub OldFiltersStay : Type 0
 OldFiltersStay =
-    (F : First) (orders : List Order) (o : Order) (id : List ℕ) (c d : Container) (m : ℕ) (t u : Process)
-    → container_at id (world_after F orders) ≡ Some c → container_at id (step F o (world_after F orders)).1 ≡ Some d
+    (F : First) (commands : List Command) (o : Command) (id : List ℕ) (c d : Container) (m : ℕ) (t u : Process)
+    → container_at id (world_after F commands) ≡ Some c → container_at id (step F o (world_after F commands)).1 ≡ Some d
     → goes_on_in id o m c ≡ Some t → live_task m d.processes.tasks ≡ Some u → StandsBehind t.filters u.filters
 
 -- In a container a load number stands for one judge: so lists of filters that have the same numbers are the same, which is
 -- what is compared before one task's list is given to its group.
 abbrev pub LoadsTellFilters : Type 0
 LoadsTellFilters =
-    (F : First) (orders : List Order) (id : List ℕ) (c : Container) → container_at id (world_after F orders) ≡ Some c
+    (F : First) (commands : List Command) (id : List ℕ) (c : Container) → container_at id (world_after F commands) ≡ Some c
     → (t u : Process) (f g : Filter) → Contains c.processes.tasks t → Contains c.processes.tasks u
     → Contains t.filters f → Contains u.filters g
     → f.load ≡ g.load → f ≡ g
@@ -121,18 +121,18 @@ NotCarriedOut reply = ((v : ℕ) × (reply ≡ Presented (Denied v))) ⊎ (reply
 abbrev pub IsDeniedStart : Reply → Type 0
 IsDeniedStart reply = (v : ℕ) × (reply ≡ Refused (StartDenied v))
 
--- In a run of these orders with these replies, where there were no containers before: a call that the profile refuses with
+-- In a run of these commands with these replies, where there were no containers before: a call that the profile refuses with
 -- which its container was made is not carried out, whoever of its tasks presents it, with whatever further filters; nor does
--- a container start whose profile refuses the execve with which it begins. Both are told by the reply at the order's place.
-pub record RefusesIn (orders : List Order) (replies : List Reply) : Type 0 where
+-- a container start whose profile refuses the execve with which it begins. Both are told by the reply at the command's place.
+pub record RefusesIn (commands : List Command) (replies : List Reply) : Type 0 where
   pub call : (i : ℕ) (id : List ℕ) (given : Checked) (task : ℕ) (r : Record) (a : Attached)
-      → slice_get orders i ≡ Some (Call id task r a) → MadeBy by_profile (take i orders) id given
+      → slice_get commands i ≡ Some (Call id task r a) → MadeBy by_profile (take i commands) id given
       → IsRefusal (said (profile_of given) (words r)) → ReplyAt NotCarriedOut replies i
   pub start : (i : ℕ) (id : List ℕ) (given : Checked) (c : Container)
-      → slice_get orders i ≡ Some (Start id) → MadeBy by_profile (take i orders) id given
-      → container_at id (world_after by_profile (take i orders)) ≡ Some c → c.status ≡ Created
+      → slice_get commands i ≡ Some (Start id) → MadeBy by_profile (take i commands) id given
+      → container_at id (world_after by_profile (take i commands)) ≡ Some c → c.status ≡ Created
       → IsRefusal (said (profile_of given) (words (execve_of (profile_of given).native))) → ReplyAt IsDeniedStart replies i
 
 -- so it is in every run
 abbrev pub RefusedIsNotCarriedOut : Type 0
-RefusedIsNotCarriedOut = (orders : List Order) → RefusesIn orders (replies_to by_profile orders)
+RefusedIsNotCarriedOut = (commands : List Command) → RefusesIn commands (replies_to by_profile commands)

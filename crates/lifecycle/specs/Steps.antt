@@ -19,8 +19,8 @@ use Rattle.lifecycle.specs.declared.fault.Refusal.TheVariants.{BadId, IdTaken, N
 use Rattle.lifecycle.specs.declared.fault.Refusal.TheVariants.{BadSignal, NotStopped}
 use Rattle.lifecycle.specs.declared.command.Reply.{Reply}
 use Rattle.lifecycle.specs.declared.command.Reply.TheVariants.{Accepted, Refused, Presented, IsIn}
-use Rattle.lifecycle.specs.Orders.{Order, id_of}
-use Rattle.lifecycle.specs.Orders.Order.{Create, Start, Kill, Delete, State, Call}
+use Rattle.lifecycle.specs.Commands.{Command, id_of}
+use Rattle.lifecycle.specs.Commands.Command.{Create, Start, Kill, Delete, State, Call}
 use Rattle.lifecycle.specs.Worlds.{Container, World, First, unstarted, container_at, put}
 
 -- the answer, and the container after it, if there is one
@@ -74,8 +74,8 @@ abbrev pub known : Option Container → (Container → Result) → Result
 known None next = (Refused NoContainer, None)
 known (Some c) next = next c
 
--- What an order is answered, and what it makes of the container that it names.
-abbrev pub acted : First → Order → Option Container → Result
+-- What a command is answered, and what it makes of the container that it names.
+abbrev pub acted : First → Command → Option Container → Result
 acted F (Create id given) o = if is_id id then create F given o else (Refused BadId, o)
 acted F (Start id) o = known o (λ c. start c.status c)
 acted F (Kill id sig) o = known o (λ c. kill sig c.status c)
@@ -83,13 +83,13 @@ acted F (Delete id) o = known o (λ c. delete c.status c)
 acted F (State id) o = known o (λ c. (IsIn c.status, Some c))
 acted F (Call id task r a) o = known o (λ c. call task r a c.status c)
 
--- one order, in a world
-abbrev pub step : First → Order → World → Reply × World
+-- one command, in a world
+abbrev pub step : First → Command → World → Reply × World
 step F o w =
     let r = acted F o (container_at (id_of o) w) in (r.0, put (id_of o) r.1 w)
 
--- one order after another
-abbrev pub run : First → List Order → World → List Reply × World
+-- one command after another
+abbrev pub run : First → List Command → World → List Reply × World
 run F [] w = ([], w)
 run F (o ∷ os) w =
     let s = step F o w in let rest = run F os s.1 in (s.0 ∷ rest.0, rest.1)

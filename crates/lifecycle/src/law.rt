@@ -2,12 +2,12 @@
 ghost use Rattle.lifecycle.specs.Own.{IsIsolated};
 ghost use Rattle.lifecycle.specs.Promises.{FirstFilterIsOldest, FirstIsGiven, LoadsTellFilters, OldFiltersStay, OneFirstJudge, RefusedIsNotCarriedOut, RepliesAreSteps};
 
-/// An order sees the container that it names and no other, and changes no other.
+/// A command sees the container that it names and no other, and changes no other.
 pub fn containers_are_isolated()
     ensures { IsIsolated }
 {}
 
-/// Each reply of a run is that of the order at its place, in the world that the orders before it left.
+/// Each reply of a run is that of the command at its place, in the world that the commands before it left.
 pub fn replies_are_steps()
     ensures { RepliesAreSteps }
 {}
@@ -17,7 +17,7 @@ pub fn one_first_judge()
     ensures { OneFirstJudge }
 {}
 
-/// Each container was made by an order, whose checked filter gives its first judge and its machine.
+/// Each container was made by a command, whose checked filter gives its first judge and its machine.
 pub fn first_is_given()
     ensures { FirstIsGiven }
 {}
@@ -32,7 +32,7 @@ pub fn loads_tell_filters()
     ensures { LoadsTellFilters }
 {}
 
-/// A task that lives before an order and after it has its old filters, behind newer ones or none.
+/// A task that lives before a command and after it has its old filters, behind newer ones or none.
 pub fn old_filters_stay()
     ensures { OldFiltersStay }
 {}

@@ -1,10 +1,10 @@
 //! One command, and whole runs.
 ghost use Rattle.std.specs.Prelude.{◌≡◌, ◌<◌, [], IfOk, OnOk, OnErr, length, take};
 ghost use Rattle.processes.specs.First.{by_profile, by_program};
+ghost use Rattle.lifecycle.specs.Commands.{command_of};
 ghost use Rattle.lifecycle.specs.Growth.{MayGrow, NextMayGrow};
-ghost use Rattle.lifecycle.specs.Orders.{order_of};
 ghost use Rattle.lifecycle.specs.Promises.{RefusesIn};
-ghost use Rattle.lifecycle.specs.Runs.{EachRunsAlone, IsRun, orders_of};
+ghost use Rattle.lifecycle.specs.Runs.{EachRunsAlone, IsRun, commands_of};
 ghost use Rattle.lifecycle.specs.Steps.{step};
 
 use crate::command::{Command, Reply};
@@ -18,10 +18,10 @@ impl<'a, K: Kernel> Runtime<'a, K> {
     /// Carries out one command: a step of the kernel in which a container's profile decides what its first filter answers, and
     /// of that in which the filter's program does. Where memory is refused it is left undone.
     pub fn carry_out(&mut self, command: Command<'a, '_>) -> Result<Reply, AllocError>
-        ensures headline { IfOk result (λ r. (r, world_of self.new) ≡ step by_profile (order_of command.entry) (world_of self.old)) }
-        ensures step { IfOk result (λ r. (r, world_of self.new) ≡ step by_program (order_of command.entry) (world_of self.old)) }
+        ensures headline { IfOk result (λ r. (r, world_of self.new) ≡ step by_profile (command_of command.entry) (world_of self.old)) }
+        ensures step { IfOk result (λ r. (r, world_of self.new) ≡ step by_program (command_of command.entry) (world_of self.old)) }
         ensures err { OnErr result (world_of self.new ≡ world_of self.old) }
-        ensures growth { OnErr result (MayGrow (order_of command.entry) (world_of self.old)) }
+        ensures growth { OnErr result (MayGrow (command_of command.entry) (world_of self.old)) }
     {
         match command {
             Command::Create(id, checked) => self.create(id, checked),
@@ -40,13 +40,13 @@ impl<'a, K: Kernel> Runtime<'a, K> {
     /// filter answers; with the program of the filter in the profile's place it is the same run. So a call that a profile
     /// refuses is not carried out, and a call that no filter refuses is.
     pub fn run(&mut self, commands: &[Command<'a, '_>]) -> (Vec<Reply>, Result<(), AllocError>)
-        ensures headline { IsRun by_profile (orders_of (take (length result.0.items) commands.now)) (world_of self.old) result.0.items (world_of self.new) }
-        ensures so_far { IsRun by_program (orders_of (take (length result.0.items) commands.now)) (world_of self.old) result.0.items (world_of self.new) }
-        ensures refused { world_of self.old ≡ [] → RefusesIn (orders_of (take (length result.0.items) commands.now)) result.0.items }
+        ensures headline { IsRun by_profile (commands_of (take (length result.0.items) commands.now)) (world_of self.old) result.0.items (world_of self.new) }
+        ensures so_far { IsRun by_program (commands_of (take (length result.0.items) commands.now)) (world_of self.old) result.0.items (world_of self.new) }
+        ensures refused { world_of self.old ≡ [] → RefusesIn (commands_of (take (length result.0.items) commands.now)) result.0.items }
         ensures all { OnOk result.1 (length result.0.items ≡ length commands.now) }
         ensures left { OnErr result.1 (length result.0.items < length commands.now) }
-        ensures growth { OnErr result.1 (NextMayGrow (orders_of commands.now) result.0.items (world_of self.new)) }
-        ensures alone { EachRunsAlone by_profile (orders_of (take (length result.0.items) commands.now)) (world_of self.old) result.0.items }
+        ensures growth { OnErr result.1 (NextMayGrow (commands_of commands.now) result.0.items (world_of self.new)) }
+        ensures alone { EachRunsAlone by_profile (commands_of (take (length result.0.items) commands.now)) (world_of self.old) result.0.items }
     {
         let mut replies = Vec::new(self.alloc);
         if commands.is_empty() {

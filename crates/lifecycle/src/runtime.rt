@@ -49,7 +49,7 @@ impl<'a, K: Kernel> Runtime<'a, K> {
     ghost use Rattle.std.specs.Option.{option_map};
     ghost use Rattle.processes.specs.Attached.{attached_of};
     ghost use Rattle.processes.specs.First.{by_program};
-    ghost use Rattle.lifecycle.specs.Orders.Order.{Create, Start, Kill, Delete, State, Call};
+    ghost use Rattle.lifecycle.specs.Commands.Command.{Create, Start, Kill, Delete, State, Call};
     ghost use Rattle.lifecycle.specs.Growth.{MayGrow};
     ghost use Rattle.lifecycle.specs.Steps.{step};
     ghost use Rattle.lifecycle.specs.Views.{world_of};

@@ -32,7 +32,6 @@ use Rattle.profile_json.proofs.unbroken.Unbroken.{meaning_is_one, meaning_is_unb
 use Rattle.rule_compile.specs.Shape.{IsCallFilter, IsPlain}
 use Rattle.pipeline.proofs.ExportLaws.{as_failed}
 use Rattle.pipeline.proofs.FindingLaws.{no_fault, one_policy}
-use Rattle.pipeline.proofs.PlainLaws.{plain}
 use Rattle.pipeline.specs.Certified.{AreJudged, Certifies, CertifiesOwn, EvidenceExcludes, IsOpen, IsOwnFilter, WritesCertificate}
 use Rattle.pipeline.specs.Certified.{conviction_line}
 use Rattle.pipeline.specs.Exported.{IsToldAs, Refuses}
@@ -165,15 +164,12 @@ evidence_excludes one native bundle filter cert rec given said found convicted =
 -- ---- a filter of this project's own
 
 module _ (native : Arch) (bundle filter : List ℕ) (policy : Policy) (own : IsOwnFilter native bundle filter policy) where
-  own_plain : IsPlain policy
-  own_plain = plain native bundle policy own.means own.plain
-
   -- the maker gives nothing for want of memory alone
   pub own_certify : (p : List Insn) → p ≡ insns_of filter → (e : CertifyError) (u : Unready)
       → IsToldAs unready.Certify maker.OutOfMemory e u
       → (IsPlain policy → IsCallFilter policy p → e ≡ maker.OutOfMemory) → u ≡ unready.OutOfMemory
   own_certify p same e u (inl h) never = h.1
-  own_certify p same e u (inr h) never = absurd (h.0 (never own_plain (subst (IsCallFilter policy) (sym same) own.shape)))
+  own_certify p same e u (inr h) never = absurd (h.0 (never own.plain (subst (IsCallFilter policy) (sym same) own.shape)))
 
   module _ {S : Type 0} (held : S → Option (List ℕ)) (failures : S → Failures) (old new : S) where
     -- a bundle that means a profile is refused for want of memory alone

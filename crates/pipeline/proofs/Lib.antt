@@ -1,4 +1,5 @@
 mod AnswerLaws
+mod BundleLaws
 mod ExportLaws
 mod FindingLaws
 pub mod PlainLaws

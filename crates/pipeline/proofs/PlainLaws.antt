@@ -1,22 +1,11 @@
--- A bundle whose profile has no conditions is not refused for what is made of it.
-use Rattle.std.proofs.Common.{◌≡◌, ℕ, inl, inr, Bool, List, [], refl, sym, ap, subst, ◌∙◌}
-use Rattle.std.specs.Prelude.{◌≢◌, Option, Some, None, Result, Ok, Err, IfErr, IfOk}
+-- A bundle that means a plain profile is not refused for what is made of it.
+use Rattle.std.proofs.Common.{◌≡◌, ℕ, inl, inr, Bool, List, refl, sym, subst}
+use Rattle.std.specs.Prelude.{◌≢◌, Option, None, Result, Ok, Err, IfErr, IfOk}
 use Rattle.std.specs.Result.{IsErrAnd}
-use Rattle.std.specs.List.{Contains}
-use Rattle.std.proofs.lemmas.List.Elements.{All-contains, All-contains_itself, All-weaker}
 use Rattle.bpf_insn.specs.declared.instruction.Insn.{Insn}
 use Rattle.bpf_insn.specs.Bytes.{insns_of, view_fault}
 use Rattle.call_tables.specs.declared.arch.Arch.{Arch}
-use Rattle.call_tables.specs.Arch.{table_of}
-use Rattle.call_tables.specs.Table.{name_in}
-use Rattle.call_tables.proofs.ArchLaws.{table_of-inverse}
-use Rattle.profile.specs.declared.rules.Rule.{Rule}
 use Rattle.profile.specs.Policy.{IsClear, Policy}
-use Rattle.profile.proofs.KeptLaws.{kept_in}
-use Rattle.profile_json.specs.Parts.{RuleParts, rule_parts}
-use Rattle.profile_json.specs.Rules.{rules_of, rules_of_entry, rules_under}
-use Rattle.profile_json.proofs.Lists.{contains_flat_back, contains_map}
-use Rattle.profile_json.proofs.clashing.Clashing.{IsUnder, under_back}
 use Rattle.profile_json.proofs.unbroken.Unbroken.{meaning_is_one, meaning_is_unbroken}
 use Rattle.rule_compile.specs.declared.fault.CompileError.{CompileError}
 use Rattle.rule_compile.specs.declared.fault.CompileError.TheVariants as compiler
@@ -31,7 +20,6 @@ use Rattle.cert_walk.specs.declared.fault.CertifyError.{CertifyError}
 use Rattle.cert_walk.specs.declared.fault.CertifyError.TheVariants as maker
 use Rattle.certify.specs.Fault.{IsOfSize}
 use Rattle.certify.proofs.CompiledLaws.{compiled}
-use Rattle.certify.proofs.TableLaws.{table_rule_is_plain}
 use Rattle.cert_check.specs.declared.fault.CheckError.{CheckError}
 use Rattle.cert_check.specs.declared.fault.CheckError.TheVariants as error
 use Rattle.cert_check.specs.Certified.{IsFirst}
@@ -43,40 +31,9 @@ use Rattle.pipeline.specs.declared.unready.Unready.{Unready}
 use Rattle.pipeline.specs.declared.unready.Unready.TheVariants.{Profile, Compile, Certify, Check, OutOfMemory}
 use Rattle.pipeline.specs.Exported.{Exports, ExportsFilter, IsToldAs, IsUnready}
 use Rattle.pipeline.specs.Finding.{IsBundle}
-use Rattle.pipeline.specs.Plain.{HasConditions, HasNoConditions, IsPlainBundle}
+use Rattle.pipeline.specs.Plain.{IsNotPlain, IsPlainBundle}
 use Rattle.pipeline.specs.Prepared.{IsPrepared, IsTaken, IsUnbroken}
 use Rattle.pipeline.proofs.FindingLaws.{no_fault, one_policy}
-
--- ---- the calls of a bundle's profile
-
--- each rule's number stands in its machine's table
-in_table : (native : Arch) (bundle : List ℕ) (p : Policy) → IsBundle native bundle p → (rule : Rule) → Contains p.rules rule
-    → (name : List ℕ) × (name_in (table_of rule.arch) rule.nr ≡ Some name)
-in_table native bundle p is rule stands =
-    let calls = is.2.calls in
-    let r = rule_parts rule in
-    let in_said : Contains calls.said rule = kept_in calls.said p.rules calls.kept rule stands in
-    let here : Contains (rules_of p.machines calls.entries) r =
-    subst (λ (l : List RuleParts). Contains l r) calls.said_is (contains_map rule_parts calls.said rule in_said) in
-    let entry = contains_flat_back (rules_of_entry p.machines) calls.entries r here in
-    let named = contains_flat_back (rules_under p.machines entry.0) entry.0.names r entry.2 in
-    let from : IsUnder p.machines entry.0 named.0 r = under_back p.machines entry.0 named.0 r named.2 in
-    let arch : rule.arch ≡ from.arch = ap (λ (s : RuleParts). s.arch) from.is in
-    let nr : rule.nr ≡ from.nr = ap (λ (s : RuleParts). s.nr) from.is in (
-      named.0,
-      ap (λ a. name_in (table_of a) rule.nr) arch ∙ ap (name_in (table_of from.arch)) nr
-          ∙ (table_of-inverse from.arch named.0 from.nr).0 from.nr_is,
-    )
-
--- so a bundle's profile without conditions is plain
-pub plain : (native : Arch) (bundle : List ℕ) (p : Policy) → IsBundle native bundle p → HasNoConditions p → IsPlain p
-plain native bundle p is none = record {
-  rules = All-weaker (Contains p.rules) _
-      (λ rule stands. table_rule_is_plain rule
-      (All-contains (λ (r : Rule). r.conds.items ≡ []) p.rules rule none stands, in_table native bundle p is rule stands))
-      p.rules (All-contains_itself p.rules);
-  clear = is.2.calls.clear;
-}
 
 -- ---- steps
 
@@ -87,11 +44,10 @@ told_memory step memory e (Ok x) told is = tt
 told_memory step memory e (Err u) (inl h) is = h.1
 told_memory step memory e (Err u) (inr h) is = absurd (h.0 is)
 
--- a bundle of which a step gives nothing has conditions, if memory is not what it lacks
-has_conditions : {E : Type 0} (memory e : E) (native : Arch) (bundle : List ℕ) (policy : Policy) → e ≢ memory
-    → (IsPlain policy → e ≡ memory) → IsBundle native bundle policy → HasConditions native bundle
-has_conditions memory e native bundle policy other never is =
-    (policy, is, λ none. other (never (plain native bundle policy is none)))
+-- a bundle of which a step gives nothing is not plain, if memory is not what it lacks
+is_not_plain : {E : Type 0} (memory e : E) (native : Arch) (bundle : List ℕ) (policy : Policy) → e ≢ memory
+    → (IsPlain policy → e ≡ memory) → IsBundle native bundle policy → IsNotPlain native bundle
+is_not_plain memory e native bundle policy other never is = (policy, is, λ plain. other (never plain))
 
 not_compiled : (policy : Policy) (e : CompileError) (u : Unready) → (IsPlain policy → e ≡ compiler.OutOfMemory)
     → IsToldAs Compile compiler.OutOfMemory e u → (native : Arch) (bundle : List ℕ) → IsBundle native bundle policy → u ≢ OutOfMemory
@@ -99,7 +55,7 @@ not_compiled : (policy : Policy) (e : CompileError) (u : Unready) → (IsPlain p
 not_compiled policy e u never (inl h) native bundle is other = absurd (other h.1)
 not_compiled policy e u never (inr h) native bundle is other =
     subst (IsUnready native bundle) (sym h.1)
-    (too_long e h.0, has_conditions compiler.OutOfMemory e native bundle policy h.0 never is) where
+    (too_long e h.0, is_not_plain compiler.OutOfMemory e native bundle policy h.0 never is) where
       too_long : (e : CompileError) → e ≢ compiler.OutOfMemory → e ≡ compiler.TooLong
       too_long compiler.TooLong other = refl
       too_long compiler.OutOfMemory other = absurd (other refl)
@@ -114,7 +70,7 @@ not_certified : (policy : Policy) (e : CertifyError) (u : Unready) → (IsPlain 
 not_certified policy e u never sized (inl h) native bundle is other = absurd (other h.1)
 not_certified policy e u never sized (inr h) native bundle is other =
     subst (IsUnready native bundle) (sym h.1)
-    (too_large (sized is.2.calls.clear), has_conditions maker.OutOfMemory e native bundle policy h.0 never is) where
+    (too_large (sized is.2.calls.clear), is_not_plain maker.OutOfMemory e native bundle policy h.0 never is) where
       too_large : IsOfSize e → e ≡ maker.TooLarge
       too_large (inl large) = large
       too_large (inr memory) = absurd (h.0 memory)
@@ -187,21 +143,20 @@ prepared native bundle policy (Ok made) is same taken unbroken = record {
 }
 prepared native bundle policy (Err u) is same taken unbroken = tt
 
--- ---- bundles without conditions
+-- ---- plain bundles
 
 pub same_policy : (native : Arch) (bundle : List ℕ) (p q : Policy) → IsBundle native bundle p → IsBundle native bundle q → p ≡ q
 same_policy = one_policy meaning_is_one
 
--- is not one of a profile with conditions
-has_none : (native : Arch) (bundle : List ℕ) (q : Policy) → IsPlainBundle native bundle → IsBundle native bundle q
-    → (HasNoConditions q → ⊥) → ⊥
-has_none native bundle q (p, is, none) other some = some (subst HasNoConditions (same_policy native bundle p q is other) none)
+-- each profile that such a bundle means is plain
+is_plain : (native : Arch) (bundle : List ℕ) (q : Policy) → IsPlainBundle native bundle → IsBundle native bundle q → IsPlain q
+is_plain native bundle q (p, is, plain) other = subst IsPlain (same_policy native bundle p q is other) plain
 
--- nor refused
+-- none is refused
 pub not_refused : (native : Arch) (bundle : List ℕ) (u : Unready) → IsPlainBundle native bundle → IsUnready native bundle u → ⊥
-not_refused native bundle (Profile e) (p, is, none) h = no_fault meaning_is_unbroken meaning_is_one native bundle p e is h.0 h.1
-not_refused native bundle (Compile e) is h = has_none native bundle h.1.0 is h.1.1 h.1.2
-not_refused native bundle (Certify e) is h = has_none native bundle h.1.0 is h.1.1 h.1.2
+not_refused native bundle (Profile e) (p, is, plain) h = no_fault meaning_is_unbroken meaning_is_one native bundle p e is h.0 h.1
+not_refused native bundle (Compile e) is h = h.1.2 (is_plain native bundle h.1.0 is h.1.1)
+not_refused native bundle (Certify e) is h = h.1.2 (is_plain native bundle h.1.0 is h.1.1)
 not_refused native bundle (Check e) is h = h
 not_refused native bundle OutOfMemory is h = h
 

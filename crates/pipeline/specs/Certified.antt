@@ -9,7 +9,7 @@ use Rattle.call_record.specs.Words.{IsRecord, words_of}
 use Rattle.bpf_insn.specs.Bytes.{insns_of, view_fault}
 use Rattle.kernel_check.specs.Accepted.{IsAccepted}
 use Rattle.profile.specs.Policy.{Policy}
-use Rattle.rule_compile.specs.Shape.{IsCallFilter}
+use Rattle.rule_compile.specs.Shape.{IsCallFilter, IsPlain}
 use Rattle.certify.specs.Conviction.{Convicts}
 use Rattle.cert_walk.specs.declared.fault.CertifyError.TheVariants as maker
 use Rattle.cert_check.specs.Certified.{IsFirst}
@@ -21,7 +21,6 @@ use Rattle.streams.specs.declared.fault.WriteFault.{WriteFault}
 use Rattle.texts.specs.Lines.{line_feed}
 use Rattle.pipeline.specs.Exported.{IsUnready, LacksMemory, line_of}
 use Rattle.pipeline.specs.Finding.{IsBundle, IsFinding}
-use Rattle.pipeline.specs.Plain.{HasNoConditions}
 use Rattle.pipeline.specs.declared.check.Finding.TheVariants.{Yes}
 use Rattle.pipeline.specs.declared.unready.Unready.{Unready}
 use Rattle.pipeline.specs.declared.unready.Unready.TheVariants.{Profile, Compile, Certify, Check, OutOfMemory}
@@ -103,11 +102,11 @@ Certifies held failures old new native bundle filter result =
     ⊎ (WritesConviction held failures old new native bundle filter result
     ⊎ (WritesOpen held failures old new native bundle filter result ⊎ LacksMemory old new result))
 
--- The bundle means the profile, which has no conditions, and the filter's bytes are a program of the shape that the compiler
--- gives to the filters of such.
+-- The bundle means the profile, which is plain, and the filter's bytes are a program of the shape that the compiler gives to
+-- the filters of such.
 pub record IsOwnFilter (native : Arch) (bundle filter : List ℕ) (policy : Policy) : Type 0 where
   pub means : IsBundle native bundle policy
-  pub plain : HasNoConditions policy
+  pub plain : IsPlain policy
   pub program : view_fault filter ≡ None
   pub shape : IsCallFilter policy (insns_of filter)
 

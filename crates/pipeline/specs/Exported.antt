@@ -21,7 +21,7 @@ use Rattle.export.specs.declared.form.Form.{Form}
 use Rattle.export.specs.declared.form.Form.TheVariants.{Raw, Certificate}
 use Rattle.texts.specs.Lines.{line_feed}
 use Rattle.pipeline.specs.Finding.{IsBundle, IsYes}
-use Rattle.pipeline.specs.Plain.{HasConditions}
+use Rattle.pipeline.specs.Plain.{IsNotPlain}
 use Rattle.pipeline.specs.declared.unready.Unready.{Unready}
 use Rattle.pipeline.specs.declared.unready.Unready.TheVariants.{Profile, Compile, Certify, Check, OutOfMemory}
 
@@ -32,13 +32,13 @@ pub record IsCheckedOf (native : Arch) (bundle : List ℕ) (c : Checked) : Type 
   pub read : insns_of (bytes_in Raw c) ≡ program_of c
   pub yes : IsYes (profile_of c) (bytes_in Raw c) (bytes_in Certificate c)
 
--- Why a bundle has no checked filter. It breaks a rule of bundles; or it means a profile of which some rule has a condition,
--- and the filter of this is longer than a filter may be, or each certificate that was made of it larger than one may be. The
--- checker never says no. Want of memory is no such reason.
+-- Why a bundle has no checked filter. It breaks a rule of bundles; or it means a profile that is not plain, and the filter of
+-- this is longer than a filter may be, or each certificate that was made of it larger than one may be. The checker never says
+-- no. Want of memory is no such reason.
 abbrev pub IsUnready : Arch → List ℕ → Unready → Type 0
 IsUnready native bundle (Profile e) = (e ≢ refusal.OutOfMemory) × IfSome (fault_of e) (Breaks bundle native)
-IsUnready native bundle (Compile e) = (e ≡ compiler.TooLong) × HasConditions native bundle
-IsUnready native bundle (Certify e) = (e ≡ maker.TooLarge) × HasConditions native bundle
+IsUnready native bundle (Compile e) = (e ≡ compiler.TooLong) × IsNotPlain native bundle
+IsUnready native bundle (Certify e) = (e ≡ maker.TooLarge) × IsNotPlain native bundle
 IsUnready native bundle (Check e) = ⊥
 IsUnready native bundle OutOfMemory = ⊥
 

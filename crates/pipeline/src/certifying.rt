@@ -167,8 +167,8 @@ pub fn certify_bundle<S: Sink>(
     sink: &mut S,
 ) -> Result<bool, WriteFault>
     ensures found { Certifies S.held S.failures sink.old sink.new native bundle.now filter.now result }
-    // Of a bundle that means a profile without conditions, and a filter as the compiler makes it of such, a certificate is
-    // written, unless memory is refused or the sink fails.
+    // Of a bundle that means a plain profile, and a filter as the compiler makes it of such, a certificate is written, unless
+    // memory is refused or the sink fails.
     ensures own { (policy : Policy) → IsOwnFilter native bundle.now filter.now policy
         → CertifiesOwn S.held S.failures sink.old sink.new native bundle.now filter.now result }
 {

@@ -42,8 +42,7 @@ pub fn export_bundle<S: Sink>(
     sink: &mut S,
 ) -> Result<bool, WriteFault>
     ensures exports { Exports S.held S.failures sink.old sink.new native bundle.now form result }
-    // Of a bundle that means a profile without conditions the filter is written, unless memory is refused or the sink
-    // fails.
+    // Of a bundle that means a plain profile the filter is written, unless memory is refused or the sink fails.
     ensures own { IsPlainBundle native bundle.now
         → ExportsFilter S.held S.failures sink.old sink.new native bundle.now form result }
 {

@@ -2,6 +2,7 @@
 ghost use Rattle.pipeline.specs.Answer.{OneAnswer};
 ghost use Rattle.pipeline.specs.Certified.{EvidenceExcludes};
 ghost use Rattle.pipeline.specs.Finding.{FindingsExclude};
+ghost use Rattle.pipeline.specs.Plain.{BundlesArePlain};
 
 use kernel_check::one_refusal;
 use profile_json::{meaning_is_one, meaning_is_unbroken};
@@ -27,3 +28,10 @@ pub fn evidence_excludes()
 {
     meaning_is_one();
 }
+
+/// Which bundles mean plain profiles: those without conditions, for machines of one of the chosen lists; and those of all of
+/// Linux without conditions, for calls with small numbers, where the machines have two tokens at most and x32 stands beside
+/// x86-64.
+pub fn bundles_are_plain()
+    ensures { BundlesArePlain }
+{}

@@ -13,7 +13,7 @@ mod verdict;
 pub use certifying::certify_bundle;
 pub use check::{Finding, check_line, finding_of};
 pub use exporting::export_bundle;
-pub use law::{evidence_excludes, findings_exclude, one_answer};
+pub use law::{bundles_are_plain, evidence_excludes, findings_exclude, one_answer};
 pub use pipeline::Prepared;
 pub use unready::{Unready, refuse};
 pub use verdict::{Answer, answer_to, verdict_line};

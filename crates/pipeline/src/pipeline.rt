@@ -54,7 +54,7 @@ impl Prepared {
     pub fn of_profile(alloc: Global, profile: Profile) -> Result<Prepared, Unready>
         ensures profile { IfOk result (λ made. made.profile ≡ profile) }
         ensures taken { IfOk result (λ made. IsTaken made.filter.items) }
-        // What is made breaks no rule of the checker, and of a profile without conditions only memory is ever refused.
+        // What is made breaks no rule of the checker, and of a plain profile only memory is ever refused.
         ensures unbroken { IfOk result (λ made. IsUnbroken profile made.filter.items made.certificate.items) }
         ensures never { IsPlain profile → IfErr result (λ unready. unready ≡ OutOfMemory) }
         ensures err { (native : TheArch) (bundle : List ℕ) → IsBundle native bundle profile

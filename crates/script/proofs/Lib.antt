@@ -3,5 +3,5 @@ mod NumberLaws
 mod PairLaws
 mod WhatLaws
 mod ArgumentLaws
-mod OrderLaws
+mod CommandLaws
 mod LineLaws

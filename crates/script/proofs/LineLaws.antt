@@ -1,4 +1,4 @@
--- A line is read as an order exactly where it is one, and a text has one reading.
+-- A line is read as a command exactly where it is one, and a text has one reading.
 use Rattle.std.proofs.Common.{◌≡◌, ℕ, ◌+◌, ◌≤◌, Bool, true, false, cond, List, [], ◌∷◌, ◌++◌, length, refl, ap, sym, ◌∙◌, subst}
 use Rattle.std.proofs.Common.{arith, append_assoc, append-nil, length-append}
 use Rattle.std.specs.Prelude.{Option, Some, None, option_and_then, ◌==◌, ◌&&◌, nat_lt, not, IsUtf8}
@@ -7,15 +7,15 @@ use Rattle.std.proofs.lemmas.Bool.{and_from, and_parts, cond-false, cond-true, l
 use Rattle.std.proofs.lemmas.Option.{none-some, same_Some}
 use Rattle.std.proofs.lemmas.List.Splits.{join_with_byte-slice_split}
 use Rattle.call_tables.specs.declared.arch.Arch.{Arch}
-use Rattle.script.specs.Orders.{Order}
-use Rattle.script.specs.Grammar.{AreFieldsOf, IsOrder, LineIs, is_field, lacks, max_line}
+use Rattle.script.specs.Commands.{Command}
+use Rattle.script.specs.Grammar.{AreFieldsOf, IsCommand, LineIs, is_field, lacks, max_line}
 use Rattle.script.specs.Lines.{LinesAre, lines_of}
 use Rattle.texts.specs.Lines.{line_feed, space}
-use Rattle.script.specs.Laws.{OneOrder, OneReading}
-use Rattle.script.specs.inner.Reading.{fields_at, fields_from, max_fields, order_at, order_from, pieces}
+use Rattle.script.specs.Laws.{OneCommand, OneReading}
+use Rattle.script.specs.inner.Reading.{command_at, command_from, fields_at, fields_from, max_fields, pieces}
 use Rattle.texts.proofs.Options.{bind_some, tested}
 use Rattle.script.proofs.Pieces.{cut, cut-joined, pieces-lack}
-use Rattle.script.proofs.OrderLaws.{length-fields-le, order_from-is, order_from-some}
+use Rattle.script.proofs.CommandLaws.{command_from-is, command_from-some, length-fields-le}
 
 -- Fields.
 
@@ -64,13 +64,13 @@ are_fields-parts (f ∷ fs) h =
 
 -- Lines.
 
-order_at-some : (native : Arch) (line : List ℕ) (o : Order) → length line ≤ max_line → IsUtf8 line → order_at native line ≡ Some o
-    → IsOrder native line o
-order_at-some native line o short utf8 h =
-    let fields = bind_some (fields_at line) (order_from native) o h in
+command_at-some : (native : Arch) (line : List ℕ) (o : Command) → length line ≤ max_line → IsUtf8 line → command_at native line ≡ Some o
+    → IsCommand native line o
+command_at-some native line o short utf8 h =
+    let fields = bind_some (fields_at line) (command_from native) o h in
     let found = fields_from-some [] (pieces line) fields.0 fields.1 in
     let form : AreFieldsOf native (pieces line) o =
-    order_from-some native (pieces line) o (ap (order_from native) (sym found.0) ∙ fields.2) in
+    command_from-some native (pieces line) o (ap (command_from native) (sym found.0) ∙ fields.2) in
     record {
       short = short;
       utf8 = utf8;
@@ -81,55 +81,55 @@ order_at-some native line o short utf8 h =
     }
 
 -- the pieces of joined fields are the fields, of which there is one
-pieces-joined : (native : Arch) (line : List ℕ) (fields : List (List ℕ)) (o : Order) → line ≡ join_with_byte space fields
+pieces-joined : (native : Arch) (line : List ℕ) (fields : List (List ℕ)) (o : Command) → line ≡ join_with_byte space fields
     → list_all (lacks space) fields ≡ true → AreFieldsOf native fields o → pieces line ≡ fields
 pieces-joined native line [] o joined each form =
-    absurd (none-some o (order_from-is native [] o form))
+    absurd (none-some o (command_from-is native [] o form))
 pieces-joined native line (first ∷ more) o joined each form = ap pieces joined ∙ cut-joined space first more each
 
-order_at-is : (native : Arch) (line : List ℕ) (o : Order) → IsOrder native line o → order_at native line ≡ Some o
-order_at-is native line o h =
+command_at-is : (native : Arch) (line : List ℕ) (o : Command) → IsCommand native line o → command_at native line ≡ Some o
+command_at-is native line o h =
     let each = are_fields-parts h.fields h.each in
     let cut_is = pieces-joined native line h.fields o h.joined each.1 h.form in
-    ap (λ fs. option_and_then (order_from native) (fields_from [] fs)) cut_is
-    ∙ ap (option_and_then (order_from native)) (fields_from-is [] h.fields each.0 (omega (arith, length-fields-le native h.fields o h.form)))
-    ∙ order_from-is native h.fields o h.form
+    ap (λ fs. option_and_then (command_from native) (fields_from [] fs)) cut_is
+    ∙ ap (option_and_then (command_from native)) (fields_from-is [] h.fields each.0 (omega (arith, length-fields-le native h.fields o h.form)))
+    ∙ command_from-is native h.fields o h.form
 
 -- what is read of a line is what it is
-line_is : (native : Arch) (line : List ℕ) → length line ≤ max_line → IsUtf8 line → LineIs native line (order_at native line)
-line_is native line short utf8 = by_case (order_at native line) refl where
-  by_case : (o : Option Order) → order_at native line ≡ o → LineIs native line o
-  by_case (Some order) e = order_at-some native line order short utf8 e
-  by_case None e = λ order h. none-some order (sym e ∙ order_at-is native line order h)
+line_is : (native : Arch) (line : List ℕ) → length line ≤ max_line → IsUtf8 line → LineIs native line (command_at native line)
+line_is native line short utf8 = by_case (command_at native line) refl where
+  by_case : (o : Option Command) → command_at native line ≡ o → LineIs native line o
+  by_case (Some command) e = command_at-some native line command short utf8 e
+  by_case None e = λ command h. none-some command (sym e ∙ command_at-is native line command h)
 
-pub no_order : (native : Arch) (text line : List ℕ) → text ≡ line → fields_at text ≡ None → (order : Order)
-    → IsOrder native line order → ⊥
-no_order native text line same none order h =
-    none-some order (sym (ap (option_and_then (order_from native)) (ap fields_at (sym same) ∙ none)) ∙ order_at-is native line order h)
+pub no_command : (native : Arch) (text line : List ℕ) → text ≡ line → fields_at text ≡ None → (command : Command)
+    → IsCommand native line command → ⊥
+no_command native text line same none command h =
+    none-some command (sym (ap (option_and_then (command_from native)) (ap fields_at (sym same) ∙ none)) ∙ command_at-is native line command h)
 
-pub line_read : (native : Arch) (text line : List ℕ) (fields : List (List ℕ)) (o : Option Order) → text ≡ line → length line ≤ max_line
-    → IsUtf8 line → fields_at text ≡ Some fields → o ≡ order_from native fields → LineIs native line o
+pub line_read : (native : Arch) (text line : List ℕ) (fields : List (List ℕ)) (o : Option Command) → text ≡ line → length line ≤ max_line
+    → IsUtf8 line → fields_at text ≡ Some fields → o ≡ command_from native fields → LineIs native line o
 line_read native text line fields o same short utf8 found read =
-    let P : Option Order → Type 0 = λ x. LineIs native line x in
-    let is : order_at native line ≡ o = ap (option_and_then (order_from native)) (ap fields_at (sym same) ∙ found) ∙ sym read in
+    let P : Option Command → Type 0 = λ x. LineIs native line x in
+    let is : command_at native line ≡ o = ap (option_and_then (command_from native)) (ap fields_at (sym same) ∙ found) ∙ sym read in
     subst P is (line_is native line short utf8)
 
 -- A line and a text mean one thing.
 
-pub one_order : OneOrder
-one_order native line (Some a) (Some b) h g = sym (order_at-is native line a h) ∙ order_at-is native line b g
-one_order native line (Some a) None h g = absurd (g a h)
-one_order native line None (Some b) h g = absurd (h b g)
-one_order native line None None h g = refl
+pub one_command : OneCommand
+one_command native line (Some a) (Some b) h g = sym (command_at-is native line a h) ∙ command_at-is native line b g
+one_command native line (Some a) None h g = absurd (g a h)
+one_command native line None (Some b) h g = absurd (h b g)
+one_command native line None None h g = refl
 
-lines-one : (native : Arch) (lines : List (List ℕ)) (a b : List (Option Order)) → LinesAre native lines a → LinesAre native lines b → a ≡ b
+lines-one : (native : Arch) (lines : List (List ℕ)) (a b : List (Option Command)) → LinesAre native lines a → LinesAre native lines b → a ≡ b
 lines-one native [] [] [] h g = refl
 lines-one native [] [] (y ∷ b) h g = absurd g
 lines-one native [] (x ∷ a) b h g = absurd h
 lines-one native (line ∷ lines) [] b h g = absurd h
 lines-one native (line ∷ lines) (x ∷ a) [] h g = absurd g
 lines-one native (line ∷ lines) (x ∷ a) (y ∷ b) h g =
-    let same : x ≡ y = one_order native line x y h.0 g.0 in
+    let same : x ≡ y = one_command native line x y h.0 g.0 in
     let more : a ≡ b = lines-one native lines a b h.1 g.1 in
     λ i. same i ∷ more i
 

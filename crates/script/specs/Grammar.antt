@@ -1,4 +1,4 @@
--- Which lines order what. Nothing here says how a line is read.
+-- Which lines are which commands. Nothing here says how a line is read.
 use Rattle.std.specs.Prelude.{ℕ, ◌≡◌, ◌==◌, ◌≤◌, ◌<◌, ◌^◌, ◌⊎◌, Bool, true, not, ◌&&◌, List, [], ◌∷◌, ◌++◌, length, Option, Some}
 use Rattle.std.specs.Prelude.{None, codes, IsUtf8}
 use Rattle.std.specs.List.{join_with_byte, list_all}
@@ -7,8 +7,8 @@ use Rattle.call_tables.specs.declared.arch.Arch.{Arch}
 use Rattle.call_tables.specs.declared.arch.Family.{Family}
 use Rattle.call_tables.specs.Arch.{table_of, word_of, family_of}
 use Rattle.call_tables.specs.Table.{number_in}
+use Rattle.script.specs.Commands.{Command, Create, Start, Delete, State, Kill, Call}
 use Rattle.script.specs.Numbers.{IsNumber, AreBytes}
-use Rattle.script.specs.Orders.{Order, Create, Start, Delete, State, Kill, Call}
 
 -- the most bytes of a line, its line feed not counted
 abbrev pub max_line : ℕ
@@ -63,8 +63,8 @@ pub record AreCall (native : Arch) (fields : List (List ℕ)) (task : ℕ) (arch
   pub six : length args ≡ 6
   pub program_is : AreProgram end program
 
--- the fields of an order
-abbrev pub AreFieldsOf : Arch → List (List ℕ) → Order → Type 0
+-- the fields of a command
+abbrev pub AreFieldsOf : Arch → List (List ℕ) → Command → Type 0
 AreFieldsOf native fields (Create id bundle) = fields ≡ codes "create" ∷ id ∷ bundle ∷ []
 AreFieldsOf native fields (Start id) = fields ≡ codes "start" ∷ id ∷ []
 AreFieldsOf native fields (Delete id) = fields ≡ codes "delete" ∷ id ∷ []
@@ -73,16 +73,16 @@ AreFieldsOf native fields (Kill id signal) = (digits : List ℕ) × (fields ≡ 
 AreFieldsOf native fields (Call id task arch nr args program) =
     (rest : List (List ℕ)) × (fields ≡ codes "call" ∷ id ∷ rest) × AreCall native rest task arch nr args program
 
--- the line is this order: a text, not too long, of fields with one space between any two
-pub record IsOrder (native : Arch) (line : List ℕ) (order : Order) : Type 0 where
+-- the line is this command: a text, not too long, of fields with one space between any two
+pub record IsCommand (native : Arch) (line : List ℕ) (command : Command) : Type 0 where
   pub short : length line ≤ max_line
   pub utf8 : IsUtf8 line
   pub fields : List (List ℕ)
   pub joined : line ≡ join_with_byte space fields
   pub each : list_all is_field fields ≡ true
-  pub form : AreFieldsOf native fields order
+  pub form : AreFieldsOf native fields command
 
--- what a line is: an order, or none
-abbrev pub LineIs : Arch → List ℕ → Option Order → Type 0
-LineIs native line (Some order) = IsOrder native line order
-LineIs native line None = (order : Order) → IsOrder native line order → ⊥
+-- what a line is: a command, or none
+abbrev pub LineIs : Arch → List ℕ → Option Command → Type 0
+LineIs native line (Some command) = IsCommand native line command
+LineIs native line None = (command : Command) → IsCommand native line command → ⊥

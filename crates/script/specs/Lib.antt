@@ -1,5 +1,5 @@
 pub mod Numbers
-pub mod Orders
+pub mod Commands
 pub mod Grammar
 pub mod Lines
 pub mod Pairs

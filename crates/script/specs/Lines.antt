@@ -1,9 +1,9 @@
--- The lines of a text, and what they order.
+-- The lines of a text, and the commands that they are.
 use Rattle.std.specs.Prelude.{ℕ, ◌≡◌, true, List, [], ◌∷◌, Option}
 use Rattle.std.specs.List.{join_with_byte, list_all}
 use Rattle.texts.specs.Lines.{line_feed}
 use Rattle.call_tables.specs.declared.arch.Arch.{Arch}
-use Rattle.script.specs.Orders.{Order}
+use Rattle.script.specs.Commands.{Command}
 use Rattle.script.specs.Grammar.{LineIs, lacks}
 
 -- the parts of a text between its line feeds, one at least
@@ -18,14 +18,14 @@ lines_of (b ∷ part) [] = (b ∷ part) ∷ []
 lines_of part (next ∷ more) = part ∷ lines_of next more
 
 -- each line is what stands beside it
-abbrev pub LinesAre : Arch → List (List ℕ) → List (Option Order) → Type 0
+abbrev pub LinesAre : Arch → List (List ℕ) → List (Option Command) → Type 0
 LinesAre native [] [] = Unit {0}
-LinesAre native (line ∷ lines) (order ∷ orders) = LineIs native line order × LinesAre native lines orders
-LinesAre native lines orders = ⊥
+LinesAre native (line ∷ lines) (command ∷ commands) = LineIs native line command × LinesAre native lines commands
+LinesAre native lines commands = ⊥
 
--- the text is these lines, each with its order or with none
-pub record Reads (native : Arch) (text : List ℕ) (orders : List (Option Order)) : Type 0 where
+-- the text is these lines, each with its command or with none
+pub record Reads (native : Arch) (text : List ℕ) (commands : List (Option Command)) : Type 0 where
   pub first : List ℕ
   pub more : List (List ℕ)
   pub parts : Parts text first more
-  pub lines : LinesAre native (lines_of first more) orders
+  pub lines : LinesAre native (lines_of first more) commands

@@ -5,7 +5,7 @@ ghost use Rattle.script.specs.inner.Reading.{fields_at, fields_from};
 
 use arrayvec::ArrayVec;
 
-/// The most fields of an order: with six arguments and a program.
+/// The most fields of a command: with six arguments and a program.
 pub(crate) const MAX_FIELDS: usize = 12;
 
 // Adds a field, unless it is empty or there are too many.

@@ -1,4 +1,4 @@
-//! Scripts: which lines order what.
+//! Scripts: which lines are which commands.
 #![tactic(auto)]
 
 mod fields;
@@ -10,6 +10,6 @@ mod request;
 mod what;
 
 pub use hex::Hex;
-pub use law::{one_order, one_reading};
+pub use law::{one_command, one_reading};
 pub use reading::{MAX_LINE, read_line};
 pub use request::Request;

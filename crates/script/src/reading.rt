@@ -2,8 +2,8 @@
 ghost use Rattle.std.specs.Prelude.{◌≡◌, map};
 ghost use Rattle.std.specs.Option.{option_map};
 ghost use Rattle.script.specs.Grammar.{LineIs};
-ghost use Rattle.script.specs.Requests.{order_of, bytes_of};
-ghost use Rattle.script.specs.inner.Reading.{arguments_at, call_at, next_at, order_from, order_of_more, order_of_three, order_of_two, program_at};
+ghost use Rattle.script.specs.Requests.{bytes_of, command_of};
+ghost use Rattle.script.specs.inner.Reading.{arguments_at, call_at, command_from, command_of_more, command_of_three, command_of_two, next_at, program_at};
 
 use crate::fields::fields_in;
 use crate::hex::Hex;
@@ -75,7 +75,7 @@ fn call<'a>(
     what: &str,
     rest: &[&'a str],
 ) -> Option<Request<'a>>
-    ensures { option_map order_of result ≡ call_at native id.now task.now what.now (map (λ f. f.now) rest.now) }
+    ensures { option_map command_of result ≡ call_at native id.now task.now what.now (map (λ f. f.now) rest.now) }
 {
     let task = number(task)?;
     let (arch, nr) = what_call(native, what)?;
@@ -92,9 +92,9 @@ fn call<'a>(
 }
 
 // What two fields ask for.
-#[tactic(auto, unfolding(crate::specs::inner::Reading::order_of_two))]
+#[tactic(auto, unfolding(crate::specs::inner::Reading::command_of_two))]
 fn of_two<'a>(word: &str, id: &'a str) -> Option<Request<'a>>
-    ensures { option_map order_of result ≡ order_of_two word.now id.now }
+    ensures { option_map command_of result ≡ command_of_two word.now id.now }
 {
     if word == "start" {
         return Some(Request::Start { id });
@@ -109,9 +109,9 @@ fn of_two<'a>(word: &str, id: &'a str) -> Option<Request<'a>>
 }
 
 // What three fields ask for.
-#[tactic(auto, unfolding(crate::specs::inner::Reading::order_of_three))]
+#[tactic(auto, unfolding(crate::specs::inner::Reading::command_of_three))]
 fn of_three<'a>(word: &str, id: &'a str, last: &'a str) -> Option<Request<'a>>
-    ensures { option_map order_of result ≡ order_of_three word.now id.now last.now }
+    ensures { option_map command_of result ≡ command_of_three word.now id.now last.now }
 {
     if word == "create" {
         return Some(Request::Create { id, bundle: last });
@@ -124,7 +124,7 @@ fn of_three<'a>(word: &str, id: &'a str, last: &'a str) -> Option<Request<'a>>
 }
 
 // What more fields ask for.
-#[tactic(auto, unfolding(crate::specs::inner::Reading::order_of_more))]
+#[tactic(auto, unfolding(crate::specs::inner::Reading::command_of_more))]
 fn of_more<'a>(
     native: Arch,
     word: &str,
@@ -133,7 +133,7 @@ fn of_more<'a>(
     what: &str,
     rest: &[&'a str],
 ) -> Option<Request<'a>>
-    ensures { option_map order_of result ≡ order_of_more native word.now id.now task.now what.now (map (λ f. f.now) rest.now) }
+    ensures { option_map command_of result ≡ command_of_more native word.now id.now task.now what.now (map (λ f. f.now) rest.now) }
 {
     if word == "call" {
         return call(native, id, task, what, rest);
@@ -143,7 +143,7 @@ fn of_more<'a>(
 
 // What fields ask for.
 fn request<'a>(native: Arch, fields: &[&'a str]) -> Option<Request<'a>>
-    ensures { option_map order_of result ≡ order_from native (map (λ f. f.now) fields.now) }
+    ensures { option_map command_of result ≡ command_from native (map (λ f. f.now) fields.now) }
 {
     match fields {
         [] => None,
@@ -154,9 +154,9 @@ fn request<'a>(native: Arch, fields: &[&'a str]) -> Option<Request<'a>>
     }
 }
 
-/// What a line asks for, by its bytes without the line feed, or `None` where it is no order.
+/// What a line asks for, by its bytes without the line feed, or `None` where it is no command.
 pub fn read_line(native: Arch, line: &[u8]) -> Option<Request<'_>>
-    ensures { LineIs native line.now (option_map order_of result) }
+    ensures { LineIs native line.now (option_map command_of result) }
 {
     if line.len() > MAX_LINE {
         return None;

@@ -6,15 +6,15 @@ use Rattle.std.proofs.lemmas.Option.{none-some, same_Some}
 use Rattle.cert_check.specs.declared.checked.Checked.{Checked}
 use Rattle.call_record.specs.declared.layout.Record.{Record}
 use Rattle.processes.specs.Attached.{attached_of}
-use Rattle.lifecycle.specs.Orders.{Order, id_of}
-use Rattle.lifecycle.specs.Orders as command
-use Rattle.script.specs.Orders as script
+use Rattle.lifecycle.specs.Commands.{Command, id_of}
+use Rattle.lifecycle.specs.Commands as command
+use Rattle.script.specs.Commands as script
 use Rattle.session.specs.declared.bundles.Bundles.{Bundles}
-use Rattle.session.specs.Commands.{Commands, first_called, named}
+use Rattle.session.specs.Commands.{Means, first_called, named}
 use Rattle.session.specs.inner.Carried.{id_in}
 
--- a command names what its order names
-pub names : (bundles : Bundles) (order : script.Order) (c : Order) → Commands bundles order (Some c) → id_of c ≡ id_in order
+-- a command names what the command of the script names
+pub names : (bundles : Bundles) (asked : script.Command) (c : Command) → Means bundles asked (Some c) → id_of c ≡ id_in asked
 names bundles (script.Create id name) c h = made (first_called name (named bundles)) h where
   made : (o : Option Checked) → Some c ≡ option_map (command.Create id) o → id_of c ≡ id
   made None e = absurd (none-some c (sym e))

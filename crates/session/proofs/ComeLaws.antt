@@ -6,7 +6,7 @@ use Rattle.std.proofs.KnownBytes.{Appends-nil, Consumes-kept, Consumes-nil, Cons
 use Rattle.std.proofs.lemmas.List.{append-nil}
 use Rattle.texts.specs.Lines.{line_feed}
 use Rattle.processes.specs.First.{by_profile, by_program}
-use Rattle.lifecycle.specs.Orders.{Order}
+use Rattle.lifecycle.specs.Commands.{Command}
 use Rattle.lifecycle.specs.Steps.{run}
 use Rattle.lifecycle.specs.Worlds.{First}
 use Rattle.lifecycle.proofs.Headline.{same_first}
@@ -24,7 +24,7 @@ use Rattle.session.proofs.CutLaws.{cut-byte, cut-line, cut_none, ended_are, firs
 
 -- What was read.
 
-read_ended : (bundles : Bundles) (left left' : Option (List ℕ)) (text : List ℕ) (lines : List (List ℕ)) (part : List ℕ) (cs : List (Option Order))
+read_ended : (bundles : Bundles) (left left' : Option (List ℕ)) (text : List ℕ) (lines : List (List ℕ)) (part : List ℕ) (cs : List (Option Command))
     → Consumes left left' text → IsCut text lines part → CommandsAre bundles lines cs → HasRead bundles ended_lines left left' cs
 read_ended bundles left left' text lines part cs taken cut are = record {
   text = text;
@@ -35,7 +35,7 @@ read_ended bundles left left' text lines part cs taken cut are = record {
   each = subst (λ (ls : List (List ℕ)). CommandsAre bundles ls cs) (sym (ended_are lines part)) are;
 }
 
-read_lines : (bundles : Bundles) (left left' : Option (List ℕ)) (text : List ℕ) (lines : List (List ℕ)) (cs : List (Option Order))
+read_lines : (bundles : Bundles) (left left' : Option (List ℕ)) (text : List ℕ) (lines : List (List ℕ)) (cs : List (Option Command))
     → Consumes left left' text → IsCut text lines [] → CommandsAre bundles lines cs → HasRead bundles lines_of left left' cs
 read_lines bundles left left' text lines cs taken cut are = record {
   text = text;
@@ -46,7 +46,7 @@ read_lines bundles left left' text lines cs taken cut are = record {
   each = subst (λ (ls : List (List ℕ)). CommandsAre bundles ls cs) (sym (lines_are lines)) are;
 }
 
-read_last : (bundles : Bundles) (left left' : Option (List ℕ)) (text : List ℕ) (lines : List (List ℕ)) (b : ℕ) (part : List ℕ) (cs : List (Option Order))
+read_last : (bundles : Bundles) (left left' : Option (List ℕ)) (text : List ℕ) (lines : List (List ℕ)) (b : ℕ) (part : List ℕ) (cs : List (Option Command))
     → Consumes left left' text → IsCut text lines (b ∷ part) → CommandsAre bundles (lines ++ (b ∷ part) ∷ []) cs
     → HasRead bundles lines_of left left' cs
 read_last bundles left left' text lines b part cs taken cut are = record {
@@ -60,11 +60,11 @@ read_last bundles left left' text lines b part cs taken cut are = record {
 
 -- What was written.
 
-profiled : (held held' : Option (List ℕ)) (cs : List (Option Order)) → Appends held held' (answer_of by_program cs)
+profiled : (held held' : Option (List ℕ)) (cs : List (Option Command)) → Appends held held' (answer_of by_program cs)
     → Appends held held' (answer_of by_profile cs)
 profiled held held' cs h = subst (λ (t : List ℕ). Appends held held' t) (by_profiles cs) h
 
-writing : (bundles : Bundles) (left left' held held' : Option (List ℕ)) (part : List ℕ) (cs : List (Option Order)) (out : ℕ)
+writing : (bundles : Bundles) (left left' held held' : Option (List ℕ)) (part : List ℕ) (cs : List (Option Command)) (out : ℕ)
     → (b : BreaksOff bundles held held' part cs out) → HasReadWhole bundles left left' (cs ++ b.command ∷ [])
     → StopsWriting bundles left left' held held' out
 writing bundles left left' held held' part cs out b whole =
@@ -79,7 +79,7 @@ writing bundles left left' held held' part cs out b whole =
       told = b.told;
     }
 
-lacking : (bundles : Bundles) (left left' held held' : Option (List ℕ)) (part : List ℕ) (cs : List (Option Order)) (line : ℕ)
+lacking : (bundles : Bundles) (left left' held held' : Option (List ℕ)) (part : List ℕ) (cs : List (Option Command)) (line : ℕ)
     → (b : RunsOut bundles held held' part cs line) → HasReadWhole bundles left left' (cs ++ b.command ∷ [])
     → StopsForMemory bundles left left' held held' line
 lacking bundles left left' held held' part cs line b whole =
@@ -157,7 +157,7 @@ module _ (bundles : Bundles) (s : Standing) (left left' held h : Option (List �
       stands = g.stands;
     }
 
-    whole : (c : Option Order) → CommandIs bundles come.part c → HasReadWhole bundles left left'' (come.commands ++ c ∷ [])
+    whole : (c : Option Command) → CommandIs bundles come.part c → HasReadWhole bundles left left'' (come.commands ++ c ∷ [])
     whole c is =
         inl (read_ended bundles left left'' (come.text ++ line_feed ∷ []) (come.lines
         ++ come.part ∷ []) [] (come.commands ++ c ∷ []) all_taken
@@ -197,7 +197,7 @@ module _ (bundles : Bundles) (s : Standing) (left left' held h : Option (List �
         )
 
     -- a last line without a line feed
-    last : (part : List ℕ) (cs : List (Option Order)) → IsCut come.text come.lines part → (length (kept_of part) ≡ 0 → ⊥)
+    last : (part : List ℕ) (cs : List (Option Command)) → IsCut come.text come.lines part → (length (kept_of part) ≡ 0 → ⊥)
         → CommandsAre bundles (come.lines ++ part ∷ []) cs → HasReadAll bundles left left' cs
     last [] cs cut some are = absurd (some kept-nil)
     last (b ∷ part) cs cut some are = record {
@@ -209,7 +209,7 @@ module _ (bundles : Bundles) (s : Standing) (left left' held h : Option (List �
       filled : length (kept_of come.part) ≡ 0 → ⊥
       filled e = some (ap length come.stands.kept ∙ e)
 
-      all_read : (c : Option Order) → CommandIs bundles come.part c → HasReadAll bundles left left' (come.commands ++ c ∷ [])
+      all_read : (c : Option Command) → CommandIs bundles come.part c → HasReadAll bundles left left' (come.commands ++ c ∷ [])
       all_read c is =
           last come.part (come.commands ++ c ∷ []) come.cut filled
           (are-more bundles come.lines come.part come.commands c come.stands.are is)

@@ -1,12 +1,12 @@
--- What is kept of a line that is too long is no order either.
+-- What is kept of a line that is too long is no command either.
 use Rattle.std.proofs.Common.{◌≡◌, ℕ, ◌≤◌, ◌<◌, inl, inr, List, [], ◌∷◌, ◌++◌, length, refl, ap, sym, subst, ◌∙◌, arith, length-append}
 use Rattle.std.specs.Prelude.{Option, Some, None}
 use Rattle.std.proofs.lemmas.Bool.{cases_lt}
 use Rattle.std.proofs.lemmas.List.{length-take, take-append-le, take_all}
 use Rattle.call_tables.specs.declared.arch.Arch.{Arch}
+use Rattle.script.specs.Commands as script
 use Rattle.script.specs.Grammar.{LineIs}
-use Rattle.script.specs.Orders as script
-use Rattle.lifecycle.specs.Orders.{Order}
+use Rattle.lifecycle.specs.Commands.{Command}
 use Rattle.session.specs.declared.bundles.Bundles.{Bundles}
 use Rattle.session.specs.Commands.{CommandIs}
 use Rattle.session.specs.inner.Cuts.{kept_of}
@@ -14,18 +14,18 @@ use Rattle.session.specs.inner.Cuts.{kept_of}
 kept_all : (part : List ℕ) → length part ≤ 70001 → kept_of part ≡ part
 kept_all part h = take_all 70001 part h
 
-line_kept : (native : Arch) (part : List ℕ) (o : Option script.Order) → LineIs native (kept_of part) o → LineIs native part o
+line_kept : (native : Arch) (part : List ℕ) (o : Option script.Command) → LineIs native (kept_of part) o → LineIs native part o
 line_kept native part o h = elim (cases_lt 70001 (length part)) [ inl long ↦ too_long o h long | inr le ↦ subst (λ (line : List ℕ). LineIs native line o) (kept_all part le) h ] where
-  too_long : (o : Option script.Order) → LineIs native (kept_of part) o → 70001 < length part → LineIs native part o
-  too_long (Some order) h long = absurd (omega (arith, h.short, length-take 70001 part))
-  too_long None h long = λ order g. omega (arith, g.short)
+  too_long : (o : Option script.Command) → LineIs native (kept_of part) o → 70001 < length part → LineIs native part o
+  too_long (Some asked) h long = absurd (omega (arith, h.short, length-take 70001 part))
+  too_long None h long = λ asked g. omega (arith, g.short)
 
 -- it is the same command
-pub kept_is : (bundles : Bundles) (part : List ℕ) (c : Option Order) → CommandIs bundles (kept_of part) c → CommandIs bundles part c
+pub kept_is : (bundles : Bundles) (part : List ℕ) (c : Option Command) → CommandIs bundles (kept_of part) c → CommandIs bundles part c
 kept_is bundles part c h = record {
-  order = h.order;
-  ordered = line_kept bundles.native part h.order h.ordered;
-  commanded = h.commanded;
+  asked = h.asked;
+  is = line_kept bundles.native part h.asked h.is;
+  meant = h.meant;
 }
 
 -- one byte more, where there is room

@@ -6,13 +6,13 @@ use Rattle.call_record.specs.Record.{words}
 use Rattle.call_record.proofs.RecordLemmas.{same_from_words}
 use Rattle.call_tables.specs.declared.arch.Arch.{Arch}
 use Rattle.processes.specs.Attached.{attached_of}
-use Rattle.lifecycle.specs.Orders.{Order}
-use Rattle.lifecycle.specs.Orders as command
-use Rattle.script.specs.Orders as script
+use Rattle.lifecycle.specs.Commands.{Command}
+use Rattle.lifecycle.specs.Commands as command
+use Rattle.script.specs.Commands as script
 use Rattle.script.specs.Lines.{LinesAre, Reads, lines_of}
 use Rattle.script.specs.Laws.{OneReading}
 use Rattle.session.specs.declared.bundles.Bundles.{Bundles}
-use Rattle.session.specs.Commands.{Commands, CommandsAre, IsRecordOf, OrderedIs}
+use Rattle.session.specs.Commands.{CommandsAre, IsRecordOf, LineMeans, Means}
 use Rattle.session.specs.Laws.{OneScript}
 
 -- a call has one record
@@ -24,59 +24,59 @@ one_record arch nr args a b h g =
     same_from_words a b (same_words a b (h.number ∙ sym g.number) (h.machine ∙ sym g.machine) (h.address
     ∙ sym g.address) (h.arguments ∙ sym g.arguments))
 
--- an order is one command
-one_command : (bundles : Bundles) (o : script.Order) (a b : Option Order) → Commands bundles o a → Commands bundles o b → a ≡ b
-one_command bundles (script.Create id name) a b h g = h ∙ sym g
-one_command bundles (script.Start id) a b h g = h ∙ sym g
-one_command bundles (script.Delete id) a b h g = h ∙ sym g
-one_command bundles (script.State id) a b h g = h ∙ sym g
-one_command bundles (script.Kill id signal) a b h g = h ∙ sym g
-one_command bundles (script.Call id task arch nr args program) a b h g =
+-- a command of a script means one command at most
+one_meaning : (bundles : Bundles) (o : script.Command) (a b : Option Command) → Means bundles o a → Means bundles o b → a ≡ b
+one_meaning bundles (script.Create id name) a b h g = h ∙ sym g
+one_meaning bundles (script.Start id) a b h g = h ∙ sym g
+one_meaning bundles (script.Delete id) a b h g = h ∙ sym g
+one_meaning bundles (script.State id) a b h g = h ∙ sym g
+one_meaning bundles (script.Kill id signal) a b h g = h ∙ sym g
+one_meaning bundles (script.Call id task arch nr args program) a b h g =
     let same : h.0 ≡ g.0 = one_record arch nr args h.0 g.0 h.1 g.1 in
     h.2 ∙ (ap (λ (r : Record). Some (command.Call id task r (attached_of program))) same ∙ sym g.2)
 
-one_ordered : (bundles : Bundles) (o : Option script.Order) (a b : Option Order) → OrderedIs bundles o a → OrderedIs bundles o b → a ≡ b
-one_ordered bundles None a b h g = h ∙ sym g
-one_ordered bundles (Some o) a b h g = one_command bundles o a b h g
+line_means_one : (bundles : Bundles) (o : Option script.Command) (a b : Option Command) → LineMeans bundles o a → LineMeans bundles o b → a ≡ b
+line_means_one bundles None a b h g = h ∙ sym g
+line_means_one bundles (Some o) a b h g = one_meaning bundles o a b h g
 
--- each order is the command beside it
-abbrev AllOrdered : Bundles → List (Option script.Order) → List (Option Order) → Type 0
-AllOrdered bundles [] [] = Unit {0}
-AllOrdered bundles (o ∷ os) (c ∷ cs) = OrderedIs bundles o c × AllOrdered bundles os cs
-AllOrdered bundles os cs = ⊥
+-- each means the command beside it
+abbrev AllMean : Bundles → List (Option script.Command) → List (Option Command) → Type 0
+AllMean bundles [] [] = Unit {0}
+AllMean bundles (o ∷ os) (c ∷ cs) = LineMeans bundles o c × AllMean bundles os cs
+AllMean bundles os cs = ⊥
 
-all_one : (bundles : Bundles) (os : List (Option script.Order)) (a b : List (Option Order))
-    → AllOrdered bundles os a → AllOrdered bundles os b → a ≡ b
+all_one : (bundles : Bundles) (os : List (Option script.Command)) (a b : List (Option Command))
+    → AllMean bundles os a → AllMean bundles os b → a ≡ b
 all_one bundles [] [] [] h g = refl
 all_one bundles [] [] (y ∷ b) h g = absurd g
 all_one bundles [] (x ∷ a) b h g = absurd h
 all_one bundles (o ∷ os) [] b h g = absurd h
 all_one bundles (o ∷ os) (x ∷ a) [] h g = absurd g
 all_one bundles (o ∷ os) (x ∷ a) (y ∷ b) h g =
-    let same : x ≡ y = one_ordered bundles o x y h.0 g.0 in
+    let same : x ≡ y = line_means_one bundles o x y h.0 g.0 in
     let more : a ≡ b = all_one bundles os a b h.1 g.1 in
     cc
 
--- the orders behind commands
-record Behind (bundles : Bundles) (lines : List (List ℕ)) (cs : List (Option Order)) : Type 0 where
-  pub orders : List (Option script.Order)
-  pub are : LinesAre bundles.native lines orders
-  pub each : AllOrdered bundles orders cs
+-- the commands of a script behind those of a runtime
+record Behind (bundles : Bundles) (lines : List (List ℕ)) (cs : List (Option Command)) : Type 0 where
+  pub asked : List (Option script.Command)
+  pub are : LinesAre bundles.native lines asked
+  pub each : AllMean bundles asked cs
 
-behind : (bundles : Bundles) (lines : List (List ℕ)) (cs : List (Option Order)) → CommandsAre bundles lines cs → Behind bundles lines cs
-behind bundles [] [] h = record { orders = []; are = h; each = h }
+behind : (bundles : Bundles) (lines : List (List ℕ)) (cs : List (Option Command)) → CommandsAre bundles lines cs → Behind bundles lines cs
+behind bundles [] [] h = record { asked = []; are = h; each = h }
 behind bundles [] (c ∷ cs) h = absurd h
 behind bundles (line ∷ lines) [] h = absurd h
 behind bundles (line ∷ lines) (c ∷ cs) h =
     let rest = behind bundles lines cs h.1 in
-    record { orders = h.0.order ∷ rest.orders; are = (h.0.ordered, rest.are); each = (h.0.commanded, rest.each) }
+    record { asked = h.0.asked ∷ rest.asked; are = (h.0.is, rest.are); each = (h.0.meant, rest.each) }
 
 pub one_script : OneReading → OneScript
 one_script one bundles text a b h g =
     let x = behind bundles (lines_of h.first h.more) a h.each in
     let y = behind bundles (lines_of g.first g.more) b g.each in
-    let left : Reads bundles.native text x.orders = record { first = h.first; more = h.more; parts = h.parts; lines = x.are } in
-    let right : Reads bundles.native text y.orders = record { first = g.first; more = g.more; parts = g.parts; lines = y.are } in
-    let same : x.orders ≡ y.orders = one bundles.native text x.orders y.orders left right in
-    let Q : List (Option script.Order) → Type 0 = λ os. AllOrdered bundles os a in
-    all_one bundles y.orders a b (subst Q same x.each) y.each
+    let left : Reads bundles.native text x.asked = record { first = h.first; more = h.more; parts = h.parts; lines = x.are } in
+    let right : Reads bundles.native text y.asked = record { first = g.first; more = g.more; parts = g.parts; lines = y.are } in
+    let same : x.asked ≡ y.asked = one bundles.native text x.asked y.asked left right in
+    let Q : List (Option script.Command) → Type 0 = λ os. AllMean bundles os a in
+    all_one bundles y.asked a b (subst Q same x.each) y.each

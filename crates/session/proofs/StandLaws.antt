@@ -4,7 +4,7 @@ use Rattle.std.specs.Prelude.{Option}
 use Rattle.std.specs.Io.KnownBytes.{Appends}
 use Rattle.std.proofs.KnownBytes.{Appends-trans}
 use Rattle.std.proofs.Math.Seq.{take-append-add}
-use Rattle.lifecycle.specs.Orders.{Order}
+use Rattle.lifecycle.specs.Commands.{Command}
 use Rattle.lifecycle.specs.Steps.{run}
 use Rattle.lifecycle.specs.Worlds.{World}
 use Rattle.processes.specs.First.{by_program}
@@ -18,27 +18,27 @@ use Rattle.session.proofs.AnswerLaws.{answer-more, are-more, counted-add, world-
 use Rattle.session.proofs.KeptLaws.{kept_is}
 
 -- the line that is read now
-module _ (bundles : Bundles) (s : Standing) (held h : Option (List ℕ)) (lines : List (List ℕ)) (part : List ℕ) (cs : List (Option Order)) (st : Stands bundles s held h lines part cs) where
+module _ (bundles : Bundles) (s : Standing) (held h : Option (List ℕ)) (lines : List (List ℕ)) (part : List ℕ) (cs : List (Option Command)) (st : Stands bundles s held h lines part cs) where
   -- its number
   numbered : counted (s.count + 1) ≡ counted (length cs + 1)
   numbered = ap (λ n. counted (n + 1)) st.count ∙ counted-add (length cs) 1
 
-  abbrev line_of : Option Order → List ℕ
+  abbrev line_of : Option Command → List ℕ
   line_of c = answer_line by_program (counted (s.count + 1)) c s.world
 
-  grown : (c : Option Order) → answer_of by_program (cs ++ c ∷ []) ≡ answer_of by_program cs ++ line_of c
+  grown : (c : Option Command) → answer_of by_program (cs ++ c ∷ []) ≡ answer_of by_program cs ++ line_of c
   grown c =
       answer-more by_program cs c
       ∙ (ap (λ n. answer_of by_program cs ++ answer_line by_program n c (run by_program (commands_of cs) []).1) (sym numbered)
       ∙ ap (λ (w : World). answer_of by_program cs ++ answer_line by_program (counted (s.count + 1)) c w) (sym st.world))
 
-  is_part : (c : Option Order) → CommandIs bundles s.kept c → CommandIs bundles part c
+  is_part : (c : Option Command) → CommandIs bundles s.kept c → CommandIs bundles part c
   is_part c is = kept_is bundles part c (subst (λ (k : List ℕ). CommandIs bundles k c) st.kept is)
 
-  total : (c : Option Order) (m : ℕ) → counted (s.out + m) ≡ counted (length (answer_of by_program cs) + m)
+  total : (c : Option Command) (m : ℕ) → counted (s.out + m) ≡ counted (length (answer_of by_program cs) + m)
   total c m = ap (λ n. counted (n + m)) st.out ∙ counted-add (length (answer_of by_program cs)) m
 
-  pub went_on : (t : Standing) (h' : Option (List ℕ)) (c : Option Order) (n : ℕ) → CommandIs bundles s.kept c → Appends h h' (line_of c)
+  pub went_on : (t : Standing) (h' : Option (List ℕ)) (c : Option Command) (n : ℕ) → CommandIs bundles s.kept c → Appends h h' (line_of c)
       → n ≡ length (line_of c) → t.world ≡ world_after by_program c s.world → t.kept ≡ [] → t.count ≡ counted (s.count + 1)
       → t.out ≡ counted (s.out + n) → GoesOn bundles t held h' lines part cs
   went_on t h' c n is written len world kept count out = record {
@@ -55,7 +55,7 @@ module _ (bundles : Bundles) (s : Standing) (held h : Option (List ℕ)) (lines 
     };
   }
 
-  pub broke_off : (h' : Option (List ℕ)) (c : Option Order) (m out : ℕ) → CommandIs bundles s.kept c → Appends h h' (take m (line_of c))
+  pub broke_off : (h' : Option (List ℕ)) (c : Option Command) (m out : ℕ) → CommandIs bundles s.kept c → Appends h h' (take m (line_of c))
       → m < length (line_of c) → out ≡ counted (s.out + m) → BreaksOff bundles held h' part cs out
   broke_off h' c m out is written short told = record {
     command = c;
@@ -70,7 +70,7 @@ module _ (bundles : Bundles) (s : Standing) (held h : Option (List ℕ)) (lines 
     told = told ∙ total c m;
   }
 
-  pub ran_out : (c : Option Order) (line : ℕ) → CommandIs bundles s.kept c
+  pub ran_out : (c : Option Command) (line : ℕ) → CommandIs bundles s.kept c
       → line ≡ counted (s.count + 1) → WantsMemory c s.world → RunsOut bundles held h part cs line
   ran_out c line is told wants = record {
     command = c;

@@ -12,15 +12,15 @@ use Rattle.lifecycle.specs.declared.command.Reply.TheVariants.{Accepted, Refused
 use Rattle.lifecycle.specs.declared.command.Status.{Status}
 use Rattle.lifecycle.specs.declared.command.Status.TheVariants.{Created, Running, Stopped}
 use Rattle.lifecycle.specs.declared.fault.Refusal.TheVariants.{NoContainer}
-use Rattle.lifecycle.specs.Orders.{Order}
-use Rattle.lifecycle.specs.Orders.Order.{Create, Start, Kill, Delete, State, Call}
+use Rattle.lifecycle.specs.Commands.{Command}
+use Rattle.lifecycle.specs.Commands.Command.{Create, Start, Kill, Delete, State, Call}
 use Rattle.lifecycle.specs.Steps.{acted, call, create, delete, first_call, kill, known, start, start_reply, step}
 use Rattle.lifecycle.specs.Worlds.{Container, First, World, container_at}
 use Rattle.texts.specs.Lines.{space}
 use Rattle.call_tables.specs.declared.arch.Arch.{Arch}
-use Rattle.script.specs.Grammar.{IsOrder}
+use Rattle.script.specs.Commands as script
+use Rattle.script.specs.Grammar.{IsCommand}
 use Rattle.script.specs.Numbers.{AreBytes}
-use Rattle.script.specs.Orders as script
 use Rattle.session.specs.inner.Carried.{Fits}
 use Rattle.session.specs.Wants.{TellsState}
 
@@ -78,7 +78,7 @@ not_told : (r : Reply) (s : Status) → tells r ≡ false → IsIn s ≡ r → �
 not_told r s h e = let no_way : true ≡ false = ap tells e ∙ h in absurd (cc)
 
 -- a state is told only of a container that is there
-pub state_told : (F : First) (o : Order) (w : World) (s : Status) → IsIn s ≡ (step F o w).0 → TellsState o w
+pub state_told : (F : First) (o : Command) (w : World) (s : Status) → IsIn s ≡ (step F o w).0 → TellsState o w
 state_told F (Create id given) w s e =
     not_told (step F (Create id given) w).0 s (create_told (is_id id) F given (container_at id w) _ refl) e
 state_told F (Start id) w s e =
@@ -119,7 +119,7 @@ two_each (x ∷ y ∷ ds) [] h = absurd h
 two_each (x ∷ y ∷ ds) (b ∷ bytes) h = omega (arith, two_each ds bytes h.3)
 
 -- the program of a line has at most half as many bytes as a line
-pub program_fits : (native : Arch) (line : List ℕ) (order : script.Order) → IsOrder native line order → Fits order
+pub program_fits : (native : Arch) (line : List ℕ) (asked : script.Command) → IsCommand native line asked → Fits asked
 program_fits native line (script.Create id name) h = tt
 program_fits native line (script.Start id) h = tt
 program_fits native line (script.Delete id) h = tt

@@ -7,9 +7,9 @@ use Rattle.call_record.specs.declared.layout.Record.{Record}
 use Rattle.cert_check.specs.declared.checked.Checked.{Checked}
 use Rattle.processes.specs.Attached.{attached_of}
 use Rattle.processes.specs.Views.{same_text}
-use Rattle.lifecycle.specs.Orders.{Order}
-use Rattle.lifecycle.specs.Orders as command
-use Rattle.script.specs.Orders as script
+use Rattle.lifecycle.specs.Commands.{Command}
+use Rattle.lifecycle.specs.Commands as command
+use Rattle.script.specs.Commands as script
 use Rattle.script.specs.Grammar.{LineIs}
 use Rattle.session.specs.declared.bundles.Bundles.{Bundles}
 
@@ -29,29 +29,29 @@ pub record IsRecordOf (arch : Arch) (nr : ℕ) (args : List ℕ) (r : Record) : 
   pub address : r.ip ≡ 0
   pub arguments : r.args ≡ args
 
--- what an order of a script commands; with a bundle that is not there it is no command
-abbrev pub Commands : Bundles → script.Order → Option Order → Type 0
-Commands bundles (script.Create id name) c = c ≡ option_map (command.Create id) (first_called name (named bundles))
-Commands bundles (script.Start id) c = c ≡ Some (command.Start id)
-Commands bundles (script.Delete id) c = c ≡ Some (command.Delete id)
-Commands bundles (script.State id) c = c ≡ Some (command.State id)
-Commands bundles (script.Kill id signal) c = c ≡ Some (command.Kill id signal)
-Commands bundles (script.Call id task arch nr args program) c =
+-- what a command of a script means to a runtime; with a bundle that is not there it means no command
+abbrev pub Means : Bundles → script.Command → Option Command → Type 0
+Means bundles (script.Create id name) c = c ≡ option_map (command.Create id) (first_called name (named bundles))
+Means bundles (script.Start id) c = c ≡ Some (command.Start id)
+Means bundles (script.Delete id) c = c ≡ Some (command.Delete id)
+Means bundles (script.State id) c = c ≡ Some (command.State id)
+Means bundles (script.Kill id signal) c = c ≡ Some (command.Kill id signal)
+Means bundles (script.Call id task arch nr args program) c =
     (r : Record) × IsRecordOf arch nr args r × (c ≡ Some (command.Call id task r (attached_of program)))
 
--- no order is no command
-abbrev pub OrderedIs : Bundles → Option script.Order → Option Order → Type 0
-OrderedIs bundles None c = c ≡ None
-OrderedIs bundles (Some order) c = Commands bundles order c
+-- what a line means: no command where it is none of a script
+abbrev pub LineMeans : Bundles → Option script.Command → Option Command → Type 0
+LineMeans bundles None c = c ≡ None
+LineMeans bundles (Some asked) c = Means bundles asked c
 
 -- a line is this command, or none
-pub record CommandIs (bundles : Bundles) (line : List ℕ) (c : Option Order) : Type 0 where
-  pub order : Option script.Order
-  pub ordered : LineIs bundles.native line order
-  pub commanded : OrderedIs bundles order c
+pub record CommandIs (bundles : Bundles) (line : List ℕ) (c : Option Command) : Type 0 where
+  pub asked : Option script.Command
+  pub is : LineIs bundles.native line asked
+  pub meant : LineMeans bundles asked c
 
 -- each line is what stands beside it
-abbrev pub CommandsAre : Bundles → List (List ℕ) → List (Option Order) → Type 0
+abbrev pub CommandsAre : Bundles → List (List ℕ) → List (Option Command) → Type 0
 CommandsAre bundles [] [] = Unit {0}
 CommandsAre bundles (line ∷ lines) (c ∷ cs) = CommandIs bundles line c × CommandsAre bundles lines cs
 CommandsAre bundles lines cs = ⊥

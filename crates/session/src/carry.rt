@@ -1,11 +1,11 @@
-//! Orders, carried out.
+//! Commands of a script, carried out.
 ghost use Rattle.std.specs.Prelude.{◌≡◌, ◌≤◌, IfOk, OnErr, []};
 ghost use Rattle.std.specs.Option.{option_map};
 ghost use Rattle.std.specs.Vec.{vec_capacity};
-ghost use Rattle.lifecycle.specs.Orders as ordered;
+ghost use Rattle.lifecycle.specs.Commands as commands;
 ghost use Rattle.lifecycle.specs.Views.{world_of};
-ghost use Rattle.script.specs.Requests.{bytes_of, order_of};
-ghost use Rattle.session.specs.Commands.{Commands, IsRecordOf};
+ghost use Rattle.script.specs.Requests as requests;
+ghost use Rattle.session.specs.Commands.{IsRecordOf, Means};
 ghost use Rattle.session.specs.Wants.{WantsMemory};
 ghost use Rattle.session.specs.inner.Carried.{CarriesOut, Fits, Replies, id_in, program_in};
 
@@ -29,7 +29,7 @@ pub(crate) struct Session<'a> {
 
 /// The id that a request names.
 pub(crate) fn id_named<'a>(request: &Request<'a>) -> &'a str
-    ensures { result.now ≡ id_in (order_of request.now) }
+    ensures { result.now ≡ id_in (requests.command_of request.now) }
 {
     match *request {
         Request::Create { id, .. } => id,
@@ -55,7 +55,7 @@ fn record_of(arch: Arch, nr: u32, args: [u64; 6]) -> Record
 
 // The program beside what is asked for, if it is a call with one.
 fn program_beside<'a>(request: &Request<'a>) -> Option<Hex<'a>>
-    ensures { option_map bytes_of result ≡ program_in (order_of request.now) }
+    ensures { option_map requests.bytes_of result ≡ program_in (requests.command_of request.now) }
 {
     match *request {
         Request::Create { .. } => None,
@@ -73,8 +73,8 @@ fn command_of<'a, 'c, 'r: 'c>(
     request: &Request<'r>,
     program: Option<&'c [u8]>,
 ) -> Option<Command<'a, 'c>>
-    requires { option_map (λ p. p.now) program ≡ program_in (order_of request.now) }
-    ensures { Commands bundles.now (order_of request.now) (option_map ordered.order_of result) }
+    requires { option_map (λ p. p.now) program ≡ program_in (requests.command_of request.now) }
+    ensures { Means bundles.now (requests.command_of request.now) (option_map commands.command_of result) }
 {
     match *request {
         Request::Create { id, bundle } => Some(Command::Create(id, bundles.find(bundle)?)),
@@ -98,9 +98,9 @@ fn obey<'a>(
     runtime: &mut Runtime<'a, SharedTable>,
     command: Option<Command<'a, '_>>,
 ) -> Result<Option<Reply>, AllocError>
-    ensures done { IfOk result (Replies (option_map ordered.order_of command.entry) (world_of runtime.old) (world_of runtime.new)) }
+    ensures done { IfOk result (Replies (option_map commands.command_of command.entry) (world_of runtime.old) (world_of runtime.new)) }
     ensures kept { OnErr result (world_of runtime.new ≡ world_of runtime.old) }
-    ensures wants { OnErr result (WantsMemory (option_map ordered.order_of command.entry) (world_of runtime.old)) }
+    ensures wants { OnErr result (WantsMemory (option_map commands.command_of command.entry) (world_of runtime.old)) }
 {
     match command {
         None => Ok(None),
@@ -124,9 +124,9 @@ impl<'a> Session<'a> {
 
     /// Carries out what a line asks for, if it is a command.
     pub(crate) fn carry_out(&mut self, request: &Request<'_>) -> Result<Option<Reply>, AllocError>
-        requires { Fits (order_of request.now) }
+        requires { Fits (requests.command_of request.now) }
         ensures bundles { self.new.bundles ≡ self.old.bundles }
-        ensures done { CarriesOut self.old.bundles (order_of request.now) (world_of self.old.runtime) (world_of self.new.runtime) result }
+        ensures done { CarriesOut self.old.bundles (requests.command_of request.now) (world_of self.old.runtime) (world_of self.new.runtime) result }
     {
         match program_beside(request) {
             None => obey(&mut self.runtime, command_of(&self.bundles, request, None)),

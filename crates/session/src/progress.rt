@@ -35,7 +35,7 @@ impl<'a> Progress<'a> {
     ghost use Rattle.session.specs.inner.Cuts.{IsCut, kept_of};
     ghost use Rattle.session.specs.inner.Lines.{BreaksOff, GoesOn, HasCome, RunsOut, Standing, Stands};
     ghost use Rattle.session.specs.inner.Progress.{standing_of};
-    ghost use Rattle.lifecycle.specs.Orders.{Order};
+    ghost use Rattle.lifecycle.specs.Commands.{Command};
 
     /// A script of which nothing was read, with room for a line and for its longest program.
     pub(crate) fn new(alloc: Global, bundles: Bundles<'a>) -> Result<Progress<'a>, AllocError>
@@ -71,14 +71,14 @@ impl<'a> Progress<'a> {
     // The line is at its end: it is carried out and answered.
     fn end_line<S: Sink>(&mut self, sink: &mut S) -> Result<(), ScriptFault>
         ensures bundles { self.new.session.bundles ≡ self.old.session.bundles }
-        ensures ok { (held : Option (List ℕ)) (lines : List (List ℕ)) (part : List ℕ) (commands : List (Option Order))
+        ensures ok { (held : Option (List ℕ)) (lines : List (List ℕ)) (part : List ℕ) (commands : List (Option Command))
             → Stands self.old.session.bundles (standing_of self.old) held (S.held sink.old) lines part commands
             → OnOk result (GoesOn self.old.session.bundles (standing_of self.new) held (S.held sink.new) lines part commands) }
-        ensures write { (held : Option (List ℕ)) (lines : List (List ℕ)) (part : List ℕ) (commands : List (Option Order)) (out : ℕ)
+        ensures write { (held : Option (List ℕ)) (lines : List (List ℕ)) (part : List ℕ) (commands : List (Option Command)) (out : ℕ)
             → Stands self.old.session.bundles (standing_of self.old) held (S.held sink.old) lines part commands
             → result ≡ Err (fault.Write out)
             → BreaksOff self.old.session.bundles held (S.held sink.new) part commands out }
-        ensures memory { (held : Option (List ℕ)) (lines : List (List ℕ)) (part : List ℕ) (commands : List (Option Order)) (line : ℕ)
+        ensures memory { (held : Option (List ℕ)) (lines : List (List ℕ)) (part : List ℕ) (commands : List (Option Command)) (line : ℕ)
             → Stands self.old.session.bundles (standing_of self.old) held (S.held sink.old) lines part commands
             → result ≡ Err (fault.Memory line)
             → RunsOut self.old.session.bundles held (S.held sink.new) part commands line }

@@ -10,9 +10,9 @@ use Rattle.call_tables.specs.declared.arch.Arch.{Arch}
 use Rattle.call_tables.specs.declared.arch.Family.{Family}
 use Rattle.call_tables.specs.Arch.{table_of, family_of, same_family, machine_called}
 use Rattle.call_tables.specs.Table.{number_in}
+use Rattle.script.specs.Commands.{Command, Create, Start, Delete, State, Kill, Call}
 use Rattle.script.specs.Grammar.{colon}
 use Rattle.script.specs.Pairs.{is_paired, spelled_bytes}
-use Rattle.script.specs.Orders.{Order, Create, Start, Delete, State, Kill, Call}
 
 infixl 10 ◌>>=◌
 abbrev pub ◌>>=◌ : {A B : Type 0} → Option A → (A → Option B) → Option B
@@ -78,7 +78,7 @@ program_at (f ∷ digits ∷ []) =
     if bytes_eq f mark then if is_paired digits then Some (Some (spelled_bytes digits)) else None else None
 program_at (f ∷ digits ∷ g ∷ fields) = None
 
-unfoldable pub call_at : Arch → List ℕ → List ℕ → List ℕ → List (List ℕ) → Option Order
+unfoldable pub call_at : Arch → List ℕ → List ℕ → List ℕ → List (List ℕ) → Option Command
 call_at native id task what rest = do
   t ← number_at task
   w ← what_at native what
@@ -86,34 +86,34 @@ call_at native id task what rest = do
   p ← program_at args.1
   Some (Call id t w.0 w.1 args.0 p)
 
--- an order of two fields
-unfoldable pub order_of_two : List ℕ → List ℕ → Option Order
-order_of_two word id =
+-- a command of two fields
+unfoldable pub command_of_two : List ℕ → List ℕ → Option Command
+command_of_two word id =
     if bytes_eq word (codes "start") then Some (Start id)
     else if bytes_eq word (codes "delete") then Some (Delete id)
     else if bytes_eq word (codes "state") then Some (State id)
     else None
 
--- an order of three
-unfoldable pub order_of_three : List ℕ → List ℕ → List ℕ → Option Order
-order_of_three word id last =
+-- a command of three
+unfoldable pub command_of_three : List ℕ → List ℕ → List ℕ → Option Command
+command_of_three word id last =
     if bytes_eq word (codes "create") then Some (Create id last)
     else if bytes_eq word (codes "kill") then option_map (Kill id) (number_at last)
     else None
 
--- an order of more
-unfoldable pub order_of_more : Arch → List ℕ → List ℕ → List ℕ → List ℕ → List (List ℕ) → Option Order
-order_of_more native word id task what rest = if bytes_eq word (codes "call") then call_at native id task what rest else None
+-- a command of more
+unfoldable pub command_of_more : Arch → List ℕ → List ℕ → List ℕ → List ℕ → List (List ℕ) → Option Command
+command_of_more native word id task what rest = if bytes_eq word (codes "call") then call_at native id task what rest else None
 
--- the order of fields
-abbrev pub order_from : Arch → List (List ℕ) → Option Order
-order_from native [] = None
-order_from native (word ∷ []) = None
-order_from native (word ∷ id ∷ []) = order_of_two word id
-order_from native (word ∷ id ∷ last ∷ []) = order_of_three word id last
-order_from native (word ∷ id ∷ task ∷ what ∷ rest) = order_of_more native word id task what rest
+-- the command of fields
+abbrev pub command_from : Arch → List (List ℕ) → Option Command
+command_from native [] = None
+command_from native (word ∷ []) = None
+command_from native (word ∷ id ∷ []) = command_of_two word id
+command_from native (word ∷ id ∷ last ∷ []) = command_of_three word id last
+command_from native (word ∷ id ∷ task ∷ what ∷ rest) = command_of_more native word id task what rest
 
--- the most fields of an order: with six arguments and a program
+-- the most fields of a command: with six arguments and a program
 abbrev pub max_fields : ℕ
 max_fields = 12
 
@@ -132,6 +132,6 @@ pieces text = slice_split (λ b. b == 32) text
 abbrev pub fields_at : List ℕ → Option (List (List ℕ))
 fields_at text = fields_from [] (pieces text)
 
--- the order of a text
-abbrev pub order_at : Arch → List ℕ → Option Order
-order_at native text = option_and_then (order_from native) (fields_at text)
+-- the command of a text
+abbrev pub command_at : Arch → List ℕ → Option Command
+command_at native text = option_and_then (command_from native) (fields_at text)

@@ -2,7 +2,7 @@
 use Rattle.std.specs.Prelude.{ℕ, ◌≡◌, ◌+◌, ◌<◌, ◌≤◌, ◌++◌, List, [], ◌∷◌, Option, length, take}
 use Rattle.std.specs.Io.KnownBytes.{Appends, Consumes}
 use Rattle.processes.specs.First.{by_program}
-use Rattle.lifecycle.specs.Orders.{Order}
+use Rattle.lifecycle.specs.Commands.{Command}
 use Rattle.lifecycle.specs.Steps.{run}
 use Rattle.lifecycle.specs.Worlds.{World}
 use Rattle.session.specs.declared.bundles.Bundles.{Bundles}
@@ -20,7 +20,7 @@ pub record Standing : Type 0 where
 
 -- these lines were answered, and this is the part of a line behind them; what the sink held before, and holds
 pub record Stands (bundles : Bundles) (s : Standing) (held held' : Option (List ℕ)) (lines : List (List ℕ)) (part : List ℕ)
-    (commands : List (Option Order)) : Type 0 where
+    (commands : List (Option Command)) : Type 0 where
   pub are : CommandsAre bundles lines commands
   pub world : s.world ≡ (run by_program (commands_of commands) []).1
   pub kept : s.kept ≡ kept_of part
@@ -30,14 +30,14 @@ pub record Stands (bundles : Bundles) (s : Standing) (held held' : Option (List 
 
 -- one line more was answered
 pub record GoesOn (bundles : Bundles) (s : Standing) (held held' : Option (List ℕ)) (lines : List (List ℕ)) (part : List ℕ)
-    (commands : List (Option Order)) : Type 0 where
-  pub command : Option Order
+    (commands : List (Option Command)) : Type 0 where
+  pub command : Option Command
   pub stands : Stands bundles s held held' (lines ++ part ∷ []) [] (commands ++ command ∷ [])
 
 -- of the answer to the line behind them a beginning was written, and of all answers so many bytes
-pub record BreaksOff (bundles : Bundles) (held held' : Option (List ℕ)) (part : List ℕ) (commands : List (Option Order))
+pub record BreaksOff (bundles : Bundles) (held held' : Option (List ℕ)) (part : List ℕ) (commands : List (Option Command))
     (out : ℕ) : Type 0 where
-  pub command : Option Order
+  pub command : Option Command
   pub is : CommandIs bundles part command
   pub n : ℕ
   pub written : Appends held held' (take n (answer_of by_program (commands ++ command ∷ [])))
@@ -46,9 +46,9 @@ pub record BreaksOff (bundles : Bundles) (held held' : Option (List ℕ)) (part 
   pub told : out ≡ counted n
 
 -- there was no memory for the line behind them
-pub record RunsOut (bundles : Bundles) (held held' : Option (List ℕ)) (part : List ℕ) (commands : List (Option Order))
+pub record RunsOut (bundles : Bundles) (held held' : Option (List ℕ)) (part : List ℕ) (commands : List (Option Command))
     (line : ℕ) : Type 0 where
-  pub command : Option Order
+  pub command : Option Command
   pub is : CommandIs bundles part command
   pub written : Appends held held' (answer_of by_program commands)
   pub told : line ≡ counted (length commands + 1)
@@ -61,5 +61,5 @@ pub record HasCome (bundles : Bundles) (s : Standing) (left left' held held' : O
   pub lines : List (List ℕ)
   pub part : List ℕ
   pub cut : IsCut text lines part
-  pub commands : List (Option Order)
+  pub commands : List (Option Command)
   pub stands : Stands bundles s held held' lines part commands

@@ -13,7 +13,7 @@ use Rattle.certify.specs.inner.Made.{StandsAt}
 use Rattle.certify.specs.inner.Store.{known_at}
 use Rattle.certify.proofs.NodeLaws.{nodes_keep}
 use Rattle.certify.proofs.LeafLaws.{ruled_out, zero_agrees}
-use Rattle.certify.proofs.RoomLaws.{past_machine, room_no, room_yes, tokens_total}
+use Rattle.certify.proofs.RoomLaws.{made_within_if, past_machine, room_no, room_yes, tokens_total}
 use Rattle.certify.proofs.GrowLaws.{longer_than, made_fork}
 use Rattle.certify.proofs.WayLaws.{at_child, few_known, foreign_agrees_there, listed_at, no_child, none_left, not_bits, only_bits}
 use Rattle.certify.proofs.WayLaws.{new_there, out_child, out_more, stays_short, yes_child}
@@ -72,6 +72,17 @@ tokens-requires t c =
         ),
       ),
     )
+
+pub returns-then-from-to-clause-made : goal.returns-then-from-to-clause-made
+returns-then-from-to-clause-made t c =
+    let policy = c.args.profile.now in
+    let s = c.args.store.now in
+    let calls = inside 512 policy.machines (known_at s c.args.place) in
+    let here : slice_get policy.machines c.args.at ≡ Some c.in-Some-machine_at.arch = sym c.in-Some-machine_at.ensures.found in
+    let within = slice_get_within policy.machines c.args.at c.in-Some-machine_at.arch here in
+    made_within_if policy (insns c.args.program.now) s c.tokens.new.store c.args.place
+    (return_cost policy.machines (c.args.at + 1) calls) (return_cost policy.machines c.args.at calls) c.tokens.result
+    (λ meant. past_machine policy.machines c.args.at calls within) c.tokens.ensures.made
 
 pub machine-requires-2-clause-at : goal.machine-requires-2-clause-at
 machine-requires-2-clause-at t c =
@@ -141,6 +152,17 @@ tokens-requires-then-rules_out t c =
         ),
       ),
     )
+
+pub returns-then-rules_out-clause-made : goal.returns-then-rules_out-clause-made
+returns-then-rules_out-clause-made t c =
+    let policy = c.args.profile.now in
+    let s = c.args.store.now in
+    let calls = inside 512 policy.machines (known_at s c.args.place) in
+    let here : slice_get policy.machines c.args.at ≡ Some c.in-Some-machine_at.arch = sym c.in-Some-machine_at.ensures.found in
+    let within = slice_get_within policy.machines c.args.at c.in-Some-machine_at.arch here in
+    made_within_if policy (insns c.args.program.now) s c.tokens-then-rules_out.new.store c.args.place
+    (return_cost policy.machines (c.args.at + 1) calls) (return_cost policy.machines c.args.at calls) c.tokens-then-rules_out.result
+    (λ meant. past_machine policy.machines c.args.at calls within) c.tokens-then-rules_out.ensures.made
 
 pub overflow_add-at-2 : goal.overflow_add-at-2
 overflow_add-at-2 t c = omega (arith, c.in-Some-machine_at.ensures.bound)

@@ -7,7 +7,7 @@ use Rattle.processes.specs.declared.outcome.Outcome.{Outcome}
 use Rattle.processes.specs.declared.outcome.Outcome.TheVariants.{NoTask}
 use Rattle.lifecycle.specs.declared.command.Reply.TheVariants.{Presented, Refused}
 use Rattle.lifecycle.specs.declared.fault.Refusal.TheVariants.{NoContainer}
-use Rattle.lifecycle.specs.Orders.Order.{Call}
+use Rattle.lifecycle.specs.Commands.Command.{Call}
 use Rattle.lifecycle.specs.Steps.{call}
 use Rattle.lifecycle.specs.Listed.{listed}
 use Rattle.lifecycle.specs.Views.{world_of}

@@ -7,7 +7,7 @@ use Rattle.lifecycle.specs.declared.command.Reply.TheVariants.{Accepted, Refused
 use Rattle.lifecycle.specs.declared.entry.Entry.{Entry}
 use Rattle.lifecycle.specs.declared.entry.Phase.TheVariants.{Made}
 use Rattle.lifecycle.specs.declared.fault.Refusal.TheVariants.{BadId, IdTaken}
-use Rattle.lifecycle.specs.Orders.Order.{Create}
+use Rattle.lifecycle.specs.Commands.Command.{Create}
 use Rattle.lifecycle.specs.Steps.{create}
 use Rattle.lifecycle.specs.Worlds.{container_at}
 use Rattle.lifecycle.specs.Listed.{listed}

@@ -4,7 +4,7 @@ use Rattle.processes.specs.First.{by_program}
 use Rattle.processes.specs.Views.{SetAt, same_text}
 use Rattle.lifecycle.specs.declared.command.Reply.TheVariants.{Accepted, Refused}
 use Rattle.lifecycle.specs.declared.fault.Refusal.TheVariants.{NoContainer, NotStopped}
-use Rattle.lifecycle.specs.Orders.Order.{Delete}
+use Rattle.lifecycle.specs.Commands.Command.{Delete}
 use Rattle.lifecycle.specs.Steps.{delete}
 use Rattle.lifecycle.specs.Listed.{listed}
 use Rattle.lifecycle.specs.Views.{world_of}

@@ -8,7 +8,7 @@ use Rattle.lifecycle.specs.declared.command.Reply.TheVariants.{Accepted, Refused
 use Rattle.lifecycle.specs.declared.command.Status.TheVariants.{Created, Running, Stopped}
 use Rattle.lifecycle.specs.declared.entry.Phase.TheVariants.{Ended}
 use Rattle.lifecycle.specs.declared.fault.Refusal.TheVariants.{NoContainer, NotAlive, BadSignal}
-use Rattle.lifecycle.specs.Orders.Order.{Kill}
+use Rattle.lifecycle.specs.Commands.Command.{Kill}
 use Rattle.lifecycle.specs.Steps.{kill, running}
 use Rattle.lifecycle.specs.Worlds.{Container, put}
 use Rattle.lifecycle.specs.Listed.{listed}

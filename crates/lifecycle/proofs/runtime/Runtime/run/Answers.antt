@@ -1,6 +1,6 @@
 use Rattle.std.proofs.Common.{sym, refl, arith, length-append, take, length}
 use Rattle.processes.specs.First.{by_program, by_profile}
-use Rattle.lifecycle.specs.Runs.{orders_of}
+use Rattle.lifecycle.specs.Runs.{commands_of}
 use Rattle.lifecycle.specs.Views.{world_of}
 use Rattle.lifecycle.proofs.FilterLaws.{refused_in_run}
 use Rattle.lifecycle.proofs.Runs.{alone, finished, next_grows, run_more}
@@ -22,14 +22,14 @@ returns-in-Err-clause-headline g c =
 
 pub returns-in-Err-clause-alone : goal.returns-in-Err-clause-alone
 returns-in-Err-clause-alone g c =
-    let done = orders_of (take (length c.loop-command.replies.items) c.args.commands.now) in
+    let done = commands_of (take (length c.loop-command.replies.items) c.args.commands.now) in
     alone by_profile done (world_of c.args.self.now) c.loop-command.replies.items (world_of c.carry_out.new.self)
     (finished c.args.commands.now (length c.loop-command.replies.items) c.loop-command.command-index (world_of c.args.self.now) c.loop-command.replies.items
     (world_of c.loop-command.self) (world_of c.carry_out.new.self) c.loop-command.invariant.count c.in-Err.ensures.err c.loop-command.invariant.so_far)
 
 pub returns-in-Err-clause-refused : goal.returns-in-Err-clause-refused
 returns-in-Err-clause-refused g c =
-    let done = orders_of (take (length c.loop-command.replies.items) c.args.commands.now) in
+    let done = commands_of (take (length c.loop-command.replies.items) c.args.commands.now) in
     refused_in_run done c.loop-command.replies.items (world_of c.args.self.now) (world_of c.carry_out.new.self)
     (finished c.args.commands.now (length c.loop-command.replies.items) c.loop-command.command-index (world_of c.args.self.now) c.loop-command.replies.items
     (world_of c.loop-command.self) (world_of c.carry_out.new.self) c.loop-command.invariant.count c.in-Err.ensures.err c.loop-command.invariant.so_far)
@@ -41,14 +41,14 @@ returns-clause-headline g c =
 
 pub returns-clause-alone : goal.returns-clause-alone
 returns-clause-alone g c =
-    let done = orders_of (take (length c.loop-command.replies.items) c.args.commands.now) in
+    let done = commands_of (take (length c.loop-command.replies.items) c.args.commands.now) in
     alone by_profile done (world_of c.args.self.now) c.loop-command.replies.items (world_of c.loop-command.self)
     (finished c.args.commands.now (length c.loop-command.replies.items) c.loop-command.command-index (world_of c.args.self.now) c.loop-command.replies.items
     (world_of c.loop-command.self) (world_of c.loop-command.self) c.loop-command.invariant.count refl c.loop-command.invariant.so_far)
 
 pub returns-clause-refused : goal.returns-clause-refused
 returns-clause-refused g c =
-    let done = orders_of (take (length c.loop-command.replies.items) c.args.commands.now) in
+    let done = commands_of (take (length c.loop-command.replies.items) c.args.commands.now) in
     refused_in_run done c.loop-command.replies.items (world_of c.args.self.now) (world_of c.loop-command.self)
     (finished c.args.commands.now (length c.loop-command.replies.items) c.loop-command.command-index (world_of c.args.self.now) c.loop-command.replies.items
     (world_of c.loop-command.self) (world_of c.loop-command.self) c.loop-command.invariant.count refl c.loop-command.invariant.so_far)

@@ -8,7 +8,7 @@ use Rattle.lifecycle.specs.declared.command.Reply.{Reply}
 use Rattle.lifecycle.specs.declared.command.Reply.TheVariants.{Refused}
 use Rattle.lifecycle.specs.declared.entry.Phase.TheVariants.{Started}
 use Rattle.lifecycle.specs.declared.fault.Refusal.TheVariants.{NoContainer, NotCreated}
-use Rattle.lifecycle.specs.Orders.Order.{Start}
+use Rattle.lifecycle.specs.Commands.Command.{Start}
 use Rattle.lifecycle.specs.Steps.{first_call, left_after, running, start_reply}
 use Rattle.lifecycle.specs.Worlds.{Container, put}
 use Rattle.lifecycle.specs.Listed.{listed}

@@ -2,7 +2,7 @@ use Rattle.std.proofs.Common.{None, Some, sym, ap, refl}
 use Rattle.processes.specs.First.{by_program}
 use Rattle.lifecycle.specs.declared.command.Reply.TheVariants.{Refused, IsIn}
 use Rattle.lifecycle.specs.declared.fault.Refusal.TheVariants.{NoContainer}
-use Rattle.lifecycle.specs.Orders.Order.{State}
+use Rattle.lifecycle.specs.Commands.Command.{State}
 use Rattle.lifecycle.specs.Listed.{listed}
 use Rattle.lifecycle.specs.Views.{world_of}
 use Rattle.lifecycle.specs.Entries.{container_of, world_from}

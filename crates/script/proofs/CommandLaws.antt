@@ -1,4 +1,4 @@
--- Fields are read as an order exactly where they are its fields.
+-- Fields are read as a command exactly where they are its fields.
 use Rattle.std.proofs.Common.{◌≡◌, ℕ, ◌≤◌, ◌⊎◌, true, false, cond, List, [], ◌∷◌, ◌++◌, length, refl, ap, sym, ◌∙◌, inl, inr, subst}
 use Rattle.std.proofs.Common.{arith, length-append}
 use Rattle.std.specs.Prelude.{Option, Some, None, option_and_then, codes}
@@ -7,9 +7,9 @@ use Rattle.std.specs.Str.{bytes_eq}
 use Rattle.std.proofs.lemmas.Option.{same_Some}
 use Rattle.std.proofs.lemmas.Slice.Eq.{bytes_eq-Decides}
 use Rattle.call_tables.specs.declared.arch.Arch.{Arch}
-use Rattle.script.specs.Orders.{Order, Create, Start, Delete, State, Kill, Call}
+use Rattle.script.specs.Commands.{Command, Create, Start, Delete, State, Kill, Call}
 use Rattle.script.specs.Grammar.{AreCall, AreFieldsOf}
-use Rattle.script.specs.inner.Reading.{arguments_at, call_at, number_at, order_from, order_of_more, order_of_three, order_of_two}
+use Rattle.script.specs.inner.Reading.{arguments_at, call_at, command_from, command_of_more, command_of_three, command_of_two, number_at}
 use Rattle.script.specs.inner.Reading.{program_at, what_at}
 use Rattle.texts.proofs.Options.{bind_some, chosen, map_some, tested}
 use Rattle.script.proofs.NumberLaws.{number_at-is, number_at-some}
@@ -22,61 +22,61 @@ same_word word text more h = ap (λ w. w ∷ more) ((bytes_eq-Decides word text)
 
 -- Two fields.
 
--- an order that a word chooses, or what else there is
-chosen_word : (native : Arch) (word text : List ℕ) (more : List (List ℕ)) (order o : Order) (rest : Option Order)
-    → (word ∷ more ≡ text ∷ more → AreFieldsOf native (word ∷ more) order) → (rest ≡ Some o → AreFieldsOf native (word ∷ more) o)
-    → cond (bytes_eq word text) (Some order) rest ≡ Some o → AreFieldsOf native (word ∷ more) o
-chosen_word native word text more order o rest here there h =
-    by_side (chosen (bytes_eq word text) (Some order) rest o h) where
-      by_side : ((bytes_eq word text ≡ true) × (Some order ≡ Some o)) ⊎ ((bytes_eq word text ≡ false) × (rest ≡ Some o))
+-- a command that a word chooses, or what else there is
+chosen_word : (native : Arch) (word text : List ℕ) (more : List (List ℕ)) (command o : Command) (rest : Option Command)
+    → (word ∷ more ≡ text ∷ more → AreFieldsOf native (word ∷ more) command) → (rest ≡ Some o → AreFieldsOf native (word ∷ more) o)
+    → cond (bytes_eq word text) (Some command) rest ≡ Some o → AreFieldsOf native (word ∷ more) o
+chosen_word native word text more command o rest here there h =
+    by_side (chosen (bytes_eq word text) (Some command) rest o h) where
+      by_side : ((bytes_eq word text ≡ true) × (Some command ≡ Some o)) ⊎ ((bytes_eq word text ≡ false) × (rest ≡ Some o))
           → AreFieldsOf native (word ∷ more) o
       by_side (inl g) =
-          let P : Order → Type 0 = λ x. AreFieldsOf native (word ∷ more) x in
-          subst P (same_Some order o g.1) (here (same_word word text more g.0))
+          let P : Command → Type 0 = λ x. AreFieldsOf native (word ∷ more) x in
+          subst P (same_Some command o g.1) (here (same_word word text more g.0))
       by_side (inr g) = there g.1
 
-two-some : (native : Arch) (word id : List ℕ) (o : Order) → order_of_two word id ≡ Some o → AreFieldsOf native (word ∷ id ∷ []) o
-unfolding order_of_two
+two-some : (native : Arch) (word id : List ℕ) (o : Command) → command_of_two word id ≡ Some o → AreFieldsOf native (word ∷ id ∷ []) o
+unfolding command_of_two
 two-some native word id o h =
     chosen_word native word (codes "start") (id ∷ []) (Start id) o _ (λ e. e)
     (λ g. chosen_word native word (codes "delete") (id ∷ []) (Delete id) o _ (λ e. e)
     (λ k. chosen_word native word (codes "state") (id ∷ []) (State id) o None (λ e. e) (λ n. absurd (cc)) k) g) h
 
-start-read : (id : List ℕ) → order_of_two (codes "start") id ≡ Some (Start id)
-unfolding order_of_two
+start-read : (id : List ℕ) → command_of_two (codes "start") id ≡ Some (Start id)
+unfolding command_of_two
 start-read id = refl
 
-delete-read : (id : List ℕ) → order_of_two (codes "delete") id ≡ Some (Delete id)
-unfolding order_of_two
+delete-read : (id : List ℕ) → command_of_two (codes "delete") id ≡ Some (Delete id)
+unfolding command_of_two
 delete-read id = refl
 
-state-read : (id : List ℕ) → order_of_two (codes "state") id ≡ Some (State id)
-unfolding order_of_two
+state-read : (id : List ℕ) → command_of_two (codes "state") id ≡ Some (State id)
+unfolding command_of_two
 state-read id = refl
 
 -- Three fields.
 
-kill-some : (native : Arch) (word id last : List ℕ) (o : Order)
-    → cond {A = Option Order} (bytes_eq word (codes "kill")) (option_map (Kill id) (number_at last)) None ≡ Some o
+kill-some : (native : Arch) (word id last : List ℕ) (o : Command)
+    → cond {A = Option Command} (bytes_eq word (codes "kill")) (option_map (Kill id) (number_at last)) None ≡ Some o
     → AreFieldsOf native (word ∷ id ∷ last ∷ []) o
 kill-some native word id last o h =
     let t = tested (bytes_eq word (codes "kill")) (option_map (Kill id) (number_at last)) o h in
     let m = map_some (number_at last) (Kill id) o t.1 in
-    let P : Order → Type 0 = λ x. AreFieldsOf native (word ∷ id ∷ last ∷ []) x in
+    let P : Command → Type 0 = λ x. AreFieldsOf native (word ∷ id ∷ last ∷ []) x in
     subst P m.2 (last, same_word word (codes "kill") (id ∷ last ∷ []) t.0, number_at-some last m.0 m.1)
 
-three-some : (native : Arch) (word id last : List ℕ) (o : Order) → order_of_three word id last ≡ Some o
+three-some : (native : Arch) (word id last : List ℕ) (o : Command) → command_of_three word id last ≡ Some o
     → AreFieldsOf native (word ∷ id ∷ last ∷ []) o
-unfolding order_of_three
+unfolding command_of_three
 three-some native word id last o h =
     chosen_word native word (codes "create") (id ∷ last ∷ []) (Create id last) o _ (λ e. e) (kill-some native word id last o) h
 
-create-read : (id bundle : List ℕ) → order_of_three (codes "create") id bundle ≡ Some (Create id bundle)
-unfolding order_of_three
+create-read : (id bundle : List ℕ) → command_of_three (codes "create") id bundle ≡ Some (Create id bundle)
+unfolding command_of_three
 create-read id bundle = refl
 
-kill-read : (id digits : List ℕ) → order_of_three (codes "kill") id digits ≡ option_map (Kill id) (number_at digits)
-unfolding order_of_three
+kill-read : (id digits : List ℕ) → command_of_three (codes "kill") id digits ≡ option_map (Kill id) (number_at digits)
+unfolding command_of_three
 kill-read id digits = refl
 
 -- A call.
@@ -84,16 +84,16 @@ kill-read id digits = refl
 abbrev Ended : Type 0
 Ended = List ℕ × List (List ℕ)
 
-abbrev with_program : List ℕ → ℕ → Arch × ℕ → Ended → Option (List ℕ) → Option Order
+abbrev with_program : List ℕ → ℕ → Arch × ℕ → Ended → Option (List ℕ) → Option Command
 with_program id t w args p = Some (Call id t w.0 w.1 args.0 p)
 
-abbrev with_arguments : List ℕ → ℕ → Arch × ℕ → Ended → Option Order
+abbrev with_arguments : List ℕ → ℕ → Arch × ℕ → Ended → Option Command
 with_arguments id t w args = option_and_then (λ p. with_program id t w args p) (program_at args.1)
 
-abbrev with_what : List ℕ → List (List ℕ) → ℕ → Arch × ℕ → Option Order
+abbrev with_what : List ℕ → List (List ℕ) → ℕ → Arch × ℕ → Option Command
 with_what id rest t w = option_and_then (λ args. with_arguments id t w args) (arguments_at rest)
 
-abbrev with_task : Arch → List ℕ → List ℕ → List (List ℕ) → ℕ → Option Order
+abbrev with_task : Arch → List ℕ → List ℕ → List (List ℕ) → ℕ → Option Command
 with_task native id what rest t = option_and_then (λ w. with_what id rest t w) (what_at native what)
 
 call-in_turn : (native : Arch) (id task what : List ℕ) (rest : List (List ℕ))
@@ -101,7 +101,7 @@ call-in_turn : (native : Arch) (id task what : List ℕ) (rest : List (List ℕ)
 unfolding call_at
 call-in_turn native id task what rest = refl
 
-call-some : (native : Arch) (id task what : List ℕ) (rest : List (List ℕ)) (o : Order) → call_at native id task what rest ≡ Some o
+call-some : (native : Arch) (id task what : List ℕ) (rest : List (List ℕ)) (o : Command) → call_at native id task what rest ≡ Some o
     → AreFieldsOf native (codes "call" ∷ id ∷ task ∷ what ∷ rest) o
 call-some native id task what rest o h =
     let t = bind_some (number_at task) (λ t. with_task native id what rest t) o (sym (call-in_turn native id task what rest) ∙ h) in
@@ -121,7 +121,7 @@ call-some native id task what rest o h =
       six = six.1;
       program_is = program_at-some a.0.1 p.0 p.1;
     } in
-    let P : Order → Type 0 = λ x. AreFieldsOf native (codes "call" ∷ id ∷ task ∷ what ∷ rest) x in
+    let P : Command → Type 0 = λ x. AreFieldsOf native (codes "call" ∷ id ∷ task ∷ what ∷ rest) x in
     subst P (same_Some (Call id t.0 w.0.0 w.0.1 a.0.0 p.0) o p.2) (task ∷ what ∷ rest, refl, fields)
 
 call-is : (native : Arch) (id : List ℕ) (fields : List (List ℕ)) (task : ℕ) (arch : Arch) (nr : ℕ) (args : List ℕ) (program : Option (List ℕ))
@@ -137,41 +137,41 @@ call-is native id fields task arch nr args program c =
     (arguments_at-is rest c.end args (program-stops c.end program c.program_is) c.six given)
     ∙ ap (option_and_then (λ p. with_program id task (arch, nr) (args, c.end) p)) (program_at-is c.end program c.program_is)
 
-more-some : (native : Arch) (word id task what : List ℕ) (rest : List (List ℕ)) (o : Order)
-    → order_of_more native word id task what rest ≡ Some o → AreFieldsOf native (word ∷ id ∷ task ∷ what ∷ rest) o
-unfolding order_of_more
+more-some : (native : Arch) (word id task what : List ℕ) (rest : List (List ℕ)) (o : Command)
+    → command_of_more native word id task what rest ≡ Some o → AreFieldsOf native (word ∷ id ∷ task ∷ what ∷ rest) o
+unfolding command_of_more
 more-some native word id task what rest o h =
     let t = tested (bytes_eq word (codes "call")) (call_at native id task what rest) o h in
     let P : List (List ℕ) → Type 0 = λ x. AreFieldsOf native x o in
     subst P (sym (same_word word (codes "call") (id ∷ task ∷ what ∷ rest) t.0)) (call-some native id task what rest o t.1)
 
 call-read : (native : Arch) (id task what : List ℕ) (rest : List (List ℕ))
-    → order_of_more native (codes "call") id task what rest ≡ call_at native id task what rest
-unfolding order_of_more
+    → command_of_more native (codes "call") id task what rest ≡ call_at native id task what rest
+unfolding command_of_more
 call-read native id task what rest = refl
 
 -- Any fields.
 
-pub order_from-some : (native : Arch) (fields : List (List ℕ)) (o : Order) → order_from native fields ≡ Some o → AreFieldsOf native fields o
-order_from-some native [] o h = absurd (cc)
-order_from-some native (word ∷ []) o h = absurd (cc)
-order_from-some native (word ∷ id ∷ []) o h = two-some native word id o h
-order_from-some native (word ∷ id ∷ last ∷ []) o h = three-some native word id last o h
-order_from-some native (word ∷ id ∷ task ∷ what ∷ rest) o h = more-some native word id task what rest o h
+pub command_from-some : (native : Arch) (fields : List (List ℕ)) (o : Command) → command_from native fields ≡ Some o → AreFieldsOf native fields o
+command_from-some native [] o h = absurd (cc)
+command_from-some native (word ∷ []) o h = absurd (cc)
+command_from-some native (word ∷ id ∷ []) o h = two-some native word id o h
+command_from-some native (word ∷ id ∷ last ∷ []) o h = three-some native word id last o h
+command_from-some native (word ∷ id ∷ task ∷ what ∷ rest) o h = more-some native word id task what rest o h
 
-pub order_from-is : (native : Arch) (fields : List (List ℕ)) (o : Order) → AreFieldsOf native fields o → order_from native fields ≡ Some o
-order_from-is native fields (Create id bundle) h = ap (order_from native) h ∙ create-read id bundle
-order_from-is native fields (Start id) h = ap (order_from native) h ∙ start-read id
-order_from-is native fields (Delete id) h = ap (order_from native) h ∙ delete-read id
-order_from-is native fields (State id) h = ap (order_from native) h ∙ state-read id
-order_from-is native fields (Kill id signal) (digits, spelled, number) =
-    ap (order_from native) spelled ∙ kill-read id digits ∙ ap (option_map (Kill id)) (number_at-is digits signal number)
-order_from-is native fields (Call id task arch nr args program) (rest, spelled, c) =
-    ap (order_from native) (spelled ∙ ap (λ x. codes "call" ∷ id ∷ x) c.parts)
+pub command_from-is : (native : Arch) (fields : List (List ℕ)) (o : Command) → AreFieldsOf native fields o → command_from native fields ≡ Some o
+command_from-is native fields (Create id bundle) h = ap (command_from native) h ∙ create-read id bundle
+command_from-is native fields (Start id) h = ap (command_from native) h ∙ start-read id
+command_from-is native fields (Delete id) h = ap (command_from native) h ∙ delete-read id
+command_from-is native fields (State id) h = ap (command_from native) h ∙ state-read id
+command_from-is native fields (Kill id signal) (digits, spelled, number) =
+    ap (command_from native) spelled ∙ kill-read id digits ∙ ap (option_map (Kill id)) (number_at-is digits signal number)
+command_from-is native fields (Call id task arch nr args program) (rest, spelled, c) =
+    ap (command_from native) (spelled ∙ ap (λ x. codes "call" ∷ id ∷ x) c.parts)
     ∙ call-read native id c.task_field c.what_field (c.given ++ c.end) ∙ call-is native id rest task arch nr args program c
 
--- an order has twelve fields at most
-pub length-fields-le : (native : Arch) (fields : List (List ℕ)) (o : Order) → AreFieldsOf native fields o → length fields ≤ 12
+-- a command has twelve fields at most
+pub length-fields-le : (native : Arch) (fields : List (List ℕ)) (o : Command) → AreFieldsOf native fields o → length fields ≤ 12
 length-fields-le native fields (Create id bundle) h = omega (arith, ap length h)
 length-fields-le native fields (Start id) h = omega (arith, ap length h)
 length-fields-le native fields (Delete id) h = omega (arith, ap length h)
