@@ -1,5 +1,5 @@
 //! From a bundle to a checked filter, which is written in one of its forms: what `ccell export` writes.
-ghost use Rattle.std.specs.Prelude.{ℕ, ⊥, List};
+ghost use Rattle.std.specs.Prelude.{ℕ, List};
 ghost use Rattle.call_tables.specs.declared.arch.Arch.{Arch as TheArch};
 ghost use Rattle.rule_compile.specs.Shape.{IsPlain};
 ghost use Rattle.pipeline.specs.Exported.{Exports, ExportsFilter, IsCheckedOf};
@@ -64,8 +64,11 @@ fn export_proposed<S: Sink>(
 {
     match prepared.answer(alloc) {
         Ok(checked) => return write_filter(alloc, &checked, form, sink),
-        Err(CheckError::OutOfMemory) => return Err(WriteFault::OutOfMemory),
-        Err(_) => {}
+        Err(error) => {
+            if let CheckError::OutOfMemory = error {
+                return Err(WriteFault::OutOfMemory);
+            }
+        }
     }
     export_followed(alloc, &mut prepared, form, sink)
 }

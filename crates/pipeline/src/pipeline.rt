@@ -30,7 +30,7 @@ fn are_spelled(filter: &[u8])
 {}
 
 impl Prepared {
-    ghost use Rattle.std.specs.Prelude.{◌≡◌, ◌≢◌, ◌↔◌, ⊥, ℕ, List, IfOk, IfErr, IsTrue};
+    ghost use Rattle.std.specs.Prelude.{◌≡◌, ◌≢◌, ◌↔◌, ℕ, List, IfOk, IfErr, IfSome, IsTrue};
     ghost use Rattle.cert_check.specs.declared.fault.CheckError.TheVariants as refused;
     ghost use Rattle.call_tables.specs.declared.arch.Arch.{Arch as TheArch};
     ghost use Rattle.kernel_check.specs.Accepted.{IsAccepted};
@@ -100,16 +100,15 @@ impl Prepared {
         Prepared::proposed_for(alloc, read_bundle(alloc, bundle, native)?.profile)
     }
 
-    // Whether the checker says yes to what is proposed.
-    fn is_yes(&self, alloc: Global) -> Result<bool, Unready>
-        ensures yes { IfOk result (λ yes. IsTrue yes
+    // Whether the checker says yes to what is proposed, if there is memory to ask it.
+    fn is_yes(&self, alloc: Global) -> Option<bool>
+        ensures { IfSome result (λ yes. IsTrue yes
             ↔ IsUnbroken self.now.profile self.now.filter.items self.now.certificate.items) }
-        ensures memory { IfErr result (λ unready. unready ≡ OutOfMemory) }
     {
         match self.answer(alloc) {
-            Ok(_) => Ok(true),
-            Err(CheckError::OutOfMemory) => Err(Unready::OutOfMemory),
-            Err(_) => Ok(false),
+            Ok(_) => Some(true),
+            Err(CheckError::OutOfMemory) => None,
+            Err(_) => Some(false),
         }
     }
 
@@ -125,10 +124,11 @@ impl Prepared {
         ensures err { (native : TheArch) (bundle : List ℕ) → IsBundle native bundle self.old.profile
             → IfErr result (λ unready. unready ≢ OutOfMemory → IsUnready native bundle unready) }
     {
-        if self.is_yes(alloc)? {
-            return Ok(());
+        match self.is_yes(alloc) {
+            Some(true) => Ok(()),
+            Some(false) => self.follow(alloc),
+            None => Err(Unready::OutOfMemory),
         }
-        self.follow(alloc)
     }
 
     /// Puts the certificate that follows each path of the filter in the place of the one that was proposed.
