@@ -104,8 +104,12 @@ impl<'a> Maker<'a> {
         let state = listed(&known.whole);
         let facts = Facts::of(&state);
         let mut numbers = Vec::new(self.alloc);
+        let Some((least, greatest)) = facts.range(NUMBER) else {
+            return Ok(numbers);
+        };
         for rule in self.profile.rules() {
-            if self.is_told(&facts, arguments, rule, token, verdict) {
+            let is_possible = least <= rule.nr && rule.nr <= greatest;
+            if is_possible && self.is_told(&facts, arguments, rule, token, verdict) {
                 numbers.push(rule.nr)?;
             }
         }

@@ -115,21 +115,22 @@ fn once_checked(
     }
 }
 
-// A certificate to which the checker says yes, with the filter's outline where the compiler made it. Each maker is asked in turn.
-fn by_any(
+// What the makers propose, with the filter's outline where the compiler made it. Each is asked in turn.
+fn proposed(
     alloc: Global,
     profile: &Profile,
     program: &Accepted<'_>,
     outline: Option<&Outline>,
 ) -> Result<Vec<u8>, CertifyError>
-    ensures valid { IfOk result (λ bytes. IsValidCertificate profile.now (accepted_insns program.now) bytes.items) }
+    ensures own { IsPlain profile.now → IsCallFilter profile.now (accepted_insns program.now)
+        → IfOk result (λ bytes. IsValidCertificate profile.now (accepted_insns program.now) bytes.items) }
     ensures sure { IsRight profile.now (accepted_insns program.now) → IsSteady (accepted_insns program.now) 0 Nothing
         → IfErr result IsOfSize }
     ensures never { IsPlain profile.now → IsCallFilter profile.now (accepted_insns program.now)
         → IfErr result (λ e. e ≡ OutOfMemory) }
 {
     match certified(alloc, profile, program, outline) {
-        Ok(bytes) => once_checked(alloc, profile, program, bytes),
+        Ok(bytes) => Ok(bytes),
         Err(CertifyError::OutOfMemory) => Err(CertifyError::OutOfMemory),
         Err(error) => followed(alloc, profile, program, Some(error)),
     }
@@ -153,7 +154,8 @@ pub fn certify_accepted(
     ensures never { IsPlain profile.now → IsCallFilter profile.now (accepted_insns program.now)
         → IfErr result (λ e. e ≡ OutOfMemory) }
 {
-    by_any(alloc, profile, program, None)
+    let bytes = proposed(alloc, profile, program, None)?;
+    once_checked(alloc, profile, program, bytes)
 }
 
 /// The same of any program: where the kernel would not accept it, it is undecided.
@@ -176,19 +178,34 @@ pub fn certify(
     }
 }
 
-/// The same as `certify_accepted` of the filter that the compiler made of the profile, with its outline, by which it is certified
-/// sooner.
-pub fn certify_made(
+/// What the makers propose of the filter that the compiler made of the profile, with its outline: the checker was not asked. It
+/// says yes where the profile is plain and the filter has the shape of such a profile's.
+pub fn propose(
     alloc: Global,
     profile: &Profile,
     program: &Accepted<'_>,
     outline: &Outline,
 ) -> Result<Vec<u8>, CertifyError>
-    ensures valid { IfOk result (λ bytes. IsValidCertificate profile.now (accepted_insns program.now) bytes.items) }
+    ensures own { IsPlain profile.now → IsCallFilter profile.now (accepted_insns program.now)
+        → IfOk result (λ bytes. IsValidCertificate profile.now (accepted_insns program.now) bytes.items) }
+    // Of a right filter that compares steadily, as each of the compiler's is, an error tells of memory or of the format's limits.
     ensures sure { IsRight profile.now (accepted_insns program.now) → IsSteady (accepted_insns program.now) 0 Nothing
         → IfErr result IsOfSize }
     ensures never { IsPlain profile.now → IsCallFilter profile.now (accepted_insns program.now)
         → IfErr result (λ e. e ≡ OutOfMemory) }
 {
-    by_any(alloc, profile, program, Some(outline))
+    proposed(alloc, profile, program, Some(outline))
+}
+
+/// The certificate that follows each path of a filter, for one of which what was proposed is refused. The checker says yes to it.
+pub fn follow(
+    alloc: Global,
+    profile: &Profile,
+    program: &Accepted<'_>,
+) -> Result<Vec<u8>, CertifyError>
+    ensures valid { IfOk result (λ bytes. IsValidCertificate profile.now (accepted_insns program.now) bytes.items) }
+    ensures sure { IsRight profile.now (accepted_insns program.now) → IsSteady (accepted_insns program.now) 0 Nothing
+        → IfErr result IsOfSize }
+{
+    followed(alloc, profile, program, None)
 }

@@ -1,12 +1,16 @@
 -- What export writes, by what its parts do.
 use Rattle.std.proofs.Common.{◌≡◌, ◌%◌, ℕ, inl, inr, arith, Bool, true, List, length, refl, ap, sym, subst, ◌∙◌}
 use Rattle.std.proofs.lemmas.Bool.Decides.{nat_tests}
-use Rattle.std.specs.Prelude.{Option, None, Result, Ok, Err, ◌≢◌}
+use Rattle.std.specs.Prelude.{Option, None, Result, Ok, Err, IfOk, ◌≢◌}
 use Rattle.bpf_insn.specs.Bytes.{insns_of, spelling, view_fault}
 use Rattle.bpf_insn.specs.declared.fault.ViewError.TheVariants.{NotMultipleOf8}
 use Rattle.call_tables.specs.declared.arch.Arch.{Arch}
 use Rattle.cert_check.specs.declared.checked.Checked.{Checked}
+use Rattle.cert_check.specs.declared.fault.CheckError.{CheckError}
 use Rattle.cert_check.specs.declared.fault.CheckError.TheVariants.{View}
+use Rattle.cert_check.specs.Certified.{Kept}
+use Rattle.cert_check.specs.Right.{IsRight}
+use Rattle.kernel_check.specs.Accepted.{IsAccepted}
 use Rattle.cert_check.specs.Checked.{cert_of, profile_of, program_of}
 use Rattle.streams.specs.Failures.{Failures}
 use Rattle.export.specs.declared.form.Form.{Form}
@@ -36,6 +40,17 @@ is_checked native bundle policy filter cert c means profile program certificate 
       yes = subst (λ (p : Policy). IsYes p (bytes_in Raw c) (cert_of c)) (sym profile)
           (subst (λ (f : List ℕ). IsYes policy f (cert_of c)) (sym bytes) (subst (IsYes policy filter) (sym certificate) kept));
     }
+
+-- and of an answer of the checker, where it is yes
+pub is_checked_if_yes : (native : Arch) (bundle : List ℕ) (policy : Policy) (filter cert : List ℕ) (r : Result Checked CheckError)
+    → IsBundle native bundle policy → (view_fault filter ≡ None → spelling (insns_of filter) ≡ filter)
+    → IfOk r (λ c. profile_of c ≡ policy) → IfOk r (λ c. program_of c ≡ insns_of filter) → IfOk r (λ c. cert_of c ≡ cert)
+    → IfOk r (λ c. IsAccepted (insns_of filter)) → IfOk r (λ c. IsRight policy (insns_of filter))
+    → IfOk r (λ c. (e : CheckError) → Kept policy filter cert e) → IfOk r (IsCheckedOf native bundle)
+is_checked_if_yes native bundle policy filter cert (Ok c) means spelled profile program certificate accepted right kept =
+    is_checked native bundle policy filter cert c means profile program certificate spelled
+    (record { accepted = accepted; right = right; kept = kept })
+is_checked_if_yes native bundle policy filter cert (Err e) means spelled profile program certificate accepted right kept = tt
 
 module _ {S : Type 0} (held : S → Option (List ℕ)) (failures : S → Failures) (old new : S) where
   -- a fault of writing, whatever was to be told

@@ -20,9 +20,6 @@ use Rattle.cert_walk.specs.declared.fault.CertifyError.{CertifyError}
 use Rattle.cert_walk.specs.declared.fault.CertifyError.TheVariants as maker
 use Rattle.certify.specs.Fault.{IsOfSize}
 use Rattle.certify.proofs.CompiledLaws.{compiled}
-use Rattle.cert_check.specs.declared.fault.CheckError.{CheckError}
-use Rattle.cert_check.specs.declared.fault.CheckError.TheVariants as error
-use Rattle.cert_check.specs.Certified.{IsFirst}
 use Rattle.streams.specs.Failures.{Failures}
 use Rattle.streams.specs.declared.fault.WriteFault.{WriteFault}
 use Rattle.export.specs.declared.form.Form.{Form}
@@ -32,7 +29,7 @@ use Rattle.pipeline.specs.declared.unready.Unready.TheVariants.{Profile, Compile
 use Rattle.pipeline.specs.Exported.{Exports, ExportsFilter, IsToldAs, IsUnready}
 use Rattle.pipeline.specs.Finding.{IsBundle}
 use Rattle.pipeline.specs.Plain.{IsNotPlain, IsPlainBundle}
-use Rattle.pipeline.specs.Prepared.{IsPrepared, IsTaken, IsUnbroken}
+use Rattle.pipeline.specs.Prepared.{IsMade, IsOwnWork, IsPrepared, IsProposed, IsTaken, IsUnbroken}
 use Rattle.pipeline.proofs.FindingLaws.{no_fault, one_policy}
 
 -- ---- steps
@@ -95,21 +92,11 @@ module _ {T : Type 0} (policy : Policy) (r : Result T Unready) where
     at (Ok x) told = tt
     at (Err u) told = not_certified policy e u never sized told native bundle is
 
-  module _ (filter cert : List ℕ) (e : CheckError) (first : e ≢ error.OutOfMemory → IsFirst policy filter cert e)
-      (told : IsErrAnd r (IsToldAs Check error.OutOfMemory e)) where
-    -- where no rule is broken, memory was refused
-    pub only_memory : IsUnbroken policy filter cert → IfErr r (λ u. u ≡ OutOfMemory)
-    only_memory kept = at r told where
-      at : (r : Result T Unready) → IsErrAnd r (IsToldAs Check error.OutOfMemory e) → IfErr r (λ u. u ≡ OutOfMemory)
-      at (Ok x) told = tt
-      at (Err u) (inl h) = h.1
-      at (Err u) (inr h) = absurd ((first h.0).broken (kept e))
-
 -- ---- what is made of a plain profile
 
 module _ (policy : Policy) (p : List Insn) (filter : List ℕ) (same : p ≡ insns_of filter)
     (shape : IsPlain policy → IsCallFilter policy (insns_of filter)) where
-  seen : IsPlain policy → IsCallFilter policy p
+  pub seen : IsPlain policy → IsCallFilter policy p
   seen is = subst (IsCallFilter policy) (sym same) (shape is)
 
   pub certifies : (e : CertifyError) → (IsPlain policy → IsCallFilter policy p → e ≡ maker.OutOfMemory) → IsPlain policy
@@ -142,6 +129,18 @@ prepared native bundle policy (Ok made) is same taken unbroken = record {
   unbroken = subst (λ (p : Policy). IsUnbroken p made.filter.items made.certificate.items) (sym same) unbroken;
 }
 prepared native bundle policy (Err u) is same taken unbroken = tt
+
+-- what is proposed of it
+pub proposed : (native : Arch) (bundle : List ℕ) (policy : Policy) (r : Result Prepared Unready) → IsBundle native bundle policy
+    → IfOk r (λ made. made.profile ≡ policy) → IfOk r (λ made. IsMade policy made.filter.items)
+    → (IsPlain policy → IfOk r (λ made. IsUnbroken policy made.filter.items made.certificate.items))
+    → IfOk r (λ made. IsProposed native bundle made.profile made.filter.items made.certificate.items)
+proposed native bundle policy (Ok made) is same done own = record {
+  means = subst (IsBundle native bundle) (sym same) is;
+  made = subst (λ (p : Policy). IsMade p made.filter.items) (sym same) done;
+  own = subst (λ (p : Policy). IsOwnWork p made.filter.items made.certificate.items) (sym same) own;
+}
+proposed native bundle policy (Err u) is same done own = tt
 
 -- ---- plain bundles
 

@@ -5,8 +5,8 @@ use Rattle.kernel_check.proofs.RefusalLaws.{one}
 use Rattle.rule_compile.specs.declared.fault.CompileError.TheVariants as compiler
 use Rattle.cert_walk.specs.declared.fault.CertifyError.TheVariants as maker
 use Rattle.pipeline.specs.declared.unready.Unready.TheVariants.{Compile, Certify}
-use Rattle.pipeline.proofs.PlainLaws.{certifies, sizes, told_certify, told_compile, told_memory, unbroken}
-use Rattle.pipeline.proofs.pipeline.Prepared.of_profile.Goals as goal
+use Rattle.pipeline.proofs.PlainLaws.{certifies, seen, sizes, told_certify, told_compile, told_memory, unbroken}
+use Rattle.pipeline.proofs.pipeline.Prepared.proposed_for.Goals as goal
 
 pub returns-in_err-made-clause-never : goal.returns-in_err-made-clause-never
 returns-in_err-made-clause-never c = λ is.
@@ -42,11 +42,16 @@ returns-in_err-certificate-clause-err c =
     (sizes c.args.profile _ c.in_ok-made.made.bytes.items same c.in_ok-made.ensures.shape c.in_err-certificate.field-0.0
     c.in_ok-made.ensures.right c.in_ok-made.ensures.steady c.in_err-certificate.ensures.sure)
 
-pub returns-clause-taken : goal.returns-clause-taken
-returns-clause-taken c = record { program = c.in_ok-made.ensures.program; accepted = c.in_ok-made.ensures.right.accepted }
+pub returns-clause-made : goal.returns-clause-made
+returns-clause-made c = record {
+  program = c.in_ok-made.ensures.program;
+  right = c.in_ok-made.ensures.right;
+  steady = c.in_ok-made.ensures.steady;
+}
 
-pub returns-clause-unbroken : goal.returns-clause-unbroken
-returns-clause-unbroken c =
+pub returns-clause-own : goal.returns-clause-own
+returns-clause-own c = λ is.
     let same = c.in-Ok-accept.ensures.same ∙ c.in-Ok.ensures.read ∙ ap insns_of c.deref.ensures.value in
     unbroken c.args.profile _ c.in_ok-made.made.bytes.items c.in_ok-certificate.certificate.items same c.in_ok-made.ensures.program
-    c.in_ok-made.ensures.right.accepted c.in_ok-certificate.ensures.valid
+    c.in_ok-made.ensures.right.accepted
+    (c.in_ok-certificate.ensures.own is (seen c.args.profile _ c.in_ok-made.made.bytes.items same c.in_ok-made.ensures.shape is))
