@@ -1,5 +1,5 @@
 -- The edges of a node that lead to nodes which say no more than is known on the way.
-use Rattle.std.proofs.Common.{◌≡◌, ℕ, ◌+◌, ◌<◌, List, [], ◌∷◌, ◌++◌, get_or}
+use Rattle.std.proofs.Common.{◌≡◌, ℕ, ◌<◌, List, [], ◌∷◌, ◌++◌, get_or}
 use Rattle.std.proofs.Common.{sym, ap, subst, ◌∙◌, inl, inr, ⊎_elim}
 use Rattle.std.specs.Prelude.{Option, Some, slice_get, slice_index_or, Contains, option_to_list, All}
 use Rattle.std.proofs.lemmas.Option.{same_Some, get_or_from_slice_get}

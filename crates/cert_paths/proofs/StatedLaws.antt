@@ -1,67 +1,22 @@
 -- Where each word of a record is stated and what is known is not dead, it is true of the record of those words.
-use Rattle.std.proofs.Common.{◌≡◌, ◌≢◌, ℕ, zero, suc, ◌^◌, ◌<◌, ◌≤◌, cond, List, [], ◌∷◌, length, map, refl, ap, sym}
+use Rattle.std.proofs.Common.{◌≡◌, ◌≢◌, ℕ, zero, suc, ◌^◌, ◌<◌, ◌≤◌, List, [], ◌∷◌, length, map, refl, ap, sym}
 use Rattle.std.proofs.Common.{◌∙◌, arith, subst, inl, inr, ◌⊎◌, ⊎_elim}
-use Rattle.std.specs.Prelude.{All, Contains, bit_and, bit_or, bit_xor, slice_index}
+use Rattle.std.specs.Prelude.{All, Contains, bit_and, bit_xor, slice_index}
 use Rattle.std.specs.Int.{bit_at}
 use Rattle.std.specs.Int.Bits.{and_mask}
 use Rattle.std.specs.List.{range_with_len}
-use Rattle.std.proofs.lemmas.Bool.{cases_eq, cases_lt, eq-eqb, ne_eqb}
+use Rattle.std.proofs.lemmas.Bool.{cases_eq, cases_lt}
 use Rattle.std.proofs.lemmas.List.Elements.{All-contains, All-contains_itself, All-weaker}
 use Rattle.std.proofs.lemmas.List.FromFn.{get_or-map-range_with_len, length-map-range_with_len}
-use Rattle.std.proofs.lemmas.Nat.Bits.{bit_at_and, bit_at_or, bit_at_xor, bit_at-lt, bit_at-zero, same_from_bits}
+use Rattle.std.proofs.lemmas.Nat.Bits.{bit_at_and, bit_at_xor, bit_at-lt, bit_at-zero, same_from_bits}
 use Rattle.call_record.specs.Words.{IsRecord, word}
 use Rattle.cert_state.specs.declared.literal.Lit.{Lit}
 use Rattle.cert_state.specs.declared.literal.Lit.TheVariants.{In, Bits, NotBits}
 use Rattle.cert_state.specs.Literals.{Holds, IsLit, Meets, all_bits, index_of}
-use Rattle.cert_state.specs.Points.{IsPoint, IsWhole, IsWithin, datum_of, mask_of, union_of}
+use Rattle.cert_state.specs.Points.{IsPoint, IsWhole, IsWithin, datum_of, mask_of}
 use Rattle.cert_state.specs.Entailment.{IsDead, IsDeadAt, IsExcluded, IsTornAt}
 use Rattle.cert_state.proofs.BitLaws.{and_all}
-use Rattle.cert_state.proofs.ListLaws.{first_or_later, contains_here, contains_later}
-
--- a bit of a union is one of its parts
-module _ (w i : ℕ) (part : ℕ → ℕ → ℕ) where
-  more_bits : (l : Lit) (ls : List Lit) → bit_at (union_of part ls w) i ≤ bit_at (union_of part (l ∷ ls) w) i
-  more_bits (In v lo hi) ls = omega arith
-  more_bits (NotBits v m d) ls = omega arith
-  more_bits (Bits v m d) ls = ⊎_elim
-      (λ (e : v ≡ w). rw (eq-eqb v w e) (omega (arith, bit_at_or (part m d) (union_of part ls w) i)))
-      (λ (ne : v ≡ w → ⊥). rw (ne_eqb v w ne) (omega arith))
-      (cases_eq v w)
-
-  own_bits : (m d : ℕ) (ls : List Lit) → bit_at (part m d) i ≤ bit_at (union_of part (Bits w m d ∷ ls) w) i
-  own_bits m d ls = rw (eq-eqb w w refl) (omega (arith, bit_at_or (part m d) (union_of part ls w) i))
-
-  bit_from : (m d : ℕ) (ls : List Lit) → Contains ls (Bits w m d) → bit_at (part m d) i ≤ bit_at (union_of part ls w) i
-  bit_from m d [] (j, lt, is) = absurd (omega arith)
-  bit_from m d (l ∷ ls) has = elim (first_or_later l (Bits w m d) ls has) [
-    | inl is ↦ subst (λ k. bit_at (part m d) i ≤ bit_at (union_of part (k ∷ ls) w) i) (sym is) (own_bits m d ls)
-    | inr later ↦ (let there = bit_from m d ls later in let more = more_bits l ls in omega (arith, there, more))
-  ]
-
-  bit_found : (ls : List Lit) → bit_at (union_of part ls w) i ≡ 1
-      → (m : ℕ) × (d : ℕ) × Contains ls (Bits w m d) × (bit_at (part m d) i ≡ 1)
-  bit_found [] h = absurd (omega (arith, bit_at-zero i, h))
-  bit_found (In v lo hi ∷ ls) h =
-      let (m, d, has, set) = bit_found ls h in (m, d, contains_later (In v lo hi) _ ls refl (Bits w m d) has, set)
-  bit_found (NotBits v n e ∷ ls) h =
-      let (m, d, has, set) = bit_found ls h in (m, d, contains_later (NotBits v n e) _ ls refl (Bits w m d) has, set)
-  bit_found (Bits v n e ∷ ls) h = ⊎_elim
-      (λ (at : v ≡ w).
-      let k : bit_at (bit_or (part n e) (union_of part ls w)) i ≡ 1 =
-      subst (λ b. bit_at (cond b (bit_or (part n e) (union_of part ls w)) (union_of part ls w)) i ≡ 1) (eq-eqb v w at) h in
-      ⊎_elim
-      (λ (own : bit_at (part n e) i ≡ 1). (n, e, contains_here (Bits v n e) _ ls refl (Bits w n e) (ap (λ x. Bits x n e) at), own))
-      (λ (other : bit_at (part n e) i ≡ 1 → ⊥).
-      let bits = bit_at_or (part n e) (union_of part ls w) i in
-      let low = bit_at-lt (part n e) i in
-      let (m, d, has, set) = bit_found ls (omega (arith, k, bits, low)) in
-      (m, d, contains_later (Bits v n e) _ ls refl (Bits w m d) has, set))
-      (cases_eq (bit_at (part n e) i) 1))
-      (λ (ne : v ≡ w → ⊥).
-      let k = subst (λ b. bit_at (cond b (bit_or (part n e) (union_of part ls w)) (union_of part ls w)) i ≡ 1) (ne_eqb v w ne) h in
-      let (m, d, has, set) = bit_found ls k in
-      (m, d, contains_later (Bits v n e) _ ls refl (Bits w m d) has, set))
-      (cases_eq v w)
+use Rattle.cert_state.proofs.SummaryLaws.{bit_from, bit_found}
 
 -- a literal of a word whose number is stated
 module _ (known : List Lit) (lits : All IsLit known) (w u : ℕ) (stated : Contains known (Bits w all_bits u)) (alive : IsDeadAt known w → ⊥)

@@ -55,14 +55,14 @@ module _ (w i : ℕ) (part : ℕ → ℕ → ℕ) where
   own_bits : (m d : ℕ) (ls : List Lit) → bit_at (part m d) i ≤ bit_at (union_of part (Bits w m d ∷ ls) w) i
   own_bits m d ls = rw (eq-eqb w w refl) (omega (arith, bit_at_or (part m d) (union_of part ls w) i))
 
-  bit_from : (m d : ℕ) (ls : List Lit) → Contains ls (Bits w m d) → bit_at (part m d) i ≤ bit_at (union_of part ls w) i
+  pub bit_from : (m d : ℕ) (ls : List Lit) → Contains ls (Bits w m d) → bit_at (part m d) i ≤ bit_at (union_of part ls w) i
   bit_from m d [] (j, lt, is) = absurd (omega arith)
   bit_from m d (l ∷ ls) has = elim (first_or_later l (Bits w m d) ls has) [
     | inl is ↦ subst (λ k. bit_at (part m d) i ≤ bit_at (union_of part (k ∷ ls) w) i) (sym is) (own_bits m d ls)
     | inr later ↦ (let there = bit_from m d ls later in let more = more_bits l ls in omega (arith, there, more))
   ]
 
-  bit_found : (ls : List Lit) → bit_at (union_of part ls w) i ≡ 1
+  pub bit_found : (ls : List Lit) → bit_at (union_of part ls w) i ≡ 1
       → (m : ℕ) × (d : ℕ) × Contains ls (Bits w m d) × (bit_at (part m d) i ≡ 1)
   bit_found [] h = absurd (omega (arith, bit_at-zero i, h))
   bit_found (In v lo hi ∷ ls) h =

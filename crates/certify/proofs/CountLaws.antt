@@ -1,6 +1,6 @@
 -- How many calls are possible, and what the paths of a filter cost.
 use Rattle.std.proofs.Common.{◌≡◌, ℕ, zero, suc, ◌+◌, ◌*◌, ◌<◌, ◌≤◌, Bool, true, false, cond, List, [], ◌∷◌, refl, ap, sym, ◌∙◌}
-use Rattle.std.proofs.Common.{subst, arith, max, length, ◌⊎◌, ⊎_elim}
+use Rattle.std.proofs.Common.{subst, arith, max, ⊎_elim}
 use Rattle.std.specs.Prelude.{◌&&◌, ◌==◌, if◌then◌else◌, Some, slice_get, Contains}
 use Rattle.std.proofs.lemmas.Option.{same_Some}
 use Rattle.std.proofs.lemmas.Bool.{cases_eq}

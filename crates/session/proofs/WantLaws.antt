@@ -1,10 +1,9 @@
 -- Only a state that is told is a reply that takes memory, and the program of a line has room.
-use Rattle.std.proofs.Common.{◌≡◌, ℕ, ◌+◌, ◌*◌, ◌≤◌, Bool, true, false, List, [], ◌∷◌, ◌++◌, length, refl, ap, sym, ◌∙◌, arith, length-append}
+use Rattle.std.proofs.Common.{◌≡◌, ℕ, ◌*◌, ◌≤◌, Bool, true, false, List, [], ◌∷◌, ◌++◌, length, refl, ap, ◌∙◌, arith, length-append}
 use Rattle.std.specs.Prelude.{Option, Some, None, codes, if◌then◌else◌, nat_lt}
 use Rattle.std.specs.List.{join_with_byte}
 use Rattle.cert_check.specs.declared.checked.Checked.{Checked}
 use Rattle.processes.specs.Ids.{is_id}
-use Rattle.processes.specs.Kernel.{is_fatal, presented, signalled}
 use Rattle.processes.specs.declared.outcome.Outcome.{Outcome}
 use Rattle.processes.specs.declared.outcome.Outcome.TheVariants.{Done, Failed, Absent, Denied, NoTask}
 use Rattle.lifecycle.specs.declared.command.Reply.{Reply}
@@ -14,7 +13,7 @@ use Rattle.lifecycle.specs.declared.command.Status.TheVariants.{Created, Running
 use Rattle.lifecycle.specs.declared.fault.Refusal.TheVariants.{NoContainer}
 use Rattle.lifecycle.specs.Commands.{Command}
 use Rattle.lifecycle.specs.Commands.Command.{Create, Start, Kill, Delete, State, Call}
-use Rattle.lifecycle.specs.Steps.{acted, call, create, delete, first_call, kill, known, start, start_reply, step}
+use Rattle.lifecycle.specs.Steps.{call, create, delete, first_call, kill, known, start, start_reply, step}
 use Rattle.lifecycle.specs.Worlds.{Container, First, World, container_at}
 use Rattle.texts.specs.Lines.{space}
 use Rattle.call_tables.specs.declared.arch.Arch.{Arch}

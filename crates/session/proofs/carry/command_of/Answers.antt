@@ -1,8 +1,6 @@
 use Rattle.std.proofs.Common.{refl}
-use Rattle.std.specs.Prelude.{◌≡◌, ℕ, List, Option, Some}
+use Rattle.std.specs.Prelude.{◌≡◌}
 use Rattle.std.specs.Option.{option_map}
-use Rattle.lifecycle.specs.Commands as commands
-use Rattle.processes.specs.Attached.{attached_of}
 use Rattle.script.specs.Requests.{bytes_of}
 use Rattle.session.proofs.carry.command_of.Goals as goal
 

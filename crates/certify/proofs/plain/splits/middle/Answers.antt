@@ -1,4 +1,4 @@
-use Rattle.std.proofs.Common.{◌≡◌, ℕ, ◌+◌, ◌<◌, ◌≤◌, List, length, true, false, refl, sym, ◌∙◌, subst, arith}
+use Rattle.std.proofs.Common.{◌≡◌, ℕ, ◌<◌, List, length, true, false, sym, ◌∙◌, subst, arith}
 use Rattle.std.specs.Prelude.{slice_index_or, Any}
 use Rattle.std.proofs.lemmas.List.{get_or_default}
 use Rattle.call_tables.specs.declared.numbers.Numbers.{Numbers}
