@@ -6,6 +6,8 @@ ALLOW, KILL_THREAD = 0x7FFF0000, 0
 TOKENS = {"x86-64": 0xC000003E, "aarch64": 0xC00000B7}
 # The bit of x32 calls.
 LEAST_X32 = 0x40000000
+# The machines of which the lower half of an argument is compared.
+NARROW = ("linux-x86", "linux-arm")
 
 WORDS = (KILL_THREAD, KILL_THREAD, KILL_THREAD, ALLOW, ALLOW, 0x50001, 0x50002, 0x80000000)
 NUMBERS = (0, 1, 1, 2, 3, 5, 7, 435)
@@ -21,9 +23,9 @@ def least_from(low, mask, datum):
     return next((number for number in (low, *raised) if number & mask == datum), None)
 
 
-def can_meet(conditions):
-    """Whether one number meets all these conditions `(OP, VALUE, DATUM)`."""
-    low, high, mask, datum, others = 0, ALL, 0, 0, set()
+def can_meet(conditions, high):
+    """Whether one number up to a greatest one meets all these conditions `(OP, VALUE, DATUM)`."""
+    low, mask, datum, others = 0, 0, 0, set()
     for op, value, bits in conditions:
         if op in ("EQ", "GE", "GT"):
             low = max(low, value + (op == "GT"))
@@ -49,8 +51,8 @@ def overlap(rule, other):
     """Whether one record matches both rules `(MACHINE, NUMBER, WORD, CONDITIONS)`, each condition an argument's place and so on."""
     if rule[:2] != other[:2]:
         return False
-    conditions = rule[3] + other[3]
-    return all(can_meet([cond[1:] for cond in conditions if cond[0] == place]) for place in {cond[0] for cond in conditions})
+    conditions, high = rule[3] + other[3], 2**32 - 1 if rule[0] in NARROW else ALL
+    return all(can_meet([cond[1:] for cond in conditions if cond[0] == place], high) for place in {cond[0] for cond in conditions})
 
 
 def draw_value(dice):

@@ -3,4 +3,5 @@ pub mod Rows
 pub mod Machines
 pub mod Arch
 pub mod Numbers
+pub mod Width
 pub mod inner

@@ -6,7 +6,8 @@
 //!
 //! x86-64 and AArch64 stand here twice: with a list of calls that this project chose, and with all
 //! calls of Linux. Beside the latter stand x86, x32 and ARM, whose calls the same kernels run. Machines of one
-//! [`Family`] may stand in one profile. Of machines with one token each has its own numbers.
+//! [`Family`] may stand in one profile. Of machines with one token each has its own numbers. Of an argument all bits are
+//! compared, or the low half alone where a kernel carries out no more ([`is_narrow`]).
 #![tactic(auto)]
 
 mod arch;
@@ -17,6 +18,7 @@ mod machines;
 mod numbers;
 mod rows;
 mod table;
+mod width;
 
 pub use arch::{Arch, Family, look_ups_are_inverse};
 pub use machines::{
@@ -24,3 +26,4 @@ pub use machines::{
     machine_look_ups_are_inverse,
 };
 pub use numbers::{LEAST_X32_NUMBER, Numbers};
+pub use width::{compared, is_narrow};

@@ -61,18 +61,17 @@ fn has_number(numbers: &[u32; MACHINES], column: usize, number: u32) -> bool
 
 /// The name of the number in a column.
 pub(crate) fn name_of(
-    mut table: &[(&'static str, [u32; MACHINES])],
+    table: &[(&'static str, [u32; MACHINES])],
     column: usize,
     number: u32,
 ) -> Option<&'static str>
     requires { column < 5 }
-    ensures { option_copied result ≡ name_in (column_of column (rows table.entry.now)) number }
+    ensures { option_copied result ≡ name_in (column_of column (rows table.now)) number }
 {
-    while let [entry, rest @ ..] = table {
-        if has_number(&entry.1, column, number) {
-            return Some(entry.0);
+    for (name, numbers) in table {
+        if has_number(numbers, column, number) {
+            return Some(*name);
         }
-        table = rest;
     }
     None
 }

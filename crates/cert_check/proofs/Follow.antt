@@ -7,6 +7,7 @@ use Rattle.cert_check.proofs.Elements.{contains_at, each_of}
 use Rattle.std.proofs.lemmas.Bool.{cases_eq, cases_lt, eqb-true}
 use Rattle.std.proofs.lemmas.Option.{slice_get_within, same_Some, cond_some, none-some, unwrap_or-slice_get}
 use Rattle.call_record.specs.Words.{IsRecord, argument}
+use Rattle.call_tables.specs.Width.{compared}
 use Rattle.bpf_insn.specs.declared.code.Operand.{Operand}
 use Rattle.bpf_insn.specs.declared.code.Test.{Test}
 use Rattle.bpf_insn.specs.declared.code.Operation.{Operation}
@@ -23,7 +24,7 @@ use Rattle.kernel_check.proofs.RunLaws.{leads, plain}
 use Rattle.profile.specs.declared.conditions.Cond.{Cond}
 use Rattle.profile.specs.declared.rules.Rule.{Rule}
 use Rattle.profile.specs.Policy.{Policy, Says}
-use Rattle.profile.specs.Rule.{Matches}
+use Rattle.profile.specs.Rule.{Matches, is_narrow_rule}
 use Rattle.profile.specs.Condition.{Meets}
 use Rattle.cert_state.specs.declared.literal.Lit.{Lit}
 use Rattle.cert_state.specs.declared.literal.Lit.TheVariants.{In, Bits, NotBits}
@@ -324,13 +325,16 @@ module _ (r : List ℕ) (rec : IsRecord r) (p : List Insn) (accepted : IsAccepte
       let is = All-contains (IsMetBy policy n.met (known_on n e)) m.met (place, own) carries.mets has in
       let same : is.rule ≡ rule = same_Some is.rule rule (sym is.stands ∙ stands) in
       let one : is.cond ≡ c = same_Some is.cond c (sym is.its ∙ subst (λ x. slice_get x.conds.items own ≡ Some c) (sym same) its) in
-      by_reason place own rule c stands its (subst (λ x. Contains n.met (place, own) ⊎ IsYes (known_on n e) x) one is.reason)
+      let reason = subst (λ x. Contains n.met (place, own) ⊎ IsYes (is_narrow_rule is.rule) (known_on n e) x) one is.reason in
+      by_reason place own rule c stands its (subst (λ x. Contains n.met (place, own) ⊎ IsYes (is_narrow_rule x) (known_on n e) c) same reason)
     where
       by_reason : (place own : ℕ) (rule : Rule) (c : Cond) → slice_get policy.rules place ≡ Some rule
           → slice_get rule.conds.items own ≡ Some c
-          → Contains n.met (place, own) ⊎ IsYes (known_on n e) c → Meets c (argument r c.index)
+          → Contains n.met (place, own) ⊎ IsYes (is_narrow_rule rule) (known_on n e) c
+          → Meets c (compared (is_narrow_rule rule) (argument r c.index))
       by_reason place own rule c stands its (inl before) = so_met place own rule c before stands its
-      by_reason place own rule c stands its (inr settled) = yes_condition r rec (known_on n e) (more_holds n known e.fact fact) c settled
+      by_reason place own rule c stands its (inr settled) =
+          yes_condition r rec (known_on n e) (more_holds n known e.fact fact) (is_narrow_rule rule) c settled
 
   arrives_told : (n : PlainNode) (e : Edge) (m : PlainNode) → All (λ l. Holds l r) n.known → IsTrueOf policy n.out n.met r
       → IfSome e.fact (λ l. Holds l r) → Carries policy n e m → IsTrueOf policy m.out m.met r

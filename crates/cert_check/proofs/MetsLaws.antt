@@ -8,10 +8,12 @@ use Rattle.std.proofs.lemmas.Option.{slice_get-get_or, same_Some}
 use Rattle.profile.specs.declared.conditions.Cond.{Cond}
 use Rattle.cert_state.specs.declared.literal.Lit.{Lit}
 use Rattle.profile.specs.declared.rules.Rule.{Rule}
+use Rattle.profile.specs.Rule.{is_narrow_rule}
 use Rattle.profile.specs.Policy.{Policy}
 use Rattle.cert_check.specs.Agree.{AllAreYes, IsNo, IsYes, OneIsNo, SomeIsNo}
 use Rattle.cert_check.specs.Rules.{IsMetBy}
-use Rattle.cert_check.specs.inner.Judged.{AreYes, IsJudged, IsNoNorMet, IsYesOrMet}
+use Rattle.cert_check.specs.inner.Judged.{AreYes, IsAnswered, IsJudged, IsNoNorMet, IsYesOrMet}
+use Rattle.cert_check.specs.declared.judged.Answered.{Answered}
 use Rattle.cert_check.specs.declared.judged.Judged.{Judged}
 use Rattle.cert_check.specs.declared.judged.Judged.TheVariants.{Yes, No, Open}
 use Rattle.cert_check.specs.inner.Marked.{is_said, AreMetMarked, AreMetMarkedBut}
@@ -104,19 +106,27 @@ all_marked places table rest e so rule own d lt below =
 
 -- ---- conditions asked
 
+-- an answer to the conditions of a rule, of arguments as wide as its machine's
+pub as_asked : (known : List Lit) (answered : Answered) (rule : Rule) → answered.narrow ≡ is_narrow_rule rule
+    → answered.conds.now ≡ rule.conds.items → IsAnswered known answered
+    → IsJudged (AreYes (is_narrow_rule rule) known rule.conds.items) (SomeIsNo (is_narrow_rule rule) known rule.conds.items) answered.judged
+as_asked known answered rule narrow conds so =
+    subst (λ b. IsJudged (AreYes b known rule.conds.items) (SomeIsNo b known rule.conds.items) answered.judged) narrow
+    (subst (λ cs. IsJudged (AreYes answered.narrow known cs) (SomeIsNo answered.narrow known cs) answered.judged) conds so)
+
 -- where no condition of a rule is said to be met, all are asked
-pub none_left : (met : List (ℕ × ℕ)) (known : List Lit) (place : ℕ) (conds : List Cond) (judged : Judged) → length conds ≤ 6
-    → ((own : ℕ) → own < 6 → Contains met (place, own) → ⊥) → IsJudged (AreYes known conds) (SomeIsNo known conds) judged
-    → IsJudged (AllAreYes met known place conds) (OneIsNo met known place conds) judged
-none_left met known place conds Yes few none so = λ own c its. inr (so c (contains_at conds own c its))
-none_left met known place conds No few none so = record {
+pub none_left : (narrow : Bool) (met : List (ℕ × ℕ)) (known : List Lit) (place : ℕ) (conds : List Cond) (judged : Judged) → length conds ≤ 6
+    → ((own : ℕ) → own < 6 → Contains met (place, own) → ⊥) → IsJudged (AreYes narrow known conds) (SomeIsNo narrow known conds) judged
+    → IsJudged (AllAreYes narrow met known place conds) (OneIsNo narrow met known place conds) judged
+none_left narrow met known place conds Yes few none so = λ own c its. inr (so c (contains_at conds own c its))
+none_left narrow met known place conds No few none so = record {
   own = so.1.0;
   cond = so.0;
   stands = slice_get-get_or conds so.1.0 so.0 so.1.1 ∙ ap Some so.1.2;
   not_met = none so.1.0 (omega (arith, few, so.1.1));
   is_no = so.2;
 }
-none_left met known place conds Open few none so = (
+none_left narrow met known place conds Open few none so = (
   λ all. so.0 (λ c has. elim (all has.0 c (slice_get-get_or conds has.0 c has.1 ∙ ap Some has.2)) [
     | inl told ↦ absurd (none has.0 (omega (arith, few, has.1)) told)
     | inr holds ↦ holds
@@ -125,22 +135,24 @@ none_left met known place conds Open few none so = (
 )
 
 -- where a condition is not said to be met, it is asked
-pub unless_met : (met : List (ℕ × ℕ)) (known : List Lit) (place own : ℕ) (c : Cond) (judged : Judged) → (Contains met (place, own) → ⊥)
-    → IsJudged (IsYes known c) (IsNo known c) judged → IsJudged (IsYesOrMet met known place own c) (IsNoNorMet met known place own c) judged
-unless_met met known place own c Yes none so = inr so
-unless_met met known place own c No none so = (none, so)
-unless_met met known place own c Open none so =
+pub unless_met : (narrow : Bool) (met : List (ℕ × ℕ)) (known : List Lit) (place own : ℕ) (c : Cond) (judged : Judged)
+    → (Contains met (place, own) → ⊥) → IsJudged (IsYes narrow known c) (IsNo narrow known c) judged
+    → IsJudged (IsYesOrMet narrow met known place own c) (IsNoNorMet narrow met known place own c) judged
+unless_met narrow met known place own c Yes none so = inr so
+unless_met narrow met known place own c No none so = (none, so)
+unless_met narrow met known place own c Open none so =
     (λ h. elim h [ inl told ↦ none told | inr holds ↦ so.0 holds ], λ h. so.1 h.1)
 
 -- a condition that the profile has at these places is met for one of the two reasons
 pub met_by : (policy : Policy) (met : List (ℕ × ℕ)) (known : List Lit) (place : ℕ × ℕ) (rule : Rule) (c : Cond)
     → slice_get policy.rules place.0 ≡ Some rule → slice_get rule.conds.items place.1 ≡ Some c
-    → (Contains met place ⊎ IsYes known c) ↔ IsMetBy policy met known place
+    → (Contains met place ⊎ IsYes (is_narrow_rule rule) known c) ↔ IsMetBy policy met known place
 met_by policy met known place rule c stands its = (
   λ reason. record { rule = rule; stands = stands; cond = c; its = its; reason = reason },
   λ is.
       let same : is.rule ≡ rule = same_Some is.rule rule (sym is.stands ∙ stands) in
       let one : is.cond ≡ c = same_Some is.cond c (sym is.its
       ∙ subst (λ (x : Rule). slice_get x.conds.items place.1 ≡ Some c) (sym same) its) in
-      subst (λ x. Contains met place ⊎ IsYes known x) one is.reason,
+      subst (λ x. Contains met place ⊎ IsYes (is_narrow_rule x) known c) same
+      (subst (λ x. Contains met place ⊎ IsYes (is_narrow_rule is.rule) known x) one is.reason),
 )

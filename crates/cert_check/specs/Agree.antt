@@ -1,6 +1,7 @@
 -- Where what is known of a record settles the word that a profile says of it. Arguments have 64 bits, and what is
--- known is of their halves: the low half of argument j is word 4 + 2 * j, the high half the word after it.
-use Rattle.std.specs.Prelude.{◌≡◌, ℕ, ◌+◌, ◌*◌, ◌/◌, ◌%◌, ◌^◌, ◌⊎◌, Bool, true, false, List, [], All, Any, Contains, Some, slice_get}
+-- known is of their halves: the low half of argument j is word 4 + 2 * j, the high half the word after it. Of a narrow
+-- argument the low half alone is compared, and the high one counts as 0, whatever is known of it.
+use Rattle.std.specs.Prelude.{◌≡◌, ◌≢◌, ℕ, ◌+◌, ◌*◌, ◌/◌, ◌%◌, ◌^◌, ◌⊎◌, Bool, true, false, List, [], All, Any, Contains, Some, slice_get}
 use Rattle.call_tables.specs.declared.arch.Arch.{Arch}
 use Rattle.call_tables.specs.declared.numbers.Numbers.{Numbers}
 use Rattle.call_tables.specs.Arch.{token_of}
@@ -9,6 +10,7 @@ use Rattle.profile.specs.declared.conditions.Op.{Op}
 use Rattle.profile.specs.declared.conditions.Op.TheVariants.{Ne, Lt, Le, Eq, Ge, Gt, MaskedEq}
 use Rattle.profile.specs.declared.conditions.Cond.{Cond}
 use Rattle.profile.specs.declared.rules.Rule.{Rule}
+use Rattle.profile.specs.Rule.{is_narrow_rule}
 use Rattle.profile.specs.Policy.{Policy}
 use Rattle.profile.specs.Said.{compares}
 use Rattle.cert_state.specs.declared.literal.Lit.{Lit}
@@ -17,86 +19,102 @@ use Rattle.cert_state.specs.Literals.{all_bits}
 use Rattle.cert_state.specs.Points.{IsRange}
 use Rattle.cert_state.specs.Entailment.{Entails}
 
+-- the high half of argument j has the datum d under the mask m, or another; or lies between these numbers
+abbrev pub HasAbove : Bool → List Lit → ℕ → ℕ → ℕ → Type 0
+HasAbove true known j m d = d ≡ 0
+HasAbove false known j m d = Entails known (Bits (5 + 2 * j) m d)
+
+abbrev pub LacksAbove : Bool → List Lit → ℕ → ℕ → ℕ → Type 0
+LacksAbove true known j m d = d ≢ 0
+LacksAbove false known j m d = Entails known (NotBits (5 + 2 * j) m d)
+
+abbrev pub IsRangeAbove : Bool → List Lit → ℕ → ℕ → ℕ → Type 0
+IsRangeAbove true known j low high = (low ≡ 0) × (high ≡ 0)
+IsRangeAbove false known j low high = IsRange known (5 + 2 * j) low high
+
 -- argument j has the datum d under the mask m: both halves have theirs
-abbrev pub HasBits : List Lit → ℕ → ℕ → ℕ → Type 0
-HasBits known j m d =
-    Entails known (Bits (5 + 2 * j) (m / 2 ^ 32) (d / 2 ^ 32)) × Entails known (Bits (4 + 2 * j) (m % 2 ^ 32) (d % 2 ^ 32))
+abbrev pub HasBits : Bool → List Lit → ℕ → ℕ → ℕ → Type 0
+HasBits narrow known j m d =
+    HasAbove narrow known j (m / 2 ^ 32) (d / 2 ^ 32) × Entails known (Bits (4 + 2 * j) (m % 2 ^ 32) (d % 2 ^ 32))
 
 -- it has another: one half has
-abbrev pub LacksBits : List Lit → ℕ → ℕ → ℕ → Type 0
-LacksBits known j m d =
-    Entails known (NotBits (5 + 2 * j) (m / 2 ^ 32) (d / 2 ^ 32)) ⊎ Entails known (NotBits (4 + 2 * j) (m % 2 ^ 32) (d % 2 ^ 32))
+abbrev pub LacksBits : Bool → List Lit → ℕ → ℕ → ℕ → Type 0
+LacksBits narrow known j m d =
+    LacksAbove narrow known j (m / 2 ^ 32) (d / 2 ^ 32) ⊎ Entails known (NotBits (4 + 2 * j) (m % 2 ^ 32) (d % 2 ^ 32))
 
 -- a comparison has this answer at the least and at the greatest number that argument j may be
-pub record AtBothEnds (known : List Lit) (j : ℕ) (op : Op) (value : ℕ) (answer : Bool) : Type 0 where
+pub record AtBothEnds (narrow : Bool) (known : List Lit) (j : ℕ) (op : Op) (value : ℕ) (answer : Bool) : Type 0 where
   pub low : ℕ
   pub high : ℕ
   pub low_above : ℕ
   pub high_above : ℕ
   pub range : IsRange known (4 + 2 * j) low high
-  pub range_above : IsRange known (5 + 2 * j) low_above high_above
+  pub range_above : IsRangeAbove narrow known j low_above high_above
   pub at_low : compares op value 0 (low + 2 ^ 32 * low_above) ≡ answer
   pub at_high : compares op value 0 (high + 2 ^ 32 * high_above) ≡ answer
 
 abbrev pub all_64_bits : ℕ
 all_64_bits = 0xffffffffffffffff
 
-abbrev pub IsYesBy : Op → List Lit → ℕ → ℕ → ℕ → Type 0
-IsYesBy Eq known j value datum = HasBits known j all_64_bits value
-IsYesBy Ne known j value datum = LacksBits known j all_64_bits value
-IsYesBy MaskedEq known j value datum = HasBits known j value datum
-IsYesBy Lt known j value datum = AtBothEnds known j Lt value true
-IsYesBy Le known j value datum = AtBothEnds known j Le value true
-IsYesBy Ge known j value datum = AtBothEnds known j Ge value true
-IsYesBy Gt known j value datum = AtBothEnds known j Gt value true
+abbrev pub IsYesBy : Op → Bool → List Lit → ℕ → ℕ → ℕ → Type 0
+IsYesBy Eq narrow known j value datum = HasBits narrow known j all_64_bits value
+IsYesBy Ne narrow known j value datum = LacksBits narrow known j all_64_bits value
+IsYesBy MaskedEq narrow known j value datum = HasBits narrow known j value datum
+IsYesBy Lt narrow known j value datum = AtBothEnds narrow known j Lt value true
+IsYesBy Le narrow known j value datum = AtBothEnds narrow known j Le value true
+IsYesBy Ge narrow known j value datum = AtBothEnds narrow known j Ge value true
+IsYesBy Gt narrow known j value datum = AtBothEnds narrow known j Gt value true
 
-abbrev pub IsNoBy : Op → List Lit → ℕ → ℕ → ℕ → Type 0
-IsNoBy Eq known j value datum = LacksBits known j all_64_bits value
-IsNoBy Ne known j value datum = HasBits known j all_64_bits value
-IsNoBy MaskedEq known j value datum = LacksBits known j value datum
-IsNoBy Lt known j value datum = AtBothEnds known j Lt value false
-IsNoBy Le known j value datum = AtBothEnds known j Le value false
-IsNoBy Ge known j value datum = AtBothEnds known j Ge value false
-IsNoBy Gt known j value datum = AtBothEnds known j Gt value false
+abbrev pub IsNoBy : Op → Bool → List Lit → ℕ → ℕ → ℕ → Type 0
+IsNoBy Eq narrow known j value datum = LacksBits narrow known j all_64_bits value
+IsNoBy Ne narrow known j value datum = HasBits narrow known j all_64_bits value
+IsNoBy MaskedEq narrow known j value datum = LacksBits narrow known j value datum
+IsNoBy Lt narrow known j value datum = AtBothEnds narrow known j Lt value false
+IsNoBy Le narrow known j value datum = AtBothEnds narrow known j Le value false
+IsNoBy Ge narrow known j value datum = AtBothEnds narrow known j Ge value false
+IsNoBy Gt narrow known j value datum = AtBothEnds narrow known j Gt value false
 
 -- a condition is yes, or no; what meets both is yes, and what meets none is open
-abbrev pub IsYes : List Lit → Cond → Type 0
-IsYes known c = IsYesBy c.op known c.index c.value c.datum
+abbrev pub IsYes : Bool → List Lit → Cond → Type 0
+IsYes narrow known c = IsYesBy c.op narrow known c.index c.value c.datum
 
-abbrev pub IsNo : List Lit → Cond → Type 0
-IsNo known c = IsNoBy c.op known c.index c.value c.datum × (IsYes known c → ⊥)
+abbrev pub IsNo : Bool → List Lit → Cond → Type 0
+IsNo narrow known c = IsNoBy c.op narrow known c.index c.value c.datum × (IsYes narrow known c → ⊥)
 
 -- a condition that is no
-abbrev pub SomeIsNo : List Lit → List Cond → Type 0
-SomeIsNo known conds = (c : Cond) × Contains conds c × IsNo known c
+abbrev pub SomeIsNo : Bool → List Lit → List Cond → Type 0
+SomeIsNo narrow known conds = (c : Cond) × Contains conds c × IsNo narrow known c
 
 -- what is known refutes a rule: the machine or the number is another than the rule's, or a condition is no
 abbrev pub IsRefuted : List Lit → Rule → Type 0
 IsRefuted known rule =
     Entails known (NotBits 1 all_bits (token_of rule.arch))
-    ⊎ (Entails known (NotBits 0 all_bits rule.nr) ⊎ SomeIsNo known rule.conds.items)
+    ⊎ (Entails known (NotBits 0 all_bits rule.nr) ⊎ SomeIsNo (is_narrow_rule rule) known rule.conds.items)
 
 -- Some conditions are said to be met, each by the place of its rule and its own among the rule's: they count as yes.
 -- The conditions of the rule at a place are all yes.
-abbrev pub AllAreYes : List (ℕ × ℕ) → List Lit → ℕ → List Cond → Type 0
-AllAreYes met known place conds = (own : ℕ) (c : Cond) → slice_get conds own ≡ Some c → Contains met (place, own) ⊎ IsYes known c
+abbrev pub AllAreYes : Bool → List (ℕ × ℕ) → List Lit → ℕ → List Cond → Type 0
+AllAreYes narrow met known place conds =
+    (own : ℕ) (c : Cond) → slice_get conds own ≡ Some c → Contains met (place, own) ⊎ IsYes narrow known c
 
 -- one of them is no
-pub record OneIsNo (met : List (ℕ × ℕ)) (known : List Lit) (place : ℕ) (conds : List Cond) : Type 0 where
+pub record OneIsNo (narrow : Bool) (met : List (ℕ × ℕ)) (known : List Lit) (place : ℕ) (conds : List Cond) : Type 0 where
   pub own : ℕ
   pub cond : Cond
   pub stands : slice_get conds own ≡ Some cond
   pub not_met : Contains met (place, own) → ⊥
-  pub is_no : IsNo known cond
+  pub is_no : IsNo narrow known cond
 
 -- so the rule at a place: yes where the number is known to be its own and each condition is yes, no where the number
 -- is known to be another or a condition is no
 abbrev pub IsYesRule : List (ℕ × ℕ) → List Lit → ℕ → Rule → Type 0
-IsYesRule met known place rule = Entails known (Bits 0 all_bits rule.nr) × AllAreYes met known place rule.conds.items
+IsYesRule met known place rule =
+    Entails known (Bits 0 all_bits rule.nr) × AllAreYes (is_narrow_rule rule) met known place rule.conds.items
 
 abbrev pub IsNoRule : List (ℕ × ℕ) → List Lit → ℕ → Rule → Type 0
 IsNoRule met known place rule =
-    (Entails known (NotBits 0 all_bits rule.nr) ⊎ OneIsNo met known place rule.conds.items) × (IsYesRule met known place rule → ⊥)
+    (Entails known (NotBits 0 all_bits rule.nr) ⊎ OneIsNo (is_narrow_rule rule) met known place rule.conds.items)
+    × (IsYesRule met known place rule → ⊥)
 
 -- a rule at a place is for the machine, and is not said to be out
 pub record IsLeft (out : List ℕ) (arch : Arch) (place : ℕ) (rule : Rule) : Type 0 where

@@ -9,6 +9,7 @@ use Rattle.bpf_insn.specs.declared.code.Operation.TheVariants.{Branch, Jump, Ret
 use Rattle.bpf_insn.specs.Code.{operation_of}
 use Rattle.profile.specs.declared.conditions.Cond.{Cond}
 use Rattle.profile.specs.declared.rules.Rule.{Rule}
+use Rattle.profile.specs.Rule.{is_narrow_rule}
 use Rattle.profile.specs.Policy.{Policy}
 use Rattle.cert_state.specs.declared.literal.Lit.{Lit}
 use Rattle.cert_state.specs.declared.literal.Lit.TheVariants.{In, Bits, NotBits}
@@ -130,7 +131,7 @@ pub record IsMetBy (policy : Policy) (met : List (ℕ × ℕ)) (known : List Lit
   pub stands : slice_get policy.rules place.0 ≡ Some rule
   pub cond : Cond
   pub its : slice_get rule.conds.items place.1 ≡ Some cond
-  pub reason : Contains met place ⊎ IsYes known cond
+  pub reason : Contains met place ⊎ IsYes (is_narrow_rule rule) known cond
 
 -- what is known on an edge gives what its node says
 pub record Carries (policy : Policy) (n : PlainNode) (e : Edge) (m : PlainNode) : Type 0 where

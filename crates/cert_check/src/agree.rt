@@ -2,6 +2,7 @@
 ghost use Rattle.std.specs.Prelude.{◌≡◌, ◌<◌, ◌↔◌, ◌⊎◌, ℕ, IsTrue, All, Any, Contains};
 ghost use Rattle.call_tables.specs.Arch.{token_of};
 ghost use Rattle.call_tables.specs.declared.arch.Arch.{Arch as TheArch};
+ghost use Rattle.profile.specs.Rule.{is_narrow_rule};
 ghost use Rattle.cert_state.specs.declared.literal.Lit.TheVariants.{Bits};
 ghost use Rattle.cert_state.specs.Literals.{all_bits};
 ghost use Rattle.cert_state.specs.Entailment.{Entails};
@@ -98,7 +99,7 @@ fn are_same(a: &[Cond], b: &[Cond]) -> bool
     true
 }
 
-// The answer to the conditions of a rule: the last one, where that was to the same conditions.
+// The answer to the conditions of a rule: the last one, where that was to the same conditions of arguments as wide.
 pub(crate) fn answer_of<'a, S: State>(
     facts: &Facts<'_, S>,
     rule: &'a Rule,
@@ -106,15 +107,18 @@ pub(crate) fn answer_of<'a, S: State>(
 ) -> Answered<'a>
     requires { IsAnswered (S.known facts.now.state.now) last }
     ensures answer { IsAnswered (S.known facts.now.state.now) result }
+    ensures narrow { result.narrow ≡ is_narrow_rule rule.now }
     ensures conds { result.conds.now ≡ rule.now.conds.items }
 {
+    let narrow = rule.is_narrow();
     let conds = rule.conds.as_slice();
-    if are_same(last.conds, conds) {
+    if last.narrow == narrow && are_same(last.conds, conds) {
         return last;
     }
     Answered {
+        narrow,
         conds,
-        judged: judge_conditions(facts, conds),
+        judged: judge_conditions(facts, narrow, conds),
     }
 }
 
@@ -187,12 +191,14 @@ impl<S: State> Agreement<'_, S> {
     ) -> (Judged, Answered<'r>)
         requires place { place < 8192 }
         requires last { IsAnswered (known_of self.now) last }
-        ensures judged { AreJudgedAt (met_of self.now) (known_of self.now) place rule.now.conds.items result.0 }
+        ensures judged { AreJudgedAt (is_narrow_rule rule.now) (met_of self.now) (known_of self.now) place rule.now.conds.items result.0 }
         ensures answer { IsAnswered (known_of self.now) result.1 }
     {
         let conds = rule.conds.as_slice();
         if self.mets.has_some(place) {
-            return (judge_left(self.facts, &self.mets, place, conds), last);
+            let narrow = rule.is_narrow();
+            let judged = judge_left(self.facts, &self.mets, place, narrow, conds);
+            return (judged, last);
         }
         let answer = answer_of(self.facts, rule, last);
         (answer.judged, answer)
@@ -262,6 +268,7 @@ impl<S: State> Agreement<'_, S> {
         let mut place = 0_usize;
         let mut numbers = [None; 512];
         let mut last = Answered {
+            narrow: false,
             conds: &[],
             judged: Judged::Yes,
         };

@@ -2,7 +2,7 @@
 ghost use Rattle.std.specs.Prelude.{◌≡◌, ◌↔◌, ◌<◌, ◌≤◌, ◌+◌, ◌*◌, ◌/◌, ◌%◌, ◌^◌, ◌⊎◌, IsTrue, MatchOption, length, true, false};
 ghost use Rattle.cert_state.specs.Points.{HasNoPoint};
 ghost use Rattle.cert_check.specs.inner.Claimed.{mets_of};
-ghost use Rattle.cert_check.specs.Agree.{AtBothEnds, HasBits, IsNo, IsYes, LacksBits, SomeIsNo};
+ghost use Rattle.cert_check.specs.Agree.{AtBothEnds, HasAbove, HasBits, IsNo, IsRangeAbove, IsYes, LacksAbove, LacksBits, SomeIsNo};
 ghost use Rattle.cert_check.specs.inner.Judged.{AreEnds, AreJudgedAt, AreYes, IsJudged, IsNoNorMet, IsOrder, IsYesOrMet};
 
 use crate::claims::Mets;
@@ -19,76 +19,126 @@ const fn low_word(index: u8) -> u8
     4 + 2 * index
 }
 
-// Whether an argument is known to have these bits under a mask.
-fn has_bits<S: State>(facts: &Facts<'_, S>, index: u8, mask: u64, datum: u64) -> bool
+// Whether the high half of an argument is known to have these bits under a mask. That of a narrow one counts as 0.
+fn has_above<S: State>(facts: &Facts<'_, S>, narrow: bool, index: u8, mask: u32, datum: u32) -> bool
     requires { index < 6 }
-    ensures { IsTrue result ↔ HasBits (S.known facts.now.state.now) index mask datum }
+    ensures { IsTrue result ↔ HasAbove narrow (S.known facts.now.state.now) index mask datum }
 {
-    let word = low_word(index);
-    let (mask, mask_above) = halves(mask);
-    let (datum, datum_above) = halves(datum);
-    if !facts.entails(&Lit::Bits(word + 1, mask_above, datum_above)) {
-        return false;
+    if narrow {
+        return datum == 0;
     }
-    facts.entails(&Lit::Bits(word, mask, datum))
+    facts.entails(&Lit::Bits(low_word(index) + 1, mask, datum))
 }
 
 // Whether it is known to have others.
-fn lacks_bits<S: State>(facts: &Facts<'_, S>, index: u8, mask: u64, datum: u64) -> bool
+fn lacks_above<S: State>(
+    facts: &Facts<'_, S>,
+    narrow: bool,
+    index: u8,
+    mask: u32,
+    datum: u32,
+) -> bool
     requires { index < 6 }
-    ensures { IsTrue result ↔ LacksBits (S.known facts.now.state.now) index mask datum }
+    ensures { IsTrue result ↔ LacksAbove narrow (S.known facts.now.state.now) index mask datum }
 {
-    let word = low_word(index);
+    if narrow {
+        return datum != 0;
+    }
+    facts.entails(&Lit::NotBits(low_word(index) + 1, mask, datum))
+}
+
+// Whether an argument is known to have these bits under a mask.
+fn has_bits<S: State>(facts: &Facts<'_, S>, narrow: bool, index: u8, mask: u64, datum: u64) -> bool
+    requires { index < 6 }
+    ensures { IsTrue result ↔ HasBits narrow (S.known facts.now.state.now) index mask datum }
+{
     let (mask, mask_above) = halves(mask);
     let (datum, datum_above) = halves(datum);
-    if facts.entails(&Lit::NotBits(word + 1, mask_above, datum_above)) {
+    if !has_above(facts, narrow, index, mask_above, datum_above) {
+        return false;
+    }
+    facts.entails(&Lit::Bits(low_word(index), mask, datum))
+}
+
+// Whether it is known to have others.
+fn lacks_bits<S: State>(
+    facts: &Facts<'_, S>,
+    narrow: bool,
+    index: u8,
+    mask: u64,
+    datum: u64,
+) -> bool
+    requires { index < 6 }
+    ensures { IsTrue result ↔ LacksBits narrow (S.known facts.now.state.now) index mask datum }
+{
+    let (mask, mask_above) = halves(mask);
+    let (datum, datum_above) = halves(datum);
+    if lacks_above(facts, narrow, index, mask_above, datum_above) {
         return true;
     }
-    facts.entails(&Lit::NotBits(word, mask, datum))
+    facts.entails(&Lit::NotBits(low_word(index), mask, datum))
 }
 
 // Whether an argument has these bits.
-fn judge_bits<S: State>(facts: &Facts<'_, S>, index: u8, mask: u64, datum: u64) -> Judged
+fn judge_bits<S: State>(
+    facts: &Facts<'_, S>,
+    narrow: bool,
+    index: u8,
+    mask: u64,
+    datum: u64,
+) -> Judged
     requires { index < 6 }
-    ensures { let known = S.known facts.now.state.now in IsJudged (HasBits known index mask datum)
-        (LacksBits known index mask datum × (HasBits known index mask datum → ⊥)) result }
+    ensures { let known = S.known facts.now.state.now in IsJudged (HasBits narrow known index mask datum)
+        (LacksBits narrow known index mask datum × (HasBits narrow known index mask datum → ⊥)) result }
 {
-    if has_bits(facts, index, mask, datum) {
+    if has_bits(facts, narrow, index, mask, datum) {
         return Judged::Yes;
     }
-    if lacks_bits(facts, index, mask, datum) {
+    if lacks_bits(facts, narrow, index, mask, datum) {
         return Judged::No;
     }
     Judged::Open
 }
 
 // Whether an argument is another number.
-fn judge_other<S: State>(facts: &Facts<'_, S>, index: u8, value: u64) -> Judged
+fn judge_other<S: State>(facts: &Facts<'_, S>, narrow: bool, index: u8, value: u64) -> Judged
     requires { index < 6 }
-    ensures { let known = S.known facts.now.state.now in IsJudged (LacksBits known index 0xffffffffffffffff value)
-        (HasBits known index 0xffffffffffffffff value × (LacksBits known index 0xffffffffffffffff value → ⊥)) result }
+    ensures { let known = S.known facts.now.state.now in IsJudged (LacksBits narrow known index 0xffffffffffffffff value)
+        (HasBits narrow known index 0xffffffffffffffff value × (LacksBits narrow known index 0xffffffffffffffff value → ⊥)) result }
 {
-    if lacks_bits(facts, index, u64::MAX, value) {
+    if lacks_bits(facts, narrow, index, u64::MAX, value) {
         return Judged::Yes;
     }
-    if has_bits(facts, index, u64::MAX, value) {
+    if has_bits(facts, narrow, index, u64::MAX, value) {
         return Judged::No;
     }
     Judged::Open
 }
 
-// The least and the greatest number that an argument may be.
-fn ends<S: State>(facts: &Facts<'_, S>, index: u8) -> Option<(u64, u64)>
+// The least and the greatest number that the high half of an argument may be. That of a narrow one counts as 0.
+fn ends_above<S: State>(facts: &Facts<'_, S>, narrow: bool, index: u8) -> Option<(u32, u32)>
     requires { index < 6 }
     ensures { let known = S.known facts.now.state.now in MatchOption result
-        (HasNoPoint known (4 + 2 * index) ⊎ HasNoPoint known (5 + 2 * index))
-        (λ ends. AreEnds known index ends.0 ends.1) }
+        ((narrow ≡ false) × HasNoPoint known (5 + 2 * index))
+        (λ ends. IsRangeAbove narrow known index ends.0 ends.1) }
 {
-    let word = low_word(index);
-    let Some((least, greatest)) = facts.range(word) else {
+    if narrow {
+        return Some((0, 0));
+    }
+    facts.range(low_word(index) + 1)
+}
+
+// The least and the greatest number that an argument may be.
+fn ends<S: State>(facts: &Facts<'_, S>, narrow: bool, index: u8) -> Option<(u64, u64)>
+    requires { index < 6 }
+    ensures { let known = S.known facts.now.state.now in MatchOption result
+        (HasNoPoint known (4 + 2 * index) ⊎ ((narrow ≡ false) × HasNoPoint known (5 + 2 * index)))
+        (λ ends. AreEnds narrow known index ends.0 ends.1) }
+{
+    let Some((least, greatest)) = facts.range(low_word(index)) else {
         return None;
     };
-    let Some((least_above, greatest_above)) = facts.range(word + 1) else {
+    let Some((least_above, greatest_above)) = ends_above(facts, narrow, index) else {
         return None;
     };
     let low = u64::from(least) + (1 << 32) * u64::from(least_above);
@@ -97,13 +147,13 @@ fn ends<S: State>(facts: &Facts<'_, S>, index: u8) -> Option<(u64, u64)>
 }
 
 // Whether a comparison by order has one answer at both ends.
-fn judge_order<S: State>(facts: &Facts<'_, S>, cond: &Cond) -> Judged
+fn judge_order<S: State>(facts: &Facts<'_, S>, narrow: bool, cond: &Cond) -> Judged
     requires { IsOrder cond.now.op }
-    ensures { let known = S.known facts.now.state.now in IsJudged (AtBothEnds known cond.now.index cond.now.op cond.now.value true)
-        (AtBothEnds known cond.now.index cond.now.op cond.now.value false
-        × (AtBothEnds known cond.now.index cond.now.op cond.now.value true → ⊥)) result }
+    ensures { let known = S.known facts.now.state.now in IsJudged (AtBothEnds narrow known cond.now.index cond.now.op cond.now.value true)
+        (AtBothEnds narrow known cond.now.index cond.now.op cond.now.value false
+        × (AtBothEnds narrow known cond.now.index cond.now.op cond.now.value true → ⊥)) result }
 {
-    let Some((low, high)) = ends(facts, cond.index) else {
+    let Some((low, high)) = ends(facts, narrow, cond.index) else {
         return Judged::Open;
     };
     if cond.holds(low) {
@@ -120,8 +170,8 @@ fn judge_order<S: State>(facts: &Facts<'_, S>, cond: &Cond) -> Judged
 }
 
 /// Whether a condition is settled.
-pub(crate) fn judge_condition<S: State>(facts: &Facts<'_, S>, cond: &Cond) -> Judged
-    ensures { IsJudged (IsYes (S.known facts.now.state.now) cond.now) (IsNo (S.known facts.now.state.now) cond.now) result }
+pub(crate) fn judge_condition<S: State>(facts: &Facts<'_, S>, narrow: bool, cond: &Cond) -> Judged
+    ensures { let known = S.known facts.now.state.now in IsJudged (IsYes narrow known cond.now) (IsNo narrow known cond.now) result }
 {
     let Cond {
         index,
@@ -131,20 +181,24 @@ pub(crate) fn judge_condition<S: State>(facts: &Facts<'_, S>, cond: &Cond) -> Ju
         ..
     } = *cond;
     match op {
-        Op::Eq => judge_bits(facts, index, u64::MAX, value),
-        Op::MaskedEq => judge_bits(facts, index, value, datum),
-        Op::Ne => judge_other(facts, index, value),
-        Op::Lt | Op::Le | Op::Ge | Op::Gt => judge_order(facts, cond),
+        Op::Eq => judge_bits(facts, narrow, index, u64::MAX, value),
+        Op::MaskedEq => judge_bits(facts, narrow, index, value, datum),
+        Op::Ne => judge_other(facts, narrow, index, value),
+        Op::Lt | Op::Le | Op::Ge | Op::Gt => judge_order(facts, narrow, cond),
     }
 }
 
 /// Whether conditions are all yes, or one is no.
-pub(crate) fn judge_conditions<S: State>(facts: &Facts<'_, S>, conds: &[Cond]) -> Judged
-    ensures { IsJudged (AreYes (S.known facts.now.state.now) conds.now) (SomeIsNo (S.known facts.now.state.now) conds.now) result }
+pub(crate) fn judge_conditions<S: State>(
+    facts: &Facts<'_, S>,
+    narrow: bool,
+    conds: &[Cond],
+) -> Judged
+    ensures { let known = S.known facts.now.state.now in IsJudged (AreYes narrow known conds.now) (SomeIsNo narrow known conds.now) result }
 {
     let mut all_yes = true;
     for cond in conds {
-        match judge_condition(facts, cond) {
+        match judge_condition(facts, narrow, cond) {
             Judged::Yes => {}
             Judged::No => return Judged::No,
             Judged::Open => all_yes = false,
@@ -159,17 +213,18 @@ fn judge_unless_met<S: State>(
     mets: &Mets<'_, '_>,
     place: usize,
     own: usize,
+    narrow: bool,
     cond: &Cond,
 ) -> Judged
     requires place { place < 8192 }
     requires own { own < 6 }
     ensures { let met = mets_of mets.now.node in let known = S.known facts.now.state.now in
-        IsJudged (IsYesOrMet met known place own cond.now) (IsNoNorMet met known place own cond.now) result }
+        IsJudged (IsYesOrMet narrow met known place own cond.now) (IsNoNorMet narrow met known place own cond.now) result }
 {
     if mets.has(place, own) {
         return Judged::Yes;
     }
-    judge_condition(facts, cond)
+    judge_condition(facts, narrow, cond)
 }
 
 /// Whether the conditions of the rule at a place, of which some are said to be met, are all yes, or one is no.
@@ -177,16 +232,17 @@ pub(crate) fn judge_left<S: State>(
     facts: &Facts<'_, S>,
     mets: &Mets<'_, '_>,
     place: usize,
+    narrow: bool,
     conds: &[Cond],
 ) -> Judged
     requires place { place < 8192 }
     requires few { length conds.now ≤ 6 }
-    ensures { AreJudgedAt (mets_of mets.now.node) (S.known facts.now.state.now) place conds.now result }
+    ensures { AreJudgedAt narrow (mets_of mets.now.node) (S.known facts.now.state.now) place conds.now result }
 {
     let mut all_yes = true;
     let mut own = 0_usize;
     for cond in conds {
-        match judge_unless_met(facts, mets, place, own, cond) {
+        match judge_unless_met(facts, mets, place, own, narrow, cond) {
             Judged::Yes => {}
             Judged::No => return Judged::No,
             Judged::Open => all_yes = false,

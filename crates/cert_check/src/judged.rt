@@ -27,9 +27,10 @@ pub(crate) struct Number {
     pub(crate) other: bool,
 }
 
-/// Conditions, and the answer to them.
+/// Conditions, and the answer to them, of arguments that are narrow or are not.
 #[derive(Clone, Copy)]
 pub(crate) struct Answered<'a> {
+    pub(crate) narrow: bool,
     pub(crate) conds: &'a [Cond],
     pub(crate) judged: Judged,
 }

@@ -1,6 +1,7 @@
 //! What is known of conditions, and where what is known is cut for their sake.
 //!
-//! Argument j stands in the words 4 + 2 j and 5 + 2 j of a record, the low half first.
+//! Argument j stands in the words 4 + 2 j and 5 + 2 j of a record, the low half first. Of a narrow argument the low half alone is
+//! compared, and the high one counts as 0.
 ghost use Rattle.std.specs.Prelude.{◌<◌};
 
 use crate::words::Words;
@@ -79,13 +80,20 @@ impl Answer {
     }
 }
 
-/// Whether the argument has the bits of which the condition asks.
-pub(crate) fn by_bits(known: &Words, cond: &Cond) -> Answer {
-    let low = low_word(cond);
-    let (mask, datum) = bits_of(cond, false);
-    let low_half = answer_to_bits(known, low, mask, datum);
+// Whether bits of the high half of the condition's argument are those of which it asks, if that is known.
+fn answer_to_high_bits(known: &Words, narrow: bool, cond: &Cond) -> Option<bool> {
     let (mask, datum) = bits_of(cond, true);
-    let high_half = answer_to_bits(known, low + 1, mask, datum);
+    if narrow {
+        return Some(datum == 0);
+    }
+    answer_to_bits(known, low_word(cond) + 1, mask, datum)
+}
+
+/// Whether the argument has the bits of which the condition asks.
+pub(crate) fn by_bits(known: &Words, narrow: bool, cond: &Cond) -> Answer {
+    let (mask, datum) = bits_of(cond, false);
+    let low_half = answer_to_bits(known, low_word(cond), mask, datum);
+    let high_half = answer_to_high_bits(known, narrow, cond);
     match (high_half, low_half) {
         (Some(false), _) | (_, Some(false)) => Answer::No,
         (Some(true), Some(true)) => Answer::Yes,
@@ -123,8 +131,20 @@ fn is_at_least(known: &Words, word: u8, number: u32) -> Option<bool> {
     None
 }
 
+// By a high half that is 0, whether the argument is at least a number.
+fn by_no_high(number: u64) -> Answer {
+    match halves(number) {
+        (0, 0) => Answer::Yes,
+        (0, _) => Answer::Low,
+        _ => Answer::No,
+    }
+}
+
 // By the high half, whether the argument is at least a number.
-fn by_high_order(known: &Words, word: u8, number: u64) -> Answer {
+fn by_high_order(known: &Words, narrow: bool, word: u8, number: u64) -> Answer {
+    if narrow {
+        return by_no_high(number);
+    }
     let (high, low) = halves(number);
     if low == 0 {
         return match is_at_least(known, word, high) {
@@ -141,18 +161,18 @@ fn by_high_order(known: &Words, word: u8, number: u64) -> Answer {
 }
 
 /// By the high half of its argument, whether a condition holds that asks for no bits under a mask.
-pub(crate) fn by_high(known: &Words, cond: &Cond) -> Answer {
+pub(crate) fn by_high(known: &Words, narrow: bool, cond: &Cond) -> Answer {
     let word = low_word(cond) + 1;
     let outcome = outcome_of(cond);
     if is_equality(cond) {
-        return match answer_to_bits(known, word, u32::MAX, halves(cond.value).0) {
+        return match answer_to_high_bits(known, narrow, cond) {
             Some(true) => Answer::Low,
             Some(false) => Answer::No.wanted(outcome),
             None => Answer::Open,
         };
     }
     match least_of(cond) {
-        Some(number) => by_high_order(known, word, number).wanted(outcome),
+        Some(number) => by_high_order(known, narrow, word, number).wanted(outcome),
         None => Answer::No.wanted(outcome),
     }
 }
@@ -172,14 +192,14 @@ pub(crate) fn by_low(known: &Words, cond: &Cond) -> Answer {
     }
 }
 
-/// Whether a condition is known not to hold, by all that is known.
-pub(crate) fn is_refuted(known: &Words, cond: &Cond) -> bool {
+/// By all that is known, whether a condition holds.
+pub(crate) fn by_all(known: &Words, narrow: bool, cond: &Cond) -> Answer {
     if cond.op == Op::MaskedEq {
-        return by_bits(known, cond) == Answer::No;
+        return by_bits(known, narrow, cond);
     }
-    match by_high(known, cond) {
-        Answer::Low => by_low(known, cond) == Answer::No,
-        answer => answer == Answer::No,
+    match by_high(known, narrow, cond) {
+        Answer::Low => by_low(known, cond),
+        answer => answer,
     }
 }
 
@@ -235,21 +255,27 @@ fn cut_of_half(known: &Words, cond: &Cond, is_high: bool) -> Option<Cut> {
     below(known, low_word(cond), low)
 }
 
-/// Where the argument of a condition is cut that is not settled: at the half that decides.
-pub(crate) fn cut_of(known: &Words, cond: &Cond, is_low: bool) -> Option<Cut> {
+/// Where the argument of a condition is cut that is not settled: at the half that decides. That is the low one of a narrow argument.
+pub(crate) fn cut_of(known: &Words, narrow: bool, cond: &Cond, is_low: bool) -> Option<Cut> {
     if cond.op != Op::MaskedEq {
-        return cut_of_half(known, cond, !is_low);
+        return cut_of_half(known, cond, !narrow && !is_low);
     }
-    match cut_of_half_bits(known, cond, true) {
-        Some(cut) => Some(cut),
-        None => cut_of_half_bits(known, cond, false),
+    if !narrow && let Some(cut) = cut_of_half_bits(known, cond, true) {
+        return Some(cut);
     }
+    cut_of_half_bits(known, cond, false)
 }
 
 /// The same, where something is known of the half.
-pub(crate) fn cut_where_known(known: &Words, cond: &Cond, is_low: bool) -> Option<Cut> {
+pub(crate) fn cut_where_known(
+    known: &Words,
+    narrow: bool,
+    cond: &Cond,
+    is_low: bool,
+) -> Option<Cut> {
     let low = low_word(cond);
-    let has_high = known.have(low + 1, bits_of(cond, true).0);
+    let is_low = narrow || is_low;
+    let has_high = !narrow && known.have(low + 1, bits_of(cond, true).0);
     let has_low = known.have(low, bits_of(cond, false).0);
     if cond.op != Op::MaskedEq {
         if is_low && has_low || !is_low && has_high {

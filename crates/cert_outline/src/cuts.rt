@@ -16,13 +16,14 @@ impl<'a> Maker<'a> {
     fn cut_of_rules(&self, known: &Words, left: &Left, is_any: bool) -> Option<Cut> {
         for own in &left.rules {
             let rule = self.rule(own.rule)?;
+            let narrow = rule.is_narrow();
             for (place, cond) in rule.conds.iter().enumerate() {
                 if own.met >> (place % 32) & 1 == 0 {
                     let is_low = own.low >> (place % 32) & 1 == 1;
                     let cut = if is_any {
-                        cut_of(known, cond, is_low)
+                        cut_of(known, narrow, cond, is_low)
                     } else {
-                        cut_where_known(known, cond, is_low)
+                        cut_where_known(known, narrow, cond, is_low)
                     };
                     if cut.is_some() {
                         return cut;

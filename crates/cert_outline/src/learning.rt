@@ -1,14 +1,13 @@
 //! What is known behind a comparison, and what of it is forgotten.
 
 use crate::asked::{Left, LeftRule};
-use crate::conditions::{Answer, bits_of, by_bits, by_high, by_low, low_word};
+use crate::conditions::{Answer, bits_of, by_all, by_bits, by_high, by_low, low_word};
 use crate::fault::OutlineError;
 use crate::maker::Maker;
 use crate::numbers::NUMBER;
 use crate::spot::{Spot, Which};
 use crate::words::Words;
-use cert_parts::listed;
-use cert_state::{Lit, dead};
+use cert_state::Lit;
 use profile::{Cond, Op, Rule};
 use std::alloc::{AllocError, Global};
 
@@ -22,12 +21,16 @@ fn all_bits(rule: &Rule) -> u32 {
     bit_of(rule.conds.len()).saturating_sub(1)
 }
 
-// What is known of a condition now that something was learned of a word: by the half that decides, if it is of this one.
-fn answer_of(known: &Words, cond: &Cond, is_low: bool, word: u8) -> Answer {
+// What is known of a condition now that something was learned of a word: by the half that decides, if it is of this one. A high
+// half that is not compared is not learned of, so that what it settles is settled by any word.
+fn answer_of(known: &Words, narrow: bool, cond: &Cond, is_low: bool, word: u8) -> Answer {
     let low = low_word(cond);
+    if narrow {
+        return by_all(known, true, cond);
+    }
     if cond.op == Op::MaskedEq {
         if word == low || word == low + 1 {
-            return by_bits(known, cond);
+            return by_bits(known, false, cond);
         }
         return Answer::Open;
     }
@@ -35,7 +38,7 @@ fn answer_of(known: &Words, cond: &Cond, is_low: bool, word: u8) -> Answer {
         return by_low(known, cond);
     }
     if !is_low && word == low + 1 {
-        return by_high(known, cond);
+        return by_high(known, false, cond);
     }
     Answer::Open
 }
@@ -65,7 +68,8 @@ fn still_left(known: &Words, rule: &Rule, left: LeftRule, word: u8) -> Option<Le
     for (place, cond) in rule.conds.iter().enumerate() {
         if left.met & bit_of(place) == 0 {
             let is_low = left.low & bit_of(place) != 0;
-            left = answered(left, place, answer_of(known, cond, is_low, word))?;
+            let answer = answer_of(known, rule.is_narrow(), cond, is_low, word);
+            left = answered(left, place, answer)?;
         }
     }
     Some(left)
@@ -102,6 +106,19 @@ fn needs(cond: &Cond, is_low: bool, literal: Lit) -> bool {
             asks_for(cond, is_low, word, mask, None)
         }
     }
+}
+
+// Whether a rule that is left needs a literal. A high half that is not compared is not needed.
+fn rule_needs(rule: &Rule, left: LeftRule, is_late: bool, literal: Lit) -> bool {
+    let narrow = rule.is_narrow();
+    for (place, cond) in rule.conds.iter().enumerate() {
+        let is_low = narrow || is_late || left.low & bit_of(place) != 0;
+        let is_compared = !narrow || literal.word() == low_word(cond);
+        if left.met & bit_of(place) == 0 && is_compared && needs(cond, is_low, literal) {
+            return true;
+        }
+    }
+    false
 }
 
 impl<'a> Maker<'a> {
@@ -141,13 +158,10 @@ impl<'a> Maker<'a> {
     // Whether some rule that is left needs a literal. What was learned late is known of both halves.
     fn is_needed(&self, left: &Left, literal: Lit) -> bool {
         for own in &left.rules {
-            if let Some(rule) = self.rule(own.rule) {
-                for (place, cond) in rule.conds.iter().enumerate() {
-                    let is_low = left.is_late || own.low & bit_of(place) != 0;
-                    if own.met & bit_of(place) == 0 && needs(cond, is_low, literal) {
-                        return true;
-                    }
-                }
+            if let Some(rule) = self.rule(own.rule)
+                && rule_needs(rule, *own, left.is_late, literal)
+            {
+                return true;
             }
         }
         false
@@ -169,6 +183,7 @@ impl<'a> Maker<'a> {
         Ok(Words {
             whole: self.needed_of(&known.whole, left)?,
             masked: self.needed_of(&known.masked, left)?,
+            are_dead: false,
         })
     }
 
@@ -269,14 +284,12 @@ impl<'a> Maker<'a> {
         Ok(())
     }
 
-    // Whether what is known at a place of the table contradicts itself.
-    fn is_dead(&self, place: usize) -> Result<bool, OutlineError> {
-        let Some(words) = self.words.get(place) else {
-            return Err(OutlineError::Unlike);
-        };
-        let mut lits = Vec::from_slice(self.alloc, &words.whole)?;
-        lits.extend_from_slice(&words.masked)?;
-        Ok(dead(&listed(&lits)))
+    /// Whether what is known at a place of the table contradicts itself.
+    pub(crate) fn is_dead(&self, place: usize) -> bool {
+        match self.words.get(place) {
+            Some(words) => words.are_dead,
+            None => false,
+        }
     }
 
     /// Learns a literal.
@@ -290,7 +303,7 @@ impl<'a> Maker<'a> {
             return Ok(());
         }
         spot.arguments = known;
-        if self.is_dead(known)? {
+        if self.is_dead(known) {
             return Ok(());
         }
         self.settle(spot, word)

@@ -7,8 +7,8 @@ use crate::spot::{Spot, Which};
 use crate::words::Words;
 use bpf_insn::{Arithmetic, Insn, Operand, Operation, Program, Test};
 use cert_form::{Kind, MAX_NODES};
-use cert_parts::{Cut, NOBODY, Table, listed};
-use cert_state::{AVal, Listed, Lit, Regs, dead, sharp_fact};
+use cert_parts::{Cut, NOBODY, Table};
+use cert_state::{AVal, Listed, Lit, Regs, sharp_fact};
 use profile::Profile;
 use rule_compile::Outline;
 use std::alloc::{AllocError, Global};
@@ -218,10 +218,10 @@ impl<'a> Maker<'a> {
 
     // What the node of a spot does.
     fn kind_of(&mut self, spot: &Spot) -> Result<Kind, OutlineError> {
-        let lits = self.literals(spot)?;
-        if dead(&listed(&lits)) {
+        if self.is_dead(spot.numbers) || self.is_dead(spot.arguments) {
             return Ok(Kind::Dead);
         }
+        let lits = self.literals(spot)?;
         self.carried_out(spot, &lits)
     }
 

@@ -1,6 +1,6 @@
 //! What is known of the machine and the number of a call.
 
-use crate::conditions::{below, beside, is_refuted, told_apart};
+use crate::conditions::{Answer, below, beside, by_all, told_apart};
 use crate::maker::Maker;
 use crate::spot::Which;
 use crate::words::Words;
@@ -65,7 +65,7 @@ impl<'a> Maker<'a> {
     // Whether a rule may hold of a call whose number is not known, by what is known of arguments.
     fn may_hold(&self, arguments: &Words, rule: &Rule) -> bool {
         for cond in rule.conds.iter() {
-            if is_refuted(arguments, cond) {
+            if by_all(arguments, rule.is_narrow(), cond) == Answer::No {
                 return false;
             }
         }

@@ -1,7 +1,7 @@
 //! What is known of some words of a record, as literals.
 
 use cert_parts::{Item, listed, mixed};
-use cert_state::{Lit, entails, range};
+use cert_state::{Lit, dead, entails, range};
 use std::alloc::{AllocError, Global};
 
 /// Literals of whole words, word by word, and of bits under masks. What is known of bits under one mask is not looked at for those
@@ -10,6 +10,8 @@ use std::alloc::{AllocError, Global};
 pub(crate) struct Words {
     pub(crate) whole: Vec<Lit>,
     pub(crate) masked: Vec<Lit>,
+    /// Whether they can not all be true.
+    pub(crate) are_dead: bool,
 }
 
 // Whether a literal speaks of its whole word.
@@ -74,6 +76,7 @@ impl Words {
         Words {
             whole: Vec::new(alloc),
             masked: Vec::new(alloc),
+            are_dead: false,
         }
     }
 
@@ -117,18 +120,36 @@ impl Words {
         Ok(lits)
     }
 
+    // Whether those of one word can not all be true.
+    fn are_dead_at(&self, alloc: Global, word: u8) -> Result<bool, AllocError> {
+        let next = word.saturating_add(1);
+        let mut own = Vec::new(alloc);
+        add_words(&mut own, &self.whole, word, next)?;
+        add_words(&mut own, &self.masked, word, next)?;
+        Ok(dead(&listed(&own)))
+    }
+
+    // The same, with a literal more.
+    fn longer(&self, alloc: Global, literal: Lit) -> Result<Words, AllocError> {
+        let (whole, masked) = if is_whole(literal) {
+            let masked = Vec::from_slice(alloc, &self.masked)?;
+            (self.whole_with(alloc, literal)?, masked)
+        } else {
+            let whole = Vec::from_slice(alloc, &self.whole)?;
+            (whole, self.masked_with(alloc, literal)?)
+        };
+        Ok(Words {
+            whole,
+            masked,
+            are_dead: self.are_dead,
+        })
+    }
+
     /// The same, with a literal more.
     pub(crate) fn with(&self, alloc: Global, literal: Lit) -> Result<Words, AllocError> {
-        if is_whole(literal) {
-            return Ok(Words {
-                whole: self.whole_with(alloc, literal)?,
-                masked: Vec::from_slice(alloc, &self.masked)?,
-            });
-        }
-        Ok(Words {
-            whole: Vec::from_slice(alloc, &self.whole)?,
-            masked: self.masked_with(alloc, literal)?,
-        })
+        let mut words = self.longer(alloc, literal)?;
+        words.are_dead |= words.are_dead_at(alloc, literal.word())?;
+        Ok(words)
     }
 
     /// Whether something is known of the bits of a word under a mask.

@@ -73,13 +73,29 @@ fn halves(number: u64) -> (u32, u32) {
     ((number >> 32) as u32, (number & 0xffff_ffff) as u32)
 }
 
+// An argument of which a condition asks: its low word, and whether this alone is compared. Argument j stands in the words
+// 4 + 2 j and 5 + 2 j, the low half first.
+#[derive(Clone, Copy)]
+struct Argument {
+    word: u8,
+    narrow: bool,
+}
+
+// Where the high word is cut for a comparison with bits under a mask.
+fn cut_above(facts: &Facts<'_, Known<'_>>, of: Argument, mask: u32, datum: u32) -> Option<Cut> {
+    if of.narrow {
+        return None;
+    }
+    if_open(Cut::bits(of.word.saturating_add(1), mask, datum), facts)
+}
+
 // Where the halves of an argument are cut for a comparison with bits under a mask.
-fn cut_by_bits(facts: &Facts<'_, Known<'_>>, word: u8, mask: u64, datum: u64) -> Option<Cut> {
+fn cut_by_bits(facts: &Facts<'_, Known<'_>>, of: Argument, mask: u64, datum: u64) -> Option<Cut> {
     let (high_mask, low_mask) = halves(mask);
     let (high, low) = halves(datum);
-    match if_open(Cut::bits(word.saturating_add(1), high_mask, high), facts) {
+    match cut_above(facts, of, high_mask, high) {
         Some(cut) => Some(cut),
-        None => if_open(Cut::bits(word, low_mask, low), facts),
+        None => if_open(Cut::bits(of.word, low_mask, low), facts),
     }
 }
 
@@ -92,21 +108,24 @@ fn cut_beside(facts: &Facts<'_, Known<'_>>, word: u8, number: u32) -> Option<Cut
 }
 
 // Where the halves of an argument are cut for a comparison by order.
-fn cut_by_order(facts: &Facts<'_, Known<'_>>, word: u8, value: u64) -> Option<Cut> {
+fn cut_by_order(facts: &Facts<'_, Known<'_>>, of: Argument, value: u64) -> Option<Cut> {
     let (high, low) = halves(value);
-    match cut_beside(facts, word.saturating_add(1), high) {
-        Some(cut) => Some(cut),
-        None => cut_beside(facts, word, low),
+    if !of.narrow
+        && let Some(cut) = cut_beside(facts, of.word.saturating_add(1), high)
+    {
+        return Some(cut);
     }
+    cut_beside(facts, of.word, low)
 }
 
-// Where the argument of a condition is cut. Argument j stands in the words 4 + 2 j and 5 + 2 j, the low half first.
-fn cut_of_condition(facts: &Facts<'_, Known<'_>>, cond: &Cond) -> Option<Cut> {
+// Where the argument of a condition is cut.
+fn cut_of_condition(facts: &Facts<'_, Known<'_>>, narrow: bool, cond: &Cond) -> Option<Cut> {
     let word = cond.index.saturating_mul(2).saturating_add(4);
+    let of = Argument { word, narrow };
     match cond.op {
-        Op::Eq | Op::Ne => cut_by_bits(facts, word, u64::MAX, cond.value),
-        Op::MaskedEq => cut_by_bits(facts, word, cond.value, cond.datum),
-        Op::Lt | Op::Le | Op::Ge | Op::Gt => cut_by_order(facts, word, cond.value),
+        Op::Eq | Op::Ne => cut_by_bits(facts, of, u64::MAX, cond.value),
+        Op::MaskedEq => cut_by_bits(facts, of, cond.value, cond.datum),
+        Op::Lt | Op::Le | Op::Ge | Op::Gt => cut_by_order(facts, of, cond.value),
     }
 }
 
@@ -126,7 +145,7 @@ fn cut_of_rule(facts: &Facts<'_, Known<'_>>, rule: &Rule) -> Option<Cut> {
         return None;
     }
     for cond in rule.conds.as_slice() {
-        if let Some(cut) = cut_of_condition(facts, cond) {
+        if let Some(cut) = cut_of_condition(facts, rule.is_narrow(), cond) {
             return Some(cut);
         }
     }

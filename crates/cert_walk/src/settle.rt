@@ -8,7 +8,7 @@ use call_record::{Word, halves};
 use call_tables::Arch;
 use cert_parts::{Cut, cut_below, cut_of_bits};
 use cert_state::{Lit, is_bit, lowest_bit};
-use profile::{Cond, Op, foreign_numbers};
+use profile::{Cond, Op, Rule, foreign_numbers};
 
 /// Whether something is so, by what is known; or, where it may be either, the cut that settles more.
 pub(crate) type Answer = Result<bool, Cut>;
@@ -33,29 +33,49 @@ fn judge_word(known: &Known, word: u8, mask: u32, datum: u32) -> Answer {
     }
 }
 
-// Whether an argument, of which this is the low word, has these bits under a mask.
-fn judge_bits(known: &Known, word: u8, mask: u64, datum: u64) -> Answer
-    requires { word < 15 }
-{
+// An argument of which a condition asks: its low word, and whether this alone is compared. The high one counts as 0 then.
+#[derive(Clone, Copy)]
+struct Argument {
+    word: u8,
+    narrow: bool,
+    ghost within: { word < 15 },
+}
+
+// Whether the high word of an argument has these bits under a mask.
+fn judge_above(known: &Known, of: Argument, mask: u32, datum: u32) -> Answer {
+    if of.narrow {
+        return Ok(datum == 0);
+    }
+    judge_word(known, of.word + 1, mask, datum)
+}
+
+// Whether an argument has these bits under a mask.
+fn judge_bits(known: &Known, of: Argument, mask: u64, datum: u64) -> Answer {
     let (mask_below, mask_above) = halves(mask);
     let (below, above) = halves(datum);
-    let above = judge_word(known, word + 1, mask_above, above);
-    both(above, judge_word(known, word, mask_below, below))
+    let above = judge_above(known, of, mask_above, above);
+    both(above, judge_word(known, of.word, mask_below, below))
+}
+
+// The least and the greatest number of a high word.
+fn range_above(known: &Known, of: Argument) -> (u32, u32) {
+    if of.narrow {
+        return (0, 0);
+    }
+    known.range(of.word + 1).unwrap_or((0, u32::MAX))
 }
 
 // Whether a comparison by order has one answer at both ends of an argument.
-fn judge_order(known: &Known, word: u8, cond: &Cond) -> Answer
-    requires { word < 15 }
-{
-    let (least, greatest) = known.range(word).unwrap_or((0, u32::MAX));
-    let (from, to) = known.range(word + 1).unwrap_or((0, u32::MAX));
+fn judge_order(known: &Known, of: Argument, cond: &Cond) -> Answer {
+    let (least, greatest) = known.range(of.word).unwrap_or((0, u32::MAX));
+    let (from, to) = range_above(known, of);
     match (
         cond.holds(u64::from(from) << 32 | u64::from(least)),
         cond.holds(u64::from(to) << 32 | u64::from(greatest)),
     ) {
         (true, true) => Ok(true),
         (false, false) => Ok(false),
-        _ => Err(cut_at(word, cond, from, to)),
+        _ => Err(cut_at(of.word, cond, from, to)),
     }
 }
 
@@ -77,21 +97,23 @@ fn cut_at(word: u8, cond: &Cond, from: u32, to: u32) -> Cut
 }
 
 // Whether a condition is met.
-fn judge_condition(known: &Known, cond: &Cond) -> Answer {
+fn judge_condition(known: &Known, narrow: bool, cond: &Cond) -> Answer {
     let word = ARGUMENTS + 2 * cond.index;
+    let of = Argument { word, narrow };
     match cond.op {
-        Op::Eq => judge_bits(known, word, u64::MAX, cond.value),
-        Op::Ne => judge_bits(known, word, u64::MAX, cond.value).map(|is| !is),
-        Op::MaskedEq => judge_bits(known, word, cond.value, cond.datum),
-        Op::Lt | Op::Le | Op::Ge | Op::Gt => judge_order(known, word, cond),
+        Op::Eq => judge_bits(known, of, u64::MAX, cond.value),
+        Op::Ne => judge_bits(known, of, u64::MAX, cond.value).map(|is| !is),
+        Op::MaskedEq => judge_bits(known, of, cond.value, cond.datum),
+        Op::Lt | Op::Le | Op::Ge | Op::Gt => judge_order(known, of, cond),
     }
 }
 
-// Whether all conditions are met.
-fn judge_conditions(known: &Known, conds: &[Cond]) -> Answer {
+// Whether all conditions of a rule are met.
+fn judge_conditions(known: &Known, rule: &Rule) -> Answer {
+    let narrow = rule.is_narrow();
     let mut all = Ok(true);
-    for cond in conds {
-        all = both(all, judge_condition(known, cond));
+    for cond in rule.conds.as_slice() {
+        all = both(all, judge_condition(known, narrow, cond));
     }
     all
 }
@@ -222,7 +244,7 @@ impl Question<'_> {
             if !is_one && (same && is_default || self.known.excludes(NUMBER, *nr)) {
                 continue;
             }
-            match judge_conditions(self.known, rule.conds.as_slice()) {
+            match judge_conditions(self.known, rule) {
                 Ok(false) => {}
                 _ if *nr > least => return cut(cut_below(NUMBER, *nr)),
                 _ if !is_one => return cut(cut_below(NUMBER, nr.saturating_add(1))),

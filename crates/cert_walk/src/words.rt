@@ -2,6 +2,7 @@
 
 use bpf_insn::{MAX_INSNS, Operation};
 use call_record::{Record, halves};
+use call_tables::compared;
 use kernel_check::Accepted;
 use profile::{Cond, Op, Rule};
 use std::alloc::{AllocError, Global};
@@ -72,9 +73,11 @@ pub(crate) fn around(number: u32, other: u32) -> [u32; 6] {
 
 /// Words that meet all conditions of a rule.
 pub(crate) fn all_met(words: &Words, rule: &Rule) -> Words {
+    let narrow = rule.is_narrow();
     let mut all = *words;
     for cond in rule.conds.as_slice() {
         for value in beside(cond, argument_of(words, cond.index)) {
+            let value = compared(narrow, value);
             if cond.holds(value) {
                 all = with_argument(&all, cond.index, value);
                 break;

@@ -6,7 +6,7 @@ use Rattle.std.specs.List.{All}
 use Rattle.std.proofs.lemmas.List.{get_or-replicate, get_or_past}
 use Rattle.std.proofs.lemmas.List.Elements.{All-contains, All-nil}
 use Rattle.std.proofs.lemmas.Bool.{cases_eq, cases_lt}
-use Rattle.call_record.specs.Words.{IsRecord, word, argument}
+use Rattle.call_record.specs.Words.{IsRecord, word}
 use Rattle.call_tables.specs.declared.arch.Arch.{Arch}
 use Rattle.call_tables.specs.declared.numbers.Numbers.{Numbers}
 use Rattle.call_tables.specs.Arch.{token_of}
@@ -15,7 +15,7 @@ use Rattle.call_tables.proofs.ArchLaws.{token_of-fits}
 use Rattle.profile.specs.declared.conditions.Cond.{Cond}
 use Rattle.profile.specs.declared.rules.Rule.{Rule}
 use Rattle.profile.specs.Condition.{Meets as MeetsCond}
-use Rattle.profile.specs.Rule.{Matches}
+use Rattle.profile.specs.Rule.{argument_of, Matches}
 use Rattle.profile.specs.Policy.{InOrder, Policy, IsNative}
 use Rattle.cert_state.specs.declared.literal.Lit.{Lit}
 use Rattle.cert_state.specs.declared.literal.Lit.TheVariants.{Bits, NotBits}
@@ -81,7 +81,7 @@ module _ (policy : Policy) (known : List Lit) (v lo hi from to : ℕ) (order : I
   matches_call rule t u has e f = record {
     machine = e;
     number = f;
-    conditions = subst (λ cs. All (λ (c : Cond). MeetsCond c (argument (call t u) c.index)) cs)
+    conditions = subst (λ cs. All (λ (c : Cond). MeetsCond c (argument_of (call t u) c.index)) cs)
         (sym (All-contains IsPlainRule policy.rules rule plain has).0) (All-nil _);
   }
 

@@ -15,12 +15,12 @@ use Rattle.bpf_insn.specs.declared.code.Operation.TheVariants.{LoadWord, ReturnK
 use Rattle.bpf_insn.specs.declared.instruction.Insn.{Insn}
 use Rattle.bpf_insn.specs.Code.{operation_of}
 use Rattle.bpf_insn.specs.Machine.{Registers, Ending, after_one, ending, follow, holds, loaded, perform_if, start, verdict_of, word_at}
-use Rattle.call_record.specs.Words.{IsRecord, argument, word}
+use Rattle.call_record.specs.Words.{IsRecord, word}
 use Rattle.call_tables.specs.Numbers.{HasCall}
 use Rattle.profile.specs.declared.conditions.Cond.{Cond}
 use Rattle.profile.specs.declared.rules.Rule.{Rule}
 use Rattle.profile.specs.Condition.{Meets}
-use Rattle.profile.specs.Rule.{Matches}
+use Rattle.profile.specs.Rule.{argument_of, Matches}
 use Rattle.profile.specs.Policy.{IsNative, Policy, Says}
 use Rattle.profile.specs.Said.{said}
 use Rattle.profile.proofs.SaidLaws.{each_record_is_said_one_word}
@@ -115,7 +115,7 @@ module _ (policy : Policy) (r q : List ℕ) (number : slice_index r 0 ≡ slice_
     machine = sym machine ∙ m.machine;
     number = sym number ∙ m.number;
     conditions =
-        let P : Cond → Type 0 = λ c. Meets c (argument q c.index) in
+        let P : Cond → Type 0 = λ c. Meets c (argument_of q c.index) in
         subst (All P) (sym none) (All-nil P);
   }
 

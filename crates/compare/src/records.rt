@@ -1,8 +1,8 @@
 //! Arguments by which the rules of two profiles for a call are told apart.
-ghost use Rattle.std.specs.Prelude.{◌<◌};
+ghost use Rattle.std.specs.Prelude.{◌<◌, ◌≤◌};
 
 use call_record::least_below;
-use call_tables::Arch;
+use call_tables::{Arch, is_narrow};
 use profile::{Cond, Op, Profile};
 use std::alloc::{AllocError, Global};
 
@@ -82,12 +82,19 @@ fn add_turns(
     Ok(())
 }
 
-// The least numbers from these on that have these bits.
-fn least_of(alloc: Global, starts: &[u64], patterns: &[Pattern]) -> Result<Vec<u64>, AllocError> {
+// The least numbers of this many bits from these on that have these bits.
+fn least_of(
+    alloc: Global,
+    bits: u32,
+    starts: &[u64],
+    patterns: &[Pattern],
+) -> Result<Vec<u64>, AllocError>
+    requires { bits ≤ 64 }
+{
     let mut values = Vec::new(alloc);
     for start in starts {
         for pattern in patterns {
-            if let Some(value) = least_below(64, *start, pattern.mask, pattern.datum) {
+            if let Some(value) = least_below(bits, *start, pattern.mask, pattern.datum) {
                 values.push(value)?;
             }
         }
@@ -97,8 +104,13 @@ fn least_of(alloc: Global, starts: &[u64], patterns: &[Pattern]) -> Result<Vec<u
     Ok(values)
 }
 
-// The values of an argument by which the conditions on it are told apart.
-fn values_of(alloc: Global, conds: &[Cond], index: usize) -> Result<Vec<u64>, AllocError> {
+// The values of an argument by which the conditions on it are told apart: such as are compared whole.
+fn values_of(
+    alloc: Global,
+    narrow: bool,
+    conds: &[Cond],
+    index: usize,
+) -> Result<Vec<u64>, AllocError> {
     let mut starts: Vec<u64> = vec![in alloc; 0]?;
     let any = Pattern { mask: 0, datum: 0 };
     let mut patterns: Vec<Pattern> = vec![in alloc; any]?;
@@ -107,7 +119,8 @@ fn values_of(alloc: Global, conds: &[Cond], index: usize) -> Result<Vec<u64>, Al
             add_turns(alloc, cond, &mut starts, &mut patterns)?;
         }
     }
-    least_of(alloc, &starts, &patterns)
+    let bits = if narrow { 32 } else { 64 };
+    least_of(alloc, bits, &starts, &patterns)
 }
 
 // Adds the conditions of a profile's rules for a call.
@@ -157,9 +170,10 @@ pub(crate) fn records(
     let mut conds = Vec::new(alloc);
     add_conds(first, call, &mut conds)?;
     add_conds(second, call, &mut conds)?;
+    let narrow = is_narrow(call.0.token());
     let mut records: Vec<[u64; 6]> = vec![in alloc; [0; 6]]?;
     for index in 0..6 {
-        let values = values_of(alloc, &conds, index)?;
+        let values = values_of(alloc, narrow, &conds, index)?;
         records = with_values(alloc, &records, index, &values)?;
     }
     Ok(records)

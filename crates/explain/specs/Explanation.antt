@@ -7,10 +7,12 @@ use Rattle.texts.specs.Lines.{line_feed}
 use Rattle.call_tables.specs.declared.arch.Arch.{Arch}
 use Rattle.call_tables.specs.declared.arch.Family.{Family}
 use Rattle.call_tables.specs.Arch.{family_of, token_of}
+use Rattle.call_tables.specs.Width.{compared}
 use Rattle.call_record.specs.declared.layout.Record.{Record}
 use Rattle.call_record.specs.Record.{words}
 use Rattle.profile.specs.declared.conditions.Cond.{Cond}
 use Rattle.profile.specs.declared.rules.Rule.{Rule}
+use Rattle.profile.specs.Rule.{is_narrow_rule}
 use Rattle.profile.specs.Policy.{Policy, Says}
 use Rattle.profile.specs.Said.{matches, meets}
 use Rattle.profile_json.specs.Meaning.{IsText, Means}
@@ -25,23 +27,23 @@ reason_line Foreign = codes "why foreign" ++ line_feed ∷ []
 reason_line (Entry entry) = codes "why entry " ++ decimal entry ++ line_feed ∷ []
 reason_line Default = codes "why default" ++ line_feed ∷ []
 
--- whether a condition holds, and whether a rule matches
+-- whether a condition holds of what is compared of its argument, and whether a rule matches
 abbrev pub holding : Bool → List ℕ
 holding b = if b then codes "holds" else codes "does not hold"
 
 abbrev pub matching : Bool → List ℕ
 matching b = if b then codes "matches" else codes "does not match"
 
-abbrev pub condition_line : List ℕ → Cond → List ℕ
-condition_line args c =
-    codes "  " ++ condition_text c ++ codes " " ++ holding (meets c (slice_index args c.index)) ++ line_feed ∷ []
+abbrev pub condition_line : Bool → List ℕ → Cond → List ℕ
+condition_line narrow args c =
+    codes "  " ++ condition_text c ++ codes " " ++ holding (meets c (compared narrow (slice_index args c.index))) ++ line_feed ∷ []
 
 -- a rule of an entry, and each of its conditions
 abbrev pub rule_lines : ℕ → Rule → Record → List ℕ
 rule_lines entry rule r =
     codes "entry " ++ decimal entry ++ codes " " ++ action_text rule.word ++ codes " " ++ matching (matches rule (words r))
     ++ line_feed ∷ []
-    ++ flat_map (condition_line r.args) rule.conds.items
+    ++ flat_map (condition_line (is_narrow_rule rule) r.args) rule.conds.items
 
 -- the rule is for this call of this machine
 abbrev pub is_of : Rule → Record → Bool

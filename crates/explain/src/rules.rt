@@ -1,22 +1,24 @@
 //! The rules for a call, told beside a record.
 ghost use Rattle.std.specs.Prelude.{◌≡◌, ◌++◌, [], if◌then◌else◌, IfOk, slice_index, string_bytes};
 ghost use Rattle.std.specs.List.{flat_map};
+ghost use Rattle.call_tables.specs.Width as width;
 ghost use Rattle.profile.specs.Said.{meets};
 ghost use Rattle.explain.specs.Explanation as spec;
 
 use crate::reason::{entry_at, is_match};
 use crate::words::{ActionText, ConditionText};
 use call_record::Record;
+use call_tables::compared;
 use profile::{Cond, Rule};
 use profile_json::EntryRules;
 use std::alloc::AllocError;
 use std::fmt::Write;
 
-// Whether a condition holds of its argument.
-fn holds(cond: &Cond, args: &[u64; 6]) -> bool
-    ensures { result ≡ meets cond.now (slice_index args.now cond.now.index) }
+// Whether a condition holds of what is compared of its argument.
+fn holds(cond: &Cond, narrow: bool, args: &[u64; 6]) -> bool
+    ensures { result ≡ meets cond.now (width.compared narrow (slice_index args.now cond.now.index)) }
 {
-    cond.holds(args[cond.index as usize])
+    cond.holds(compared(narrow, args[cond.index as usize]))
 }
 
 fn holding(holds: bool) -> &'static str
@@ -32,20 +34,30 @@ fn matching(matches: bool) -> &'static str
 }
 
 // Adds the line of a condition.
-fn put_condition(text: &mut String, cond: &Cond, args: &[u64; 6]) -> Result<(), AllocError>
-    ensures { IfOk result (λ _. string_bytes text.new ≡ string_bytes text.old ++ spec.condition_line args.now cond.now) }
+fn put_condition(
+    text: &mut String,
+    cond: &Cond,
+    narrow: bool,
+    args: &[u64; 6],
+) -> Result<(), AllocError>
+    ensures { IfOk result (λ _. string_bytes text.new ≡ string_bytes text.old ++ spec.condition_line narrow args.now cond.now) }
 {
     let told = ConditionText(cond);
-    let holding = holding(holds(cond, args));
+    let holding = holding(holds(cond, narrow, args));
     writeln!(text, "  {told} {holding}")
 }
 
 // Adds the lines of conditions.
-fn put_conditions(text: &mut String, conds: &[Cond], args: &[u64; 6]) -> Result<(), AllocError>
-    ensures { IfOk result (λ _. string_bytes text.new ≡ string_bytes text.old ++ flat_map (spec.condition_line args.now) conds.now) }
+fn put_conditions(
+    text: &mut String,
+    conds: &[Cond],
+    narrow: bool,
+    args: &[u64; 6],
+) -> Result<(), AllocError>
+    ensures { IfOk result (λ _. string_bytes text.new ≡ string_bytes text.old ++ flat_map (spec.condition_line narrow args.now) conds.now) }
 {
     for cond in conds {
-        put_condition(text, cond, args)?;
+        put_condition(text, cond, narrow, args)?;
     }
     Ok(())
 }
@@ -57,7 +69,7 @@ fn put_rule(text: &mut String, entry: usize, rule: &Rule, call: &Record) -> Resu
     let action = ActionText(rule.word);
     let matching = matching(is_match(rule, call));
     writeln!(text, "entry {entry} {action} {matching}")?;
-    put_conditions(text, rule.conds.as_slice(), &call.args)
+    put_conditions(text, rule.conds.as_slice(), rule.is_narrow(), &call.args)
 }
 
 // Whether a rule is for the record's call.

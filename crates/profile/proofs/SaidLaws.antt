@@ -8,7 +8,7 @@ use Rattle.std.proofs.lemmas.Bool.Decides.{Decides-eqb, Decides-ltb, Decides-not
 use Rattle.std.proofs.lemmas.Bool.Decides.{Decides-by_and, Decides-like, not_from_Decides, nat_tests}
 use Rattle.std.proofs.lemmas.List.Elements.{All-nil, All-cons, All-contains, All-weaker}
 use Rattle.std.proofs.lemmas.Bool.{cases_Bool}
-use Rattle.call_record.specs.Words.{IsRecord, word, argument}
+use Rattle.call_record.specs.Words.{IsRecord, word}
 use Rattle.call_tables.specs.declared.arch.Arch.{Arch}
 use Rattle.call_tables.specs.Arch.{token_of}
 use Rattle.call_tables.specs.Numbers.{HasCall, IsWithin, has_call, is_within, own_numbers}
@@ -18,7 +18,7 @@ use Rattle.profile.specs.declared.conditions.Op.TheVariants.{Ne, Lt, Le, Eq, Ge,
 use Rattle.profile.specs.declared.rules.Rule.{Rule}
 use Rattle.profile.specs.Operator.{Compares}
 use Rattle.profile.specs.Condition.{Meets}
-use Rattle.profile.specs.Rule.{Matches}
+use Rattle.profile.specs.Rule.{argument_of, Matches}
 use Rattle.profile.specs.Policy.{Policy, IsNative, IsClear, Says}
 use Rattle.profile.specs.Said as spec
 use Rattle.profile.proofs.MachineLaws.{Decides-any}
@@ -37,9 +37,9 @@ Decides-compares MaskedEq value datum u = Decides-eqb (bit_and u value) datum
 
 pub Decides-matches : (rule : Rule) (r : List ℕ) → Decides (spec.matches rule r) (Matches rule r)
 Decides-matches rule r =
-    let p : Cond → Bool = λ c. spec.meets c (argument r c.index) in
-    let P : Cond → Type 0 = λ c. Meets c (argument r c.index) in
-    let each : (c : Cond) → Decides (p c) (P c) = λ c. Decides-compares c.op c.value c.datum (argument r c.index) in
+    let p : Cond → Bool = λ c. spec.meets c (argument_of r c.index) in
+    let P : Cond → Type 0 = λ c. Meets c (argument_of r c.index) in
+    let each : (c : Cond) → Decides (p c) (P c) = λ c. Decides-compares c.op c.value c.datum (argument_of r c.index) in
     let machine = Decides-eqb (word r 1) (token_of rule.arch) in
     let number = Decides-eqb (word r 0) rule.nr in
     let conditions : Decides (list_all p rule.conds.items) (All P rule.conds.items) =

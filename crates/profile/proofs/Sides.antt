@@ -1,6 +1,7 @@
 -- Two conditions on one number: the bits of both, and the sides on which a condition goes on to hold.
-use Rattle.std.proofs.Common.{◌≡◌, ℕ, ◌+◌, ◌-◌, ◌<◌, ◌≤◌, ◌^◌, ◌⊎◌, inl, inr, bit_and, bit_or, min, max, refl, sym, ◌∙◌, ap, subst, arith}
-use Rattle.std.proofs.lemmas.Nat.{and_assoc, and_comm, and_or_self, and_or_apart, and-not, or_comm, and_le_l, and_le_r}
+use Rattle.std.proofs.Common.{◌≡◌, ℕ, ◌+◌, ◌-◌, ◌%◌, ◌<◌, ◌≤◌, ◌^◌, ◌⊎◌, inl, inr, Bool, true, false, bit_and, bit_or, min, max, refl}
+use Rattle.std.proofs.Common.{sym, ◌∙◌, ap, subst, arith}
+use Rattle.std.proofs.lemmas.Nat.{and_assoc, and_comm, and_mask, and_or_self, and_or_apart, and-not, or_comm, or_lt, and_le_l, and_le_r}
 use Rattle.std.specs.Int.Bits.{and_self, or_add_and}
 use Rattle.std.proofs.lemmas.Nat.Bits.{same_from_bits, bit_at_and, bit_at_or}
 use Rattle.std.proofs.lemmas.Bool.{cases_lt}
@@ -10,7 +11,7 @@ use Rattle.profile.specs.declared.conditions.Op.{Op}
 use Rattle.profile.specs.declared.conditions.Op.TheVariants.{Ne, Lt, Le, Eq, Ge, Gt, MaskedEq}
 use Rattle.profile.specs.Operator.{mask_of, Compares}
 use Rattle.profile.specs.Condition.{Meets}
-use Rattle.profile.specs.inner.Meeting.{HaveCommon, BothMeet, least_of, greatest_of}
+use Rattle.profile.specs.inner.Meeting.{HaveCommon, BothMeet, greatest, least_of, greatest_of}
 
 spread : (a b c : ℕ) → min a (max b c) ≡ max (min a b) (min a c)
 spread a b c = omega arith
@@ -65,18 +66,44 @@ apart m lt =
     let whole : bit_and m m ≡ m = and_self m in
     omega arith
 
-greatest_has_bits : (d m : ℕ) → m < 2 ^ 64 → bit_and (bit_or d (2 ^ 64 - 1 - m)) m ≡ bit_and d m
-greatest_has_bits d m lt = and_or_apart m d (2 ^ 64 - 1 - m) (apart m lt)
+-- the greatest number that may be compared has all of the bits that a number may have
+whole : (narrow : Bool) (v : ℕ) → v ≤ greatest narrow → bit_and v (greatest narrow) ≡ v
+whole true v le = let low : v % 2 ^ 32 ≡ v = omega (arith, le) in and_mask v 32 ∙ low
+whole false v le = let low : v % 2 ^ 64 ≡ v = omega (arith, le) in and_mask v 64 ∙ low
 
-greatest_above : (v m : ℕ) → m < 2 ^ 64 → v < 2 ^ 64 → v ≤ bit_or (bit_and v m) (2 ^ 64 - 1 - m)
-greatest_above v m lt in-range =
-    let free : ℕ = 2 ^ 64 - 1 - m in
-    let shared : bit_and (bit_and v m) free ≡ 0 =
-    and_assoc free v m ∙ ap (bit_and v) (and_comm m free ∙ apart m lt) ∙ no_bits v in
-    let joined : bit_or (bit_and v m) free + bit_and (bit_and v m) free ≡ bit_and v m + free = or_add_and (bit_and v m) free in
-    let parts : bit_and free v + bit_and m v ≡ v = and-not 64 m v lt in-range in
+joined_fits : (narrow : Bool) (u v : ℕ) → u ≤ greatest narrow → v ≤ greatest narrow → bit_or u v ≤ greatest narrow
+joined_fits true u v left right = let lt : bit_or u v < 2 ^ 32 = or_lt 32 u v (omega (arith, left)) (omega (arith, right)) in omega (arith, lt)
+joined_fits false u v left right = let lt : bit_or u v < 2 ^ 64 = or_lt 64 u v (omega (arith, left)) (omega (arith, right)) in omega (arith, lt)
+
+pub greatest_fits : (narrow : Bool) → greatest narrow < 2 ^ 64
+greatest_fits true = omega arith
+greatest_fits false = omega arith
+
+-- those outside a mask
+abbrev free : Bool → ℕ → ℕ
+free narrow m = bit_and (greatest narrow) (2 ^ 64 - 1 - m)
+
+free_apart : (narrow : Bool) (m : ℕ) → m < 2 ^ 64 → bit_and (free narrow m) m ≡ 0
+free_apart narrow m lt =
+    and_assoc m (greatest narrow) (2 ^ 64 - 1 - m) ∙ ap (bit_and (greatest narrow)) (apart m lt) ∙ no_bits (greatest narrow)
+
+greatest_has_bits : (narrow : Bool) (d m : ℕ) → m < 2 ^ 64 → bit_and (bit_or d (free narrow m)) m ≡ bit_and d m
+greatest_has_bits narrow d m lt = and_or_apart m d (free narrow m) (free_apart narrow m lt)
+
+greatest_above : (narrow : Bool) (v m : ℕ) → m < 2 ^ 64 → v ≤ greatest narrow → v ≤ bit_or (bit_and v m) (free narrow m)
+greatest_above narrow v m lt within =
+    let others : ℕ = 2 ^ 64 - 1 - m in
+    let rest : ℕ = free narrow m in
+    let in-range : v < 2 ^ 64 = omega (arith, within, greatest_fits narrow) in
+    let shared : bit_and (bit_and v m) rest ≡ 0 =
+    and_assoc rest v m ∙ ap (bit_and v) (and_comm m rest ∙ free_apart narrow m lt) ∙ no_bits v in
+    let joined : bit_or (bit_and v m) rest + bit_and (bit_and v m) rest ≡ bit_and v m + rest = or_add_and (bit_and v m) rest in
+    let parts : bit_and others v + bit_and m v ≡ v = and-not 64 m v lt in-range in
     let same : bit_and m v ≡ bit_and v m = and_comm m v in
-    let small : bit_and free v ≤ free = and_le_l free v in
+    let within-rest : bit_and v rest ≡ bit_and v others =
+    sym (and_assoc others v (greatest narrow)) ∙ ap (λ (x : ℕ). bit_and x others) (whole narrow v within) in
+    let turned : bit_and others v ≡ bit_and v others = and_comm others v in
+    let small : bit_and v rest ≤ rest = and_le_r v rest in
     omega arith
 
 -- ---- on which side of a number a condition goes on to hold
@@ -121,9 +148,10 @@ record IsBelow (a b : Cond) (v u : ℕ) : Type 0 where
   left : bit_and u (mask_of a.op a.value) ≡ bit_and v (mask_of a.op a.value)
   right : bit_and u (mask_of b.op b.value) ≡ bit_and v (mask_of b.op b.value)
 
--- u is not below v, and has its bits
-record IsAbove (a b : Cond) (v u : ℕ) : Type 0 where
+-- u is not below v, may be compared, and has its bits
+record IsAbove (narrow : Bool) (a b : Cond) (v u : ℕ) : Type 0 where
   above : v ≤ u
+  within : u ≤ greatest narrow
   left : bit_and u (mask_of a.op a.value) ≡ bit_and v (mask_of a.op a.value)
   right : bit_and u (mask_of b.op b.value) ≡ bit_and v (mask_of b.op b.value)
 
@@ -137,50 +165,88 @@ below_both a b v ha hb =
     subst (IsBelow a b v) is
     (record { below = and_le_l v m; left = left_bits (bit_and v m) v ma mb alike; right = right_bits (bit_and v m) v ma mb alike })
 
-above_both : (a b : Cond) (v : ℕ) → v < 2 ^ 64 → bit_or (mask_of a.op a.value) (mask_of b.op b.value) < 2 ^ 64 → Meets a v → Meets b v
-    → IsAbove a b v (greatest_of a b)
-above_both a b v in-range lt ha hb =
+above_both : (narrow : Bool) (a b : Cond) (v : ℕ) → v ≤ greatest narrow
+    → bit_or (mask_of a.op a.value) (mask_of b.op b.value) < 2 ^ 64 → Meets a v → Meets b v → IsAbove narrow a b v (greatest_of narrow a b)
+above_both narrow a b v within lt ha hb =
     let ma = mask_of a.op a.value in
     let mb = mask_of b.op b.value in
     let m : ℕ = bit_or ma mb in
-    let u : ℕ = bit_or (bit_and v m) (2 ^ 64 - 1 - m) in
-    let alike : bit_and u m ≡ bit_and v m = greatest_has_bits (bit_and v m) m lt ∙ least_has_bits v m in
-    subst (λ (d : ℕ). IsAbove a b v (bit_or d (2 ^ 64 - 1 - m))) (merged a b v ha hb)
-    (record { above = greatest_above v m lt in-range; left = left_bits u v ma mb alike; right = right_bits u v ma mb alike })
+    let u : ℕ = bit_or (bit_and v m) (free narrow m) in
+    let alike : bit_and u m ≡ bit_and v m = greatest_has_bits narrow (bit_and v m) m lt ∙ least_has_bits v m in
+    let small : bit_and v m ≤ v = and_le_l v m in
+    subst (λ (d : ℕ). IsAbove narrow a b v (bit_or d (free narrow m))) (merged a b v ha hb)
+    (record {
+      above = greatest_above narrow v m lt within;
+      within = joined_fits narrow (bit_and v m) (free narrow m) (omega (arith, small, within)) (and_le_l (greatest narrow) (2 ^ 64 - 1 - m));
+      left = left_bits u v ma mb alike;
+      right = right_bits u v ma mb alike;
+    })
 
 -- the numbers of which one meets both where any does
-abbrev pub MeetNear : Cond → Cond → ℕ → Type 0
-MeetNear a b x = BothMeet a b x ⊎ ((x + 1 < 2 ^ 64) × BothMeet a b (x + 1))
+abbrev pub MeetNear : Bool → Cond → Cond → ℕ → Type 0
+MeetNear narrow a b x = BothMeet narrow a b x ⊎ BothMeet narrow a b (x + 1)
 
-abbrev pub Found : Cond → Cond → Type 0
-Found a b = BothMeet a b (least_of a b) ⊎ (BothMeet a b (greatest_of a b) ⊎ (MeetNear a b a.value ⊎ MeetNear a b b.value))
+abbrev pub Found : Bool → Cond → Cond → Type 0
+Found narrow a b =
+    BothMeet narrow a b (least_of a b)
+    ⊎ (BothMeet narrow a b (greatest_of narrow a b) ⊎ (MeetNear narrow a b a.value ⊎ MeetNear narrow a b b.value))
 
-near : (a b : Cond) (x e v : ℕ) → v < 2 ^ 64 → e ≤ v → (e ≡ x) ⊎ (e ≡ x + 1) → BothMeet a b e → MeetNear a b x
-near a b x e v in-range le (inl here) both = inl (subst (BothMeet a b) here both)
-near a b x e v in-range le (inr after) both = inr (omega (arith, after, le, in-range), subst (BothMeet a b) after both)
+near : (narrow : Bool) (a b : Cond) (x e v : ℕ) → v ≤ greatest narrow → e ≤ v → (e ≡ x) ⊎ (e ≡ x + 1) → Meets a e → Meets b e
+    → MeetNear narrow a b x
+near narrow a b x e v within le (inl here) ha hb = inl (subst (BothMeet narrow a b) here (omega (arith, le, within), ha, hb))
+near narrow a b x e v within le (inr after) ha hb = inr (subst (BothMeet narrow a b) after (omega (arith, le, within), ha, hb))
 
-join : (a b : Cond) (v : ℕ) → v < 2 ^ 64 → Meets a v → Meets b v → IsBelow a b v (least_of a b) → IsAbove a b v (greatest_of a b)
-    → Side a.op a.value a.datum v → Side b.op b.value b.datum v → Found a b
-join a b v lt ha hb low high (alone is) other = inr (inr (inl (inl (subst (BothMeet a b) is (ha, hb)))))
-join a b v lt ha hb low high (bits f) (alone is) = inr (inr (inr (inl (subst (BothMeet a b) is (ha, hb)))))
-join a b v lt ha hb low high (bits f) (bits g) = inl (f (least_of a b) low.left, g (least_of a b) low.right)
-join a b v lt ha hb low high (bits f) (falls g) = inl (f (least_of a b) low.left, g (least_of a b) low.below)
-join a b v lt ha hb low high (bits f) (rises g e le at he) = inr (inl (f (greatest_of a b) high.left, g (greatest_of a b) high.above))
-join a b v lt ha hb low high (falls f) (alone is) = inr (inr (inr (inl (subst (BothMeet a b) is (ha, hb)))))
-join a b v lt ha hb low high (falls f) (bits g) = inl (f (least_of a b) low.below, g (least_of a b) low.right)
-join a b v lt ha hb low high (falls f) (falls g) = inl (f (least_of a b) low.below, g (least_of a b) low.below)
-join a b v lt ha hb low high (falls f) (rises g e le at he) = inr (inr (inr (near a b b.value e v lt le at (f e le, he))))
-join a b v lt ha hb low high (rises f e le at he) (alone is) = inr (inr (inr (inl (subst (BothMeet a b) is (ha, hb)))))
-join a b v lt ha hb low high (rises f e le at he) (bits g) = inr (inl (f (greatest_of a b) high.above, g (greatest_of a b) high.right))
-join a b v lt ha hb low high (rises f e le at he) (falls g) = inr (inr (inl (near a b a.value e v lt le at (he, g e le))))
-join a b v lt ha hb low high (rises f e le at he) (rises g k ge to hk) =
-    inr (inl (f (greatest_of a b) high.above, g (greatest_of a b) high.above))
+-- what one number that meets both says of the least and the greatest with its bits
+record Spread (narrow : Bool) (a b : Cond) (v : ℕ) : Type 0 where
+  within : v ≤ greatest narrow
+  left : Meets a v
+  right : Meets b v
+  low : IsBelow a b v (least_of a b)
+  high : IsAbove narrow a b v (greatest_of narrow a b)
 
-pub found : (a b : Cond) → bit_or (mask_of a.op a.value) (mask_of b.op b.value) < 2 ^ 64 → HaveCommon a b → Found a b
-found a b lt (v, in-range, ha, hb) =
-    join a b v in-range ha hb (below_both a b v ha hb) (above_both a b v in-range lt ha hb) (side_of a.op a.value a.datum v ha)
-    (side_of b.op b.value b.datum v hb)
+at_left : (narrow : Bool) (a b : Cond) (v : ℕ) → Spread narrow a b v → v ≡ a.value → Found narrow a b
+at_left narrow a b v s is = inr (inr (inl (inl (subst (BothMeet narrow a b) is (s.within, s.left, s.right)))))
 
-pub not_near : (a b : Cond) (x : ℕ) → MeetNear a b x → ¬ BothMeet a b x → (x + 1 < 2 ^ 64 → ¬ BothMeet a b (x + 1)) → ⊥
-not_near a b x (inl both) here after = here both
-not_near a b x (inr (lt, both)) here after = after lt both
+at_right : (narrow : Bool) (a b : Cond) (v : ℕ) → Spread narrow a b v → v ≡ b.value → Found narrow a b
+at_right narrow a b v s is = inr (inr (inr (inl (subst (BothMeet narrow a b) is (s.within, s.left, s.right)))))
+
+at_least : (narrow : Bool) (a b : Cond) (v : ℕ) → Spread narrow a b v → Meets a (least_of a b) → Meets b (least_of a b) → Found narrow a b
+at_least narrow a b v s ha hb = inl (omega (arith, s.low.below, s.within), ha, hb)
+
+at_greatest : (narrow : Bool) (a b : Cond) (v : ℕ) → Spread narrow a b v → Meets a (greatest_of narrow a b)
+    → Meets b (greatest_of narrow a b) → Found narrow a b
+at_greatest narrow a b v s ha hb = inr (inl (s.high.within, ha, hb))
+
+join : (narrow : Bool) (a b : Cond) (v : ℕ) → Spread narrow a b v → Side a.op a.value a.datum v → Side b.op b.value b.datum v
+    → Found narrow a b
+join narrow a b v s (alone is) other = at_left narrow a b v s is
+join narrow a b v s (bits f) (alone is) = at_right narrow a b v s is
+join narrow a b v s (bits f) (bits g) = at_least narrow a b v s (f (least_of a b) s.low.left) (g (least_of a b) s.low.right)
+join narrow a b v s (bits f) (falls g) = at_least narrow a b v s (f (least_of a b) s.low.left) (g (least_of a b) s.low.below)
+join narrow a b v s (bits f) (rises g e le at he) =
+    at_greatest narrow a b v s (f (greatest_of narrow a b) s.high.left) (g (greatest_of narrow a b) s.high.above)
+join narrow a b v s (falls f) (alone is) = at_right narrow a b v s is
+join narrow a b v s (falls f) (bits g) = at_least narrow a b v s (f (least_of a b) s.low.below) (g (least_of a b) s.low.right)
+join narrow a b v s (falls f) (falls g) = at_least narrow a b v s (f (least_of a b) s.low.below) (g (least_of a b) s.low.below)
+join narrow a b v s (falls f) (rises g e le at he) = inr (inr (inr (near narrow a b b.value e v s.within le at (f e le) he)))
+join narrow a b v s (rises f e le at he) (alone is) = at_right narrow a b v s is
+join narrow a b v s (rises f e le at he) (bits g) =
+    at_greatest narrow a b v s (f (greatest_of narrow a b) s.high.above) (g (greatest_of narrow a b) s.high.right)
+join narrow a b v s (rises f e le at he) (falls g) = inr (inr (inl (near narrow a b a.value e v s.within le at he (g e le))))
+join narrow a b v s (rises f e le at he) (rises g k ge to hk) =
+    at_greatest narrow a b v s (f (greatest_of narrow a b) s.high.above) (g (greatest_of narrow a b) s.high.above)
+
+pub found : (narrow : Bool) (a b : Cond) → bit_or (mask_of a.op a.value) (mask_of b.op b.value) < 2 ^ 64 → HaveCommon narrow a b
+    → Found narrow a b
+found narrow a b lt (v, within, ha, hb) =
+    let spread : Spread narrow a b v = record {
+      within = within;
+      left = ha;
+      right = hb;
+      low = below_both a b v ha hb;
+      high = above_both narrow a b v within lt ha hb;
+    } in join narrow a b v spread (side_of a.op a.value a.datum v ha) (side_of b.op b.value b.datum v hb)
+
+pub not_near : (narrow : Bool) (a b : Cond) (x : ℕ) → MeetNear narrow a b x → ¬ BothMeet narrow a b x → ¬ BothMeet narrow a b (x + 1) → ⊥
+not_near narrow a b x (inl both) here after = here both
+not_near narrow a b x (inr both) here after = after both

@@ -2,13 +2,14 @@
 use Rattle.std.specs.Prelude.{◌≡◌, ◌↔◌, ℕ, ◌==◌, ◌&&◌, Bool, not, List, find, bit_and, nat_lt, nat_le, unwrap_or, if◌then◌else◌}
 use Rattle.std.specs.List.{list_all, list_any}
 use Rattle.std.specs.Option.{option_map}
-use Rattle.call_record.specs.Words.{IsRecord, word, argument}
+use Rattle.call_record.specs.Words.{IsRecord, word}
 use Rattle.call_tables.specs.Arch.{token_of}
 use Rattle.call_tables.specs.Numbers.{has_call}
 use Rattle.profile.specs.declared.conditions.Cond.{Cond}
 use Rattle.profile.specs.declared.conditions.Op.{Op}
 use Rattle.profile.specs.declared.conditions.Op.TheVariants.{Ne, Lt, Le, Eq, Ge, Gt, MaskedEq}
 use Rattle.profile.specs.declared.rules.Rule.{Rule}
+use Rattle.profile.specs.Rule.{argument_of}
 use Rattle.profile.specs.Policy.{Policy, IsClear, Says}
 
 abbrev pub compares : Op → ℕ → ℕ → ℕ → Bool
@@ -24,7 +25,7 @@ abbrev pub meets : Cond → ℕ → Bool
 meets c u = compares c.op c.value c.datum u
 
 abbrev pub matches : Rule → List ℕ → Bool
-matches rule r = word r 1 == token_of rule.arch && word r 0 == rule.nr && list_all (λ c. meets c (argument r c.index)) rule.conds.items
+matches rule r = word r 1 == token_of rule.arch && word r 0 == rule.nr && list_all (λ c. meets c (argument_of r c.index)) rule.conds.items
 
 abbrev pub is_native : Policy → List ℕ → Bool
 is_native p r = list_any (has_call (word r 1) (word r 0)) p.machines

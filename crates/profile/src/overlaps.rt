@@ -1,7 +1,7 @@
 //! Whether one record matches two rules.
-ghost use Rattle.std.specs.Prelude.{◌≡◌, ◌↔◌, IsTrue, All};
+ghost use Rattle.std.specs.Prelude.{◌≡◌, ◌↔◌, Bool as TheBool, IsTrue};
 ghost use Rattle.profile.specs.Rule.{Overlap};
-ghost use Rattle.profile.specs.inner.Meeting.{AllHaveCommon, CanOverlap, HaveCommon};
+ghost use Rattle.profile.specs.inner.Meeting.{AllHaveCommon, CanOverlap, HasCommon, HaveCommon};
 
 use crate::conditions::{Cond, Op};
 use crate::meets::meet;
@@ -24,23 +24,24 @@ fn can_overlap(a: &Rule, b: &Rule) -> bool
     if a.arch.token() != b.arch.token() {
         return false;
     }
+    let narrow = a.is_narrow();
     let first = a.conds.as_slice();
     let second = b.conds.as_slice();
     if ask_unlike(first, second) {
         return false;
     }
-    if !all_meet(first, second) {
+    if !all_meet(narrow, first, second) {
         return false;
     }
-    if !all_meet(first, first) {
+    if !all_meet(narrow, first, first) {
         return false;
     }
-    all_meet(second, second)
+    all_meet(narrow, second, second)
 }
 
 // Whether conditions at one place ask for unlike numbers: this alone tells most rules for one call apart.
 fn ask_unlike(a: &[Cond], b: &[Cond]) -> bool
-    ensures { IsTrue result → ¬ AllHaveCommon a.now b.now }
+    ensures { (narrow : TheBool) → IsTrue result → ¬ AllHaveCommon narrow a.now b.now }
 {
     for place in 0..a.len().min(b.len()) {
         if are_unlike(&a[place], &b[place]) {
@@ -51,7 +52,7 @@ fn ask_unlike(a: &[Cond], b: &[Cond]) -> bool
 }
 
 fn are_unlike(a: &Cond, b: &Cond) -> bool
-    ensures { IsTrue result → (a.now.index ≡ b.now.index) × ¬ HaveCommon a.now b.now }
+    ensures { IsTrue result → (a.now.index ≡ b.now.index) × ((narrow : TheBool) → ¬ HaveCommon narrow a.now b.now) }
 {
     if a.index != b.index {
         return false;
@@ -65,16 +66,15 @@ fn are_unlike(a: &Cond, b: &Cond) -> bool
     a.value != b.value
 }
 
-fn all_meet(a: &[Cond], b: &[Cond]) -> bool
-    ensures { IsTrue result ↔ All (λ c. All (λ d. c.index ≡ d.index → HaveCommon c d) b.now) a.now }
+fn all_meet(narrow: bool, a: &[Cond], b: &[Cond]) -> bool
+    ensures { IsTrue result ↔ AllHaveCommon narrow a.now b.now }
 {
-    a.iter().all(|c| meets_each(c, b))
+    a.iter().all(|c| meets_each(narrow, c, b))
 }
 
-fn meets_each(cond: &Cond, others: &[Cond]) -> bool
-    ensures { IsTrue result ↔ All (λ d. cond.now.index ≡ d.index → HaveCommon cond.now d) others.now }
+#[tactic(auto, unfolding(crate::specs::inner::Meeting::HasCommon))]
+fn meets_each(narrow: bool, cond: &Cond, others: &[Cond]) -> bool
+    ensures { IsTrue result ↔ HasCommon narrow others.now cond.now }
 {
-    others
-        .iter()
-        .all(|other| cond.index != other.index || meet(cond, other))
+    others.iter().all(|other| cond.index != other.index || meet(narrow, cond, other))
 }

@@ -1,5 +1,6 @@
 //! Rules of a profile.
 ghost use Rattle.std.specs.Prelude.{◌≡◌, ◌↔◌, ◌==◌, ◌<◌, ◌^◌, ⊤, true, map, IsTrue, All, slice_index};
+ghost use Rattle.call_tables.specs.Width as width;
 ghost use Rattle.std.specs.List.{list_any};
 ghost use Rattle.profile.specs.Condition.{Meets};
 ghost use Rattle.profile.specs.Operator.{are_distinct};
@@ -7,7 +8,7 @@ ghost use Rattle.profile.specs.Operator.{are_distinct};
 use crate::conditions::Cond;
 use arrayvec::ArrayVec;
 use call_record::{Record, Word};
-use call_tables::Arch;
+use call_tables::{Arch, compared, is_narrow};
 use std::alloc::AllocError;
 
 /// A rule for one call of one machine: the word of a record that meets all its conditions.
@@ -25,7 +26,7 @@ pub struct Rule {
 
 impl Rule {
     ghost use Rattle.std.specs.Prelude.{IsSome, IfSome};
-    ghost use Rattle.profile.specs.Rule.{Matches};
+    ghost use Rattle.profile.specs.Rule.{Matches, is_narrow_rule};
     ghost use Rattle.call_record.specs.Record.{words};
 
     /// The rule of these parts, or `None` where two conditions are on one argument.
@@ -48,6 +49,13 @@ impl Rule {
         }
     }
 
+    /// Whether arguments of the rule's machine are compared by their low half alone.
+    pub fn is_narrow(&self) -> bool
+        ensures { result ≡ is_narrow_rule self.now }
+    {
+        is_narrow(self.arch.token())
+    }
+
     /// Whether the record meets the rule.
     pub fn matches(&self, call: &Record) -> bool
         ensures { IsTrue result ↔ Matches self.now (words call.now) }
@@ -58,7 +66,7 @@ impl Rule {
         if call.nr != self.nr {
             return false;
         }
-        hold(self.conds.as_slice(), &call.args)
+        hold(self.conds.as_slice(), self.is_narrow(), &call.args)
     }
 }
 
@@ -100,11 +108,9 @@ pub fn has_index(conds: &[Cond], index: u8) -> bool
         .any(|other| other == index)
 }
 
-// Whether each condition holds of its argument.
-fn hold(conds: &[Cond], args: &[u64; 6]) -> bool
-    ensures { IsTrue result ↔ All (λ c. Meets c (slice_index args.now c.index)) conds.now }
+// Whether each condition holds of what is compared of its argument.
+fn hold(conds: &[Cond], narrow: bool, args: &[u64; 6]) -> bool
+    ensures { IsTrue result ↔ All (λ c. Meets c (width.compared narrow (slice_index args.now c.index))) conds.now }
 {
-    conds
-        .iter()
-        .all(|cond| cond.holds(args[cond.index as usize]))
+    conds.iter().all(|cond| cond.holds(compared(narrow, args[cond.index as usize])))
 }

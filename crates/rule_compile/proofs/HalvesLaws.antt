@@ -1,10 +1,11 @@
 -- Numbers of 64 bits by their halves.
-use Rattle.std.proofs.Common.{◌≡◌, ◌↔◌, ℕ, ◌+◌, ◌-◌, ◌*◌, ◌/◌, ◌%◌, ◌^◌, ◌<◌, ◌==◌, Bool, true, List, ap, sym, ◌∙◌}
-use Rattle.std.proofs.Common.{arith, inl, inr}
+use Rattle.std.proofs.Common.{◌≡◌, ◌↔◌, ℕ, ◌+◌, ◌-◌, ◌*◌, ◌/◌, ◌%◌, ◌^◌, ◌<◌, ◌==◌, Bool, true, false, List, ap, sym, ◌∙◌}
+use Rattle.std.proofs.Common.{arith, inl, inr, refl}
 use Rattle.std.specs.Prelude.{Some, None, bit_and, slice_index, if◌then◌else◌}
 use Rattle.std.proofs.lemmas.Bool.{cases_eq, cases_lt, eq-eqb, ne_eqb, le-leb, lt-leb}
 use Rattle.std.proofs.lemmas.Nat.{and_block, and_le_r, and_mask}
 use Rattle.call_record.specs.Words.{IsRecord, argument, word}
+use Rattle.call_tables.specs.Width.{compared}
 use Rattle.rule_compile.specs.declared.question.Comparison.{Comparison}
 use Rattle.rule_compile.specs.declared.question.Comparison.TheVariants.{Equal, AtLeast}
 use Rattle.rule_compile.specs.Questions.{compares, outcome}
@@ -88,7 +89,7 @@ no_stray_halves m d is =
     let e : d % 2 ^ 32 + 2 ^ 32 * (d / 2 ^ 32) ≡ d = omega arith in
     (bits_by_halves (d % 2 ^ 32) (d / 2 ^ 32) m d (omega arith)).1 (ap (λ n. bit_and n m) e ∙ is)
 
--- ---- questions of an argument, and of a word
+-- ---- questions of an argument
 
 module _ (low above number lo hi : ℕ) (at : low % 4 ≡ 0) (next : above ≡ low + 4) (lo_is : lo ≡ number % 2 ^ 32) (hi_is : hi ≡ number / 2 ^ 32)
     (r : List ℕ) (rec : IsRecord r) where
@@ -115,21 +116,47 @@ module _ (low above number lo hi : ℕ) (at : low % 4 ≡ 0) (next : above ≡ l
       ∙ ap (λ n. if v == number / 2 ^ 32 then compares c n u else compares c (number / 2 ^ 32) v) lo_is
       ∙ by_halves u v number (rec.words (low / 4)) c
 
--- the bits of an argument are those of its words
-module _ (low above m d m0 m1 d0 d1 : ℕ) (next : above ≡ low + 4) (m0_is : m0 ≡ m % 2 ^ 32) (m1_is : m1 ≡ m / 2 ^ 32)
+-- ---- what is compared of an argument
+
+-- the low half of it is the low word
+compared_low : (narrow : Bool) (low : ℕ) (r : List ℕ) → IsRecord r → compared narrow (argument_at low r) % 2 ^ 32 ≡ slice_index r (low / 4)
+compared_low true low r rec =
+    let e : argument_at low r % 2 ^ 32 % 2 ^ 32 ≡ slice_index r (low / 4) = omega (arith, rec.words (low / 4)) in e
+compared_low false low r rec =
+    let e : argument_at low r % 2 ^ 32 ≡ slice_index r (low / 4) = omega (arith, rec.words (low / 4)) in e
+
+module _ (narrow : Bool) (low : ℕ) (r : List ℕ) where
+  pub compared_wide : narrow ≡ false → compared narrow (argument_at low r) ≡ argument_at low r
+  compared_wide is = ap (λ n. compared n (argument_at low r)) is
+
+  -- the high half of it is the high word where it is wide
+  pub high_of_wide : (above : ℕ) → narrow ≡ false → above ≡ low + 4 → IsRecord r
+      → compared narrow (argument_at low r) / 2 ^ 32 ≡ slice_index r (above / 4)
+  high_of_wide above is next rec =
+      let here : low / 4 + 1 ≡ above / 4 = omega (arith, next) in
+      let e : argument_at low r / 2 ^ 32 ≡ slice_index r (low / 4 + 1) = omega (arith, rec.words (low / 4)) in
+      ap (λ u. u / 2 ^ 32) (compared_wide is) ∙ e ∙ ap (slice_index r) here
+
+-- the bits of what is compared are those of its halves
+module _ (narrow : Bool) (low m d m0 m1 d0 d1 : ℕ) (m0_is : m0 ≡ m % 2 ^ 32) (m1_is : m1 ≡ m / 2 ^ 32)
     (d0_is : d0 ≡ d % 2 ^ 32) (d1_is : d1 ≡ d / 2 ^ 32) (r : List ℕ) (rec : IsRecord r) where
-  pub bits_of_argument : ((bit_and (slice_index r (above / 4)) m1 ≡ d1) × (bit_and (slice_index r (low / 4)) m0 ≡ d0))
-      ↔ (bit_and (argument_at low r) m ≡ d)
+  pub bits_of_argument :
+      ((bit_and (compared narrow (argument_at low r) / 2 ^ 32) m1 ≡ d1) × (bit_and (slice_index r (low / 4)) m0 ≡ d0))
+      ↔ (bit_and (compared narrow (argument_at low r)) m ≡ d)
   bits_of_argument =
-      let e : above / 4 ≡ low / 4 + 1 = omega (arith, next) in
-      let halves = bits_by_halves (slice_index r (low / 4)) (slice_index r (low / 4 + 1)) m d (rec.words (low / 4)) in
-      let high : bit_and (slice_index r (above / 4)) m1 ≡ bit_and (slice_index r (low / 4 + 1)) (m / 2 ^ 32) =
-      ap (λ n. bit_and (slice_index r n) m1) e ∙ ap (bit_and (slice_index r (low / 4 + 1))) m1_is in
-      let low_bits : bit_and (slice_index r (low / 4)) m0 ≡ bit_and (slice_index r (low / 4)) (m % 2 ^ 32) =
-      ap (bit_and (slice_index r (low / 4))) m0_is in (
-        λ both. halves.0 (sym high ∙ both.0 ∙ d1_is, sym low_bits ∙ both.1 ∙ d0_is),
-        λ is. (let parts = halves.1 is in (high ∙ parts.0 ∙ sym d1_is, low_bits ∙ parts.1 ∙ sym d0_is)),
+      let u : ℕ = compared narrow (argument_at low r) in
+      let l : ℕ = slice_index r (low / 4) in
+      let h : ℕ = u / 2 ^ 32 in
+      let below : u % 2 ^ 32 ≡ l = compared_low narrow low r rec in
+      let whole : l + 2 ^ 32 * h ≡ u = omega (arith, below) in
+      let halves = bits_by_halves l h m d (rec.words (low / 4)) in (
+        λ both. ap (λ n. bit_and n m) (sym whole)
+            ∙ halves.0 (ap (bit_and h) (sym m1_is) ∙ both.0 ∙ d1_is, ap (bit_and l) (sym m0_is) ∙ both.1 ∙ d0_is),
+        λ is. (let parts = halves.1 (ap (λ n. bit_and n m) whole ∙ is) in
+            (ap (bit_and h) m1_is ∙ parts.0 ∙ sym d1_is, ap (bit_and l) m0_is ∙ parts.1 ∙ sym d0_is)),
       )
+
+-- ---- questions of a word
 
 pub word_question : (at mask number : ℕ) → IsOffset at → bit_and number mask ≡ number
     → IsQuestion (record { subject = record { word = at; mask = mask }; comparison = Equal; number = number; low = None; wanted = true })
@@ -137,4 +164,13 @@ word_question at mask number offset within = record {
   offset = offset;
   high = λ low is. absurd (none_is_some low is);
   masked = inr (omega (arith, within, and_le_r number mask));
+}
+
+-- a question of a whole word
+pub whole_question : (at number : ℕ) (c : Comparison) (wanted : Bool) → IsOffset at
+    → IsQuestion (record { subject = record { word = at; mask = 0xffffffff }; comparison = c; number = number; low = None; wanted = wanted })
+whole_question at number c wanted offset = record {
+  offset = offset;
+  high = λ low is. absurd (none_is_some low is);
+  masked = inl refl;
 }

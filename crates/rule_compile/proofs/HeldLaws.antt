@@ -6,7 +6,11 @@ use Rattle.std.specs.List.{All, Any}
 use Rattle.std.proofs.lemmas.Bool.{false≢true}
 use Rattle.std.proofs.lemmas.List.{get_or-take, length-take-le, take-take, take_more}
 use Rattle.std.proofs.lemmas.List.Elements.{All-more, All-take}
-use Rattle.call_record.specs.Words.{IsRecord}
+use Rattle.call_record.specs.Words.{IsRecord, argument, word}
+use Rattle.call_tables.specs.Arch.{token_of}
+use Rattle.call_tables.specs.Width.{compared, is_narrow}
+use Rattle.profile.specs.Condition.{Meets}
+use Rattle.profile.specs.Rule.{argument_of}
 use Rattle.rule_compile.specs.declared.asked.Open.{Open}
 use Rattle.rule_compile.specs.declared.asked.Placed.{Placed}
 use Rattle.rule_compile.specs.declared.asked.Questions.{Questions}
@@ -15,6 +19,13 @@ use Rattle.rule_compile.specs.inner.Asked.{Asks, IsAdded}
 use Rattle.rule_compile.specs.inner.Left.{AreHeld, SomeHeld}
 use Rattle.rule_compile.proofs.AskedLaws.{added_met, added_sure}
 use Rattle.rule_compile.proofs.RulesLaws.{any_cases, any_either, any_here, any_left, any_nil, any_right}
+
+-- of a record of the rule's machine the conditions hold as the width of the record says
+pub held_of_record : (placed : Placed) (r : List ℕ) → word r 1 ≡ token_of placed.rule.now.arch
+    → AreHeld placed r ↔ All (λ c. Meets c (argument_of r c.index)) placed.rule.now.conds.items
+held_of_record placed r machine =
+    let P : ℕ → Type 0 = λ t. All (λ c. Meets c (compared (is_narrow t) (argument r c.index))) placed.rule.now.conds.items in
+    (λ held. subst P (sym machine) held, λ all. subst P machine all)
 
 -- the rule that is passed over has the default word
 pub passed_over : (q : Questions) (placed : Placed) (default : ℕ) → placed.rule.now.word ≡ default → IsAdded q q placed default false

@@ -2,7 +2,6 @@ pub mod AcceptLaws
 pub mod AskedLaws
 pub mod BlocksLaws
 pub mod CallLaws
-pub mod ConditionLaws
 pub mod DecidesLaws
 pub mod FindLaws
 pub mod ForeignLaws

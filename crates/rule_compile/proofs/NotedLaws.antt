@@ -28,6 +28,7 @@ use Rattle.rule_compile.specs.inner.Runs.{IsBefore}
 use Rattle.rule_compile.specs.inner.Stands.{AreAmong, AreBlocks, AreThose, DecidesRules, HasMore, IsFound}
 use Rattle.rule_compile.proofs.BlocksLaws.{stands_more}
 use Rattle.rule_compile.proofs.DecidesLaws.{before_more, decides_more}
+use Rattle.rule_compile.proofs.HeldLaws.{held_of_record}
 use Rattle.rule_compile.proofs.LeadsLaws.{word_decided}
 use Rattle.rule_compile.proofs.SaysLaws.{clear_on, native_own, said_is}
 use Rattle.rule_compile.proofs.ThoseLaws.{by_those, held_matches}
@@ -96,7 +97,7 @@ module _ (p : Policy) (clear : IsClear p.rules) (m : Arch) (number : ℕ) (is_ow
             record {
               machine = token_at r of_call ∙ sym of_those.1.0;
               number = number_at r of_call ∙ sym of_those.1.1;
-              conditions = held r of_call.is_record;
+              conditions = (held_of_record placed r (token_at r of_call ∙ sym of_those.1.0)).0 (held r of_call.is_record);
             },
       )
   call_asks are_blocks decides (InParts parts) (os, are, says) =

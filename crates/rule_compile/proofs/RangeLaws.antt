@@ -7,7 +7,7 @@ use Rattle.std.proofs.lemmas.List.{get_or_default, get_or_past, get_or-replicate
 use Rattle.std.specs.List.{All, Any, Contains}
 use Rattle.std.proofs.lemmas.List.Elements.{All-append, All-cons, All-contains, All-head, All-nil}
 use Rattle.std.proofs.lemmas.Bool.{cases_lt}
-use Rattle.call_record.specs.Words.{IsRecord, argument}
+use Rattle.call_record.specs.Words.{IsRecord}
 use Rattle.call_tables.specs.declared.arch.Arch.{Arch}
 use Rattle.call_tables.specs.declared.numbers.Numbers.{Numbers}
 use Rattle.call_tables.specs.Arch.{token_of}
@@ -17,7 +17,7 @@ use Rattle.call_tables.proofs.ForeignLaws.{native_or_foreign}
 use Rattle.profile.specs.declared.rules.Rule.{Rule}
 use Rattle.profile.specs.declared.conditions.Cond.{Cond}
 use Rattle.profile.specs.Condition.{Meets}
-use Rattle.profile.specs.Rule.{Matches}
+use Rattle.profile.specs.Rule.{Matches, argument_of}
 use Rattle.profile.specs.Policy.{IsNative, Policy, Says}
 use Rattle.profile.proofs.SaidLaws.{each_record_is_said_one_word}
 use Rattle.rule_compile.specs.declared.ranges.Leaf.{Leaf}
@@ -161,7 +161,7 @@ module _ (p : Policy) (plain : IsPlain p) (t u : ℕ) (small_t : t < 2 ^ 32) (sm
     machine = sym is.0;
     number = sym is.1;
     conditions =
-        let P : Cond → Type 0 = λ c. Meets c (argument (call t u) c.index) in
+        let P : Cond → Type 0 = λ c. Meets c (argument_of (call t u) c.index) in
         subst (All P) (sym (All-contains IsPlainRule p.rules rule plain.rules has).0) (All-nil P);
   }
 

@@ -5,7 +5,7 @@ use Rattle.std.specs.Prelude.{slice_index}
 use Rattle.std.proofs.lemmas.Bool.{cases_Bool}
 use Rattle.std.proofs.lemmas.Bool.Decides.{Decides-eqb, not_from_Decides}
 use Rattle.std.proofs.lemmas.List.Elements.{All-cons, All-contains, All-nil}
-use Rattle.call_record.specs.Words.{IsRecord, argument}
+use Rattle.call_record.specs.Words.{IsRecord}
 use Rattle.call_tables.specs.declared.arch.Arch.{Arch}
 use Rattle.call_tables.specs.Arch.{token_of}
 use Rattle.call_tables.specs.Numbers.{HasCall, IsWithin, foreign_numbers}
@@ -13,7 +13,7 @@ use Rattle.profile.specs.declared.conditions.Cond.{Cond}
 use Rattle.profile.specs.declared.rules.Rule.{Rule}
 use Rattle.profile.specs.Condition.{Meets}
 use Rattle.profile.specs.Policy.{IsClear, IsNative, Policy, Says}
-use Rattle.profile.specs.Rule.{Matches}
+use Rattle.profile.specs.Rule.{Matches, argument_of}
 use Rattle.profile.specs.Said.{matches, said}
 use Rattle.profile.proofs.SaidLaws.{Decides-matches, each_record_is_said_one_word}
 use Rattle.rule_compile.specs.inner.Numbers.{IsFor, IsListed}
@@ -96,7 +96,7 @@ matches_all rule token nr r is none at number = record {
   machine = at ∙ sym is.0;
   number = number ∙ sym is.1;
   conditions =
-      let P : Cond → Type 0 = λ c. Meets c (argument r c.index) in
+      let P : Cond → Type 0 = λ c. Meets c (argument_of r c.index) in
       subst (All P) (sym none) (All-nil P);
 }
 

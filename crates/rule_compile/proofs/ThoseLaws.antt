@@ -7,10 +7,11 @@ use Rattle.std.proofs.lemmas.List.{get_or_append_left, get_or_default}
 use Rattle.std.proofs.lemmas.Option.{slice_get-get_or}
 use Rattle.std.proofs.lemmas.List.Elements.{All-append, All-cons, All-contains, All-nil}
 use Rattle.std.proofs.Math.Seq.{get_or-append_seam}
-use Rattle.call_record.specs.Words.{IsRecord, argument}
+use Rattle.call_record.specs.Words.{IsRecord}
+use Rattle.call_tables.specs.Arch.{token_of}
 use Rattle.profile.specs.declared.rules.Rule.{Rule}
 use Rattle.profile.specs.Condition.{Meets}
-use Rattle.profile.specs.Rule.{Matches}
+use Rattle.profile.specs.Rule.{Matches, argument_of}
 use Rattle.rule_compile.specs.declared.asked.Placed.{Placed}
 use Rattle.rule_compile.specs.declared.outline.Block.{Block}
 use Rattle.rule_compile.specs.declared.ranges.Leaf.{Leaf}
@@ -19,6 +20,7 @@ use Rattle.rule_compile.specs.Decides.{Decides, by_word}
 use Rattle.rule_compile.specs.inner.Left.{SomeHeld}
 use Rattle.rule_compile.specs.inner.Numbers.{IsFor}
 use Rattle.rule_compile.specs.inner.Stands.{AreThose, DecidesNumber, DecidesRules, IsClearOn, IsSaidBy, SaysNumber}
+use Rattle.rule_compile.proofs.HeldLaws.{held_of_record}
 use Rattle.rule_compile.proofs.SaysLaws.{said_one}
 
 any_left : {X : Type 0} (P : X → Type 0) (xs ys : List X) → Any P xs → Any P (xs ++ ys)
@@ -94,23 +96,30 @@ module _ (rules : List Rule) (token nr default : ℕ) (own : List Placed) (those
   pub held_matches : (w : ℕ) → SomeHeld own r w → (rule : Rule) × Contains rules rule × Matches rule r × (rule.word ≡ w)
   held_matches w (k, placed, inside, is, (held, word)) =
       let of_those = All-contains (λ (placed : Placed). Contains rules placed.rule.now × IsFor token nr placed.rule.now) own placed those.those
-      (k, inside, is) in (
+      (k, inside, is) in
+      let machine : slice_index r 1 ≡ token_of placed.rule.now.arch = at ∙ sym of_those.1.0 in (
         placed.rule.now,
         of_those.0,
-        record { machine = at ∙ sym of_those.1.0; number = number ∙ sym of_those.1.1; conditions = held },
+        record {
+          machine = machine;
+          number = number ∙ sym of_those.1.1;
+          conditions = (held_of_record placed r machine).0 held;
+        },
         word,
       )
 
   matches_held : (rule : Rule) → Contains rules rule → Matches rule r → SomeHeld own r rule.word
   matches_held rule has m =
       let one = those.all rule has (sym m.machine ∙ at, sym m.number ∙ number) in
-      let e : one.1.rule.now ≡ rule = one.4 in (
+      let e : one.1.rule.now ≡ rule = one.4 in
+      let machine : slice_index r 1 ≡ token_of one.1.rule.now.arch = m.machine ∙ ap (λ (y : Rule). token_of y.arch) (sym e) in (
         one.0,
         one.1,
         one.2,
         one.3,
         (
-          subst (λ (y : Rule). All (λ c. Meets c (argument r c.index)) y.conds.items) (sym e) m.conditions,
+          (held_of_record one.1 r machine).1
+              (subst (λ (y : Rule). All (λ c. Meets c (argument_of r c.index)) y.conds.items) (sym e) m.conditions),
           ap (λ (y : Rule). y.word) e,
         ),
       )

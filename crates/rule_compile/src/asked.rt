@@ -1,6 +1,7 @@
 //! What is left to ask of rules.
 ghost use Rattle.std.specs.Prelude.{◌≡◌, ◌↔◌, ◌==◌, ◌+◌, ◌*◌, ◌≤◌, ◌<◌, ◌^◌, ◌%◌, ◌/◌, ℕ, List, [], ◌∷◌, ◌++◌, true, false, bit_and, length, take, slice_index, IsTrue, IfOk, OnOk, ⊤};
 ghost use Rattle.call_record.specs.Words.{IsRecord, argument};
+ghost use Rattle.call_tables.specs.Width.{compared};
 ghost use Rattle.profile.specs.Condition.{Meets};
 ghost use Rattle.rule_compile.specs.Questions.{IsMet, compares};
 ghost use Rattle.rule_compile.specs.inner.Left.{AreHeld, AreLeft, AreRules, AreSame, IsOffset, IsQuestion, IsSame, SaysHeld};
@@ -77,6 +78,17 @@ pub fn are_alike(these: &[Open], others: &[Open]) -> bool
         }
     }
     true
+}
+
+/// An argument of which a condition asks.
+#[derive(Clone, Copy)]
+struct Argument {
+    /// Where its low word stands in a record; the high one is the next.
+    low: u32,
+    /// Whether the low word alone is compared.
+    narrow: bool,
+    ghost is_word: { low % 4 ≡ 0 },
+    ghost within: { low + 4 < 64 },
 }
 
 /// What rules come to.
@@ -181,39 +193,40 @@ impl Questions {
         requires last { IsLast placed.rule.now.word self.now }
         ensures { OnOk result (Asks self.old self.new placed.entry.rule.now.word IsRecord (AreHeld placed.entry)) }
     {
+        let narrow = placed.rule.is_narrow();
         for (condition, cond) in placed.rule.conds.iter().enumerate() {
             let asker = Asker {
                 rule: placed.place,
                 condition,
             };
-            self.ask_condition(asker, placed.rule.word, cond)?;
+            self.ask_condition(asker, placed.rule.word, narrow, cond)?;
         }
         Ok(())
     }
 
     // Asks what a condition asks.
-    fn ask_condition(&mut self, asker: Asker, answer: Word, cond: &Cond) -> Result<(), AllocError>
+    fn ask_condition(
+        &mut self,
+        asker: Asker,
+        answer: Word,
+        narrow: bool,
+        cond: &Cond,
+    ) -> Result<(), AllocError>
         requires last { IsLast answer self.now }
-        ensures { OnOk result (Asks self.old self.new answer IsRecord (λ r. Meets cond.now (argument r cond.now.index))) }
+        ensures { OnOk result (Asks self.old self.new answer IsRecord (λ r. Meets cond.now (compared narrow (argument r cond.now.index)))) }
     {
         let low = ARGUMENTS + 8 * u32::from(cond.index);
-        let above = cond.value.checked_add(1);
+        let of = Argument { low, narrow };
+        let value = cond.value;
+        let above = value.checked_add(1);
         match (cond.op, above) {
-            (Op::MaskedEq, _) => self.ask_bits(asker, answer, low, cond),
-            (Op::Eq, _) => self.ask(
-                asker,
-                answer,
-                argument(low, Comparison::Equal, cond.value, true),
-            ),
-            (Op::Ne, _) => self.ask(
-                asker,
-                answer,
-                argument(low, Comparison::Equal, cond.value, false),
-            ),
-            (Op::Ge, _) => self.ask_least(asker, answer, low, cond.value, true),
-            (Op::Lt, _) => self.ask_least(asker, answer, low, cond.value, false),
-            (Op::Gt, Some(least)) => self.ask_least(asker, answer, low, least, true),
-            (Op::Le, Some(least)) => self.ask_least(asker, answer, low, least, false),
+            (Op::MaskedEq, _) => self.ask_bits(asker, answer, of, cond),
+            (Op::Eq, _) => self.ask_argument(asker, answer, of, Comparison::Equal, value, true),
+            (Op::Ne, _) => self.ask_argument(asker, answer, of, Comparison::Equal, value, false),
+            (Op::Ge, _) => self.ask_least(asker, answer, of, value, true),
+            (Op::Lt, _) => self.ask_least(asker, answer, of, value, false),
+            (Op::Gt, Some(least)) => self.ask_least(asker, answer, of, least, true),
+            (Op::Le, Some(least)) => self.ask_least(asker, answer, of, least, false),
             (Op::Gt, None) => {
                 self.fail();
                 Ok(())
@@ -227,17 +240,15 @@ impl Questions {
         &mut self,
         asker: Asker,
         answer: Word,
-        low: u32,
+        of: Argument,
         least: u64,
         wanted: bool,
     ) -> Result<(), AllocError>
-        requires low { (low % 4 ≡ 0) × (low + 4 < 64) }
         requires last { IsLast answer self.now }
-        ensures { OnOk result (Asks self.old self.new answer IsRecord (λ r. compares Comparison.AtLeast least (argument_at low r) ≡ wanted)) }
+        ensures { OnOk result (Asks self.old self.new answer IsRecord (λ r. compares Comparison.AtLeast least (compared of.narrow (argument_at of.low r)) ≡ wanted)) }
     {
         if least > 0 {
-            let question = argument(low, Comparison::AtLeast, least, wanted);
-            return self.ask(asker, answer, question);
+            return self.ask_argument(asker, answer, of, Comparison::AtLeast, least, wanted);
         }
         if !wanted {
             self.fail();
@@ -245,29 +256,90 @@ impl Questions {
         Ok(())
     }
 
-    // Asks for the bits of both words under a mask.
-    fn ask_bits(
+    // Asks how the argument compares with a number: by both words, or by the low one.
+    fn ask_argument(
+        &mut self,
+        asker: Asker,
+        answer: Word,
+        of: Argument,
+        comparison: Comparison,
+        number: u64,
+        wanted: bool,
+    ) -> Result<(), AllocError>
+        requires last { IsLast answer self.now }
+        ensures { OnOk result (Asks self.old self.new answer IsRecord (λ r. compares comparison number (compared of.narrow (argument_at of.low r)) ≡ wanted)) }
+    {
+        if of.narrow {
+            return self.ask_low(asker, answer, of.low, comparison, number, wanted);
+        }
+        let question = Question::of_argument(of.low, comparison, number, wanted);
+        self.ask(asker, answer, question)
+    }
+
+    // Asks how the low word of an argument compares with a number. It is below each that has a high half.
+    fn ask_low(
         &mut self,
         asker: Asker,
         answer: Word,
         low: u32,
+        comparison: Comparison,
+        number: u64,
+        wanted: bool,
+    ) -> Result<(), AllocError>
+        requires offset { IsOffset low }
+        requires last { IsLast answer self.now }
+        ensures { OnOk result (Asks self.old self.new answer IsRecord (λ r. compares comparison number (slice_index r (low / 4)) ≡ wanted)) }
+    {
+        let (number, above) = halves(number);
+        if above == 0 {
+            let question = Question::of_word(low, comparison, number, wanted);
+            return self.ask(asker, answer, question);
+        }
+        if wanted {
+            self.fail();
+        }
+        Ok(())
+    }
+
+    // Asks for the bits of both halves under a mask.
+    fn ask_bits(
+        &mut self,
+        asker: Asker,
+        answer: Word,
+        of: Argument,
         cond: &Cond,
     ) -> Result<(), AllocError>
-        requires low { (low % 4 ≡ 0) × (low + 4 < 64) }
         requires no_stray { bit_and cond.now.datum cond.now.value ≡ cond.now.datum }
         requires last { IsLast answer self.now }
-        ensures { OnOk result (Asks self.old self.new answer IsRecord (λ r. bit_and (argument_at low r) cond.now.value ≡ cond.now.datum)) }
+        ensures { OnOk result (Asks self.old self.new answer IsRecord (λ r. bit_and (compared of.narrow (argument_at of.low r)) cond.now.value ≡ cond.now.datum)) }
     {
         let (mask, mask_above) = halves(cond.value);
         let (datum, datum_above) = halves(cond.datum);
-        self.ask_word(
-            asker,
-            answer,
-            low.saturating_add(4),
-            mask_above,
-            datum_above,
-        )?;
-        self.ask_word(asker, answer, low, mask, datum)
+        self.ask_high(asker, answer, of, mask_above, datum_above)?;
+        self.ask_word(asker, answer, of.low, mask, datum)
+    }
+
+    // Asks for the bits of the high half of what is compared, which is 0 of a narrow argument.
+    fn ask_high(
+        &mut self,
+        asker: Asker,
+        answer: Word,
+        of: Argument,
+        mask: u32,
+        number: u32,
+    ) -> Result<(), AllocError>
+        requires number { bit_and number mask ≡ number }
+        requires last { IsLast answer self.now }
+        ensures { OnOk result (Asks self.old self.new answer IsRecord (λ r. bit_and (compared of.narrow (argument_at of.low r) / 2 ^ 32) mask ≡ number)) }
+    {
+        if !of.narrow {
+            let high = of.low.saturating_add(4);
+            return self.ask_word(asker, answer, high, mask, number);
+        }
+        if number != 0 {
+            self.fail();
+        }
+        Ok(())
     }
 
     // Asks for the bits of a word under a mask. A mask of 0 asks for nothing.
@@ -295,26 +367,6 @@ impl Questions {
             wanted: true,
         };
         self.ask(asker, answer, question)
-    }
-}
-
-// How an argument compares with a number, from its high word on.
-fn argument(low: u32, comparison: Comparison, number: u64, wanted: bool) -> Question
-    requires low { (low % 4 ≡ 0) × (low + 4 < 64) }
-    ensures met { (r : List ℕ) → IsRecord r → IsMet result r ↔ (compares comparison number (argument_at low r) ≡ wanted) }
-    ensures is { IsQuestion result }
-{
-    let subject = Subject {
-        word: low.saturating_add(4),
-        mask: u32::MAX,
-    };
-    let (number, above) = halves(number);
-    Question {
-        subject,
-        comparison,
-        number: above,
-        low: Some(number),
-        wanted,
     }
 }
 

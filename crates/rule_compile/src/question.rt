@@ -1,11 +1,16 @@
 //! What a condition asks of the words of its argument.
 //!
 //! A filter sees an argument of 64 bits as two words. Two numbers compare as their high words do
-//! where these differ, and else as their low words do.
-ghost use Rattle.std.specs.Prelude.{◌≡◌, ◌↔◌, ◌+◌, ℕ, List, None, Some, IfSome, IsTrue};
-ghost use Rattle.rule_compile.specs.Questions.{bits, compares};
-ghost use Rattle.rule_compile.specs.inner.Left.{HasNoNext, IsAlone, IsQuestion, IsQuestionLeft, WeighsLess};
+//! where these differ, and else as their low words do. Of a narrow argument the low word alone is
+//! asked for.
+ghost use Rattle.std.specs.Prelude.{◌≡◌, ◌↔◌, ◌+◌, ◌/◌, ◌%◌, ◌<◌, ℕ, List, None, Some, IfSome, IsTrue, slice_index};
+ghost use Rattle.call_record.specs.Words.{IsRecord};
+ghost use Rattle.rule_compile.specs.Questions.{IsMet, bits, compares};
+ghost use Rattle.rule_compile.specs.inner.Asked.{argument_at};
+ghost use Rattle.rule_compile.specs.inner.Left.{HasNoNext, IsAlone, IsOffset, IsQuestion, IsQuestionLeft, WeighsLess};
 ghost use Rattle.rule_compile.specs.inner.Replies.{AreAlike, IsReply, reply_of};
+
+use call_record::halves;
 
 /// How a word compares with a number.
 #[derive(Clone, Copy, PartialEq, Eq)]
@@ -64,6 +69,49 @@ impl Reply {
 }
 
 impl Question {
+    /// How a whole word compares with a number.
+    pub(crate) fn of_word(word: u32, comparison: Comparison, number: u32, wanted: bool) -> Question
+        requires { IsOffset word }
+        ensures met { (r : List ℕ) → IsRecord r → IsMet result r ↔ (compares comparison number (slice_index r (word / 4)) ≡ wanted) }
+        ensures is { IsQuestion result }
+    {
+        Question {
+            subject: Subject {
+                word,
+                mask: u32::MAX,
+            },
+            comparison,
+            number,
+            low: None,
+            wanted,
+        }
+    }
+
+    /// How a whole argument compares with a number, from its high word on.
+    pub(crate) fn of_argument(
+        low: u32,
+        comparison: Comparison,
+        number: u64,
+        wanted: bool,
+    ) -> Question
+        requires low { (low % 4 ≡ 0) × (low + 4 < 64) }
+        ensures met { (r : List ℕ) → IsRecord r → IsMet result r ↔ (compares comparison number (argument_at low r) ≡ wanted) }
+        ensures is { IsQuestion result }
+    {
+        let subject = Subject {
+            word: low.saturating_add(4),
+            mask: u32::MAX,
+        };
+        let (number, above) = halves(number);
+        Question {
+            subject,
+            comparison,
+            number: above,
+            low: Some(number),
+            wanted,
+        }
+    }
+
     /// What is left to ask where these bits are this number.
     pub(crate) fn reply(&self, subject: Subject, number: u32) -> Reply
         ensures says { (r : List ℕ) → (self.now.subject ≡ subject → AreAlike self.now number (bits subject r)) → IsReply self.now r result }

@@ -6,12 +6,13 @@ use Rattle.profile.specs.declared.conditions.Op.{Op}
 use Rattle.profile.specs.declared.conditions.Op.TheVariants.{Ne, Eq, MaskedEq}
 use Rattle.profile.specs.declared.conditions.Cond.{Cond}
 use Rattle.profile.specs.declared.rules.Rule.{Rule}
+use Rattle.profile.specs.Rule.{is_narrow_rule}
 use Rattle.cert_state.specs.declared.literal.Lit.{Lit}
 use Rattle.cert_state.specs.declared.literal.Lit.TheVariants.{Bits, NotBits}
 use Rattle.cert_state.specs.Literals.{all_bits}
 use Rattle.cert_state.specs.Points.{IsRange}
 use Rattle.cert_state.specs.Entailment.{Entails}
-use Rattle.cert_check.specs.Agree.{IsYes, IsNo, IsYesRule, IsNoRule, IsRefuted, IsLeft, SomeIsNo, AllAreYes, OneIsNo}
+use Rattle.cert_check.specs.Agree.{IsRangeAbove, IsYes, IsNo, IsYesRule, IsNoRule, IsRefuted, IsLeft, SomeIsNo, AllAreYes, OneIsNo}
 use Rattle.cert_check.specs.declared.judged.Judged.{Judged}
 use Rattle.cert_check.specs.declared.judged.Judged.TheVariants.{Yes, No, Open}
 use Rattle.cert_check.specs.declared.judged.Number.{Number}
@@ -33,38 +34,39 @@ IsOrder MaskedEq = ⊥
 IsOrder _ = ⊤
 
 -- the least and the greatest number that argument j may be, by its halves
-pub record AreEnds (known : List Lit) (j low high : ℕ) : Type 0 where
+pub record AreEnds (narrow : Bool) (known : List Lit) (j low high : ℕ) : Type 0 where
   pub least : ℕ
   pub greatest : ℕ
   pub least_above : ℕ
   pub greatest_above : ℕ
   pub range : IsRange known (4 + 2 * j) least greatest
-  pub range_above : IsRange known (5 + 2 * j) least_above greatest_above
+  pub range_above : IsRangeAbove narrow known j least_above greatest_above
   pub low_is : low ≡ least + 2 ^ 32 * least_above
   pub high_is : high ≡ greatest + 2 ^ 32 * greatest_above
 
 -- all of the conditions are yes
-abbrev pub AreYes : List Lit → List Cond → Type 0
-AreYes known conds = (c : Cond) → Contains conds c → IsYes known c
+abbrev pub AreYes : Bool → List Lit → List Cond → Type 0
+AreYes narrow known conds = (c : Cond) → Contains conds c → IsYes narrow known c
 
 -- of the first conditions each is yes, or one is open, and none is no
-pub record ConditionsSoFar (known : List Lit) (conds : List Cond) (n : ℕ) (all_yes : Bool) : Type 0 where
-  pub yes_so_far : all_yes ≡ true → (k : ℕ) (d : Cond) → k < n → IsYes known (slice_index_or conds k d)
-  pub not_all : all_yes ≡ false → (c : Cond) × Contains conds c × (IsYes known c → ⊥)
-  pub none_no : (k : ℕ) (d : Cond) → k < n → IsNo known (slice_index_or conds k d) → ⊥
+pub record ConditionsSoFar (narrow : Bool) (known : List Lit) (conds : List Cond) (n : ℕ) (all_yes : Bool) : Type 0 where
+  pub yes_so_far : all_yes ≡ true → (k : ℕ) (d : Cond) → k < n → IsYes narrow known (slice_index_or conds k d)
+  pub not_all : all_yes ≡ false → (c : Cond) × Contains conds c × (IsYes narrow known c → ⊥)
+  pub none_no : (k : ℕ) (d : Cond) → k < n → IsNo narrow known (slice_index_or conds k d) → ⊥
 
 -- a condition of the rule at a place is yes, or is said to be met; it is no, and is not
-abbrev pub IsYesOrMet : List (ℕ × ℕ) → List Lit → ℕ → ℕ → Cond → Type 0
-IsYesOrMet met known place own c = Contains met (place, own) ⊎ IsYes known c
+abbrev pub IsYesOrMet : Bool → List (ℕ × ℕ) → List Lit → ℕ → ℕ → Cond → Type 0
+IsYesOrMet narrow met known place own c = Contains met (place, own) ⊎ IsYes narrow known c
 
-abbrev pub IsNoNorMet : List (ℕ × ℕ) → List Lit → ℕ → ℕ → Cond → Type 0
-IsNoNorMet met known place own c = (Contains met (place, own) → ⊥) × IsNo known c
+abbrev pub IsNoNorMet : Bool → List (ℕ × ℕ) → List Lit → ℕ → ℕ → Cond → Type 0
+IsNoNorMet narrow met known place own c = (Contains met (place, own) → ⊥) × IsNo narrow known c
 
 -- the same of the first conditions of the rule at a place
-pub record LeftSoFar (met : List (ℕ × ℕ)) (known : List Lit) (place : ℕ) (conds : List Cond) (n : ℕ) (all_yes : Bool) : Type 0 where
-  pub yes_so_far : all_yes ≡ true → (k : ℕ) (d : Cond) → k < n → IsYesOrMet met known place k (slice_index_or conds k d)
-  pub not_all : all_yes ≡ false → AllAreYes met known place conds → ⊥
-  pub none_no : (k : ℕ) (d : Cond) → k < n → IsNoNorMet met known place k (slice_index_or conds k d) → ⊥
+pub record LeftSoFar (narrow : Bool) (met : List (ℕ
+    × ℕ)) (known : List Lit) (place : ℕ) (conds : List Cond) (n : ℕ) (all_yes : Bool) : Type 0 where
+  pub yes_so_far : all_yes ≡ true → (k : ℕ) (d : Cond) → k < n → IsYesOrMet narrow met known place k (slice_index_or conds k d)
+  pub not_all : all_yes ≡ false → AllAreYes narrow met known place conds → ⊥
+  pub none_no : (k : ℕ) (d : Cond) → k < n → IsNoNorMet narrow met known place k (slice_index_or conds k d) → ⊥
 
 -- what is known of a number is so
 abbrev pub IsKnownNumber : List Lit → ℕ → Number → Type 0
@@ -75,13 +77,15 @@ IsKnownNumber known nr number =
 abbrev pub AreKnownNumbers : List Lit → List (Option Number) → Type 0
 AreKnownNumbers known numbers = (n : ℕ) (d : Option Number) → n < 512 → IfSome (slice_index_or numbers n d) (IsKnownNumber known n)
 
--- the answer is that to the conditions
+-- the answer is that to the conditions, of arguments that are narrow or are not
 abbrev pub IsAnswered : List Lit → Answered → Type 0
-IsAnswered known answered = IsJudged (AreYes known answered.conds.now) (SomeIsNo known answered.conds.now) answered.judged
+IsAnswered known answered =
+    IsJudged (AreYes answered.narrow known answered.conds.now) (SomeIsNo answered.narrow known answered.conds.now) answered.judged
 
 -- the answer is that to the conditions of the rule at a place
-abbrev pub AreJudgedAt : List (ℕ × ℕ) → List Lit → ℕ → List Cond → Judged → Type 0
-AreJudgedAt met known place conds answer = IsJudged (AllAreYes met known place conds) (OneIsNo met known place conds) answer
+abbrev pub AreJudgedAt : Bool → List (ℕ × ℕ) → List Lit → ℕ → List Cond → Judged → Type 0
+AreJudgedAt narrow met known place conds answer =
+    IsJudged (AllAreYes narrow met known place conds) (OneIsNo narrow met known place conds) answer
 
 -- the answer is that to the rule at a place
 abbrev pub IsJudgedAt : List (ℕ × ℕ) → List Lit → ℕ → Rule → Judged → Type 0
@@ -91,7 +95,7 @@ IsJudgedAt met known place rule answer = IsJudged (IsYesRule met known place rul
 abbrev pub IsRuleJudged : Number → Judged → Judged → Type 0
 IsRuleJudged number conds answer =
     (met : List (ℕ × ℕ)) (known : List Lit) (place : ℕ) (rule : Rule) → IsKnownNumber known rule.nr number
-    → AreJudgedAt met known place rule.conds.items conds → IsJudgedAt met known place rule answer
+    → AreJudgedAt (is_narrow_rule rule) met known place rule.conds.items conds → IsJudgedAt met known place rule answer
 
 -- a rule at a place says another word than v, and is not no
 abbrev pub IsOther : List (ℕ × ℕ) → List Lit → ℕ → ℕ → Rule → Type 0

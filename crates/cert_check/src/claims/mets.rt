@@ -113,10 +113,10 @@ pub(crate) fn has_no_met(node: &NodeView<'_>) -> bool
 }
 
 // Whether what is known makes a condition yes.
-fn is_yes<S: State>(facts: &Facts<'_, S>, cond: &Cond) -> bool
-    ensures { IsTrue result ↔ IsYes (S.known facts.now.state.now) cond.now }
+fn is_yes<S: State>(facts: &Facts<'_, S>, narrow: bool, cond: &Cond) -> bool
+    ensures { IsTrue result ↔ IsYes narrow (S.known facts.now.state.now) cond.now }
 {
-    match judge_condition(facts, cond) {
+    match judge_condition(facts, narrow, cond) {
         Judged::Yes => true,
         Judged::No => false,
         Judged::Open => false,
@@ -138,7 +138,8 @@ fn is_met<S: State>(
     if at >= rules.len() {
         return false;
     }
-    let conds = rules[at].conds.as_slice();
+    let rule = &rules[at];
+    let conds = rule.conds.as_slice();
     let own = place.1 as usize;
     if own >= conds.len() {
         return false;
@@ -146,7 +147,7 @@ fn is_met<S: State>(
     if here.has(at, own) {
         return true;
     }
-    is_yes(facts, &conds[own])
+    is_yes(facts, rule.is_narrow(), &conds[own])
 }
 
 // Whether each condition that a node says to be met was so before or is yes by what is known.

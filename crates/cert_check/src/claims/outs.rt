@@ -4,6 +4,7 @@ ghost use Rattle.cert_form.specs.Views.{says};
 ghost use Rattle.cert_check.specs.inner.Claimed.{outs_of};
 ghost use Rattle.cert_check.specs.inner.Marked.{AreMarked};
 ghost use Rattle.profile.specs.declared.rules.Rule.{Rule as TheRule};
+ghost use Rattle.profile.specs.Rule.{is_narrow_rule};
 ghost use Rattle.cert_check.specs.Agree.{IsRefuted, SomeIsNo};
 ghost use Rattle.cert_check.specs.Rules.{IsOutOn};
 ghost use Rattle.cert_check.specs.inner.Judged.{AreOutSoFar, AreYes, IsJudged, IsOutThen};
@@ -121,7 +122,8 @@ fn is_no(judged: Judged) -> bool
 // Whether what is known refutes a rule, by the answer to its conditions.
 fn refutes<S: State>(facts: &Facts<'_, S>, rule: &Rule, conds: Judged) -> bool
     requires { let known = S.known facts.now.state.now in
-        IsJudged (AreYes known rule.now.conds.items) (SomeIsNo known rule.now.conds.items) conds }
+        IsJudged (AreYes (is_narrow_rule rule.now) known rule.now.conds.items)
+        (SomeIsNo (is_narrow_rule rule.now) known rule.now.conds.items) conds }
     ensures { IsTrue result ↔ IsRefuted (S.known facts.now.state.now) rule.now }
 {
     if is_no(conds) {
@@ -156,6 +158,7 @@ fn all_are_out<S: State>(
 {
     let facts = Facts::of(known);
     let mut last = Answered {
+        narrow: false,
         conds: &[],
         judged: Judged::Yes,
     };

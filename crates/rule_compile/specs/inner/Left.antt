@@ -3,6 +3,8 @@ use Rattle.std.specs.Prelude.{◌≡◌, ◌↔◌, ◌≢◌, ◌≤◌, ◌<�
 use Rattle.std.specs.Prelude.{List, [], ◌∷◌, Option, Some, None, slice_get}
 use Rattle.std.specs.List.{All, Any, Contains}
 use Rattle.call_record.specs.Words.{argument}
+use Rattle.call_tables.specs.Width.{compared}
+use Rattle.profile.specs.Rule.{is_narrow_rule}
 use Rattle.profile.specs.Condition.{Meets}
 use Rattle.rule_compile.specs.declared.asked.Open.{Open}
 use Rattle.rule_compile.specs.declared.asked.Placed.{Placed}
@@ -126,7 +128,8 @@ pub record AreStarts (os : List Open) (subject : Subject) (starts : List ℕ) : 
 
 -- a rule's conditions hold of the record
 abbrev pub AreHeld : Placed → List ℕ → Type 0
-AreHeld placed r = All (λ c. Meets c (argument r c.index)) placed.rule.now.conds.items
+AreHeld placed r =
+    All (λ c. Meets c (compared (is_narrow_rule placed.rule.now) (argument r c.index))) placed.rule.now.conds.items
 
 -- some rule that holds has this word
 abbrev pub SomeHeld : List Placed → List ℕ → ℕ → Type 0

@@ -9,8 +9,8 @@ returns-in-Eq g c =
     let known = g.S.State.known c.args.facts.now.state.now in
     let cond = c.args.cond.now in
     let P : Op → Type 0 = λ op.
-    IsJudged (IsYesBy op known cond.index cond.value cond.datum)
-    (IsNoBy op known cond.index cond.value cond.datum × (IsYesBy op known cond.index cond.value cond.datum → ⊥)) c.judge_bits.result in
+    IsJudged (IsYesBy op c.args.narrow known cond.index cond.value cond.datum)
+    (IsNoBy op c.args.narrow known cond.index cond.value cond.datum × (IsYesBy op c.args.narrow known cond.index cond.value cond.datum → ⊥)) c.judge_bits.result in
     subst P (sym c.in-Eq.is) c.judge_bits.ensures
 
 pub returns-in-MaskedEq : goal.returns-in-MaskedEq
@@ -18,8 +18,8 @@ returns-in-MaskedEq g c =
     let known = g.S.State.known c.args.facts.now.state.now in
     let cond = c.args.cond.now in
     let P : Op → Type 0 = λ op.
-    IsJudged (IsYesBy op known cond.index cond.value cond.datum)
-    (IsNoBy op known cond.index cond.value cond.datum × (IsYesBy op known cond.index cond.value cond.datum
+    IsJudged (IsYesBy op c.args.narrow known cond.index cond.value cond.datum)
+    (IsNoBy op c.args.narrow known cond.index cond.value cond.datum × (IsYesBy op c.args.narrow known cond.index cond.value cond.datum
     → ⊥)) c.judge_bits-in-MaskedEq.result in
     subst P (sym c.in-MaskedEq.is) c.judge_bits-in-MaskedEq.ensures
 
@@ -28,6 +28,6 @@ returns-in-Ne g c =
     let known = g.S.State.known c.args.facts.now.state.now in
     let cond = c.args.cond.now in
     let P : Op → Type 0 = λ op.
-    IsJudged (IsYesBy op known cond.index cond.value cond.datum)
-    (IsNoBy op known cond.index cond.value cond.datum × (IsYesBy op known cond.index cond.value cond.datum → ⊥)) c.judge_other.result in
+    IsJudged (IsYesBy op c.args.narrow known cond.index cond.value cond.datum)
+    (IsNoBy op c.args.narrow known cond.index cond.value cond.datum × (IsYesBy op c.args.narrow known cond.index cond.value cond.datum → ⊥)) c.judge_other.result in
     subst P (sym c.in-Ne.is) c.judge_other.ensures

@@ -15,9 +15,9 @@ loop-cond-preserved g c =
     let so = c.loop-cond.invariant in
     elim c.match-judge_condition.branch [
       | in-Yes w ↦
-          subst (ConditionsSoFar known conds (n + 1)) (sym w.all_yes-is)
-          (condition_is_yes known conds n c.loop-cond.all_yes c.cond-item.result c.loop-cond-test.true (sym c.cond-item.is) w.in-Yes.ensures so)
+          subst (ConditionsSoFar c.args.narrow known conds (n + 1)) (sym w.all_yes-is)
+          (condition_is_yes c.args.narrow known conds n c.loop-cond.all_yes c.cond-item.result c.loop-cond-test.true (sym c.cond-item.is) w.in-Yes.ensures so)
       | in-Open w ↦
-          subst (ConditionsSoFar known conds (n + 1)) (sym w.all_yes-is)
-          (condition_is_open known conds n c.loop-cond.all_yes c.cond-item.result c.loop-cond-test.true (sym c.cond-item.is) w.in-Open.ensures.0 w.in-Open.ensures.1 so)
+          subst (ConditionsSoFar c.args.narrow known conds (n + 1)) (sym w.all_yes-is)
+          (condition_is_open c.args.narrow known conds n c.loop-cond.all_yes c.cond-item.result c.loop-cond-test.true (sym c.cond-item.is) w.in-Open.ensures.0 w.in-Open.ensures.1 so)
     ]

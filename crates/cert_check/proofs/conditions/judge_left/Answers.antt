@@ -28,7 +28,7 @@ returns-in-No g c =
     let met = mets_of c.args.mets.now.node in
     let conds = c.args.conds.now in
     let n = c.loop-cond.cond-index in
-    let no = subst (λ k. IsNoNorMet met known c.args.place k c.cond-item.result) c.loop-cond.invariant.own c.in-No.ensures in
+    let no = subst (λ k. IsNoNorMet c.args.narrow met known c.args.place k c.cond-item.result) c.loop-cond.invariant.own c.in-No.ensures in
     record {
       own = n;
       cond = c.cond-item.result;
@@ -50,17 +50,17 @@ loop-cond-preserved g c =
     elim c.match-judge_unless_met.branch [
       | in-Yes w ↦
           record {
-            conditions = subst (LeftSoFar met known c.args.place conds (n + 1)) (sym w.all_yes-is)
-                (left_is_yes met known c.args.place conds n c.loop-cond.all_yes item c.loop-cond-test.true (sym c.cond-item.is) so
-                (subst (λ k. IsYesOrMet met known c.args.place k item) at w.in-Yes.ensures));
+            conditions = subst (LeftSoFar c.args.narrow met known c.args.place conds (n + 1)) (sym w.all_yes-is)
+                (left_is_yes c.args.narrow met known c.args.place conds n c.loop-cond.all_yes item c.loop-cond-test.true (sym c.cond-item.is) so
+                (subst (λ k. IsYesOrMet c.args.narrow met known c.args.place k item) at w.in-Yes.ensures));
             own = next;
           }
       | in-Open w ↦
           record {
-            conditions = subst (LeftSoFar met known c.args.place conds (n + 1)) (sym w.all_yes-is)
-                (left_is_open met known c.args.place conds n c.loop-cond.all_yes item c.loop-cond-test.true (sym c.cond-item.is) so
-                (subst (λ k. IsYesOrMet met known c.args.place k item → ⊥) at w.in-Open.ensures.0)
-                (subst (λ k. IsNoNorMet met known c.args.place k item → ⊥) at w.in-Open.ensures.1));
+            conditions = subst (LeftSoFar c.args.narrow met known c.args.place conds (n + 1)) (sym w.all_yes-is)
+                (left_is_open c.args.narrow met known c.args.place conds n c.loop-cond.all_yes item c.loop-cond-test.true (sym c.cond-item.is) so
+                (subst (λ k. IsYesOrMet c.args.narrow met known c.args.place k item → ⊥) at w.in-Open.ensures.0)
+                (subst (λ k. IsNoNorMet c.args.narrow met known c.args.place k item → ⊥) at w.in-Open.ensures.1));
             own = next;
           }
     ]
@@ -71,7 +71,7 @@ returns-else-all_yes g c =
     let met = mets_of c.args.mets.now.node in
     let so = c.loop-cond.invariant.conditions in (
       so.not_all c.if-all_yes.false,
-      λ one. each_at (λ k x. IsNoNorMet met known c.args.place k x → ⊥) c.args.conds.now c.loop-cond.cond-index one.own one.cond
+      λ one. each_at (λ k x. IsNoNorMet c.args.narrow met known c.args.place k x → ⊥) c.args.conds.now c.loop-cond.cond-index one.own one.cond
           (omega (arith, c.loop-cond-test.false)) one.stands so.none_no (one.not_met, one.is_no),
     )
 
@@ -80,5 +80,5 @@ returns-then-all_yes g c =
     let known = g.S.State.known c.args.facts.now.state.now in
     let met = mets_of c.args.mets.now.node in
     let so = c.loop-cond.invariant.conditions in
-    λ own cond stands. each_at (λ k x. IsYesOrMet met known c.args.place k x) c.args.conds.now c.loop-cond.cond-index own cond
+    λ own cond stands. each_at (λ k x. IsYesOrMet c.args.narrow met known c.args.place k x) c.args.conds.now c.loop-cond.cond-index own cond
     (omega (arith, c.loop-cond-test.false)) stands (so.yes_so_far c.if-all_yes.true)

@@ -5,5 +5,5 @@ use Rattle.explain.specs.Explanation.{condition_line}
 use Rattle.explain.proofs.rules.put_conditions.Given as goal
 
 abbrev pub invariant-loop-cond : goal.invariant-loop-cond
-invariant-loop-cond l = string_bytes l.text ++ flat_map (condition_line l.args) (drop l.cond-index l.conds) ≡ string_bytes l.fn.text
-    ++ flat_map (condition_line l.args) l.conds
+invariant-loop-cond l = string_bytes l.text ++ flat_map (condition_line l.narrow l.args) (drop l.cond-index l.conds) ≡ string_bytes l.fn.text
+    ++ flat_map (condition_line l.narrow l.args) l.conds

@@ -4,6 +4,7 @@ use Rattle.std.proofs.lemmas.Option.{slice_get-get_or, slice_get_within, same_So
 use Rattle.profile.specs.declared.conditions.Cond.{Cond}
 use Rattle.profile.specs.declared.rules.Rule.{Rule}
 use Rattle.cert_check.specs.inner.Claimed.{mets_of}
+use Rattle.cert_check.specs.Agree.{IsYes}
 use Rattle.cert_check.proofs.Elements.{element_at}
 use Rattle.cert_check.proofs.MetsLaws.{met_by}
 use Rattle.cert_check.proofs.claims.mets.is_met.Goals as goal
@@ -23,7 +24,7 @@ returns-then-own-conds g c =
     let at : slice_get rules place.0 ≡ Some rule =
     slice_get-get_or rules place.0 rule (omega (arith, c.if-at-rules.false)) ∙ ap Some (sym c.index-rules-at.is) in
     let stands = subst (λ (rs : List Rule). slice_get rs place.0 ≡ Some rule) c.rules-rules.ensures.rules at in
-    let value = c.as_slice-conds.ensures.value ∙ ap (λ (x : Rule). x.conds.items) (sym c.index-rules-at.is) in (
+    let value = c.as_slice-conds.ensures.value in (
       λ t. absurd (let e : false ≡ true = t in cc),
       λ is. absurd (let same : is.rule ≡ rule = same_Some is.rule rule (sym is.stands ∙ stands) in
           let within = slice_get_within is.rule.conds.items place.1 is.cond is.its in
@@ -42,7 +43,7 @@ returns-then-has g c =
     let at : slice_get rules place.0 ≡ Some rule =
     slice_get-get_or rules place.0 rule (omega (arith, c.if-at-rules.false)) ∙ ap Some (sym c.index-rules-at.is) in
     let stands = subst (λ (rs : List Rule). slice_get rs place.0 ≡ Some rule) c.rules-rules.ensures.rules at in
-    let value = c.as_slice-conds.ensures.value ∙ ap (λ (x : Rule). x.conds.items) (sym c.index-rules-at.is) in
+    let value = c.as_slice-conds.ensures.value in
     let got = element_at rule.conds.items place.1 (omega (arith, c.if-own-conds.false, ap length value)) in
     (λ _. (met_by c.args.profile.now met known place rule got.0 stands got.1).0 (inl (c.if-has.ensures.0 refl)), λ _. refl)
 
@@ -60,12 +61,12 @@ returns g c =
     let stands = subst (λ (rs : List Rule). slice_get rs place.0 ≡ Some rule) c.rules-rules.ensures.rules at in
     let here : slice_get conds place.1 ≡ Some one =
     slice_get-get_or conds place.1 one (omega (arith, c.if-own-conds.false)) ∙ ap Some (sym c.index-conds-own.is) in
-    let value = c.as_slice-conds.ensures.value ∙ ap (λ (x : Rule). x.conds.items) (sym c.index-rules-at.is) in
+    let value = c.as_slice-conds.ensures.value in
     let its = subst (λ (cs : List Cond). slice_get cs place.1 ≡ Some one) value here in
     let by = met_by c.args.profile.now met known place rule one stands its in (
-      λ t. by.0 (inr (c.is_yes.ensures.0 t)),
+      λ t. by.0 (inr (subst (λ b. IsYes b known one) c.is_narrow.ensures (c.is_yes.ensures.0 t))),
       λ is. elim (by.1 is) [
         | inl told ↦ absurd (let e : false ≡ true = c.if-has.ensures.1 told in cc)
-        | inr holds ↦ c.is_yes.ensures.1 holds
+        | inr holds ↦ c.is_yes.ensures.1 (subst (λ b. IsYes b known one) (sym c.is_narrow.ensures) holds)
       ],
     )

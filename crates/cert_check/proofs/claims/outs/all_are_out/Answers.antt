@@ -1,11 +1,10 @@
 use Rattle.std.proofs.Common.{◌≡◌, ◌+◌, ◌++◌, List, true, false, sym, subst, refl, ◌∙◌, inl, inr, arith, length, ap}
 use Rattle.std.specs.Prelude.{Some, slice_get, option_to_list, Contains}
 use Rattle.std.proofs.lemmas.Option.{slice_get-get_or}
-use Rattle.profile.specs.declared.conditions.Cond.{Cond}
 use Rattle.profile.specs.declared.rules.Rule.{Rule}
 use Rattle.cert_check.specs.inner.Claimed.{outs_of}
-use Rattle.cert_check.specs.Agree.{SomeIsNo}
-use Rattle.cert_check.specs.inner.Judged.{AreOutSoFar, AreYes, IsAnswered, IsJudged, IsOutThen}
+use Rattle.cert_check.specs.inner.Judged.{AreOutSoFar, IsAnswered, IsOutThen}
+use Rattle.cert_check.proofs.MetsLaws.{as_asked}
 use Rattle.cert_check.proofs.OutsLaws.{not_new}
 use Rattle.cert_check.proofs.RulesLaws.{each_at}
 use Rattle.cert_check.proofs.SoFar.{one_more_placed}
@@ -35,8 +34,8 @@ answer_of-last-requires g c = rw c.of-facts.ensures c.loop-rule.invariant.last
 pub refutes-requires : goal.refutes-requires
 refutes-requires g c =
     let known = g.S.State.known c.of-facts.result.state.now.state.now ++ option_to_list c.of-facts.result.state.now.more in
-    subst (λ (cs : List Cond). IsJudged (AreYes known cs) (SomeIsNo known cs) c.answer_of-last.result.judged)
-    c.answer_of-last.ensures.conds c.answer_of-last.ensures.answer
+    let answer = c.answer_of-last.ensures in
+    as_asked known c.answer_of-last.result c.rule-item.result answer.narrow answer.conds answer.answer
 
 pub returns-then-not-refutes : goal.returns-then-not-refutes
 returns-then-not-refutes g c = (

@@ -1,6 +1,6 @@
 use Rattle.std.proofs.Common.{◌≡◌, ◌+◌, arith, sym, ◌∙◌}
 use Rattle.rule_compile.proofs.HalvesLaws.{argument_outcome}
-use Rattle.rule_compile.proofs.asked.argument.Goals as goal
+use Rattle.rule_compile.proofs.question.Question.of_argument.Goals as goal
 
 pub returns-clause-met : goal.returns-clause-met
 returns-clause-met c = λ r rec.
