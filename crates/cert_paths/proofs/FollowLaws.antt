@@ -32,6 +32,7 @@ use Rattle.cert_paths.specs.declared.paths.Paths.{Paths}
 use Rattle.cert_paths.specs.declared.place.Next.{Next}
 use Rattle.cert_paths.specs.declared.place.Place.{Place}
 use Rattle.cert_paths.specs.inner.Actions.{action_by}
+use Rattle.cert_paths.specs.Fault.{IsWrongOn}
 use Rattle.cert_paths.specs.inner.Follow.{AreTwo, HoldsNoWord, IsCut, IsFollowed, IsFork, IsReturn, IsStep, IsUnlike, IsUntold, way}
 use Rattle.cert_paths.specs.inner.Led.{AreLed, IsHeld, IsLed}
 use Rattle.cert_paths.specs.inner.Places.{AreInside, ArePaths, IsAdded, IsGrown, KeepsAt, StandsAt, known_at, node_of, regs_of}
@@ -242,10 +243,14 @@ module _ (policy : Policy) (p : List Insn) (old : Paths) (is_old : ArePaths old)
   -- ---- what can not be, where the place is led to
 
   module _ (i : Insn) (found : slice_get p from.pc ≡ Some i) (led : AreLed p old) where
-    pub never_unlike : IsRight policy p → operation_of i.code ≡ Some ReturnK → IsUnlike policy (known_at old.entries.items from) i.k → ⊥
-    never_unlike right is un =
-        un.unlike ((right un.record_of un.is_record i.k).0
-        (led_return p from.pc i found from.a (known_at old.entries.items from) (from_led led) is un.record_of un.is_record un.all_hold))
+    pub told_unlike : operation_of i.code ≡ Some ReturnK → (r : List ℕ) → IsUnlike policy (known_at old.entries.items from) r i.k
+        → IsWrongOn policy p r
+    told_unlike is r un = record {
+      is_record = un.is_record;
+      word = i.k;
+      gives = led_return p from.pc i found from.a (known_at old.entries.items from) (from_led led) is r un.is_record un.all_hold;
+      unsaid = un.unlike;
+    }
 
     pub never_untold : (test : Test) → operation_of i.code ≡ Some (Branch test K) → IsUntold test from.a → ⊥
     never_untold test is untold =

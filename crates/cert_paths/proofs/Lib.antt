@@ -14,3 +14,4 @@ pub mod WayLaws
 pub mod FollowLaws
 pub mod SoundLaws
 pub mod ActionLaws
+pub mod ToldLaws

@@ -1,15 +1,13 @@
 -- Where each word of a record is stated and what is known is not dead, it is true of the record of those words.
-use Rattle.std.proofs.Common.{◌≡◌, ◌≢◌, ℕ, zero, suc, ◌^◌, ◌<◌, ◌≤◌, List, [], ◌∷◌, length, map, refl, ap, sym}
+use Rattle.std.proofs.Common.{◌≡◌, ◌≢◌, ℕ, zero, suc, ◌+◌, ◌/◌, ◌%◌, ◌^◌, ◌<◌, ◌≤◌, List, [], ◌∷◌, refl, ap, sym}
 use Rattle.std.proofs.Common.{◌∙◌, arith, subst, inl, inr, ◌⊎◌, ⊎_elim}
-use Rattle.std.specs.Prelude.{All, Contains, bit_and, bit_xor, slice_index}
+use Rattle.std.specs.Prelude.{All, Contains, bit_and, bit_xor}
 use Rattle.std.specs.Int.{bit_at}
 use Rattle.std.specs.Int.Bits.{and_mask}
-use Rattle.std.specs.List.{range_with_len}
 use Rattle.std.proofs.lemmas.Bool.{cases_eq, cases_lt}
 use Rattle.std.proofs.lemmas.List.Elements.{All-contains, All-contains_itself, All-weaker}
-use Rattle.std.proofs.lemmas.List.FromFn.{get_or-map-range_with_len, length-map-range_with_len}
 use Rattle.std.proofs.lemmas.Nat.Bits.{bit_at_and, bit_at_xor, bit_at-lt, bit_at-zero, same_from_bits}
-use Rattle.call_record.specs.Words.{IsRecord, word}
+use Rattle.call_record.specs.Words.{IsRecord, word, words_from}
 use Rattle.cert_state.specs.declared.literal.Lit.{Lit}
 use Rattle.cert_state.specs.declared.literal.Lit.TheVariants.{In, Bits, NotBits}
 use Rattle.cert_state.specs.Literals.{Holds, IsLit, Meets, all_bits, index_of}
@@ -17,6 +15,11 @@ use Rattle.cert_state.specs.Points.{IsPoint, IsWhole, IsWithin, datum_of, mask_o
 use Rattle.cert_state.specs.Entailment.{IsDead, IsDeadAt, IsExcluded, IsTornAt}
 use Rattle.cert_state.proofs.BitLaws.{and_all}
 use Rattle.cert_state.proofs.SummaryLaws.{bit_from, bit_found}
+use Rattle.cert_check.specs.Settled.{AreStated}
+
+-- the halves of a number of 64 bits are stated, the low one first
+abbrev pub AreHalves : List Lit → ℕ → ℕ → Type 0
+AreHalves known w n = Contains known (Bits w all_bits (n % 2 ^ 32)) × Contains known (Bits (w + 1) all_bits (n / 2 ^ 32))
 
 -- a literal of a word whose number is stated
 module _ (known : List Lit) (lits : All IsLit known) (w u : ℕ) (stated : Contains known (Bits w all_bits u)) (alive : IsDeadAt known w → ⊥)
@@ -128,62 +131,47 @@ index_small (In w lo hi) is = is.0
 index_small (Bits w m d) is = is.0
 index_small (NotBits w m d) is = is.0
 
--- the record of the stated words
+-- a record of which each word is stated
 pub record IsStatedBy (known : List Lit) (r : List ℕ) : Type 0 where
   pub is_record : IsRecord r
   pub all_hold : All (λ l. Holds l r) known
-  pub stated : (w : ℕ) → w < 16 → Contains known (Bits w all_bits (word r w))
+  pub stated : AreStated known r
 
-module _ (known : List Lit) (lits : All IsLit known) (words : (w : ℕ) → w < 16 → (u : ℕ) × Contains known (Bits w all_bits u))
-    (alive : IsDead known → ⊥) where
-  number_by : (w : ℕ) → ((w < 16) ⊎ (16 ≤ w)) → ℕ
-  number_by w (inl below) = (words w below).0
-  number_by w (inr above) = 0
+pub stated_by_record : (known : List Lit) → All IsLit known → (r : List ℕ) → IsRecord r → AreStated known r → (IsDead known → ⊥)
+    → IsStatedBy known r
+stated_by_record known lits r is_record stated alive = record {
+  is_record = is_record;
+  all_hold = All-weaker (Contains known) (λ l. Holds l r)
+      (λ l has.
+      let w = index_of l in
+      let below = index_small l (All-contains IsLit known l lits has) in
+      meets_at known lits w (word r w) (stated w below) (λ dead. alive (w, below, dead)) l has refl)
+      known (All-contains_itself known);
+  stated = stated;
+}
 
-  number : ℕ → ℕ
-  number w = number_by w (cases_lt w 16)
-
-  stated_by : (w : ℕ) (s : (w < 16) ⊎ (16 ≤ w)) → w < 16 → Contains known (Bits w all_bits (number_by w s))
-  unfolding number_by
-  stated_by w (inl below) is = (words w below).1
-  stated_by w (inr above) is = absurd (omega arith)
-
-  pub the_record : List ℕ
-  the_record = map number (range_with_len 0 16)
-
-  word_is : (w : ℕ) → w < 16 → word the_record w ≡ number w
-  unfolding the_record
-  word_is w below = get_or-map-range_with_len number 0 16 w w 0 below (omega arith)
-
-  stated : (w : ℕ) → w < 16 → Contains known (Bits w all_bits (word the_record w))
-  unfolding number
-  stated w below = subst (λ u. Contains known (Bits w all_bits u)) (sym (word_is w below)) (stated_by w (cases_lt w 16) below)
-
-  alive_at : (w : ℕ) → w < 16 → IsDeadAt known w → ⊥
-  alive_at w below dead = alive (w, below, dead)
-
-  has_length : length the_record ≡ 16
-  unfolding the_record
-  has_length = length-map-range_with_len number 0 16
-
-  pub stated_by_record : IsStatedBy known the_record
-  stated_by_record = record {
-    is_record = record {
-      length_is = has_length;
-      words = λ w. ⊎_elim
-          (λ (below : w < 16). u_small known lits w (word the_record w) (stated w below) (alive_at w below))
-          (λ (above : 16 ≤ w). let e = past the_record w (omega (arith, has_length, above)) in omega (arith, e))
-          (cases_lt w 16);
-    };
-    all_hold = All-weaker (Contains known) (λ l. Holds l the_record)
-        (λ l has.
-        let below = index_small l (All-contains IsLit known l lits has) in
-        meets_at known lits (index_of l) (word the_record (index_of l)) (stated (index_of l) below) (alive_at (index_of l) below) l has
-        refl)
-        known (All-contains_itself known);
-    stated = stated;
-  } where
-    past : (xs : List ℕ) (k : ℕ) → length xs ≤ k → slice_index xs k ≡ 0
-    past [] k h = refl
-    past (x ∷ xs) zero h = absurd (omega arith)
-    past (x ∷ xs) (suc k) h = past xs k (omega arith)
+-- so are those of a record whose parts have the stated words
+pub stated_words : (known : List Lit) (nr arch ip a b c d e f : ℕ) → Contains known (Bits 0 all_bits nr)
+    → Contains known (Bits 1 all_bits arch) → AreHalves known 2 ip → AreHalves known 4 a → AreHalves known 6 b → AreHalves known 8 c
+    → AreHalves known 10 d → AreHalves known 12 e → AreHalves known 14 f
+    → AreStated known (words_from nr arch ip (a ∷ b ∷ c ∷ d ∷ e ∷ f ∷ []))
+stated_words known nr arch ip a b c d e f n m i0 i1 i2 i3 i4 i5 i6 = λ w below. by w below
+  where
+    by : (w : ℕ) → w < 16 → Contains known (Bits w all_bits (word (words_from nr arch ip (a ∷ b ∷ c ∷ d ∷ e ∷ f ∷ [])) w))
+    by zero below = n
+    by (suc zero) below = m
+    by (suc (suc zero)) below = i0.0
+    by (suc (suc (suc zero))) below = i0.1
+    by (suc (suc (suc (suc zero)))) below = i1.0
+    by (suc (suc (suc (suc (suc zero))))) below = i1.1
+    by (suc (suc (suc (suc (suc (suc zero)))))) below = i2.0
+    by (suc (suc (suc (suc (suc (suc (suc zero))))))) below = i2.1
+    by (suc (suc (suc (suc (suc (suc (suc (suc zero)))))))) below = i3.0
+    by (suc (suc (suc (suc (suc (suc (suc (suc (suc zero))))))))) below = i3.1
+    by (suc (suc (suc (suc (suc (suc (suc (suc (suc (suc zero)))))))))) below = i4.0
+    by (suc (suc (suc (suc (suc (suc (suc (suc (suc (suc (suc zero))))))))))) below = i4.1
+    by (suc (suc (suc (suc (suc (suc (suc (suc (suc (suc (suc (suc zero)))))))))))) below = i5.0
+    by (suc (suc (suc (suc (suc (suc (suc (suc (suc (suc (suc (suc (suc zero))))))))))))) below = i5.1
+    by (suc (suc (suc (suc (suc (suc (suc (suc (suc (suc (suc (suc (suc (suc zero)))))))))))))) below = i6.0
+    by (suc (suc (suc (suc (suc (suc (suc (suc (suc (suc (suc (suc (suc (suc (suc zero))))))))))))))) below = i6.1
+    by (suc (suc (suc (suc (suc (suc (suc (suc (suc (suc (suc (suc (suc (suc (suc (suc w)))))))))))))))) below = absurd (omega arith)

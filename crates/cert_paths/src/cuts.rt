@@ -8,7 +8,7 @@ ghost use Rattle.cert_paths.specs.inner.Cuts.{Covers-prop, IsLit-prop};
 
 use crate::chain::Known;
 use call_tables::Arch;
-use cert_state::{Facts, Lit, range};
+use cert_state::{Facts, Lit};
 use profile::{Cond, Op, Profile, Rule, foreign_numbers};
 
 /// Two literals of a word, of which one holds of each record.
@@ -27,8 +27,8 @@ const NUMBER: u8 = 0;
 const TOKEN: u8 = 1;
 
 impl Cut {
-    // A word is below a number, or at least this. It is always at least 0.
-    fn below(word: u8, number: u32) -> Option<Cut>
+    /// A word is below a number, or at least this. It is always at least 0.
+    pub(crate) fn below(word: u8, number: u32) -> Option<Cut>
         ensures { (result ≡ None) → (16 ≤ word) ⊎ (number ≡ 0) }
     {
         if word >= 16 || number == 0 {
@@ -40,8 +40,8 @@ impl Cut {
         })
     }
 
-    // A word is this under a mask, or is not. No word has a bit outside the mask.
-    fn bits(word: u8, mask: u32, datum: u32) -> Option<Cut>
+    /// A word is this under a mask, or is not. No word has a bit outside the mask.
+    pub(crate) fn bits(word: u8, mask: u32, datum: u32) -> Option<Cut>
         ensures { (result ≡ None) → (16 ≤ word) ⊎ (bit_and datum mask ≢ datum) }
     {
         if word >= 16 || datum & mask != datum {
@@ -170,8 +170,8 @@ fn cut_of_machine(profile: &Profile, facts: &Facts<'_, Known<'_>>, machine: Arch
     None
 }
 
-// Where a profile is cut that is not settled.
-fn cut_of_profile(profile: &Profile, known: &Known<'_>) -> Option<Cut> {
+/// Where a profile is cut that is not settled.
+pub(crate) fn cut_of_profile(profile: &Profile, known: &Known<'_>) -> Option<Cut> {
     let facts = Facts::of(known);
     for machine in profile.machines() {
         if let Some(cut) = cut_of_machine(profile, &facts, *machine) {
@@ -184,44 +184,4 @@ fn cut_of_profile(profile: &Profile, known: &Known<'_>) -> Option<Cut> {
         }
     }
     None
-}
-
-// Where a word is cut in halves until it is one number, which is then stated.
-fn cut_of_word(known: &Known<'_>, word: u8) -> Option<Cut>
-    requires { word < 16 }
-    ensures { (result ≡ None) → (u : ℕ) × Contains (literals known.now.entries.now known.now.number) (Bits word all_bits u) }
-{
-    let (low, high) = range(known, word).unwrap_or((0, 0));
-    if low < high {
-        return Cut::below(word, low + (high - low) / 2 + 1);
-    }
-    if known.states(Lit::Bits(word, u32::MAX, low)) {
-        return None;
-    }
-    Cut::bits(word, u32::MAX, low)
-}
-
-// Where one of the words is cut.
-fn cut_of_words(known: &Known<'_>) -> Option<Cut>
-    ensures { (result ≡ None) → (w : ℕ) → w < 16
-        → (u : ℕ) × Contains (literals known.now.entries.now known.now.number) (Bits w all_bits u) }
-{
-    for word in 0..16 {
-        if let Some(cut) = cut_of_word(known, word) {
-            return Some(cut);
-        }
-    }
-    None
-}
-
-/// Where what is known is cut in two: where a machine, a rule or a condition is not settled, and else anywhere. There is no such
-/// place only where each word of the record is stated.
-pub(crate) fn next_cut(profile: &Profile, known: &Known<'_>) -> Option<Cut>
-    ensures { (result ≡ None) → (w : ℕ) → w < 16
-        → (u : ℕ) × Contains (literals known.now.entries.now known.now.number) (Bits w all_bits u) }
-{
-    match cut_of_profile(profile, known) {
-        Some(cut) => Some(cut),
-        None => cut_of_words(known),
-    }
 }

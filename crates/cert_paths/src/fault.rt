@@ -1,11 +1,15 @@
 //! Why there is no certificate that follows each path.
 
+use call_record::Record;
 use std::alloc::{AllocError, AllocFailed};
 
 /// Why there is no certificate that follows each path.
 #[derive(Clone, Copy, Debug, PartialEq, Eq)]
 pub enum PathsError {
-    /// The path that comes to this position is not settled: the filter compares what it did not load, or it is not right.
+    /// At the return at this position the profile says another word of this call record, which comes there if the filter compares
+    /// steadily.
+    Unlike(u32, Record),
+    /// The path that comes to this position is not settled: what the filter does or compares there tells of no word.
     Unsettled(u32),
     /// The paths are too many or too long for a certificate.
     TooLarge,

@@ -13,20 +13,23 @@ ghost use Rattle.cert_state.specs.Literals.{IsLit, IsValue, all_bits};
 ghost use Rattle.cert_check.specs.Right.{IsRight};
 ghost use Rattle.cert_check.specs.Settled.{StatedIsSettled};
 ghost use Rattle.cert_check.specs.Valid.{IsValidCertificate};
-ghost use Rattle.cert_paths.specs.Fault.{IsSize};
+ghost use Rattle.call_record.specs.Words.{IsRecord};
+ghost use Rattle.call_record.specs.Record.{words};
+ghost use Rattle.cert_paths.specs.Fault.{IsSize, TellsWrong};
 ghost use Rattle.cert_paths.specs.inner.Follow.{AreSound, AreTwo, HoldsNoWord, IsCut, IsFollowed, IsFork};
-ghost use Rattle.cert_paths.specs.inner.Follow.{IsMasked, IsReturn, IsStep, IsUnlike, IsUntold};
+ghost use Rattle.cert_paths.specs.inner.Follow.{IsMasked, IsReturn, IsStep, IsUntold, TellsUnlike};
 ghost use Rattle.cert_paths.specs.inner.Led.{AreLed};
 ghost use Rattle.cert_paths.specs.inner.Places.{AreInside, ArePaths, IsPlace, known_at};
 
 use crate::action::{Action, action_of};
-use crate::cuts::{Cut, next_cut};
+use crate::cuts::Cut;
 use crate::fault::PathsError;
 use crate::paths::Paths;
 use crate::place::{Next, Place};
-use crate::unlike::is_unlike;
+use crate::told::told_or_cut;
+use crate::unlike::{is_unlike, likely_record};
 use bpf_insn::{Insn, Test};
-use call_record::Word;
+use call_record::{Record, Word, words_are_a_record};
 use cert_check::{is_settled, stated_is_settled};
 use cert_form::{Kind, MAX_NODES};
 use cert_state::{AVal, dead, edge_fact};
@@ -56,13 +59,15 @@ fn tells(test: Test, a: AVal) -> bool
     }
 }
 
-// What is known in full settles a profile.
-fn settles(profile: &Profile)
+// A record of which each word is stated settles a profile.
+fn settles(profile: &Profile, call: &Record)
     ensures settled { StatedIsSettled }
     ensures is_profile { IsProfile profile.now }
+    ensures is_record { IsRecord (words call.now) }
 {
     stated_is_settled();
     profile.rules();
+    words_are_a_record(call);
 }
 
 // The node of a place from which a path goes on at one position.
@@ -111,7 +116,7 @@ fn split(paths: &mut Paths, from: Place, cut: Cut) -> Result<Kind, PathsError>
 }
 
 // The node of a place at a return: what is known is cut until the profile is settled. A record that is seen to get another word
-// than the profile says ends that: else all words would be cut.
+// than the profile says ends that; and if all words were cut, the one that is left is such a record.
 fn at_return(
     paths: &mut Paths,
     profile: &Profile,
@@ -123,20 +128,23 @@ fn at_return(
     requires alive { IsDead (known_at paths.old.entries.items from) → ⊥ }
     ensures paths { OnOk result (ArePaths paths.new) }
     ensures done { IfOk result (λ kind. IsReturn profile.now paths.old paths.new from word kind ⊎ IsCut paths.old paths.new from kind) }
-    ensures unlike { IfErr result (λ e. IsSize e ⊎ IsUnlike profile.now (known_at paths.old.entries.items from) word) }
+    ensures unlike { IfErr result (TellsUnlike profile.now (known_at paths.old.entries.items from) word) }
 {
     let known = paths.known(from);
     if is_settled(profile, &known, Word(word)) {
         return Ok(Kind::Return);
     }
-    if is_unlike(profile, &known, word) {
-        return Err(PathsError::Unsettled(u32::from(from.pc)));
+    let likely = likely_record(&known);
+    if is_unlike(profile, &known, &likely, word) {
+        return Err(PathsError::Unlike(u32::from(from.pc), likely));
     }
-    let Some(cut) = next_cut(profile, &known) else {
-        settles(profile);
-        return Err(PathsError::Unsettled(u32::from(from.pc)));
-    };
-    split(paths, from, cut)
+    match told_or_cut(profile, &known) {
+        Err(cut) => split(paths, from, cut),
+        Ok(call) => {
+            settles(profile, &call);
+            Err(PathsError::Unlike(u32::from(from.pc), call))
+        }
+    }
 }
 
 // The node of a place at a comparison.
@@ -219,8 +227,7 @@ fn at_insn(
     requires plain { IsPlain insn }
     ensures paths { OnOk result (ArePaths paths.new) }
     ensures followed { IfOk result (IsFollowed profile.now (accepted_insns program.now) paths.old paths.new from) }
-    ensures never { AreLed (accepted_insns program.now) paths.old → IsRight profile.now (accepted_insns program.now)
-        → IfErr result IsSize }
+    ensures told { AreLed (accepted_insns program.now) paths.old → IfErr result (TellsWrong profile.now (accepted_insns program.now)) }
 {
     match action_of(insn) {
         Action::Ends => at_return(paths, profile, from, insn.k),
@@ -244,8 +251,7 @@ fn follow(
     requires from { slice_get paths.old.places.items (length paths.old.kinds.items) ≡ Some from }
     ensures paths { OnOk result (ArePaths paths.new) }
     ensures followed { IfOk result (IsFollowed profile.now (accepted_insns program.now) paths.old paths.new from) }
-    ensures never { AreLed (accepted_insns program.now) paths.old → IsRight profile.now (accepted_insns program.now)
-        → IfErr result IsSize }
+    ensures told { AreLed (accepted_insns program.now) paths.old → IfErr result (TellsWrong profile.now (accepted_insns program.now)) }
 {
     if dead(&paths.known(from)) {
         return Ok(Kind::Dead);
@@ -266,8 +272,7 @@ fn follow_next(
     ensures sound { OnOk result (AreSound profile.now (accepted_insns program.now) paths.new) }
     ensures all { IfOk result (λ more. more ≡ false → length paths.new.kinds.items ≡ length paths.new.places.items) }
     ensures led { AreLed (accepted_insns program.now) paths.old → OnOk result (AreLed (accepted_insns program.now) paths.new) }
-    ensures never { AreLed (accepted_insns program.now) paths.old → IsRight profile.now (accepted_insns program.now)
-        → IfErr result IsSize }
+    ensures told { AreLed (accepted_insns program.now) paths.old → IfErr result (TellsWrong profile.now (accepted_insns program.now)) }
 {
     let Some(from) = paths.next_place() else {
         return Ok(false);
@@ -286,8 +291,7 @@ fn follow_all(
     requires sound { AreSound profile.now (accepted_insns program.now) paths.old }
     ensures sound { OnOk result (AreSound profile.now (accepted_insns program.now) paths.new) }
     ensures all { OnOk result (length paths.new.kinds.items ≡ length paths.new.places.items) }
-    ensures never { AreLed (accepted_insns program.now) paths.old → IsRight profile.now (accepted_insns program.now)
-        → IfErr result IsSize }
+    ensures told { AreLed (accepted_insns program.now) paths.old → IfErr result (TellsWrong profile.now (accepted_insns program.now)) }
 {
     for _ in 0..=MAX_NODES {
         if !follow_next(paths, profile, program)? {
@@ -297,14 +301,17 @@ fn follow_all(
     Err(PathsError::TooLarge)
 }
 
-/// The certificate that follows each path of a filter: it keeps each rule of the checker. For a right filter that compares
-/// steadily an error tells of memory or of the format's limits.
+/// The certificate that follows each path of a filter: it keeps each rule of the checker. Of a filter that compares steadily an
+/// error tells of memory, of the format's limits, or of a call record on which the filter is wrong.
 pub fn by_paths(
     alloc: Global,
     profile: &Profile,
     program: &Accepted<'_>,
 ) -> Result<Vec<u8>, PathsError>
     ensures valid { IfOk result (λ bytes. IsValidCertificate profile.now (accepted_insns program.now) bytes.items) }
+    // A filter that compares steadily is certified, or told to be wrong, if memory and the format have room for it.
+    ensures told { IsSteady (accepted_insns program.now) 0 Nothing
+        → IfErr result (TellsWrong profile.now (accepted_insns program.now)) }
     ensures never { IsSteady (accepted_insns program.now) 0 Nothing → IsRight profile.now (accepted_insns program.now)
         → IfErr result IsSize }
 {

@@ -1,5 +1,6 @@
 //! Whether a filter is seen to be wrong at a return: the profile says another word of a record that comes there.
 ghost use Rattle.std.specs.Prelude.{IsTrue};
+ghost use Rattle.call_record.specs.Record.{words};
 ghost use Rattle.cert_form.specs.Nodes.{literals};
 ghost use Rattle.cert_paths.specs.inner.Follow.{IsUnlike};
 
@@ -39,8 +40,8 @@ fn likely_wide(known: &Known<'_>, word: u8) -> u64 {
     (u64::from(high) << 32) | u64::from(low)
 }
 
-// A record of which what is known may be true.
-fn likely_record(known: &Known<'_>) -> Record {
+/// A record of which what is known may be true.
+pub(crate) fn likely_record(known: &Known<'_>) -> Record {
     Record {
         nr: likely(known, 0),
         arch: likely(known, 1),
@@ -56,15 +57,14 @@ fn likely_record(known: &Known<'_>) -> Record {
     }
 }
 
-/// Whether a record is found of which what is known is true, and of which the profile says another word.
-pub(crate) fn is_unlike(profile: &Profile, known: &Known<'_>, word: u32) -> bool
-    ensures { IsTrue result → IsUnlike profile.now (literals known.now.entries.now known.now.number) word }
+/// Whether what is known is true of a record, of which the profile says another word.
+pub(crate) fn is_unlike(profile: &Profile, known: &Known<'_>, call: &Record, word: u32) -> bool
+    ensures { IsTrue result → IsUnlike profile.now (literals known.now.entries.now known.now.number) (words call.now) word }
 {
-    let call = likely_record(known);
-    words_are_a_record(&call);
-    if !known.are_true(call) {
+    words_are_a_record(call);
+    if !known.are_true(*call) {
         return false;
     }
     profile.rules();
-    profile.decide(&call).0 != word
+    profile.decide(call).0 != word
 }

@@ -15,3 +15,8 @@ module _ {T : Type 0} where
   pub only_memory : (r : Result T CheckError) → IfErr r (λ e. e ≡ OutOfMemory) → IfSome (result_err r) (λ e. e ≡ OutOfMemory)
   only_memory (Ok x) memory = tt
   only_memory (Err e) memory = memory
+
+-- where there is no error, what is said of each result holds of this one
+pub ok_of_none : {A E : Type 0} (P : A → Type 0) (result : Result A E) → IfOk result P → result_err result ≡ None → (a : A) × P a
+ok_of_none P (Ok a) is none = (a, is)
+ok_of_none P (Err e) is none = absurd (none-some e (sym none))

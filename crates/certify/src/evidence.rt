@@ -1,11 +1,18 @@
 //! Convictions: records on which a filter and a profile differ.
-ghost use Rattle.std.specs.Prelude.{IfOk, IfSome};
+ghost use Rattle.std.specs.Prelude.{◌≡◌, ◌≢◌, IfErr, IfOk, IfSome, None};
 ghost use Rattle.call_record.specs.Record.{words};
 ghost use Rattle.kernel_check.specs.Lent.{accepted_insns};
+ghost use Rattle.rule_compile.specs.Steady.{IsSteady, Nothing};
+ghost use Rattle.profile.specs.Policy.{IsClear};
+ghost use Rattle.cert_check.specs.Right.{IsRight, ValidIsRight};
+ghost use Rattle.cert_paths.specs.Fault.{IsWrongOn, TellsWrong};
 ghost use Rattle.certify.specs.Conviction.{Convicts};
+ghost use Rattle.certify.specs.Fault.{IsOfSize};
 
 use bpf_interp::verdict;
 use call_record::{Record, Word};
+use cert_check::valid_is_right;
+use cert_paths::{PathsError, by_paths};
 use cert_walk::{CertifyError, hunt};
 use kernel_check::Accepted;
 use profile::Profile;
@@ -21,7 +28,8 @@ pub struct Conviction {
 
 // The words of a record, where they are unlike.
 fn unlike(profile: &Profile, program: &Accepted<'_>, call: Record) -> Option<Conviction>
-    ensures { IfSome result (λ found. Convicts profile.now (accepted_insns program.now) (words found.call) found.given found.said) }
+    ensures found { IfSome result (λ found. Convicts profile.now (accepted_insns program.now) (words found.call) found.given found.said) }
+    ensures none { result ≡ None → IsWrongOn profile.now (accepted_insns program.now) (words call) → ⊥ }
 {
     let given = verdict(program, &call);
     let said = profile.decide(&call);
@@ -31,19 +39,95 @@ fn unlike(profile: &Profile, program: &Accepted<'_>, call: Record) -> Option<Con
     Some(Conviction { call, given, said })
 }
 
+// A record on which the filter is wrong, if it is told why no certificate follows each of its paths.
+fn by_error(
+    profile: &Profile,
+    program: &Accepted<'_>,
+    error: PathsError,
+) -> Result<Option<Conviction>, CertifyError>
+    ensures found { IfOk result (λ answer. IfSome answer (λ found.
+        Convicts profile.now (accepted_insns program.now) (words found.call) found.given found.said)) }
+    ensures sure { TellsWrong profile.now (accepted_insns program.now) error → IfOk result (λ answer. answer ≢ None) }
+    ensures size { IfErr result IsOfSize }
+{
+    match error {
+        PathsError::Unlike(_, call) => Ok(unlike(profile, program, call)),
+        PathsError::Unsettled(_) => Ok(None),
+        PathsError::TooLarge => Err(CertifyError::TooLarge),
+        PathsError::OutOfMemory => Err(CertifyError::OutOfMemory),
+    }
+}
+
+// A filter with a valid certificate is right.
+fn is_right(profile: &Profile)
+    ensures law { ValidIsRight }
+    ensures clear { IsClear profile.now.rules }
+{
+    valid_is_right();
+    profile.rules();
+}
+
+// A record on which the filter is wrong, if one is met where each path of it is followed.
+fn on_its_paths(
+    alloc: Global,
+    profile: &Profile,
+    program: &Accepted<'_>,
+) -> Result<Option<Conviction>, CertifyError>
+    ensures found { IfOk result (λ answer. IfSome answer (λ found.
+        Convicts profile.now (accepted_insns program.now) (words found.call) found.given found.said)) }
+    ensures sure { IsSteady (accepted_insns program.now) 0 Nothing
+        → IfOk result (λ answer. answer ≡ None → IsRight profile.now (accepted_insns program.now)) }
+    ensures size { IfErr result IsOfSize }
+{
+    match by_paths(alloc, profile, program).err() {
+        None => {
+            is_right(profile);
+            Ok(None)
+        }
+        Some(error) => by_error(profile, program, error),
+    }
+}
+
+// A record on which the filter is wrong, if one is met in a search.
+fn on_a_search(
+    alloc: Global,
+    profile: &Profile,
+    program: &Accepted<'_>,
+) -> Result<Option<Conviction>, CertifyError>
+    ensures found { IfOk result (λ answer. IfSome answer (λ found.
+        Convicts profile.now (accepted_insns program.now) (words found.call) found.given found.said)) }
+    ensures memory { IfErr result (λ e. e ≡ CertifyError.OutOfMemory) }
+{
+    // Nothing else than memory ends a search early.
+    let Ok(found) = hunt(alloc, profile, *program) else {
+        return Err(CertifyError::OutOfMemory);
+    };
+    match found {
+        Some(call) => Ok(unlike(profile, program, call)),
+        None => Ok(None),
+    }
+}
+
 /// A record on which the filter gives another word than the profile says, if one is found.
 ///
-/// Calls of the tables of the profile's machines come before all others. That none is found says nothing.
+/// It is searched for first, and calls of the tables of the profile's machines come before all others. Where the search finds none,
+/// each path of the filter is followed: then one is found, if the filter compares steadily and is wrong, unless memory or the
+/// certificate's format have no room for that many paths.
 pub fn convict(
     alloc: Global,
     profile: &Profile,
     program: &Accepted<'_>,
 ) -> Result<Option<Conviction>, CertifyError>
-    ensures { IfOk result (λ answer. IfSome answer (λ found.
+    ensures found { IfOk result (λ answer. IfSome answer (λ found.
         Convicts profile.now (accepted_insns program.now) (words found.call) found.given found.said)) }
+    // Where none is found of a filter that compares steadily, the filter is right.
+    ensures sure { IsSteady (accepted_insns program.now) 0 Nothing
+        → IfOk result (λ answer. answer ≡ None → IsRight profile.now (accepted_insns program.now)) }
+    ensures size { IfErr result IsOfSize }
 {
-    match hunt(alloc, profile, *program)? {
-        Some(call) => Ok(unlike(profile, program, call)),
-        None => Ok(None),
+    match on_a_search(alloc, profile, program) {
+        Ok(Some(found)) => Ok(Some(found)),
+        Ok(None) => on_its_paths(alloc, profile, program),
+        Err(error) => Err(error),
     }
 }

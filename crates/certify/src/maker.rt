@@ -71,6 +71,8 @@ fn told(error: PathsError, before: Option<CertifyError>) -> CertifyError
     ensures { IsSize error → IsOfSize result }
 {
     match (error, before) {
+        (PathsError::Unlike(_, _), Some(error)) => error,
+        (PathsError::Unlike(pc, _), None) => CertifyError::Undecided(pc),
         (PathsError::Unsettled(_), Some(error)) => error,
         (PathsError::Unsettled(pc), None) => CertifyError::Undecided(pc),
         (PathsError::TooLarge, _) => CertifyError::TooLarge,

@@ -11,7 +11,7 @@ use Rattle.streams.specs.Failures.{Failures}
 use Rattle.streams.specs.declared.fault.WriteFault.{WriteFault}
 use Rattle.streams.specs.declared.fault.WriteFault.TheVariants as fault
 use Rattle.pipeline.specs.Answer.{IsAnswer, WritesAnswer}
-use Rattle.pipeline.specs.Certified.{AreJudged, Certifies, IsConvicted, IsOfFilter, IsOpen}
+use Rattle.pipeline.specs.Certified.{Certifies, IsConvicted, IsOfFilter, IsOpen, IsUndecided}
 use Rattle.pipeline.specs.Finding.{IsFinding, TellsFinding, WritesFinding}
 use Rattle.pipeline.specs.declared.check.Finding.{Finding}
 use Rattle.pipeline.specs.declared.check.Finding.TheVariants.{Yes, No, NoProfile}
@@ -73,7 +73,7 @@ module _ (native : Arch) (bundle filter f : List ℕ) (enough : IsEnough 32768 f
     open_of_file (Profile e) h = h
     open_of_file (Compile e) h = absurd h
     open_of_file (Certify e) h =
-        (h.0, (h.1.0, subst (λ x. AreJudged native bundle x h.1.0) (whole_filter filter f enough h.1.1.program) h.1.1))
+        subst (λ x. IsUndecided native bundle x e) (whole_filter filter f enough h.judged.program) h
     open_of_file (Check e) h = (h.0, (h.1.0, h.1.1, h.1.2, first_of_file filter f enough h.1.0 h.1.1 e (not_memory e h.0) h.1.3))
     open_of_file OutOfMemory h = absurd h
 

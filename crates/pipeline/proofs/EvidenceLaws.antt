@@ -18,6 +18,8 @@ use Rattle.cert_check.proofs.ValidLaws.{kept}
 use Rattle.cert_walk.specs.declared.fault.CertifyError.{CertifyError}
 use Rattle.cert_walk.specs.declared.fault.CertifyError.TheVariants as maker
 use Rattle.certify.specs.Conviction.{Convicts}
+use Rattle.certify.specs.Fault.{IsOfSize}
+use Rattle.rule_compile.specs.Steady.{IsSteady, Nothing}
 use Rattle.streams.specs.Failures.{Failures}
 use Rattle.streams.specs.Sink.{StopsAt, Writes, WritesMade}
 use Rattle.streams.specs.declared.fault.WriteFault.{WriteFault}
@@ -85,10 +87,16 @@ convicts_on policy p q r s given said same words h =
 module _ (native : Arch) (bundle filter : List ℕ) where
   -- a fault of the maker, beside a filter that the kernel accepts
   pub certify_open : (policy : Policy) (e : CertifyError) (u : Unready) → AreJudged native bundle filter policy
-      → IsToldAs unready.Certify maker.OutOfMemory e u → u ≢ unready.OutOfMemory → IsOpen native bundle filter u
-  certify_open policy e u judged (inl memory) other = absurd (other memory.1)
-  certify_open policy e u judged (inr step) other =
-      subst (λ (v : Unready). IsOpen native bundle filter v) (sym step.1) (step.0, (policy, judged))
+      → IsToldAs unready.Certify maker.OutOfMemory e u → (IsSteady (insns_of filter) 0 Nothing → IsOfSize e) → u ≢ unready.OutOfMemory
+      → IsOpen native bundle filter u
+  certify_open policy e u judged (inl memory) steady other = absurd (other memory.1)
+  certify_open policy e u judged (inr step) steady other =
+      subst (λ (v : Unready). IsOpen native bundle filter v) (sym step.1)
+      (record { policy = policy; judged = judged; no_memory = step.0; steady = λ compares. large (steady compares) step.0 })
+    where
+      large : IsOfSize e → e ≢ maker.OutOfMemory → e ≡ maker.TooLarge
+      large (inl is) not = is
+      large (inr is) not = absurd (not is)
 
   -- the bytes are no program, or one that the kernel refuses
   pub view_open : (policy : Policy) (e : ViewError) → IsBundle native bundle policy → view_fault filter ≡ Some e
@@ -138,6 +146,11 @@ module _ {S : Type 0} (held : S → Option (List ℕ)) (failures : S → Failure
   open_told u result why (inl h) = inr (inr (inl (record { unready = u; is = why h.0; written = h.1; told = h.2 })))
   open_told u result why (inr h) = inr (inr (inr h))
 
+-- what is said of each result that is given
+pub each_ok : {A E : Type 0} {P Q : A → Type 0} (r : Result A E) → IfOk r P → ((a : A) → P a → Q a) → IfOk r Q
+each_ok (Ok a) is f = f a is
+each_ok (Err e) is f = tt
+
 -- with a valid certificate of an accepted filter the checker says yes
 pub yes_of_valid : (policy : Policy) (p : List Insn) (filter cert : List ℕ) → IsClear policy.rules → p ≡ insns_of filter
     → view_fault filter ≡ None → IsAccepted (insns_of filter) → IsValidCertificate policy p cert → IsYes policy filter cert
@@ -164,13 +177,6 @@ evidence_excludes one native bundle filter cert rec given said found convicted =
 -- ---- a filter of this project's own
 
 module _ (native : Arch) (bundle filter : List ℕ) (policy : Policy) (own : IsOwnFilter native bundle filter policy) where
-  -- the maker gives nothing for want of memory alone
-  pub own_certify : (p : List Insn) → p ≡ insns_of filter → (e : CertifyError) (u : Unready)
-      → IsToldAs unready.Certify maker.OutOfMemory e u
-      → (IsPlain policy → IsCallFilter policy p → e ≡ maker.OutOfMemory) → u ≡ unready.OutOfMemory
-  own_certify p same e u (inl h) never = h.1
-  own_certify p same e u (inr h) never = absurd (h.0 (never own.plain (subst (IsCallFilter policy) (sym same) own.shape)))
-
   module _ {S : Type 0} (held : S → Option (List ℕ)) (failures : S → Failures) (old new : S) where
     -- a bundle that means a profile is refused for want of memory alone
     pub own_refused : (e : ProfileError) (u : Unready) (result : Result Bool WriteFault)

@@ -10,7 +10,9 @@ use Rattle.bpf_insn.specs.Bytes.{insns_of, view_fault}
 use Rattle.kernel_check.specs.Accepted.{IsAccepted}
 use Rattle.profile.specs.Policy.{Policy}
 use Rattle.rule_compile.specs.Shape.{IsCallFilter, IsPlain}
+use Rattle.rule_compile.specs.Steady.{IsSteady, Nothing}
 use Rattle.certify.specs.Conviction.{Convicts}
+use Rattle.cert_walk.specs.declared.fault.CertifyError.{CertifyError}
 use Rattle.cert_walk.specs.declared.fault.CertifyError.TheVariants as maker
 use Rattle.cert_check.specs.Certified.{IsFirst}
 use Rattle.cert_check.specs.declared.fault.CheckError.{CheckError}
@@ -58,12 +60,20 @@ IsOfFilter (error.View fault) = Unit {0}
 IsOfFilter (error.Kernel refused) = Unit {0}
 IsOfFilter other = ⊥
 
+-- The bundle means a profile, and the kernel accepts the filter. Neither a certificate nor a record was found: of a filter that
+-- compares steadily because the format has no room alone.
+pub record IsUndecided (native : Arch) (bundle filter : List ℕ) (e : CertifyError) : Type 0 where
+  pub policy : Policy
+  pub judged : AreJudged native bundle filter policy
+  pub no_memory : e ≢ maker.OutOfMemory
+  pub steady : IsSteady (insns_of filter) 0 Nothing → e ≡ maker.TooLarge
+
 -- Why there is neither. The bundle breaks a rule of bundles; or it means a profile, and the filter's bytes are no program that
--- the kernel accepts; or the maker of certificates gave nothing. Want of memory is no such reason.
+-- the kernel accepts; or neither was found. Want of memory is no such reason.
 abbrev pub IsOpen : Arch → List ℕ → List ℕ → Unready → Type 0
 IsOpen native bundle filter (Profile e) = IsUnready native bundle (Profile e)
 IsOpen native bundle filter (Compile e) = ⊥
-IsOpen native bundle filter (Certify e) = (e ≢ maker.OutOfMemory) × ((policy : Policy) × AreJudged native bundle filter policy)
+IsOpen native bundle filter (Certify e) = IsUndecided native bundle filter e
 IsOpen native bundle filter (Check e) =
     IsOfFilter e × ((policy : Policy) × (cert : List ℕ) × IsBundle native bundle policy × IsFirst policy filter cert e)
 IsOpen native bundle filter OutOfMemory = ⊥

@@ -5,8 +5,10 @@ ghost use Rattle.bpf_insn.specs.Bytes.{insns_of, view_fault};
 ghost use Rattle.kernel_check.specs.Accepted.{IsAccepted};
 ghost use Rattle.kernel_check.specs.Lent.{accepted_insns};
 ghost use Rattle.call_tables.specs.declared.arch.Arch.{Arch as TheArch};
-ghost use Rattle.pipeline.specs.declared.unready.Unready.TheVariants.{OutOfMemory};
-ghost use Rattle.pipeline.specs.Certified.{AreJudged, Certifies, CertifiesOwn, IsOpen, IsOwnFilter, conviction_line, digits_line};
+ghost use Rattle.rule_compile.specs.Steady.{IsSteady, Nothing};
+ghost use Rattle.cert_check.specs.Right.{IsRight};
+ghost use Rattle.certify.specs.Fault.{IsOfSize};
+ghost use Rattle.pipeline.specs.Certified.{AreJudged, Certifies, CertifiesOwn, IsOwnFilter, conviction_line, digits_line};
 ghost use Rattle.profile.specs.Policy.{Policy};
 ghost use Rattle.pipeline.specs.Exported.{LacksMemory};
 ghost use Rattle.pipeline.specs.Finding.{IsBundle, IsYes};
@@ -17,7 +19,7 @@ use bpf_insn::Program;
 use call_record::{Word, words_are_a_record};
 use call_tables::Arch;
 use cert_check::CheckError;
-use certify::{Conviction, certify_accepted, convict};
+use certify::{CertifyError, Conviction, certify_accepted, convict};
 use kernel_check::{Accepted, accept};
 use profile::Profile;
 use profile_json::read_bundle;
@@ -25,20 +27,22 @@ use std::alloc::{AllocError, Global};
 use streams::{Sink, WriteFault, write_all};
 
 // The certificate that is made of a profile and a filter, to which the checker says yes.
-fn certified(alloc: Global, profile: &Profile, program: &Accepted<'_>) -> Result<Vec<u8>, Unready>
+fn certified(
+    alloc: Global,
+    profile: &Profile,
+    program: &Accepted<'_>,
+) -> Result<Vec<u8>, CertifyError>
     ensures ok { (filter : List ℕ) → view_fault filter ≡ None → IsAccepted (insns_of filter)
         → accepted_insns program.now ≡ insns_of filter → IfOk result (λ cert. IsYes profile.now filter cert.items) }
-    ensures err { (native : TheArch) (bundle filter : List ℕ) → AreJudged native bundle filter profile.now
-        → IfErr result (λ unready. unready ≢ OutOfMemory → IsOpen native bundle filter unready) }
+    // Of a right filter that compares steadily an error tells of memory or of the format's limits.
+    ensures sure { IsRight profile.now (accepted_insns program.now) → IsSteady (accepted_insns program.now) 0 Nothing
+        → IfErr result IsOfSize }
     // Of a filter of this project's own only memory is refused.
     ensures own { (native : TheArch) (bundle filter : List ℕ) → IsOwnFilter native bundle filter profile.now
-        → accepted_insns program.now ≡ insns_of filter → IfErr result (λ unready. unready ≡ OutOfMemory) }
+        → accepted_insns program.now ≡ insns_of filter → IfErr result (λ e. e ≡ CertifyError.OutOfMemory) }
 {
     profile.rules();
-    match certify_accepted(alloc, profile, program) {
-        Ok(certificate) => Ok(certificate),
-        Err(error) => Err(Unready::from(error)),
-    }
+    certify_accepted(alloc, profile, program)
 }
 
 // The bytes of a record are 64, each below 256.
@@ -88,16 +92,16 @@ fn convict_or_refuse<S: Sink>(
     alloc: Global,
     profile: &Profile,
     program: &Accepted<'_>,
-    unready: &Unready,
+    error: CertifyError,
     sink: &mut S,
 ) -> Result<bool, WriteFault>
     ensures found { (native : TheArch) (bundle filter : List ℕ) → AreJudged native bundle filter profile.now
         → accepted_insns program.now ≡ insns_of filter
-        → (unready.now ≢ OutOfMemory → IsOpen native bundle filter unready.now)
+        → (IsRight profile.now (accepted_insns program.now) → IsSteady (accepted_insns program.now) 0 Nothing → IsOfSize error)
         → Certifies S.held S.failures sink.old sink.new native bundle filter result }
-    ensures memory { unready.now ≡ OutOfMemory → LacksMemory sink.old sink.new result }
+    ensures memory { error ≡ CertifyError.OutOfMemory → LacksMemory sink.old sink.new result }
 {
-    if let Unready::OutOfMemory = unready {
+    if let CertifyError::OutOfMemory = error {
         return Err(WriteFault::OutOfMemory);
     }
     match convict(alloc, profile, program) {
@@ -105,7 +109,7 @@ fn convict_or_refuse<S: Sink>(
             words_are_a_record(&found.call);
             tell(alloc, &found, sink)
         }
-        Ok(None) => refuse(alloc, unready, sink),
+        Ok(None) => refuse(alloc, &Unready::from(error), sink),
         Err(error) => refuse(alloc, &Unready::from(error), sink),
     }
 }
@@ -130,7 +134,7 @@ fn write_certificate<S: Sink>(
             write_all(&certificate, sink)?;
             Ok(true)
         }
-        Err(unready) => convict_or_refuse(alloc, profile, program, &unready, sink),
+        Err(error) => convict_or_refuse(alloc, profile, program, error, sink),
     }
 }
 
@@ -158,7 +162,8 @@ fn certify_filter<S: Sink>(
 
 /// Writes a certificate that a filter answers what a bundle says, which is read for a native machine, once the checker says
 /// yes to it. Where there is none, the answer is false, and the line of a call record is written on which the filter gives
-/// another word than the bundle says; or, where none is found, the line that says why there is neither.
+/// another word than the bundle says; or, where none is found, the line that says why there is neither: of a filter that
+/// compares steadily only that the format has no room.
 pub fn certify_bundle<S: Sink>(
     alloc: Global,
     native: Arch,

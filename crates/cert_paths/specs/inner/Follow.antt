@@ -1,6 +1,7 @@
 -- What the node of a place does, and where it leads.
-use Rattle.std.specs.Prelude.{◌≡◌, ◌+◌, ◌≤◌, ℕ, List, [], ◌∷◌, ◌++◌, All, Option, Some, None, bit_and, length, true, false}
+use Rattle.std.specs.Prelude.{◌≡◌, ◌+◌, ◌≤◌, ⊤, ℕ, List, [], ◌∷◌, ◌++◌, All, Option, Some, None, bit_and, length, true, false}
 use Rattle.call_record.specs.Words.{IsRecord}
+use Rattle.call_record.specs.Record.{words}
 use Rattle.bpf_insn.specs.declared.code.Test.{Test}
 use Rattle.bpf_insn.specs.declared.instruction.Insn.{Insn}
 use Rattle.profile.specs.Policy.{Policy, Says}
@@ -14,6 +15,8 @@ use Rattle.cert_form.specs.declared.node.Kind.TheVariants.{Step, Split, Return}
 use Rattle.cert_check.specs.Agree.{Agrees}
 use Rattle.cert_check.specs.Rules.{Covers, no_node}
 use Rattle.rule_compile.specs.Steady.{Held, Tells}
+use Rattle.cert_paths.specs.declared.fault.PathsError.{PathsError}
+use Rattle.cert_paths.specs.declared.fault.PathsError.TheVariants.{Unlike, Unsettled, TooLarge, OutOfMemory}
 use Rattle.cert_paths.specs.declared.paths.Paths.{Paths}
 use Rattle.cert_paths.specs.declared.place.Next.{Next}
 use Rattle.cert_paths.specs.declared.place.Place.{Place}
@@ -78,12 +81,18 @@ pub record IsReturn (policy : Policy) (old new : Paths) (from : Place) (word : �
   pub same : new ≡ old
   pub agrees : Agrees policy [] [] (known_at old.entries.items from) word
 
--- the policy says another word of a record of which is true what is known
-pub record IsUnlike (policy : Policy) (known : List Lit) (word : ℕ) : Type 0 where
-  pub record_of : List ℕ
-  pub is_record : IsRecord record_of
-  pub all_hold : All (λ l. Holds l record_of) known
-  pub unlike : Says policy record_of word → ⊥
+-- what is known is true of a record, of which the policy says another word
+pub record IsUnlike (policy : Policy) (known : List Lit) (r : List ℕ) (word : ℕ) : Type 0 where
+  pub is_record : IsRecord r
+  pub all_hold : All (λ l. Holds l r) known
+  pub unlike : Says policy r word → ⊥
+
+-- an error that tells of such a record, or of no path
+abbrev pub TellsUnlike : Policy → List Lit → ℕ → PathsError → Type 0
+TellsUnlike policy known word (Unlike pc call) = IsUnlike policy known (words call) word
+TellsUnlike policy known word (Unsettled pc) = ⊥
+TellsUnlike policy known word TooLarge = ⊤
+TellsUnlike policy known word OutOfMemory = ⊤
 
 -- the node of a place keeps the rules, and the places that were added are led to
 pub record IsFollowed (policy : Policy) (p : List Insn) (old new : Paths) (from : Place) (kind : Kind) : Type 0 where

@@ -11,12 +11,12 @@ use Rattle.kernel_check.specs.Lent.{accepted_insns}
 use Rattle.cert_form.specs.declared.node.Kind.{Kind}
 use Rattle.cert_paths.specs.declared.fault.PathsError.{PathsError}
 use Rattle.cert_paths.specs.declared.paths.Paths.{Paths}
-use Rattle.cert_paths.specs.Fault.{IsSize}
 use Rattle.cert_paths.specs.inner.Follow.{IsCut, IsFollowed, IsReturn, IsStep}
-use Rattle.cert_paths.specs.inner.Places.{ArePaths}
+use Rattle.cert_paths.specs.inner.Places.{ArePaths, known_at}
 use Rattle.cert_paths.proofs.ActionLaws.{compares_is, ends_is, jumps_is, loads_is, masks_is}
 use Rattle.cert_paths.proofs.FollowLaws.{and_followed, cut_followed, fork_followed, jump_followed, load_followed}
-use Rattle.cert_paths.proofs.FollowLaws.{never_masked, never_other, never_unlike, never_untold, return_followed}
+use Rattle.cert_paths.proofs.FollowLaws.{never_masked, never_other, never_untold, return_followed, told_unlike}
+use Rattle.cert_paths.proofs.ToldLaws.{of_size, of_size_or, of_unlike}
 use Rattle.cert_paths.proofs.WayLaws.{accepted_is, jump_inside, next_inside, other_inside, taken_inside}
 use Rattle.cert_paths.proofs.following.at_insn.Goals as goal
 
@@ -25,12 +25,6 @@ on_ok : (result : Result Kind PathsError) (new : Paths) (P Q : Kind → Type 0) 
     → ((kind : Kind) → ArePaths new → P kind → Q kind) → IfOk result Q
 on_ok (Ok kind) new P Q are p f = f kind are p
 on_ok (Err e) new P Q are p f = tt
-
--- an error tells of no path, where what else it may tell can not be
-on_err : (result : Result Kind PathsError) (P : Type 0) → IfErr result (λ e. IsSize e ⊎ P) → (P → ⊥) → IfErr result IsSize
-on_err (Ok kind) P e never = tt
-on_err (Err e) P (inl size) never = size
-on_err (Err e) P (inr p) never = absurd (never p)
 
 -- a program is short
 below : (p : List Insn) → IsAccepted p → (n : ℕ) → n < length p → n < 2 ^ 16
@@ -57,15 +51,14 @@ returns-in-Ends-clause-followed c =
     (accepted_is c.args.program.now) new are kind r)
     done)
 
-pub returns-in-Ends-clause-never : goal.returns-in-Ends-clause-never
-returns-in-Ends-clause-never c = λ led right.
+pub returns-in-Ends-clause-told : goal.returns-in-Ends-clause-told
+returns-in-Ends-clause-told c = λ led.
     let p = accepted_insns c.args.program.now in
     let i = c.args.insn in
+    let from = c.args.from in
     let is : operation_of i.code ≡ Some ReturnK = ends_is (operation_of i.code) (sym c.action_of.ensures ∙ c.in-Ends.is) in
-    on_err c.at_return.result _ c.at_return.ensures.unlike
-    (never_unlike c.args.profile.now p c.args.paths.now c.requires.paths c.requires.inside c.args.from c.requires.from i c.requires.found
-    led
-    right is)
+    of_unlike c.args.profile.now p (known_at c.args.paths.now.entries.items from) i.k c.at_return.result c.at_return.ensures.unlike
+    (told_unlike c.args.profile.now p c.args.paths.now c.requires.paths c.requires.inside from c.requires.from i c.requires.found led is)
 
 pub after-requires : goal.after-requires
 after-requires c =
@@ -91,6 +84,10 @@ returns-in-Jumps-clause-followed c =
     jump_followed policy p old c.requires.paths c.requires.inside from c.requires.from i c.requires.found
     (accepted_is c.args.program.now) new are kind is
     (subst (λ pc. IsStep old new from pc from.a kind) there step))
+
+pub returns-in-Jumps-clause-told : goal.returns-in-Jumps-clause-told
+returns-in-Jumps-clause-told c = λ led.
+    of_size c.args.profile.now (accepted_insns c.args.program.now) c.step.result c.step.ensures.size
 
 pub at_load-requires-clause-word : goal.at_load-requires-clause-word
 at_load-requires-clause-word c =
@@ -119,6 +116,10 @@ returns-in-Loads-clause-followed c =
     load_followed c.args.profile.now p c.args.paths.now c.requires.paths c.requires.inside c.args.from c.requires.from i c.requires.found
     (accepted_is c.args.program.now) c.at_load.new.paths are kind c.requires.plain is step)
 
+pub returns-in-Loads-clause-told : goal.returns-in-Loads-clause-told
+returns-in-Loads-clause-told c = λ led.
+    of_size c.args.profile.now (accepted_insns c.args.program.now) c.at_load.result c.at_load.ensures.size
+
 pub at_mask-requires-clause-inside : goal.at_mask-requires-clause-inside
 at_mask-requires-clause-inside c =
     let p = accepted_insns c.args.program.now in
@@ -139,12 +140,12 @@ returns-in-Masks-clause-followed c =
     and_followed c.args.profile.now p c.args.paths.now c.requires.paths c.requires.inside c.args.from c.requires.from i c.requires.found
     (accepted_is c.args.program.now) c.at_mask.new.paths are kind masked.word_of masked.mask is masked.held masked.step)
 
-pub returns-in-Masks-clause-never : goal.returns-in-Masks-clause-never
-returns-in-Masks-clause-never c = λ led right.
+pub returns-in-Masks-clause-told : goal.returns-in-Masks-clause-told
+returns-in-Masks-clause-told c = λ led.
     let p = accepted_insns c.args.program.now in
     let i = c.args.insn in
     let is : operation_of i.code ≡ Some (Compute And K) = masks_is (operation_of i.code) (sym c.action_of.ensures ∙ c.in-Masks.is) in
-    on_err c.at_mask.result _ c.at_mask.ensures.no_word
+    of_size_or c.args.profile.now p c.at_mask.result _ c.at_mask.ensures.no_word
     (never_masked c.args.profile.now p c.args.paths.now c.requires.paths c.requires.inside c.args.from c.requires.from i c.requires.found
     led is)
 
@@ -178,18 +179,18 @@ returns-in-Compares-clause-followed c =
     fork_followed c.args.profile.now p c.args.paths.now c.requires.paths c.requires.inside c.args.from c.requires.from i c.requires.found
     (accepted_is c.args.program.now) c.at_branch.new.paths are kind c.in-Compares.test is fork)
 
-pub returns-in-Compares-clause-never : goal.returns-in-Compares-clause-never
-returns-in-Compares-clause-never c = λ led right.
+pub returns-in-Compares-clause-told : goal.returns-in-Compares-clause-told
+returns-in-Compares-clause-told c = λ led.
     let p = accepted_insns c.args.program.now in
     let i = c.args.insn in
     let is = compares_is (operation_of i.code) c.in-Compares.test (sym c.action_of.ensures ∙ c.in-Compares.is) in
-    on_err c.at_branch.result _ c.at_branch.ensures.untold
+    of_size_or c.args.profile.now p c.at_branch.result _ c.at_branch.ensures.untold
     (never_untold c.args.profile.now p c.args.paths.now c.requires.paths c.requires.inside c.args.from c.requires.from i c.requires.found
     led
     c.in-Compares.test is)
 
-pub returns-in-Other-clause-never : goal.returns-in-Other-clause-never
-returns-in-Other-clause-never c = λ led right.
+pub returns-in-Other-clause-told : goal.returns-in-Other-clause-told
+returns-in-Other-clause-told c = λ led.
     let p = accepted_insns c.args.program.now in
     never_other c.args.profile.now p c.args.paths.now c.requires.paths c.requires.inside c.args.from c.requires.from c.args.insn
     c.requires.found

@@ -18,8 +18,8 @@ returns-then-dead-clause-followed c =
     dead_followed c.args.profile.now (accepted_insns c.args.program.now) c.args.paths.now c.requires.paths c.requires.inside c.args.from
     c.requires.from is
 
-pub returns-in_default-clause-never : goal.returns-in_default-clause-never
-returns-in_default-clause-never c = λ led right.
+pub returns-in_default-clause-told : goal.returns-in_default-clause-told
+returns-in_default-clause-told c = λ led.
     let p = accepted_insns c.args.program.now in
     let low = from_inside c.args.profile.now p c.args.paths.now c.requires.paths c.requires.inside c.args.from c.requires.from in
     none-some _ (sym c.in_default.ensures ∙ slice_get-get_or p c.args.from.pc (record { code = 0; jt = 0; jf = 0; k = 0 }) low)

@@ -9,13 +9,12 @@ use Rattle.cert_paths.proofs.unlike.is_unlike.Goals as goal
 pub returns : goal.returns
 returns c = λ differ.
     let policy = c.args.profile.now in
-    let r = words c.likely_record-call.result in
+    let r = words c.args.call.now in
     let given = c.result.inside.0 in
     let clear = c.rules.ensures.is_profile.clear in
     let is_record = c.words_are_a_record.ensures in
     let decided : Says policy r given = subst (Says policy r) (sym c.result.view_is) c.decide.ensures in
     record {
-      record_of = r;
       is_record = is_record;
       all_hold = c.are_true.ensures c.if-not-are_true.false;
       unlike = λ says.

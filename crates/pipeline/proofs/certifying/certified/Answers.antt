@@ -1,17 +1,19 @@
+use Rattle.std.proofs.Common.{List, sym, subst}
+use Rattle.std.specs.Prelude.{Result, Ok, Err, IfOk}
+use Rattle.bpf_insn.specs.declared.instruction.Insn.{Insn}
 use Rattle.kernel_check.specs.Lent.{accepted_insns}
-use Rattle.pipeline.proofs.EvidenceLaws.{certify_open, own_certify, yes_of_valid}
+use Rattle.rule_compile.specs.Shape.{IsCallFilter}
+use Rattle.pipeline.proofs.EvidenceLaws.{each_ok, yes_of_valid}
 use Rattle.pipeline.proofs.certifying.certified.Goals as goal
 
-pub returns-in-Ok-clause-ok : goal.returns-in-Ok-clause-ok
-returns-in-Ok-clause-ok c = λ filter whole taken same.
-    yes_of_valid c.args.profile.now (accepted_insns c.args.program.now) filter c.in-Ok.certificate.items c.rules.ensures.is_profile.clear same
-    whole taken c.in-Ok.ensures.valid
+pub returns-clause-ok : goal.returns-clause-ok
+returns-clause-ok c = λ filter whole taken same.
+    each_ok c.certify_accepted.result c.certify_accepted.ensures.valid
+    (λ cert valid.
+    yes_of_valid c.args.profile.now (accepted_insns c.args.program.now) filter cert.items c.rules.ensures.is_profile.clear same whole taken
+    valid)
 
-pub returns-in-Err-clause-err : goal.returns-in-Err-clause-err
-returns-in-Err-clause-err c = λ native bundle filter judged.
-    certify_open native bundle filter c.args.profile.now c.in-Err.error c.from.result judged c.from.ensures
-
-pub returns-in-Err-clause-own : goal.returns-in-Err-clause-own
-returns-in-Err-clause-own c = λ native bundle filter own same.
-    own_certify native bundle filter c.args.profile.now own (accepted_insns c.args.program.now) same c.in-Err.error c.from.result
-    c.from.ensures c.in-Err.ensures.never
+pub returns-clause-own : goal.returns-clause-own
+returns-clause-own c = λ native bundle filter own same.
+    c.certify_accepted.ensures.never own.plain
+    (subst (λ (p : List Insn). IsCallFilter c.args.profile.now p) (sym same) own.shape)

@@ -7,7 +7,7 @@ use Rattle.pipeline.proofs.certifying.write_certificate.Goals as goal
 
 pub returns-in-Err-clause-found : goal.returns-in-Err-clause-found
 returns-in-Err-clause-found g c = λ native bundle judged same.
-    c.convict_or_refuse.ensures.found native bundle c.args.filter.now judged same (c.in-Err.ensures.err native bundle c.args.filter.now judged)
+    c.convict_or_refuse.ensures.found native bundle c.args.filter.now judged same c.in-Err.ensures.sure
 
 pub returns-in-Err-clause-own : goal.returns-in-Err-clause-own
 returns-in-Err-clause-own g c = λ native bundle own same.
