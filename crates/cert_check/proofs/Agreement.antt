@@ -37,7 +37,7 @@ use Rattle.cert_check.specs.Agree.{IsNoBy, IsNo, IsYes, IsYesRule, IsNoRule, IsR
 use Rattle.cert_check.specs.Agree.{RulesAgree, MachineAgrees, ListedAgrees, Agrees}
 
 -- a number of two halves under a mask, half by half
-pub masked_halves : (l h m : ℕ) → l < 2 ^ 32 → bit_and (l + 2 ^ 32 * h) m ≡ bit_and h (m / 2 ^ 32) * 2 ^ 32 + bit_and l (m % 2 ^ 32)
+masked_halves : (l h m : ℕ) → l < 2 ^ 32 → bit_and (l + 2 ^ 32 * h) m ≡ bit_and h (m / 2 ^ 32) * 2 ^ 32 + bit_and l (m % 2 ^ 32)
 masked_halves l h m small =
     let e : l + 2 ^ 32 * h ≡ h * 2 ^ 32 + l = omega arith in
     let f : m ≡ (m / 2 ^ 32) * 2 ^ 32 + m % 2 ^ 32 = omega arith in
@@ -45,7 +45,7 @@ masked_halves l h m small =
     ap (λ n. bit_and n m) e ∙ ap (λ n. bit_and (h * 2 ^ 32 + l) n) f ∙ and_block 32 h (m / 2 ^ 32) l (m % 2 ^ 32) small below
 
 -- a number is one of two halves alone
-pub quotient : (q t d : ℕ) → t < 2 ^ 32 → q * 2 ^ 32 + t ≡ d → (q ≡ d / 2 ^ 32) × (t ≡ d % 2 ^ 32)
+quotient : (q t d : ℕ) → t < 2 ^ 32 → q * 2 ^ 32 + t ≡ d → (q ≡ d / 2 ^ 32) × (t ≡ d % 2 ^ 32)
 quotient q t d small e = (omega arith, omega arith)
 
 -- what is compared of an argument of a record
@@ -118,7 +118,7 @@ module _ (r : List ℕ) (rec : IsRecord r) (known : List Lit) (so : All (λ l. H
     halves_of j = compared_halves narrow (slice_index r (4 + 2 * j)) (slice_index r (5 + 2 * j)) (half_low j)
 
     -- it under a mask, half by half
-    pub halves_under : (j m : ℕ) → bit_and (seen narrow r j) m
+    halves_under : (j m : ℕ) → bit_and (seen narrow r j) m
         ≡ bit_and (above narrow (slice_index r (5 + 2 * j))) (m / 2 ^ 32) * 2 ^ 32 + bit_and (slice_index r (4 + 2 * j)) (m % 2 ^ 32)
     halves_under j m =
         ap (λ n. bit_and n m) (halves_of j)

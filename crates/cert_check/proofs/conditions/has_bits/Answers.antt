@@ -1,7 +1,6 @@
-use Rattle.std.proofs.Common.{◌≡◌, ◌+◌, ◌*◌, ◌/◌, ◌%◌, ◌^◌, ℕ, true, false, refl, sym, subst}
+use Rattle.std.proofs.Common.{◌≡◌, ◌+◌, ◌*◌, ◌/◌, ◌%◌, ◌^◌, true, false, refl, sym, subst}
 use Rattle.cert_state.specs.declared.literal.Lit.TheVariants.{Bits}
 use Rattle.cert_state.specs.Entailment.{Entails}
-use Rattle.cert_check.specs.Agree.{HasAbove}
 use Rattle.cert_check.proofs.JudgedLaws.{same_has_above}
 use Rattle.cert_check.proofs.conditions.has_bits.Goals as goal
 
