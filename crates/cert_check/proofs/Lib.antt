@@ -15,3 +15,4 @@ pub mod NodeLaws
 pub mod FirstLaws
 pub mod ValidLaws
 pub mod CheckLaws
+pub mod SharedLaws

@@ -12,7 +12,8 @@ use Rattle.profile.specs.Rule.{is_narrow_rule}
 use Rattle.profile.specs.Policy.{Policy}
 use Rattle.cert_check.specs.Agree.{AllAreYes, IsNo, IsYes, OneIsNo, SomeIsNo}
 use Rattle.cert_check.specs.Rules.{IsMetBy}
-use Rattle.cert_check.specs.inner.Judged.{AreYes, IsAnswered, IsJudged, IsNoNorMet, IsYesOrMet}
+use Rattle.cert_check.specs.Judged.{IsJudged}
+use Rattle.cert_check.specs.inner.Judged.{AreYes, IsAnswered, IsNoNorMet, IsYesOrMet}
 use Rattle.cert_check.specs.declared.judged.Answered.{Answered}
 use Rattle.cert_check.specs.declared.judged.Judged.{Judged}
 use Rattle.cert_check.specs.declared.judged.Judged.TheVariants.{Yes, No, Open}

@@ -6,4 +6,5 @@ pub mod Certified
 pub mod Valid
 pub mod Checked
 pub mod Settled
+pub mod Judged
 pub mod inner

@@ -6,3 +6,4 @@ pub mod Asked
 pub mod Ways
 pub mod Broken
 pub mod Among
+pub mod Followed

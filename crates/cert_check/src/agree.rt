@@ -7,15 +7,16 @@ ghost use Rattle.cert_state.specs.declared.literal.Lit.TheVariants.{Bits};
 ghost use Rattle.cert_state.specs.Literals.{all_bits};
 ghost use Rattle.cert_state.specs.Entailment.{Entails};
 ghost use Rattle.cert_check.specs.inner.Asked.{known_of, met_of, out_of};
-ghost use Rattle.cert_check.specs.Agree.{Agrees, ForeignNumbersAgree, IsAmong, IsLeft, ListedAgrees, MachineAgrees, RulesAgree};
-ghost use Rattle.cert_check.specs.inner.Judged.{AreJudgedAt, AreKnownNumbers, Bears, IsAnswered, IsJudgedAt, IsKnownNumber, IsRuleJudged};
+ghost use Rattle.cert_check.specs.Agree.{Agrees, ForeignNumbersAgree, IsAmong, IsLeft, IsYesRule, ListedAgrees, MachineAgrees, OneSays, RulesAgree};
+ghost use Rattle.cert_check.specs.inner.Judged.{AreJudgedAt, AreKnownNumbers, Bears, IsAnswered, IsJudgedAt, IsKnownNumber, IsRuleJudged, SaysAt};
 
+use crate::answered::{answer_of, no_answer};
 use crate::claims::{Mets, Outs};
-use crate::conditions::{judge_conditions, judge_left};
+use crate::conditions::judge_left;
 use crate::judged::{Answered, Bearing, Judged, Number};
 use call_record::Word;
 use call_tables::{Arch, Numbers};
-use cert_state::{Facts, Lit, State};
+use cert_state::{Facts, Knowledge, Lit, State};
 use profile::{Cond, Op, Profile, Rule, foreign_numbers};
 
 /// What a word is judged by: the profile, what a node says of its rules, and what is known of the record.
@@ -59,67 +60,6 @@ fn number_of<S: State>(facts: &Facts<'_, S>, numbers: &mut [Option<Number>; 512]
     let number = ask_number(facts, nr);
     numbers[i] = Some(number);
     number
-}
-
-// Whether two operators are the same one.
-fn is_same_op(a: Op, b: Op) -> bool
-    ensures { IsTrue result ↔ (a ≡ b) }
-{
-    a == b
-}
-
-// Whether two conditions are the same one.
-fn is_same(a: &Cond, b: &Cond) -> bool
-    ensures { IsTrue result → a.now ≡ b.now }
-{
-    if !is_same_op(a.op, b.op) {
-        return false;
-    }
-    if a.index != b.index {
-        return false;
-    }
-    if a.value != b.value {
-        return false;
-    }
-    a.datum == b.datum
-}
-
-// Whether these are the same conditions in the same order.
-fn are_same(a: &[Cond], b: &[Cond]) -> bool
-    ensures { IsTrue result → a.now ≡ b.now }
-{
-    if a.len() != b.len() {
-        return false;
-    }
-    for i in 0..a.len() {
-        if !is_same(&a[i], &b[i]) {
-            return false;
-        }
-    }
-    true
-}
-
-// The answer to the conditions of a rule: the last one, where that was to the same conditions of arguments as wide.
-pub(crate) fn answer_of<'a, S: State>(
-    facts: &Facts<'_, S>,
-    rule: &'a Rule,
-    last: Answered<'a>,
-) -> Answered<'a>
-    requires { IsAnswered (S.known facts.now.state.now) last }
-    ensures answer { IsAnswered (S.known facts.now.state.now) result }
-    ensures narrow { result.narrow ≡ is_narrow_rule rule.now }
-    ensures conds { result.conds.now ≡ rule.now.conds.items }
-{
-    let narrow = rule.is_narrow();
-    let conds = rule.conds.as_slice();
-    if last.narrow == narrow && are_same(last.conds, conds) {
-        return last;
-    }
-    Answered {
-        narrow,
-        conds,
-        judged: judge_conditions(facts, narrow, conds),
-    }
 }
 
 // Whether a rule is for the machine.
@@ -260,8 +200,58 @@ impl<S: State> Agreement<'_, S> {
         !self.outs.has(place)
     }
 
-    // Whether the rules that are left for a machine agree with the word.
-    fn rules_agree(&self, arch: Arch) -> bool
+    // Whether the rule at a place is known to be yes.
+    fn is_yes(&self, place: usize, rule: &Rule) -> bool
+        requires { place < 8192 }
+        ensures { IsTrue result → IsYesRule (met_of self.now) (known_of self.now) place rule.now }
+    {
+        let number = ask_number(self.facts, rule.nr);
+        let (conds, _) = self.answer_at(place, rule, no_answer());
+        match judge_rule(number, conds) {
+            Judged::Yes => true,
+            Judged::No => false,
+            Judged::Open => false,
+        }
+    }
+
+    // Whether a rule at a place is of this number, says the word, is left for the machine, and is yes.
+    fn says_at(&self, place: usize, rule: &Rule, arch: Arch, nr: u32) -> bool
+        requires { place < 8192 }
+        ensures { IsTrue result → SaysAt (out_of self.now) (met_of self.now) (known_of self.now) self.now.word arch place rule.now }
+    {
+        if rule.nr != nr {
+            return false;
+        }
+        if rule.word != self.word {
+            return false;
+        }
+        if !self.is_left(place, rule, arch) {
+            return false;
+        }
+        self.is_yes(place, rule)
+    }
+
+    // Whether a rule of the only number that is possible is seen to say the word. Then no other rule is asked.
+    fn one_says(&self, arch: Arch) -> bool
+        ensures { let a = self.now in IsTrue result → OneSays a.profile.now (out_of a) (met_of a) (known_of a) a.word arch }
+    {
+        let Some((least, greatest)) = self.facts.range(NUMBER) else {
+            return false;
+        };
+        if least != greatest {
+            return false;
+        }
+        let rules = self.profile.rules();
+        for place in 0..rules.len() {
+            if self.says_at(place, &rules[place], arch, least) {
+                return true;
+            }
+        }
+        false
+    }
+
+    // Whether the rules that are left for a machine agree with the word, each of which is asked.
+    fn all_rules_agree(&self, arch: Arch) -> bool
         ensures { let a = self.now in IsTrue result ↔ RulesAgree a.profile.now (out_of a) (met_of a) (known_of a) a.word arch }
     {
         let mut others = false;
@@ -289,6 +279,16 @@ impl<S: State> Agreement<'_, S> {
             return false;
         }
         self.profile.default_word() == self.word
+    }
+
+    // Whether the rules that are left for a machine agree with the word.
+    fn rules_agree(&self, arch: Arch) -> bool
+        ensures { let a = self.now in IsTrue result ↔ RulesAgree a.profile.now (out_of a) (met_of a) (known_of a) a.word arch }
+    {
+        if self.one_says(arch) {
+            return true;
+        }
+        self.all_rules_agree(arch)
     }
 
     // Whether no foreign number is possible, of these, or such a one gets its word.

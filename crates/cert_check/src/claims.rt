@@ -1,6 +1,8 @@
 //! What a node claims of rules: which are out, and which of their conditions are met.
 mod mets;
 mod outs;
+mod shared;
 
 pub(crate) use mets::{Mets, has_no_met, mark_mets, mets_follow};
 pub(crate) use outs::{Outs, has_none, mark_outs, outs_follow};
+pub(crate) use shared::{are_placed, new_claims_follow};

@@ -3,12 +3,13 @@ ghost use Rattle.std.specs.Prelude.{◌≡◌, ◌↔◌, ◌<◌, ◌≤◌, �
 ghost use Rattle.cert_state.specs.Points.{HasNoPoint};
 ghost use Rattle.cert_check.specs.inner.Claimed.{mets_of};
 ghost use Rattle.cert_check.specs.Agree.{AtBothEnds, HasAbove, HasBits, IsNo, IsRangeAbove, IsYes, LacksAbove, LacksBits, SomeIsNo};
-ghost use Rattle.cert_check.specs.inner.Judged.{AreEnds, AreJudgedAt, AreYes, IsJudged, IsNoNorMet, IsOrder, IsYesOrMet};
+ghost use Rattle.cert_check.specs.Judged.{IsJudged};
+ghost use Rattle.cert_check.specs.inner.Judged.{AreEnds, AreJudgedAt, AreYes, IsNoNorMet, IsOrder, IsYesOrMet};
 
 use crate::claims::Mets;
 use crate::judged::Judged;
 use call_record::halves;
-use cert_state::{Facts, Lit, State};
+use cert_state::{Knowledge, Lit};
 use profile::{Cond, Op};
 
 // The word of the low half of an argument. The high half is the word after it.
@@ -20,125 +21,107 @@ const fn low_word(index: u8) -> u8
 }
 
 // Whether the high half of an argument is known to have these bits under a mask. That of a narrow one counts as 0.
-fn has_above<S: State>(facts: &Facts<'_, S>, narrow: bool, index: u8, mask: u32, datum: u32) -> bool
+fn has_above<K: Knowledge>(known: &K, narrow: bool, index: u8, mask: u32, datum: u32) -> bool
     requires { index < 6 }
-    ensures { IsTrue result ↔ HasAbove narrow (S.known facts.now.state.now) index mask datum }
+    ensures { IsTrue result ↔ HasAbove narrow (K.known known.now) index mask datum }
 {
     if narrow {
         return datum == 0;
     }
-    facts.entails(&Lit::Bits(low_word(index) + 1, mask, datum))
+    known.entails(&Lit::Bits(low_word(index) + 1, mask, datum))
 }
 
 // Whether it is known to have others.
-fn lacks_above<S: State>(
-    facts: &Facts<'_, S>,
-    narrow: bool,
-    index: u8,
-    mask: u32,
-    datum: u32,
-) -> bool
+fn lacks_above<K: Knowledge>(known: &K, narrow: bool, index: u8, mask: u32, datum: u32) -> bool
     requires { index < 6 }
-    ensures { IsTrue result ↔ LacksAbove narrow (S.known facts.now.state.now) index mask datum }
+    ensures { IsTrue result ↔ LacksAbove narrow (K.known known.now) index mask datum }
 {
     if narrow {
         return datum != 0;
     }
-    facts.entails(&Lit::NotBits(low_word(index) + 1, mask, datum))
+    known.entails(&Lit::NotBits(low_word(index) + 1, mask, datum))
 }
 
 // Whether an argument is known to have these bits under a mask.
-fn has_bits<S: State>(facts: &Facts<'_, S>, narrow: bool, index: u8, mask: u64, datum: u64) -> bool
+fn has_bits<K: Knowledge>(known: &K, narrow: bool, index: u8, mask: u64, datum: u64) -> bool
     requires { index < 6 }
-    ensures { IsTrue result ↔ HasBits narrow (S.known facts.now.state.now) index mask datum }
+    ensures { IsTrue result ↔ HasBits narrow (K.known known.now) index mask datum }
 {
     let (mask, mask_above) = halves(mask);
     let (datum, datum_above) = halves(datum);
-    if !has_above(facts, narrow, index, mask_above, datum_above) {
+    if !has_above(known, narrow, index, mask_above, datum_above) {
         return false;
     }
-    facts.entails(&Lit::Bits(low_word(index), mask, datum))
+    known.entails(&Lit::Bits(low_word(index), mask, datum))
 }
 
 // Whether it is known to have others.
-fn lacks_bits<S: State>(
-    facts: &Facts<'_, S>,
-    narrow: bool,
-    index: u8,
-    mask: u64,
-    datum: u64,
-) -> bool
+fn lacks_bits<K: Knowledge>(known: &K, narrow: bool, index: u8, mask: u64, datum: u64) -> bool
     requires { index < 6 }
-    ensures { IsTrue result ↔ LacksBits narrow (S.known facts.now.state.now) index mask datum }
+    ensures { IsTrue result ↔ LacksBits narrow (K.known known.now) index mask datum }
 {
     let (mask, mask_above) = halves(mask);
     let (datum, datum_above) = halves(datum);
-    if lacks_above(facts, narrow, index, mask_above, datum_above) {
+    if lacks_above(known, narrow, index, mask_above, datum_above) {
         return true;
     }
-    facts.entails(&Lit::NotBits(low_word(index), mask, datum))
+    known.entails(&Lit::NotBits(low_word(index), mask, datum))
 }
 
 // Whether an argument has these bits.
-fn judge_bits<S: State>(
-    facts: &Facts<'_, S>,
-    narrow: bool,
-    index: u8,
-    mask: u64,
-    datum: u64,
-) -> Judged
+fn judge_bits<K: Knowledge>(known: &K, narrow: bool, index: u8, mask: u64, datum: u64) -> Judged
     requires { index < 6 }
-    ensures { let known = S.known facts.now.state.now in IsJudged (HasBits narrow known index mask datum)
-        (LacksBits narrow known index mask datum × (HasBits narrow known index mask datum → ⊥)) result }
+    ensures { let told = K.known known.now in IsJudged (HasBits narrow told index mask datum)
+        (LacksBits narrow told index mask datum × (HasBits narrow told index mask datum → ⊥)) result }
 {
-    if has_bits(facts, narrow, index, mask, datum) {
+    if has_bits(known, narrow, index, mask, datum) {
         return Judged::Yes;
     }
-    if lacks_bits(facts, narrow, index, mask, datum) {
+    if lacks_bits(known, narrow, index, mask, datum) {
         return Judged::No;
     }
     Judged::Open
 }
 
 // Whether an argument is another number.
-fn judge_other<S: State>(facts: &Facts<'_, S>, narrow: bool, index: u8, value: u64) -> Judged
+fn judge_other<K: Knowledge>(known: &K, narrow: bool, index: u8, value: u64) -> Judged
     requires { index < 6 }
-    ensures { let known = S.known facts.now.state.now in IsJudged (LacksBits narrow known index 0xffffffffffffffff value)
-        (HasBits narrow known index 0xffffffffffffffff value × (LacksBits narrow known index 0xffffffffffffffff value → ⊥)) result }
+    ensures { let told = K.known known.now in IsJudged (LacksBits narrow told index 0xffffffffffffffff value)
+        (HasBits narrow told index 0xffffffffffffffff value × (LacksBits narrow told index 0xffffffffffffffff value → ⊥)) result }
 {
-    if lacks_bits(facts, narrow, index, u64::MAX, value) {
+    if lacks_bits(known, narrow, index, u64::MAX, value) {
         return Judged::Yes;
     }
-    if has_bits(facts, narrow, index, u64::MAX, value) {
+    if has_bits(known, narrow, index, u64::MAX, value) {
         return Judged::No;
     }
     Judged::Open
 }
 
 // The least and the greatest number that the high half of an argument may be. That of a narrow one counts as 0.
-fn ends_above<S: State>(facts: &Facts<'_, S>, narrow: bool, index: u8) -> Option<(u32, u32)>
+fn ends_above<K: Knowledge>(known: &K, narrow: bool, index: u8) -> Option<(u32, u32)>
     requires { index < 6 }
-    ensures { let known = S.known facts.now.state.now in MatchOption result
-        ((narrow ≡ false) × HasNoPoint known (5 + 2 * index))
-        (λ ends. IsRangeAbove narrow known index ends.0 ends.1) }
+    ensures { let told = K.known known.now in MatchOption result
+        ((narrow ≡ false) × HasNoPoint told (5 + 2 * index))
+        (λ ends. IsRangeAbove narrow told index ends.0 ends.1) }
 {
     if narrow {
         return Some((0, 0));
     }
-    facts.range(low_word(index) + 1)
+    known.range(low_word(index) + 1)
 }
 
 // The least and the greatest number that an argument may be.
-fn ends<S: State>(facts: &Facts<'_, S>, narrow: bool, index: u8) -> Option<(u64, u64)>
+fn ends<K: Knowledge>(known: &K, narrow: bool, index: u8) -> Option<(u64, u64)>
     requires { index < 6 }
-    ensures { let known = S.known facts.now.state.now in MatchOption result
-        (HasNoPoint known (4 + 2 * index) ⊎ ((narrow ≡ false) × HasNoPoint known (5 + 2 * index)))
-        (λ ends. AreEnds narrow known index ends.0 ends.1) }
+    ensures { let told = K.known known.now in MatchOption result
+        (HasNoPoint told (4 + 2 * index) ⊎ ((narrow ≡ false) × HasNoPoint told (5 + 2 * index)))
+        (λ ends. AreEnds narrow told index ends.0 ends.1) }
 {
-    let Some((least, greatest)) = facts.range(low_word(index)) else {
+    let Some((least, greatest)) = known.range(low_word(index)) else {
         return None;
     };
-    let Some((least_above, greatest_above)) = ends_above(facts, narrow, index) else {
+    let Some((least_above, greatest_above)) = ends_above(known, narrow, index) else {
         return None;
     };
     let low = u64::from(least) + (1 << 32) * u64::from(least_above);
@@ -147,13 +130,13 @@ fn ends<S: State>(facts: &Facts<'_, S>, narrow: bool, index: u8) -> Option<(u64,
 }
 
 // Whether a comparison by order has one answer at both ends.
-fn judge_order<S: State>(facts: &Facts<'_, S>, narrow: bool, cond: &Cond) -> Judged
+fn judge_order<K: Knowledge>(known: &K, narrow: bool, cond: &Cond) -> Judged
     requires { IsOrder cond.now.op }
-    ensures { let known = S.known facts.now.state.now in IsJudged (AtBothEnds narrow known cond.now.index cond.now.op cond.now.value true)
-        (AtBothEnds narrow known cond.now.index cond.now.op cond.now.value false
-        × (AtBothEnds narrow known cond.now.index cond.now.op cond.now.value true → ⊥)) result }
+    ensures { let told = K.known known.now in IsJudged (AtBothEnds narrow told cond.now.index cond.now.op cond.now.value true)
+        (AtBothEnds narrow told cond.now.index cond.now.op cond.now.value false
+        × (AtBothEnds narrow told cond.now.index cond.now.op cond.now.value true → ⊥)) result }
 {
-    let Some((low, high)) = ends(facts, narrow, cond.index) else {
+    let Some((low, high)) = ends(known, narrow, cond.index) else {
         return Judged::Open;
     };
     if cond.holds(low) {
@@ -169,9 +152,9 @@ fn judge_order<S: State>(facts: &Facts<'_, S>, narrow: bool, cond: &Cond) -> Jud
     }
 }
 
-/// Whether a condition is settled.
-pub(crate) fn judge_condition<S: State>(facts: &Facts<'_, S>, narrow: bool, cond: &Cond) -> Judged
-    ensures { let known = S.known facts.now.state.now in IsJudged (IsYes narrow known cond.now) (IsNo narrow known cond.now) result }
+/// Whether a condition is met, of an argument that is narrow or is not, by what is known of the record.
+pub fn judge_condition<K: Knowledge>(known: &K, narrow: bool, cond: &Cond) -> Judged
+    ensures { let told = K.known known.now in IsJudged (IsYes narrow told cond.now) (IsNo narrow told cond.now) result }
 {
     let Cond {
         index,
@@ -181,24 +164,20 @@ pub(crate) fn judge_condition<S: State>(facts: &Facts<'_, S>, narrow: bool, cond
         ..
     } = *cond;
     match op {
-        Op::Eq => judge_bits(facts, narrow, index, u64::MAX, value),
-        Op::MaskedEq => judge_bits(facts, narrow, index, value, datum),
-        Op::Ne => judge_other(facts, narrow, index, value),
-        Op::Lt | Op::Le | Op::Ge | Op::Gt => judge_order(facts, narrow, cond),
+        Op::Eq => judge_bits(known, narrow, index, u64::MAX, value),
+        Op::MaskedEq => judge_bits(known, narrow, index, value, datum),
+        Op::Ne => judge_other(known, narrow, index, value),
+        Op::Lt | Op::Le | Op::Ge | Op::Gt => judge_order(known, narrow, cond),
     }
 }
 
 /// Whether conditions are all yes, or one is no.
-pub(crate) fn judge_conditions<S: State>(
-    facts: &Facts<'_, S>,
-    narrow: bool,
-    conds: &[Cond],
-) -> Judged
-    ensures { let known = S.known facts.now.state.now in IsJudged (AreYes narrow known conds.now) (SomeIsNo narrow known conds.now) result }
+pub(crate) fn judge_conditions<K: Knowledge>(known: &K, narrow: bool, conds: &[Cond]) -> Judged
+    ensures { let told = K.known known.now in IsJudged (AreYes narrow told conds.now) (SomeIsNo narrow told conds.now) result }
 {
     let mut all_yes = true;
     for cond in conds {
-        match judge_condition(facts, narrow, cond) {
+        match judge_condition(known, narrow, cond) {
             Judged::Yes => {}
             Judged::No => return Judged::No,
             Judged::Open => all_yes = false,
@@ -208,8 +187,8 @@ pub(crate) fn judge_conditions<S: State>(
 }
 
 // Whether a condition of the rule at a place is settled, or is said to be met, which counts as yes.
-fn judge_unless_met<S: State>(
-    facts: &Facts<'_, S>,
+fn judge_unless_met<K: Knowledge>(
+    known: &K,
     mets: &Mets<'_, '_>,
     place: usize,
     own: usize,
@@ -218,18 +197,18 @@ fn judge_unless_met<S: State>(
 ) -> Judged
     requires place { place < 8192 }
     requires own { own < 6 }
-    ensures { let met = mets_of mets.now.node in let known = S.known facts.now.state.now in
-        IsJudged (IsYesOrMet narrow met known place own cond.now) (IsNoNorMet narrow met known place own cond.now) result }
+    ensures { let met = mets_of mets.now.node in let told = K.known known.now in
+        IsJudged (IsYesOrMet narrow met told place own cond.now) (IsNoNorMet narrow met told place own cond.now) result }
 {
     if mets.has(place, own) {
         return Judged::Yes;
     }
-    judge_condition(facts, narrow, cond)
+    judge_condition(known, narrow, cond)
 }
 
 /// Whether the conditions of the rule at a place, of which some are said to be met, are all yes, or one is no.
-pub(crate) fn judge_left<S: State>(
-    facts: &Facts<'_, S>,
+pub(crate) fn judge_left<K: Knowledge>(
+    known: &K,
     mets: &Mets<'_, '_>,
     place: usize,
     narrow: bool,
@@ -237,12 +216,12 @@ pub(crate) fn judge_left<S: State>(
 ) -> Judged
     requires place { place < 8192 }
     requires few { length conds.now ≤ 6 }
-    ensures { AreJudgedAt narrow (mets_of mets.now.node) (S.known facts.now.state.now) place conds.now result }
+    ensures { AreJudgedAt narrow (mets_of mets.now.node) (K.known known.now) place conds.now result }
 {
     let mut all_yes = true;
     let mut own = 0_usize;
     for cond in conds {
-        match judge_unless_met(facts, mets, place, own, narrow, cond) {
+        match judge_unless_met(known, mets, place, own, narrow, cond) {
             Judged::Yes => {}
             Judged::No => return Judged::No,
             Judged::Open => all_yes = false,

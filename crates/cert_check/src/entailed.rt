@@ -4,16 +4,18 @@ ghost use Rattle.cert_state.specs.declared.literal.AVal.{AVal as TheValue};
 ghost use Rattle.cert_state.specs.declared.literal.AVal.TheVariants.{Unknown};
 ghost use Rattle.cert_state.specs.Entailment.{Entails, IsDead};
 ghost use Rattle.cert_form.specs.declared.node.Kind.TheVariants as kind;
-ghost use Rattle.cert_form.specs.Views.{nodes_of, says};
+ghost use Rattle.cert_form.specs.Reading.{claims_in};
+ghost use Rattle.cert_form.specs.Views.{all_claims, bytes_of, certificate_of, nodes_of, says};
 ghost use Rattle.cert_check.specs.Rules.{Allows, Carries};
 ghost use Rattle.cert_check.specs.inner.Among.{AreAmong};
 ghost use Rattle.cert_check.specs.inner.Broken.{CarriesTo};
+ghost use Rattle.cert_check.specs.inner.Followed.{AllFollow, IsPlaced};
 ghost use Rattle.cert_check.specs.inner.Ways.{edge_list, edge_of};
 
-use crate::claims::{mets_follow, outs_follow};
+use crate::claims::{mets_follow, new_claims_follow, outs_follow};
 use crate::edges::{Way, Ways};
 use cert_form::{CertView, Kind, NodeView};
-use cert_state::{AVal, Facts, Lit, State, With, dead};
+use cert_state::{AVal, Facts, Knowledge, Lit, State, With, dead};
 use profile::Profile;
 
 // Whether a node may say this of a register of which that is known.
@@ -148,19 +150,20 @@ fn entails_all<S: State, T: State>(known: &With<'_, S>, there: &T) -> bool
     follow_from(known, there, at, from)
 }
 
-// Whether what is known on a way gives what its node says.
-fn carries(profile: &Profile, node: &NodeView<'_>, way: &Way, there: &NodeView<'_>) -> bool
-    ensures { IsTrue result ↔ Carries profile.now (says node.now) (edge_of way.now) (says there.now) }
+// Whether all that a node claims follows on the way to it. Mostly its new claims tell that.
+fn claims_follow(
+    profile: &Profile,
+    node: &NodeView<'_>,
+    way: &Way,
+    there: &NodeView<'_>,
+    placed: bool,
+) -> bool
+    requires same { certificate_of node.now ≡ certificate_of there.now }
+    requires placed { IsTrue placed → All (IsPlaced profile.now) (claims_in (certificate_of node.now)) }
+    ensures { IsTrue result ↔ AllFollow profile.now (says node.now) (edge_of way.now) (says there.now) }
 {
-    let regs = there.regs();
-    if !allows(regs.a, way.regs.a) {
-        return false;
-    }
-    if !allows(regs.x, way.regs.x) {
-        return false;
-    }
-    if !allows_scratch(&regs.scratch, &way.regs.scratch) {
-        return false;
+    if new_claims_follow(profile, node, way, there, placed) {
+        return true;
     }
     let known = With {
         state: node,
@@ -175,27 +178,68 @@ fn carries(profile: &Profile, node: &NodeView<'_>, way: &Way, there: &NodeView<'
     mets_follow(profile, node, way, there)
 }
 
+// Whether what is known on a way gives what its node says.
+fn carries(
+    profile: &Profile,
+    node: &NodeView<'_>,
+    way: &Way,
+    there: &NodeView<'_>,
+    placed: bool,
+) -> bool
+    requires same { certificate_of node.now ≡ certificate_of there.now }
+    requires placed { IsTrue placed → All (IsPlaced profile.now) (claims_in (certificate_of node.now)) }
+    ensures { IsTrue result ↔ Carries profile.now (says node.now) (edge_of way.now) (says there.now) }
+{
+    let regs = there.regs();
+    if !allows(regs.a, way.regs.a) {
+        return false;
+    }
+    if !allows(regs.x, way.regs.x) {
+        return false;
+    }
+    if !allows_scratch(&regs.scratch, &way.regs.scratch) {
+        return false;
+    }
+    claims_follow(profile, node, way, there, placed)
+}
+
 // Whether what is known on a way gives what the node there says.
-fn carries_to(profile: &Profile, view: &CertView<'_>, node: &NodeView<'_>, way: &Way) -> bool
-    requires { way.now.to < length (nodes_of view.now) }
+fn carries_to(
+    profile: &Profile,
+    view: &CertView<'_>,
+    node: &NodeView<'_>,
+    way: &Way,
+    placed: bool,
+) -> bool
+    requires there { way.now.to < length (nodes_of view.now) }
+    requires same { certificate_of node.now ≡ bytes_of view.now }
+    requires placed { IsTrue placed → All (IsPlaced profile.now) (all_claims view.now) }
     ensures { IsTrue result ↔ CarriesTo profile.now (nodes_of view.now) (says node.now) (edge_of way.now) }
 {
-    carries(profile, node, way, &view.node(way.to as usize))
+    carries(profile, node, way, &view.node(way.to as usize), placed)
 }
 
 // Whether each way carries what its node says.
-fn all_carry(profile: &Profile, view: &CertView<'_>, node: &NodeView<'_>, ways: &Ways) -> bool
-    requires { All (λ e. e.to < length (nodes_of view.now)) (edge_list ways.now) }
+fn all_carry(
+    profile: &Profile,
+    view: &CertView<'_>,
+    node: &NodeView<'_>,
+    ways: &Ways,
+    placed: bool,
+) -> bool
+    requires there { All (λ e. e.to < length (nodes_of view.now)) (edge_list ways.now) }
+    requires same { certificate_of node.now ≡ bytes_of view.now }
+    requires placed { IsTrue placed → All (IsPlaced profile.now) (all_claims view.now) }
     ensures { IsTrue result ↔ All (CarriesTo profile.now (nodes_of view.now) (says node.now)) (edge_list ways.now) }
 {
     match ways {
         Ways::Nowhere => true,
-        Ways::One(way) => carries_to(profile, view, node, way),
+        Ways::One(way) => carries_to(profile, view, node, way, placed),
         Ways::Two(first, second) => {
-            if !carries_to(profile, view, node, first) {
+            if !carries_to(profile, view, node, first, placed) {
                 return false;
             }
-            carries_to(profile, view, node, second)
+            carries_to(profile, view, node, second, placed)
         }
     }
 }
@@ -212,18 +256,22 @@ fn dead_is_dead(node: &NodeView<'_>) -> bool
     }
 }
 
-/// Whether each way carries what its node says, and a dead node can hold no record.
+/// Whether each way carries what its node says, and a dead node can hold no record. It is seen faster where `placed` tells
+/// that the profile has the rules, and the conditions, of all claims of the certificate.
 pub(crate) fn entail_is_kept(
     profile: &Profile,
     view: &CertView<'_>,
     node: &NodeView<'_>,
     ways: &Ways,
+    placed: bool,
 ) -> bool
-    requires { All (λ e. e.to < length (nodes_of view.now)) (edge_list ways.now) }
+    requires there { All (λ e. e.to < length (nodes_of view.now)) (edge_list ways.now) }
+    requires same { certificate_of node.now ≡ bytes_of view.now }
+    requires placed { IsTrue placed → All (IsPlaced profile.now) (all_claims view.now) }
     ensures { IsTrue result ↔ All (CarriesTo profile.now (nodes_of view.now) (says node.now)) (edge_list ways.now)
         × ((says node.now).kind ≡ kind.Dead → IsDead (says node.now).known) }
 {
-    if !all_carry(profile, view, node, ways) {
+    if !all_carry(profile, view, node, ways, placed) {
         return false;
     }
     dead_is_dead(node)

@@ -1,11 +1,12 @@
 //! Answers to questions of which too little may be known.
 use profile::Cond;
 
-/// The answer to a question that may be open.
-#[derive(Clone, Copy)]
-pub(crate) enum Judged {
+/// The answer to a question of which too little may be known.
+#[derive(Clone, Copy, Debug, PartialEq, Eq)]
+pub enum Judged {
     Yes,
     No,
+    /// Neither is known.
     Open,
 }
 

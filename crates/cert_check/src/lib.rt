@@ -2,6 +2,7 @@
 #![tactic(auto)]
 
 mod agree;
+mod answered;
 mod checked;
 mod checking;
 mod claims;
@@ -19,6 +20,8 @@ mod split;
 
 pub use checked::Checked;
 pub use checking::{check, check_accepted};
+pub use conditions::judge_condition;
 pub use fault::CheckError;
+pub use judged::Judged;
 pub use law::{stated_is_settled, valid_is_kept, valid_is_right};
 pub use settled::is_settled;

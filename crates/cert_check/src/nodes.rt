@@ -1,10 +1,12 @@
 //! Whether the root and the nodes of a certificate keep their rules.
-ghost use Rattle.std.specs.Prelude.{◌<◌, ◌^◌, MatchResult, length};
+ghost use Rattle.std.specs.Prelude.{◌<◌, ◌^◌, All, IsTrue, MatchResult, length};
 ghost use Rattle.kernel_check.specs.Lent.{accepted_insns};
-ghost use Rattle.cert_form.specs.Views.{nodes_of};
+ghost use Rattle.cert_form.specs.Views.{all_claims, nodes_of};
 ghost use Rattle.cert_check.specs.Rules.{IsValid};
 ghost use Rattle.cert_check.specs.inner.Broken.{IsFound, NodeFound};
+ghost use Rattle.cert_check.specs.inner.Followed.{IsPlaced};
 
+use crate::claims::are_placed;
 use crate::edges::{all_lead, ways_of};
 use crate::entailed::entail_is_kept;
 use crate::fault::CheckError;
@@ -15,14 +17,16 @@ use cert_form::CertView;
 use kernel_check::Accepted;
 use profile::Profile;
 
-// Whether node i keeps its rules, in their order.
+// Whether node i keeps its rules, in their order; `placed` tells that the profile has what is claimed of rules.
 fn check_node(
     profile: &Profile,
     accepted: &Accepted<'_>,
     view: &CertView<'_>,
     i: u32,
+    placed: bool,
 ) -> Result<(), CheckError>
-    requires { i < length (nodes_of view.now) }
+    requires within { i < length (nodes_of view.now) }
+    requires placed { IsTrue placed → All (IsPlaced profile.now) (all_claims view.now) }
     ensures { NodeFound profile.now (accepted_insns accepted.now) (nodes_of view.now) i result }
 {
     let node = view.node(i as usize);
@@ -38,7 +42,7 @@ fn check_node(
     if !split_is_kept(&node) {
         return Err(CheckError::Split(i));
     }
-    if !entail_is_kept(profile, view, &node, &ways) {
+    if !entail_is_kept(profile, view, &node, &ways, placed) {
         return Err(CheckError::Entail(i));
     }
     if !return_is_kept(profile, &insn, &node) {
@@ -62,8 +66,9 @@ pub(crate) fn check_nodes(
     if !root_is_kept(view) {
         return Err(CheckError::Root);
     }
+    let placed = are_placed(profile, view);
     for i in 0..view.len() {
-        check_node(profile, accepted, view, i as u32)?;
+        check_node(profile, accepted, view, i as u32, placed)?;
     }
     Ok(())
 }

@@ -16,4 +16,5 @@ pub mod ListedLaws
 pub mod ListedAgain
 pub mod SpellingLaws
 pub mod ViewLaws
+pub mod NumberLaws
 pub mod WriteLaws

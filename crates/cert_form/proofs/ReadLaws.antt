@@ -2,7 +2,9 @@
 use Rattle.std.proofs.Common.{◌≡◌, ℕ, zero, suc, ◌+◌, ◌-◌, ◌*◌, ◌/◌, ◌%◌, ◌<◌, ◌≤◌, Bool, true, false, cond, eqb, List, [], ◌∷◌, ◌++◌}
 use Rattle.std.proofs.Common.{length, reverse, take, slice_set, refl, ap, sym, ◌∙◌, subst, arith}
 use Rattle.std.specs.Prelude.{◌≢◌, Some, slice_get, nat_le}
-use Rattle.std.proofs.lemmas.Bool.{ne_eqb}
+use Rattle.std.specs.Prelude.{◌⊎◌}
+use Rattle.std.proofs.Common.{inl, inr}
+use Rattle.std.proofs.lemmas.Bool.{cases_eq, ne_eqb}
 use Rattle.std.proofs.lemmas.Option.{slice_get-get_or}
 use Rattle.std.proofs.lemmas.List.{take_more_set, take_all, append_assoc, append-nil}
 use Rattle.std.proofs.lemmas.List.FromFn.{length-map-range_with_len, get_or-map-range_with_len}
@@ -13,7 +15,9 @@ use Rattle.cert_form.specs.declared.node.Claim.TheVariants.{Knows, Out, Met}
 use Rattle.cert_form.specs.Nodes.{literals_in, outs_in, mets_in, on_chain_back, on_chain, said, PlainNode}
 use Rattle.cert_form.specs.Reading.{short_at, place_of, nodes_in, version_of, node_count, chain_count, chain_place, own_count, own_end}
 use Rattle.cert_form.specs.Reading.{literals_to, parent_at, ones, entries_before, entries_of, claim_at, value_at, node_at, scratch_from}
-use Rattle.cert_form.specs.Reading.{long_at, listed_node, chain_node_at, literals_left, outs_left, mets_left}
+use Rattle.cert_form.specs.Reading.{long_at, listed_node, chain_node_at, literals_left, outs_left, mets_left, claims_left}
+use Rattle.cert_form.specs.declared.lent.NodeView.{NodeView}
+use Rattle.cert_form.specs.Views.{AreLast, claims_of, says}
 use Rattle.cert_form.proofs.ChainLaws.{none_at_zero, none_past, count, chain_goes_on, last_first}
 use Rattle.cert_form.proofs.ClaimLaws.{in_other_form}
 use Rattle.std.specs.List.{AllByRecursion}
@@ -177,3 +181,54 @@ mets_are bytes place form = rw form refl
 pub no_mets : (bytes : List ℕ) (place : ℕ) → version_of bytes ≢ 4 → mets_left bytes place ≡ []
 unfolding mets_left
 no_mets bytes place form = rw (ne_eqb (version_of bytes) 4 form) refl
+
+-- ---- what a chain states, in form 4
+
+pub last_of : (some more all : List Claim) → AreLast some more → AreLast more all → AreLast some all
+last_of some more all a b = (b.0 ++ a.0, append_assoc b.0 a.0 some ∙ (ap (λ cs. b.0 ++ cs) a.1 ∙ b.1))
+
+pub claims_are : (bytes : List ℕ) (place : ℕ) → version_of bytes ≡ 4 → claims_left bytes place ≡ on_chain (entries_of bytes) place
+unfolding claims_left
+claims_are bytes place form = rw form refl
+
+pub no_claims : (bytes : List ℕ) (place : ℕ) → version_of bytes ≢ 4 → claims_left bytes place ≡ []
+unfolding claims_left
+no_claims bytes place form = rw (ne_eqb (version_of bytes) 4 form) refl
+
+pub known_is : (bytes : List ℕ) (at : ℕ) → version_of bytes ≡ 4
+    → (node_at bytes at).known ≡ literals_in (on_chain (entries_of bytes) (long_at bytes (chain_place bytes at)))
+unfolding node_at
+known_is bytes at form = rw form refl
+
+pub sharp_is : (bytes : List ℕ) (at : ℕ) → version_of bytes ≢ 4 → (node_at bytes at).sharp ≡ false
+unfolding node_at
+sharp_is bytes at form = by_form (eqb (version_of bytes) 1) where
+  by_form : (b : Bool)
+      → (cond b (listed_node bytes at) (said (version_of bytes) (entries_of bytes) (chain_node_at bytes at))).sharp ≡ false
+  by_form true = refl
+  by_form false = ne_eqb (version_of bytes) 4 form
+
+-- what a node's chain states is what the node says: of its literals in form 4 alone
+form_4_or_not : (bytes : List ℕ) → (version_of bytes ≡ 4) ⊎ (version_of bytes ≢ 4)
+form_4_or_not bytes = cases_eq (version_of bytes) 4
+
+pub known_claimed : (node : NodeView) → (says node).sharp ≡ true → literals_in (claims_of node) ≡ (says node).known
+unfolding says claims_of
+known_claimed node sharp = elim (form_4_or_not node.bytes.now) [
+  | inl four ↦ ap literals_in (claims_are node.bytes.now _ four) ∙ sym (known_is node.bytes.now node.at four)
+  | inr other ↦ absurd (let e : true ≡ false = sym sharp ∙ sharp_is node.bytes.now node.at other in cc)
+]
+
+pub outs_claimed : (node : NodeView) → outs_in (claims_of node) ≡ (says node).out
+unfolding says claims_of
+outs_claimed node = elim (form_4_or_not node.bytes.now) [
+  | inl four ↦ ap outs_in (claims_are node.bytes.now _ four) ∙ sym (outs_of node.bytes.now node.at four)
+  | inr other ↦ ap outs_in (no_claims node.bytes.now _ other) ∙ sym (none_out node.bytes.now node.at other)
+]
+
+pub mets_claimed : (node : NodeView) → mets_in (claims_of node) ≡ (says node).met
+unfolding says claims_of
+mets_claimed node = elim (form_4_or_not node.bytes.now) [
+  | inl four ↦ ap mets_in (claims_are node.bytes.now _ four) ∙ sym (mets_of node.bytes.now node.at four)
+  | inr other ↦ ap mets_in (no_claims node.bytes.now _ other) ∙ sym (none_met node.bytes.now node.at other)
+]

@@ -14,7 +14,7 @@ use Rattle.cert_form.specs.declared.node.Claim.TheVariants.{Knows, Out, Met}
 use Rattle.cert_form.specs.declared.node.Kind.{Kind}
 use Rattle.cert_form.specs.declared.node.Kind.TheVariants.{Step, Split, Return, Dead}
 use Rattle.cert_form.specs.declared.node.ChainNode.{ChainNode}
-use Rattle.cert_form.specs.Nodes.{PlainNode, said, on_chain, literals_in, outs_in, mets_in}
+use Rattle.cert_form.specs.Nodes.{PlainNode, said, on_chain, numbers_on, literals_in, outs_in, mets_in}
 use Rattle.cert_form.specs.Spelling.{nothing_stated}
 
 -- the numbers of four bytes and of two
@@ -169,3 +169,18 @@ outs_left bytes place = if version_of bytes == 4 then outs_in (on_chain (entries
 
 unfoldable pub mets_left : List ℕ → ℕ → List (ℕ × ℕ)
 mets_left bytes place = if version_of bytes == 4 then mets_in (on_chain (entries_of bytes) place) else []
+
+-- what a chain states from the entry of a place on, and the numbers of these entries, in form 4; of the other forms
+-- nothing is asked so
+unfoldable pub claims_left : List ℕ → ℕ → List Claim
+claims_left bytes place = if version_of bytes == 4 then on_chain (entries_of bytes) place else []
+
+unfoldable pub numbers_left : List ℕ → ℕ → List ℕ
+numbers_left bytes place = if version_of bytes == 4 then numbers_on (entries_of bytes) place else []
+
+-- what all entries state, in form 4
+abbrev pub claim_of : List ℕ → ℕ → Claim
+claim_of bytes j = claim_at bytes (16 + 14 * j + 4)
+
+unfoldable pub claims_in : List ℕ → List Claim
+claims_in bytes = if version_of bytes == 4 then map (claim_of bytes) (range_with_len 0 (chain_count bytes)) else []

@@ -1,18 +1,21 @@
 //! What the entries of a chain state, one after another.
-ghost use Rattle.std.specs.Prelude.{◌≡◌, ◌≢◌, ◌<◌, ◌≤◌, ◌∷◌, [], IfSome, MatchOption};
-ghost use Rattle.cert_form.specs.Nodes.{literals_in, mets_in, outs_in, on_chain};
+ghost use Rattle.std.specs.Prelude.{◌≡◌, ◌≢◌, ◌↔◌, ◌<◌, ◌≤◌, ◌∷◌, [], ℕ, Contains, IfSome, MatchOption};
+ghost use Rattle.cert_form.specs.Nodes.{literals_in, mets_in, numbers_on, outs_in, on_chain};
 ghost use Rattle.cert_form.specs.Reading.{entries_of, version_of};
+ghost use Rattle.cert_form.specs.Views.{AreLast};
 ghost use Rattle.cert_form.specs.inner.Places.{IsHeadThere};
 
 use crate::node::Claim;
 use crate::part::{read_claim, read_long};
 use cert_state::Lit;
 
-// What the entry of a number states, with the number of the next one. There is no entry 0, and none above all.
-fn next_claim(bytes: &[u8], at: usize) -> Option<(Claim, usize)>
+/// What the entry of a number states, with the number of the next one. There is no entry 0, and none above all.
+pub(crate) fn next_claim(bytes: &[u8], at: usize) -> Option<(Claim, usize)>
     requires head { IsHeadThere bytes.now }
     requires form { version_of bytes.now ≢ 1 }
     ensures more { let es = entries_of bytes.now in MatchOption result (on_chain es at ≡ []) (λ p. on_chain es at ≡ p.0 ∷ on_chain es p.1) }
+    ensures numbers { let es = entries_of bytes.now in MatchOption result (numbers_on es at ≡ [])
+        (λ p. numbers_on es at ≡ at ∷ numbers_on es p.1) }
     ensures earlier { IfSome result (λ p. p.1 < at) }
     ensures bound { IfSome result (λ p. p.1 ≤ 0xffffffff) }
 {
@@ -77,4 +80,41 @@ pub(crate) fn next_met(bytes: &[u8], at: usize) -> Option<((u32, u32), usize)>
         entry = next;
     }
     None
+}
+
+// The number of the entry after one, or 0.
+fn after(bytes: &[u8], at: usize) -> usize
+    requires head { IsHeadThere bytes.now }
+    requires form { version_of bytes.now ≢ 1 }
+    requires some { 0 < at }
+    ensures last { let es = entries_of bytes.now in AreLast (on_chain es result) (on_chain es at) }
+    ensures others { let es = entries_of bytes.now in (n : ℕ) → Contains (numbers_on es result) n
+        ↔ (Contains (numbers_on es at) n × (n ≢ at)) }
+    ensures earlier { result < at }
+{
+    match next_claim(bytes, at) {
+        Some((_, next)) => next,
+        None => 0,
+    }
+}
+
+/// Where two chains meet: the number of the first entry that both have, or 0.
+pub(crate) fn meeting(bytes: &[u8], first: usize, second: usize) -> usize
+    requires head { IsHeadThere bytes.now }
+    requires form { version_of bytes.now ≢ 1 }
+    ensures first { let es = entries_of bytes.now in AreLast (on_chain es result) (on_chain es first) }
+    ensures second { let es = entries_of bytes.now in AreLast (on_chain es result) (on_chain es second) }
+    ensures shared { let es = entries_of bytes.now in (n : ℕ) → Contains (numbers_on es result) n
+        ↔ (Contains (numbers_on es first) n × Contains (numbers_on es second) n) }
+{
+    let mut one = first;
+    let mut other = second;
+    while one != other {
+        if one > other {
+            one = after(bytes, one);
+        } else {
+            other = after(bytes, other);
+        }
+    }
+    one
 }

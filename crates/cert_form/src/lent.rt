@@ -1,8 +1,8 @@
 //! A node where it lies in the bytes of its certificate.
 ghost use Rattle.cert_form.specs.inner.Places.{IsHeadThere, IsNodeThere};
 
-use crate::chain::{next_literal, next_met, next_out};
-use crate::node::Kind;
+use crate::chain::{meeting, next_claim, next_literal, next_met, next_out};
+use crate::node::{Claim, Kind};
 use crate::part::{
     chain_place_of, read_kind, read_literal, read_long, read_short, read_value, scratch_of,
 };
@@ -17,10 +17,11 @@ pub struct NodeView<'a> {
     ghost there: { IsNodeThere bytes.now at },
 }
 
-#[tactic(auto, unfolding(crate::specs::Views::says, crate::specs::Views::outs_from, crate::specs::Views::mets_from, crate::specs::Reading::node_at, crate::specs::Reading::outs_left, crate::specs::Reading::mets_left))]
+#[tactic(auto, unfolding(crate::specs::Views::says, crate::specs::Views::outs_from, crate::specs::Views::mets_from, crate::specs::Reading::node_at, crate::specs::Reading::outs_left, crate::specs::Reading::mets_left, crate::specs::Reading::claims_left, crate::specs::Views::certificate_of))]
 impl<'a> NodeView<'a> {
-    ghost use Rattle.std.specs.Prelude.{◌≡◌, ◌∷◌, [], MatchOption};
-    ghost use Rattle.cert_form.specs.Views.{mets_from, outs_from, says};
+    ghost use Rattle.std.specs.Prelude.{◌≡◌, ◌↔◌, ◌∷◌, [], ℕ, Contains, IsTrue, MatchOption};
+    ghost use Rattle.cert_form.specs.Nodes.{literals_in, mets_in, outs_in};
+    ghost use Rattle.cert_form.specs.Views.{AreLast, certificate_of, claims_from, claims_of, mets_from, numbers_from, numbers_of, outs_from, says};
 
     /// What the node does.
     pub fn kind(&self) -> Kind
@@ -90,6 +91,45 @@ impl<'a> NodeView<'a> {
             return None;
         }
         next_met(self.bytes, at)
+    }
+
+    /// The place of its chain from which all is left that it states. By it the forms before form 4 state nothing.
+    pub fn chain(&self) -> usize
+        ensures claims { claims_from self.now result ≡ claims_of self.now }
+        ensures numbers { numbers_from self.now result ≡ numbers_of self.now }
+        ensures known { IsTrue (says self.now).sharp → literals_in (claims_of self.now) ≡ (says self.now).known }
+        ensures out { outs_in (claims_of self.now) ≡ (says self.now).out }
+        ensures met { mets_in (claims_of self.now) ≡ (says self.now).met }
+    {
+        if read_long(self.bytes, 4) != 4 {
+            return 0;
+        }
+        let place = chain_place_of(self.bytes, self.at);
+        read_long(self.bytes, place) as usize
+    }
+
+    /// The first claim that is left from a place on, with the place of the next one.
+    pub fn next_claim(&self, at: usize) -> Option<(Claim, usize)>
+        ensures { MatchOption result (claims_from self.now at ≡ []) (λ p. claims_from self.now at ≡ p.0 ∷ claims_from self.now p.1) }
+    {
+        if read_long(self.bytes, 4) != 4 {
+            return None;
+        }
+        next_claim(self.bytes, at)
+    }
+
+    /// The place where the chain of another node of the same certificate meets this one's: from there on they are one, and
+    /// above it they share no entry.
+    pub fn meeting(&self, other: &NodeView<'_>) -> usize
+        ensures here { AreLast (claims_from self.now result) (claims_of self.now) }
+        ensures there { certificate_of self.now ≡ certificate_of other.now → AreLast (claims_from self.now result) (claims_of other.now) }
+        ensures shared { certificate_of self.now ≡ certificate_of other.now → (n : ℕ) → Contains (numbers_from self.now result) n
+            ↔ (Contains (numbers_of self.now) n × Contains (numbers_of other.now) n) }
+    {
+        if read_long(self.bytes, 4) != 4 {
+            return 0;
+        }
+        meeting(self.bytes, self.chain(), other.chain())
     }
 }
 

@@ -3,12 +3,13 @@ ghost use Rattle.std.specs.Prelude.{◌≡◌, ◌≢◌, ◌<◌, OnOk, IfErr};
 ghost use Rattle.cert_form.specs.Faults.{Faulty, IsOtherVersion, IsToldFirst};
 ghost use Rattle.cert_form.specs.inner.Standing.{IsTopOfFile};
 ghost use Rattle.cert_form.specs.inner.Places.{AreNodesThere, IsHeadThere};
-ghost use Rattle.cert_form.specs.Reading.{node_count, place_of};
+ghost use Rattle.cert_form.specs.Reading.{chain_count, claim_of, node_count, place_of, version_of};
 
 use crate::fault::FormError;
 use crate::lent::NodeView;
 use crate::limits::{MAX_BYTES, MAX_NODES};
-use crate::part::read_long;
+use crate::node::Claim;
+use crate::part::{read_claim, read_long};
 use crate::{chained, listed};
 use std::alloc::Global;
 
@@ -27,7 +28,7 @@ impl<'a> CertView<'a> {
     ghost use Rattle.cert_form.specs.Faults.{Faulty, IsOtherVersion, IsToldFirst};
     ghost use Rattle.cert_form.specs.Nodes.{PlainNode};
     ghost use Rattle.cert_form.specs.Spelling.{Spells};
-    ghost use Rattle.cert_form.specs.Views.{nodes_of, says};
+    ghost use Rattle.cert_form.specs.Views.{all_claims, bytes_of, certificate_of, nodes_of, says};
 
     /// The nodes that the bytes spell, in any of the four forms. Memory is asked for in form 1 alone.
     pub fn read(alloc: Global, bytes: &'a [u8]) -> Result<CertView<'a>, FormError>
@@ -60,10 +61,29 @@ impl<'a> CertView<'a> {
         read_long(self.bytes, 8) as usize
     }
 
+    /// How many entries its chains have. They are counted in form 4 alone, the other forms have none here.
+    pub fn claim_count(&self) -> usize
+        ensures { result ≡ length (all_claims self.now) }
+    {
+        if read_long(self.bytes, 4) != 4 {
+            return 0;
+        }
+        read_long(self.bytes, 12) as usize
+    }
+
+    /// What the entry of a number states, counted from 0, whatever chains it is on.
+    pub fn claim(&self, i: usize) -> Claim
+        requires { i < length (all_claims self.now) }
+        ensures { slice_get (all_claims self.now) i ≡ Some result }
+    {
+        entry(self.bytes, i)
+    }
+
     /// The node of a number, counted from 0.
     pub fn node(&self, i: usize) -> NodeView<'a>
         requires { i < length (nodes_of self.now) }
-        ensures { slice_get (nodes_of self.now) i ≡ Some (says result) }
+        ensures node { slice_get (nodes_of self.now) i ≡ Some (says result) }
+        ensures same { certificate_of result ≡ bytes_of self.now }
     {
         NodeView {
             bytes: self.bytes,
@@ -99,6 +119,16 @@ fn judge_head(bytes: &[u8]) -> Result<(), FormError>
         return Err(FormError::BadCount);
     }
     Ok(())
+}
+
+// What the entry of a number states, counted from 0.
+fn entry(bytes: &[u8], i: usize) -> Claim
+    requires head { IsHeadThere bytes.now }
+    requires form { version_of bytes.now ≡ 4 }
+    requires within { i < chain_count bytes.now }
+    ensures { result ≡ claim_of bytes.now i }
+{
+    read_claim(bytes, 16 + 14 * i + 4)
 }
 
 // Where the node of a number stands.

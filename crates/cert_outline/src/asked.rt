@@ -91,6 +91,7 @@ impl AskedCall {
     ) -> Result<Left, AllocError> {
         let mut rules = Vec::new(alloc);
         if let Some(own) = self.parts.get(part) {
+            rules.reserve(own.len())?;
             for rule in own {
                 rules.push(LeftRule {
                     rule: *rule,

@@ -4,9 +4,9 @@
 //! compared, and the high one counts as 0.
 ghost use Rattle.std.specs.Prelude.{◌<◌};
 
-use crate::words::Words;
+use crate::words::{Told, Words};
 use cert_parts::{Cut, cut_below, cut_of_bits, listed};
-use cert_state::{Lit, range};
+use cert_state::{Knowledge, Lit};
 use profile::{Cond, Op};
 
 /// The word of the low half of a condition's argument; that of the high half is the next one.
@@ -36,14 +36,19 @@ pub(crate) fn bits_of(cond: &Cond, is_high: bool) -> (u32, u32) {
 }
 
 // Whether bits of a word are a datum, if that is known.
-fn answer_to_bits(known: &Words, word: u8, mask: u32, datum: u32) -> Option<bool> {
+fn answer_to_bits<K: Knowledge>(
+    known: &Told<'_, K>,
+    word: u8,
+    mask: u32,
+    datum: u32,
+) -> Option<bool> {
     if known.entail(Lit::NotBits(word, mask, datum)) {
         return Some(false);
     }
     if mask == 0 || known.entail(Lit::Bits(word, mask, datum)) {
         return Some(true);
     }
-    for literal in &known.masked {
+    for literal in &known.words.masked {
         if let Lit::Bits(of, under, another) = *literal
             && of == word
             && under == mask
@@ -81,7 +86,11 @@ impl Answer {
 }
 
 // Whether bits of the high half of the condition's argument are those of which it asks, if that is known.
-fn answer_to_high_bits(known: &Words, narrow: bool, cond: &Cond) -> Option<bool> {
+fn answer_to_high_bits<K: Knowledge>(
+    known: &Told<'_, K>,
+    narrow: bool,
+    cond: &Cond,
+) -> Option<bool> {
     let (mask, datum) = bits_of(cond, true);
     if narrow {
         return Some(datum == 0);
@@ -90,7 +99,7 @@ fn answer_to_high_bits(known: &Words, narrow: bool, cond: &Cond) -> Option<bool>
 }
 
 /// Whether the argument has the bits of which the condition asks.
-pub(crate) fn by_bits(known: &Words, narrow: bool, cond: &Cond) -> Answer {
+pub(crate) fn by_bits<K: Knowledge>(known: &Told<'_, K>, narrow: bool, cond: &Cond) -> Answer {
     let (mask, datum) = bits_of(cond, false);
     let low_half = answer_to_bits(known, low_word(cond), mask, datum);
     let high_half = answer_to_high_bits(known, narrow, cond);
@@ -120,8 +129,10 @@ fn is_equality(cond: &Cond) -> bool {
 }
 
 // Whether a word is at least a number, if that is known.
-fn is_at_least(known: &Words, word: u8, number: u32) -> Option<bool> {
-    let (low, high) = range(&listed(&known.whole), word)?;
+fn is_at_least<K: Knowledge>(known: &Told<'_, K>, word: u8, number: u32) -> Option<bool>
+    requires { word < 16 }
+{
+    let (low, high) = known.whole.range(word)?;
     if low >= number {
         return Some(true);
     }
@@ -141,7 +152,9 @@ fn by_no_high(number: u64) -> Answer {
 }
 
 // By the high half, whether the argument is at least a number.
-fn by_high_order(known: &Words, narrow: bool, word: u8, number: u64) -> Answer {
+fn by_high_order<K: Knowledge>(known: &Told<'_, K>, narrow: bool, word: u8, number: u64) -> Answer
+    requires { word < 16 }
+{
     if narrow {
         return by_no_high(number);
     }
@@ -152,7 +165,7 @@ fn by_high_order(known: &Words, narrow: bool, word: u8, number: u64) -> Answer {
             None => Answer::Open,
         };
     }
-    match range(&listed(&known.whole), word) {
+    match known.whole.range(word) {
         Some((least, _)) if least > high => Answer::Yes,
         Some((_, greatest)) if greatest < high => Answer::No,
         Some((least, greatest)) if least == greatest => Answer::Low,
@@ -161,7 +174,7 @@ fn by_high_order(known: &Words, narrow: bool, word: u8, number: u64) -> Answer {
 }
 
 /// By the high half of its argument, whether a condition holds that asks for no bits under a mask.
-pub(crate) fn by_high(known: &Words, narrow: bool, cond: &Cond) -> Answer {
+pub(crate) fn by_high<K: Knowledge>(known: &Told<'_, K>, narrow: bool, cond: &Cond) -> Answer {
     let word = low_word(cond) + 1;
     let outcome = outcome_of(cond);
     if is_equality(cond) {
@@ -178,7 +191,7 @@ pub(crate) fn by_high(known: &Words, narrow: bool, cond: &Cond) -> Answer {
 }
 
 /// The same by the low half, where the high one is the one that is asked for.
-pub(crate) fn by_low(known: &Words, cond: &Cond) -> Answer {
+pub(crate) fn by_low<K: Knowledge>(known: &Told<'_, K>, cond: &Cond) -> Answer {
     let word = low_word(cond);
     let number = halves(least_of(cond).unwrap_or(cond.value)).1;
     let is = if is_equality(cond) {
@@ -193,7 +206,7 @@ pub(crate) fn by_low(known: &Words, cond: &Cond) -> Answer {
 }
 
 /// By all that is known, whether a condition holds.
-pub(crate) fn by_all(known: &Words, narrow: bool, cond: &Cond) -> Answer {
+pub(crate) fn by_all<K: Knowledge>(known: &Told<'_, K>, narrow: bool, cond: &Cond) -> Answer {
     if cond.op == Op::MaskedEq {
         return by_bits(known, narrow, cond);
     }
@@ -226,7 +239,8 @@ pub(crate) fn beside(known: &Words, word: u8, number: u32) -> Option<Cut> {
 
 /// A word has these bits, or has them not.
 pub(crate) fn told_apart(known: &Words, word: u8, mask: u32, datum: u32) -> Option<Cut> {
-    if answer_to_bits(known, word, mask, datum).is_some() {
+    let whole = listed(&known.whole);
+    if answer_to_bits(&known.told(&whole), word, mask, datum).is_some() {
         return None;
     }
     if_open(known, cut_of_bits(word, mask, datum))

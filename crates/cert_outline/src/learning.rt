@@ -6,10 +6,14 @@ use crate::fault::OutlineError;
 use crate::maker::Maker;
 use crate::numbers::NUMBER;
 use crate::spot::{Spot, Which};
-use crate::words::Words;
-use cert_state::Lit;
+use crate::words::{Told, Words};
+use cert_parts::listed;
+use cert_state::{Facts, Knowledge, Lit};
 use profile::{Cond, Op, Rule};
 use std::alloc::{AllocError, Global};
+
+// From how many rules on what is known is gathered before they are asked.
+const MANY: usize = 6;
 
 // The bit of a condition, by its place among those of its rule.
 fn bit_of(place: usize) -> u32 {
@@ -23,7 +27,13 @@ fn all_bits(rule: &Rule) -> u32 {
 
 // What is known of a condition now that something was learned of a word: by the half that decides, if it is of this one. A high
 // half that is not compared is not learned of, so that what it settles is settled by any word.
-fn answer_of(known: &Words, narrow: bool, cond: &Cond, is_low: bool, word: u8) -> Answer {
+fn answer_of<K: Knowledge>(
+    known: &Told<'_, K>,
+    narrow: bool,
+    cond: &Cond,
+    is_low: bool,
+    word: u8,
+) -> Answer {
     let low = low_word(cond);
     if narrow {
         return by_all(known, true, cond);
@@ -63,7 +73,12 @@ fn answered(left: LeftRule, place: usize, answer: Answer) -> Option<LeftRule> {
 }
 
 // What is left of a rule, if it may still hold, now that something was learned of a word.
-fn still_left(known: &Words, rule: &Rule, left: LeftRule, word: u8) -> Option<LeftRule> {
+fn still_left<K: Knowledge>(
+    known: &Told<'_, K>,
+    rule: &Rule,
+    left: LeftRule,
+    word: u8,
+) -> Option<LeftRule> {
     let mut left = left;
     for (place, cond) in rule.conds.iter().enumerate() {
         if left.met & bit_of(place) == 0 {
@@ -76,7 +91,7 @@ fn still_left(known: &Words, rule: &Rule, left: LeftRule, word: u8) -> Option<Le
 }
 
 // The same, where all that is known was learned before.
-fn left_by_all(known: &Words, rule: &Rule, left: LeftRule) -> Option<LeftRule> {
+fn left_by_all<K: Knowledge>(known: &Told<'_, K>, rule: &Rule, left: LeftRule) -> Option<LeftRule> {
     let mut left = left;
     for cond in rule.conds.iter() {
         left = still_left(known, rule, left, low_word(cond) + 1)?;
@@ -127,9 +142,23 @@ impl<'a> Maker<'a> {
         self.profile.rules().get(place as usize)
     }
 
-    // The rules of a list that may still hold, now that something was learned of a word.
+    // The rules of a list that may still hold, now that something was learned of a word. Many rules are asked of what is
+    // gathered once.
     fn rules_left(&self, known: &Words, left: &Left, word: u8) -> Result<Left, AllocError> {
-        let mut rules = Vec::new(self.alloc);
+        let whole = listed(&known.whole);
+        if left.rules.len() < MANY {
+            return self.rules_left_by(&known.told(&whole), left, word);
+        }
+        self.rules_left_by(&known.told(&Facts::of(&whole)), left, word)
+    }
+
+    fn rules_left_by<K: Knowledge>(
+        &self,
+        known: &Told<'_, K>,
+        left: &Left,
+        word: u8,
+    ) -> Result<Left, AllocError> {
+        let mut rules = Vec::with_capacity(self.alloc, left.rules.len())?;
         for own in &left.rules {
             let Some(rule) = self.rule(own.rule) else {
                 continue;

@@ -3,10 +3,10 @@
 use crate::conditions::{Answer, below, beside, by_all, told_apart};
 use crate::maker::Maker;
 use crate::spot::Which;
-use crate::words::Words;
+use crate::words::{Told, Words};
 use call_tables::Arch;
 use cert_parts::{Cut, listed};
-use cert_state::{Facts, Listed, Lit, range};
+use cert_state::{Facts, Knowledge, Listed, Lit, range};
 use profile::{Rule, foreign_numbers};
 use std::alloc::AllocError;
 
@@ -63,7 +63,7 @@ impl<'a> Maker<'a> {
     }
 
     // Whether a rule may hold of a call whose number is not known, by what is known of arguments.
-    fn may_hold(&self, arguments: &Words, rule: &Rule) -> bool {
+    fn may_hold<K: Knowledge>(&self, arguments: &Told<'_, K>, rule: &Rule) -> bool {
         for cond in rule.conds.iter() {
             if by_all(arguments, rule.is_narrow(), cond) == Answer::No {
                 return false;
@@ -73,10 +73,10 @@ impl<'a> Maker<'a> {
     }
 
     // Whether the number of a rule has to be told apart where a return gives a verdict.
-    fn is_told(
+    fn is_told<K: Knowledge>(
         &self,
         known: &Facts<'_, Listed<'_>>,
-        arguments: &Words,
+        arguments: &Told<'_, K>,
         rule: &Rule,
         token: u32,
         verdict: u32,
@@ -103,13 +103,16 @@ impl<'a> Maker<'a> {
     ) -> Result<Vec<u32>, AllocError> {
         let state = listed(&known.whole);
         let facts = Facts::of(&state);
+        let whole = listed(&arguments.whole);
+        let of_arguments = Facts::of(&whole);
+        let arguments = arguments.told(&of_arguments);
         let mut numbers = Vec::new(self.alloc);
         let Some((least, greatest)) = facts.range(NUMBER) else {
             return Ok(numbers);
         };
         for rule in self.profile.rules() {
             let is_possible = least <= rule.nr && rule.nr <= greatest;
-            if is_possible && self.is_told(&facts, arguments, rule, token, verdict) {
+            if is_possible && self.is_told(&facts, &arguments, rule, token, verdict) {
                 numbers.push(rule.nr)?;
             }
         }

@@ -14,7 +14,7 @@ const RULES: usize = 8192;
 impl Stated {
     // The rules that are out.
     fn outs(&self, alloc: Global) -> Result<Vec<u32>, AllocError> {
-        let mut outs = Vec::new(alloc);
+        let mut outs = Vec::with_capacity(alloc, self.rules.len())?;
         for (rule, is_out) in &self.rules {
             if *is_out {
                 outs.push(*rule)?;
@@ -25,7 +25,10 @@ impl Stated {
 
     // All claims, with the rules that are out in an order.
     fn with(&self, alloc: Global, outs: &[u32]) -> Result<Vec<Claim>, AllocError> {
-        let mut claims = Vec::from_slice(alloc, &self.call.items)?;
+        let count = self.call.items.len().saturating_add(outs.len());
+        let count = count.saturating_add(self.others.items.len());
+        let mut claims = Vec::with_capacity(alloc, count)?;
+        claims.extend_from_slice(&self.call.items)?;
         for rule in outs {
             claims.push(Claim::Out(*rule))?;
         }
@@ -40,7 +43,7 @@ impl Stated {
         outs: &[u32],
         before: &[u32],
     ) -> Result<Vec<Claim>, AllocError> {
-        let mut sorted = Vec::new(alloc);
+        let mut sorted = Vec::with_capacity(alloc, outs.len())?;
         add_marked(&mut sorted, before, &marks_of(alloc, outs)?, true)?;
         add_marked(&mut sorted, outs, &marks_of(alloc, before)?, false)?;
         self.with(alloc, &sorted)
@@ -55,7 +58,7 @@ impl Stated {
     // The rules that are out: halves of all, and halves of halves, that are out as wholes, the greatest first.
     fn by_halves(&self, alloc: Global) -> Result<Vec<u32>, AllocError> {
         let mut halves = Vec::new(alloc);
-        let mut sorted = Vec::new(alloc);
+        let mut sorted = Vec::with_capacity(alloc, self.rules.len())?;
         halves.push((0, self.rules.len()))?;
         for next in 0..self.rules.len().saturating_mul(2) {
             let Some(half) = halves.get(next).copied() else {
@@ -100,9 +103,14 @@ impl Stated {
         if outs.len() < 2 {
             return self.with(alloc, &outs);
         }
-        let one = self.as_before(alloc, &outs, &chains.outs(alloc, before)?)?;
+        let before = chains.outs(alloc, before)?;
+        let one = self.as_before(alloc, &outs, &before)?;
+        let shared = chains.shared(&one);
+        if shared >= self.call.items.len().saturating_add(before.len()) {
+            return Ok(one);
+        }
         let other = self.in_halves(alloc)?;
-        if chains.shared(&one) >= chains.shared(&other) {
+        if shared >= chains.shared(&other) {
             return Ok(one);
         }
         Ok(other)

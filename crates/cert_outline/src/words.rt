@@ -1,7 +1,7 @@
 //! What is known of some words of a record, as literals.
 
 use cert_parts::{Item, listed, mixed};
-use cert_state::{Lit, dead, entails, range};
+use cert_state::{Knowledge, Lit, dead, range};
 use std::alloc::{AllocError, Global};
 
 /// Literals of whole words, word by word, and of bits under masks. What is known of bits under one mask is not looked at for those
@@ -12,6 +12,28 @@ pub(crate) struct Words {
     pub(crate) masked: Vec<Lit>,
     /// Whether they can not all be true.
     pub(crate) are_dead: bool,
+}
+
+/// What is known of some words, and what is asked of their literals of whole words.
+#[derive(Drop)]
+pub(crate) struct Told<'a, K: Knowledge> {
+    pub(crate) words: &'a Words,
+    pub(crate) whole: &'a K,
+}
+
+impl<K: Knowledge> Told<'_, K> {
+    /// Whether a literal is known, by those of the same bits.
+    pub(crate) fn entail(&self, literal: Lit) -> bool {
+        if is_whole(literal) {
+            return self.whole.entails(&literal);
+        }
+        for other in &self.words.masked {
+            if are_of_same_bits(*other, literal) && follows(*other, literal) {
+                return true;
+            }
+        }
+        false
+    }
 }
 
 // Whether a literal speaks of its whole word.
@@ -80,28 +102,27 @@ impl Words {
         }
     }
 
+    /// The same, with what its whole words are asked of.
+    pub(crate) fn told<'a, K: Knowledge>(&'a self, whole: &'a K) -> Told<'a, K> {
+        Told { words: self, whole }
+    }
+
     /// Whether a literal is known, by those of the same bits.
     pub(crate) fn entail(&self, literal: Lit) -> bool {
-        if is_whole(literal) {
-            return entails(&listed(&self.whole), &literal);
-        }
-        for other in &self.masked {
-            if are_of_same_bits(*other, literal) && follows(*other, literal) {
-                return true;
-            }
-        }
-        false
+        let whole = listed(&self.whole);
+        self.told(&whole).entail(literal)
     }
 
     // The literals of whole words, with one more.
     fn whole_with(&self, alloc: Global, literal: Lit) -> Result<Vec<Lit>, AllocError> {
         let word = literal.word();
         let next = word.saturating_add(1);
-        let mut own = Vec::new(alloc);
+        let count = self.whole.len().saturating_add(1);
+        let mut own = Vec::with_capacity(alloc, count)?;
         add_words(&mut own, &self.whole, word, next)?;
         own.push(literal)?;
         let kept = in_short(alloc, &own, word)?;
-        let mut lits = Vec::new(alloc);
+        let mut lits = Vec::with_capacity(alloc, count.saturating_add(1))?;
         add_words(&mut lits, &self.whole, 0, word)?;
         lits.extend_from_slice(&kept)?;
         add_words(&mut lits, &self.whole, next, u8::MAX)?;

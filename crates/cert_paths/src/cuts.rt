@@ -8,7 +8,7 @@ ghost use Rattle.cert_paths.specs.inner.Cuts.{Covers-prop, IsLit-prop};
 
 use crate::chain::Known;
 use call_tables::Arch;
-use cert_state::{Facts, Lit};
+use cert_state::{Facts, Knowledge, Lit};
 use profile::{Cond, Op, Profile, Rule, foreign_numbers};
 
 /// Two literals of a word, of which one holds of each record.

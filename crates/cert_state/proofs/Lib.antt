@@ -11,3 +11,5 @@ pub mod RangeLaws
 pub mod GatheredLaws
 pub mod WordLaws
 pub mod SortedLaws
+pub mod MoreLaws
+pub mod LearnedLaws

@@ -1,6 +1,6 @@
 -- Which numbers are points: those within the bounds that are not excluded.
 use Rattle.std.proofs.Common.{◌≡◌, ℕ, suc, ◌^◌, ◌<◌, ◌≤◌, min, max, cond, List, [], ◌∷◌, sym, refl, ap, subst, ◌∙◌, arith, ⊎_elim}
-use Rattle.std.specs.Prelude.{bit_and}
+use Rattle.std.specs.Prelude.{Contains, bit_and}
 use Rattle.std.specs.List.{AllByRecursion}
 use Rattle.std.proofs.lemmas.List.Elements.{All-from_recursion, recursion_from_All, All-contains}
 use Rattle.std.proofs.lemmas.Bool.{cases_eq, eq-eqb, ne_eqb}
@@ -8,7 +8,7 @@ use Rattle.cert_state.specs.declared.literal.Lit.{Lit}
 use Rattle.cert_state.specs.declared.literal.Lit.TheVariants.{In, Bits, NotBits}
 use Rattle.cert_state.specs.declared.summary.Summary.{Summary}
 use Rattle.cert_state.specs.Literals.{all_bits, index_of, Meets}
-use Rattle.cert_state.specs.Points.{IsWhole, IsPoint}
+use Rattle.cert_state.specs.Points.{HasNoPoint, IsPoint, IsRange, IsWhole}
 use Rattle.cert_state.specs.inner.Summary.{added, added_bits, summary_of, unknown}
 use Rattle.cert_state.specs.inner.Window.{Excludes}
 use Rattle.cert_state.proofs.BitLaws.{and_all}
@@ -99,3 +99,47 @@ point_between w u ls point =
 -- a point is not excluded
 pub point_free : (w u : ℕ) (ls : List Lit) → IsPoint ls w u → Excludes ls w u → ⊥
 point_free w u ls point has = All-contains (Asks w u point.0) ls (NotBits w all_bits u) point.1 has refl refl (and_all u point.0)
+
+-- the bounds that were gathered are those of each point
+pub between : (ls : List Lit) (w : ℕ) (s : Summary) → s ≡ summary_of ls w unknown → (u : ℕ) → IsPoint ls w u → (s.low ≤ u) × (u ≤ s.high)
+between ls w s same u point = subst (λ (t : Summary). (t.low ≤ u) × (u ≤ t.high)) (sym same) (point_between w u ls point)
+
+-- what is within them and not excluded is a point
+pub a_point : (ls : List Lit) (w : ℕ) (s : Summary) → s ≡ summary_of ls w unknown → s.high < 2 ^ 32 → (u : ℕ) → s.low ≤ u → u ≤ s.high
+    → (Excludes ls w u → ⊥) → IsPoint ls w u
+a_point ls w s same small u from to free =
+    point_from w u (omega arith) ls (subst (λ (t : Summary). (t.low ≤ u) × (u ≤ t.high)) same (from, to)) free
+
+-- a literal more makes the upper bound no greater
+each_high : (w : ℕ) (l : Lit) (s : Summary) → (added w l s).high ≤ s.high
+each_high w (In v lo hi) s = ⊎_elim
+    (λ (e : v ≡ w). rw (eq-eqb v w e) (omega arith))
+    (λ (ne : v ≡ w → ⊥). rw (ne_eqb v w ne) (omega arith))
+    (cases_eq v w)
+each_high w (NotBits v m d) s = omega arith
+each_high w (Bits v m d) s = ⊎_elim
+    (λ (e : v ≡ w). rw (eq-eqb v w e) (⊎_elim
+    (λ (f : m ≡ all_bits). rw (eq-eqb m all_bits f) (omega arith))
+    (λ (ne : m ≡ all_bits → ⊥). rw (ne_eqb m all_bits ne) (omega arith))
+    (cases_eq m all_bits)))
+    (λ (ne : v ≡ w → ⊥). rw (ne_eqb v w ne) (omega arith))
+    (cases_eq v w)
+
+high_le : (ls : List Lit) (w : ℕ) (s : Summary) → (summary_of ls w s).high ≤ s.high
+high_le [] w s = omega arith
+high_le (l ∷ ls) w s = omega (arith, high_le ls w (added w l s), each_high w l s)
+
+-- where no number is excluded, these bounds are the range, or there is no point
+pub range_free : (ls : List Lit) (w : ℕ) (s : Summary) → s ≡ summary_of ls w unknown
+    → ((m d : ℕ) → Contains ls (NotBits w m d) → ⊥) → s.low ≤ s.high → IsRange ls w s.low s.high
+range_free ls w s same free le =
+    let bound = high_le ls w unknown in
+    let small : s.high < 2 ^ 32 = omega (arith, bound, ap (λ (t : Summary). t.high) same) in
+    record {
+      least = a_point ls w s same small s.low (omega arith) le (free all_bits s.low);
+      greatest = a_point ls w s same small s.high le (omega arith) (free all_bits s.high);
+      between = between ls w s same;
+    }
+
+pub none_free : (ls : List Lit) (w : ℕ) (s : Summary) → s ≡ summary_of ls w unknown → s.high < s.low → HasNoPoint ls w
+none_free ls w s same above u point = let within = between ls w s same u point in absurd (omega (arith, above, within))

@@ -7,7 +7,7 @@ use Rattle.cert_state.specs.declared.literal.Lit.{Lit}
 use Rattle.cert_state.specs.declared.literal.Lit.TheVariants.{In, Bits, NotBits}
 use Rattle.cert_state.specs.Literals.{index_of, Meets}
 use Rattle.cert_state.specs.Points.{AreKnown, HasNoPoint, IsMissed, IsPoint, IsRange, IsWhole, IsWithin, datum_of, mask_of, union_of}
-use Rattle.cert_state.specs.Entailment.{Differ, Entails, IsBounded, IsOnePoint}
+use Rattle.cert_state.specs.Entailment.{Differ, Entails, IsBounded, IsDeadAt, IsExcluded, IsOnePoint, IsTornAt}
 use Rattle.cert_state.specs.inner.Sorted.{of_word}
 use Rattle.cert_state.proofs.ListLaws.{first_or_later, contains_here, contains_later}
 
@@ -167,3 +167,68 @@ module _ (w : ℕ) (ls : List Lit) where
   entails_of_own (NotBits v m d) is (inr (inr (inr h))) = inr (inr (inr (subst (λ x. IsMissed (of_word w ls) x m d) (sym is)
       (let k : IsMissed ls w m d = subst (λ x. IsMissed ls x m d) is h in
       record { lo = k.lo; hi = k.hi; range = range_of_own k.lo k.hi k.range; missed = k.missed }))))
+
+  -- and where the literals of the word can not all be true, all can not, and the other way
+  torn_of_all : IsTornAt (of_word w ls) w → IsTornAt ls w
+  torn_of_all h = record {
+    mask = h.mask;
+    datum = h.datum;
+    other_mask = h.other_mask;
+    other_datum = h.other_datum;
+    one = among w (Bits w h.mask h.datum) ls h.one;
+    other = among w (Bits w h.other_mask h.other_datum) ls h.other;
+    differ = h.differ;
+  }
+
+  torn_of_own : IsTornAt ls w → IsTornAt (of_word w ls) w
+  torn_of_own h = record {
+    mask = h.mask;
+    datum = h.datum;
+    other_mask = h.other_mask;
+    other_datum = h.other_datum;
+    one = own w (Bits w h.mask h.datum) refl ls h.one;
+    other = own w (Bits w h.other_mask h.other_datum) refl ls h.other;
+    differ = h.differ;
+  }
+
+  missed_of_all : (m d : ℕ) → IsMissed (of_word w ls) w m d → IsMissed ls w m d
+  missed_of_all m d h = record { lo = h.lo; hi = h.hi; range = range_of_all h.lo h.hi h.range; missed = h.missed }
+
+  missed_of_own : (m d : ℕ) → IsMissed ls w m d → IsMissed (of_word w ls) w m d
+  missed_of_own m d h = record { lo = h.lo; hi = h.hi; range = range_of_own h.lo h.hi h.range; missed = h.missed }
+
+  excluded_of_all : (m d : ℕ) → IsExcluded (of_word w ls) w m d → IsExcluded ls w m d
+  excluded_of_all m d h = record {
+    mask = h.mask;
+    datum = h.datum;
+    stated = among w (NotBits w h.mask h.datum) ls h.stated;
+    within = h.within;
+    same = h.same;
+  }
+
+  excluded_of_own : (m d : ℕ) → IsExcluded ls w m d → IsExcluded (of_word w ls) w m d
+  excluded_of_own m d h = record {
+    mask = h.mask;
+    datum = h.datum;
+    stated = own w (NotBits w h.mask h.datum) refl ls h.stated;
+    within = h.within;
+    same = h.same;
+  }
+
+  pub dead_of_all : IsDeadAt (of_word w ls) w → IsDeadAt ls w
+  dead_of_all (inl none) = inl (no_point_of_all none)
+  dead_of_all (inr (inl torn)) = inr (inl (torn_of_all torn))
+  dead_of_all (inr (inr (inl h))) = inr (inr (inl (missed_of_all (mask_of ls w) (datum_of ls w)
+      (subst (λ m. IsMissed (of_word w ls) w m (datum_of ls w)) mask
+      (subst (IsMissed (of_word w ls) w (mask_of (of_word w ls) w)) datum h)))))
+  dead_of_all (inr (inr (inr h))) = inr (inr (inr (excluded_of_all (mask_of ls w) (datum_of ls w)
+      (subst (λ m. IsExcluded (of_word w ls) w m (datum_of ls w)) mask
+      (subst (IsExcluded (of_word w ls) w (mask_of (of_word w ls) w)) datum h)))))
+
+  pub dead_of_own : IsDeadAt ls w → IsDeadAt (of_word w ls) w
+  dead_of_own (inl none) = inl (λ u p. none u (point_of_all u p))
+  dead_of_own (inr (inl torn)) = inr (inl (torn_of_own torn))
+  dead_of_own (inr (inr (inl h))) = inr (inr (inl (missed_of_own (mask_of (of_word w ls) w) (datum_of (of_word w ls) w)
+      (subst (λ m. IsMissed ls w m (datum_of (of_word w ls) w)) (sym mask) (subst (IsMissed ls w (mask_of ls w)) (sym datum) h)))))
+  dead_of_own (inr (inr (inr h))) = inr (inr (inr (excluded_of_own (mask_of (of_word w ls) w) (datum_of (of_word w ls) w)
+      (subst (λ m. IsExcluded ls w m (datum_of (of_word w ls) w)) (sym mask) (subst (IsExcluded ls w (mask_of ls w)) (sym datum) h)))))

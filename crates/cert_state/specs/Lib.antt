@@ -5,4 +5,5 @@ pub mod Entailment
 pub mod Transfer
 pub mod Sharp
 pub mod Soundness
+pub mod Learned
 pub mod inner

@@ -6,7 +6,7 @@ ghost use Rattle.cert_state.specs.inner.Exclusion.{IsSuch};
 
 use crate::gathered::{briefly_of, gives};
 use crate::literal::Lit;
-use crate::points::range;
+use crate::points::range_by;
 use crate::state::State;
 use crate::summary::summarize;
 use call_record::least_below;
@@ -101,7 +101,7 @@ pub fn entails<S: State>(state: &S, literal: &Lit) -> bool
 }
 
 // Whether the literals of a word can not all be true.
-fn is_dead_at<S: State>(state: &S, word: u8) -> bool
+pub(crate) fn is_dead_at<S: State>(state: &S, word: u8) -> bool
     ensures { IsTrue result ↔ IsDeadAt (S.known state.now) word }
 {
     let summary = summarize(state, word);
@@ -111,7 +111,7 @@ fn is_dead_at<S: State>(state: &S, word: u8) -> bool
     if is_excluded(state, word, summary.mask, summary.datum) {
         return true;
     }
-    match range(state, word) {
+    match range_by(state, word, &summary) {
         Some((low, high)) => none_between(low, high, summary.mask, summary.datum),
         None => true,
     }

@@ -1,17 +1,18 @@
 //! What the literals of a word say of it, gathered; and what follows of the word.
-ghost use Rattle.std.specs.Prelude.{◌≡◌, ◌↔◌, ◌<◌, ◌≤◌, IsTrue, All, bit_and};
+ghost use Rattle.std.specs.Prelude.{◌≡◌, ◌≢◌, ◌↔◌, ◌<◌, ◌≤◌, ◌++◌, ◌∷◌, [], ℕ, IsTrue, All, Contains, bit_and, true};
 ghost use Rattle.cert_state.specs.declared.literal.Lit.TheVariants.{In, Bits, NotBits};
 ghost use Rattle.cert_state.specs.declared.gathered.WordFacts.{WordFacts as TheFacts};
-ghost use Rattle.cert_state.specs.Literals.{index_of};
+ghost use Rattle.cert_state.specs.Literals.{all_bits, index_of};
 ghost use Rattle.cert_state.specs.Points.{HasNoPoint, IsRange, IsWithin, NoneBetween};
-ghost use Rattle.cert_state.specs.Entailment.{Differ, Entails};
+ghost use Rattle.cert_state.specs.Entailment.{Differ, Entails, IsDeadAt};
+ghost use Rattle.cert_state.specs.inner.Summary.{summary_of, unknown};
 ghost use Rattle.cert_state.specs.inner.Gathered.{AreFactsOf, Follows, Holds, IsExact, IsOther};
 
-use crate::entailment::{is_excluded, none_between, states};
-use crate::literal::Lit;
-use crate::points::range;
-use crate::state::State;
-use crate::summary::summarize;
+use crate::entailment::{is_dead_at, is_excluded, none_between, states};
+use crate::literal::{Lit, NO_REGS};
+use crate::points::range_by;
+use crate::state::{Listed, State};
+use crate::summary::{Summary, summarize};
 
 /// What the literals of one word say of it.
 #[derive(Clone, Copy)]
@@ -121,14 +122,30 @@ fn all_hold<S: State>(state: &S, word: u8, asked: Asked) -> bool
 }
 
 // The least and the greatest point of a word, or two numbers of which the first is above the second.
-fn ends_of<S: State>(state: &S, word: u8) -> (u32, u32)
+fn ends_of<S: State>(state: &S, word: u8, summary: &Summary, free: bool) -> (u32, u32)
+    requires summary { summary.now ≡ summary_of (S.known state.now) word unknown }
+    requires free { free ≡ true → (m d : ℕ) → Contains (S.known state.now) (NotBits word m d) → ⊥ }
     ensures some { result.0 ≤ result.1 → IsRange (S.known state.now) word result.0 result.1 }
     ensures none { result.1 < result.0 → HasNoPoint (S.known state.now) word }
 {
-    match range(state, word) {
+    if free {
+        return (summary.low, summary.high);
+    }
+    match range_by(state, word, summary) {
         Some(ends) => ends,
         None => (1, 0),
     }
+}
+
+// Whether the datum of each `NotBits` of a word has no bit outside its mask.
+fn are_exact<S: State>(state: &S, word: u8, free: bool) -> bool
+    requires { free ≡ true → (m d : ℕ) → Contains (S.known state.now) (NotBits word m d) → ⊥ }
+    ensures { result ≡ true → (m d : ℕ) → Contains (S.known state.now) (NotBits word m d) → bit_and d m ≡ d }
+{
+    if free {
+        return true;
+    }
+    all_hold(state, word, Asked::Exact)
 }
 
 /// What a state says of a word that is asked about once: whether more follows than is gathered is left open.
@@ -136,7 +153,7 @@ pub(crate) fn briefly_of<S: State>(state: &S, word: u8) -> WordFacts
     ensures { AreFactsOf (S.known state.now) word result }
 {
     let summary = summarize(state, word);
-    let (low, high) = ends_of(state, word);
+    let (low, high) = ends_of(state, word, &summary, false);
     WordFacts {
         low,
         high,
@@ -152,17 +169,60 @@ pub(crate) fn briefly_of<S: State>(state: &S, word: u8) -> WordFacts
 pub(crate) fn facts_of<S: State>(state: &S, word: u8) -> WordFacts
     ensures { AreFactsOf (S.known state.now) word result }
 {
+    if state.next(state.start()).is_none() {
+        return NOTHING;
+    }
     let summary = summarize(state, word);
-    let (low, high) = ends_of(state, word);
+    let free = all_hold(state, word, Asked::Free);
+    let (low, high) = ends_of(state, word, &summary, free);
     WordFacts {
         low,
         high,
         mask: summary.mask,
         datum: summary.datum,
         whole: all_hold(state, word, Asked::Whole(summary.mask, summary.datum)),
-        free: all_hold(state, word, Asked::Free),
-        exact: all_hold(state, word, Asked::Exact),
+        free,
+        exact: are_exact(state, word, free),
     }
+}
+
+// Whether a literal leaves both ends of a range: it excludes neither.
+fn leaves_ends(facts: &WordFacts, mask: u32, datum: u32) -> bool
+    ensures { IsTrue result → mask ≡ all_bits → (facts.now.low ≢ datum) × (facts.now.high ≢ datum) }
+{
+    if mask != u32::MAX {
+        return true;
+    }
+    facts.low != datum && facts.high != datum
+}
+
+// Whether no datum of a `NotBits` has a bit outside its mask, with one more of them.
+fn stays_exact(facts: &WordFacts, mask: u32, datum: u32) -> bool
+    ensures { IsTrue result ↔ (facts.now.exact ≡ true) × (bit_and datum mask ≡ datum) }
+{
+    facts.exact && datum & mask == datum
+}
+
+/// What literals of a word say of it with one more of them, by what they said.
+pub(crate) fn with_one(lits: &[Lit], facts: &WordFacts, literal: Lit) -> WordFacts
+    requires { AreFactsOf lits.now (index_of literal) facts.now }
+    ensures { AreFactsOf (lits.now ++ literal ∷ []) (index_of literal) result }
+{
+    if let Lit::NotBits(_, mask, datum) = literal {
+        if leaves_ends(facts, mask, datum) {
+            return WordFacts {
+                free: false,
+                exact: stays_exact(facts, mask, datum),
+                ..*facts
+            };
+        }
+    }
+    let state = Listed {
+        regs: NO_REGS,
+        lits,
+        more: Some(literal),
+    };
+    facts_of(&state, literal.word())
 }
 
 // Whether the points of a word lie from `low` to `high`.
@@ -274,4 +334,24 @@ pub(crate) fn gives<S: State>(state: &S, facts: &WordFacts, literal: &Lit) -> bo
         Lit::Bits(w, m, d) => fixes(state, facts, w, m, d),
         Lit::NotBits(w, m, d) => excludes(state, facts, w, m, d),
     }
+}
+
+/// Whether the literals of a word can not all be true, by what was gathered of it.
+pub(crate) fn dies<S: State>(state: &S, facts: &WordFacts, word: u8) -> bool
+    requires { AreFactsOf (S.known state.now) word facts.now }
+    ensures { IsTrue result ↔ IsDeadAt (S.known state.now) word }
+{
+    if facts.low > facts.high {
+        return true;
+    }
+    if !facts.whole {
+        return is_dead_at(state, word);
+    }
+    if none_in(facts.low, facts.high, facts.mask, facts.datum) {
+        return true;
+    }
+    if facts.free {
+        return false;
+    }
+    is_excluded(state, word, facts.mask, facts.datum)
 }

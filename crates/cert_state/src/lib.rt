@@ -2,15 +2,19 @@
 //!
 //! A [`State`] says what A, X and the scratch words hold, and lends [`Lit`]s, each of which is known of a
 //! word of the record. [`transfer`] and [`edge_fact`] say what is known after an instruction, [`sharp_fact`] a little
-//! more than `edge_fact`, [`entails`] what else is known, [`range`] from where to where a word may lie, and [`dead`] that no record is left.
-//! The functions with `is_sound` in their names promise that all this is true. Nothing here takes memory.
+//! more than `edge_fact`, [`entails`] what else is known, [`range`] from where to where a word may lie, and [`dead`] that no
+//! record is left. [`Facts`] has that of a state for many questions, and [`Learned`] of literals that come and go.
+//! The functions with `is_sound` in their names promise that all this is true. Nothing here but [`Learned`] takes memory.
 #![tactic(auto)]
 
 mod after;
 mod entailment;
 mod gathered;
+mod knowledge;
 mod laws;
+mod learned;
 mod literal;
+mod one_word;
 mod points;
 mod sharp;
 mod sorted;
@@ -19,10 +23,13 @@ mod summary;
 
 pub use after::{edge_fact, transfer};
 pub use entailment::{dead, entails};
+pub use knowledge::Knowledge;
 pub use laws::{
     dead_is_sound, edge_fact_is_sound, entails_is_sound, sharp_fact_is_sound, transfer_is_sound,
 };
+pub use learned::Learned;
 pub use literal::{AVal, Lit, Regs};
+pub use one_word::LearnedWord;
 pub use points::range;
 pub use sharp::{is_bit, lowest_bit, sharp_fact};
 pub use sorted::Facts;

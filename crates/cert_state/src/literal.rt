@@ -46,3 +46,10 @@ pub struct Regs {
     /// Of the scratch words; where a value is stated, the word is written.
     pub scratch: [AVal; 16],
 }
+
+/// Nothing is known of the registers.
+pub(crate) const NO_REGS: Regs = Regs {
+    a: AVal::Unknown,
+    x: AVal::Unknown,
+    scratch: [AVal::Unknown; 16],
+};

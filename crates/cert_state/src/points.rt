@@ -4,11 +4,12 @@
 ghost use Rattle.std.specs.Prelude.{◌≡◌, ◌↔◌, ◌<◌, ◌≤◌, ◌^◌, ℕ, MatchOption};
 ghost use Rattle.std.specs.Int.{bit_at};
 ghost use Rattle.cert_state.specs.Points.{HasNoPoint, IsRange};
+ghost use Rattle.cert_state.specs.inner.Summary.{summary_of, unknown};
 ghost use Rattle.cert_state.specs.inner.Window.{ExcludedBy, Excludes, ExcludesAt, IsAt};
 
 use crate::literal::Lit;
 use crate::state::State;
-use crate::summary::summarize;
+use crate::summary::{Summary, summarize};
 
 // How far a number is above another one, or below it, where that is less than 64.
 fn distance(up: bool, from: u32, number: u32) -> Option<u32>
@@ -94,15 +95,24 @@ fn last_free<S: State>(state: &S, word: u8, low: u32, high: u32) -> u32
     }
 }
 
+/// The least and the greatest point of a word that has this summary, if it has one.
+pub(crate) fn range_by<S: State>(state: &S, word: u8, summary: &Summary) -> Option<(u32, u32)>
+    requires { summary.now ≡ summary_of (S.known state.now) word unknown }
+    ensures { MatchOption result (HasNoPoint (S.known state.now) word) (λ p. IsRange (S.known state.now) word p.0 p.1) }
+{
+    let low = summary.low;
+    let high = summary.high;
+    let least = first_free(state, word, low, high);
+    if least > high as u64 {
+        return None;
+    }
+    let least = least as u32;
+    Some((least, last_free(state, word, least, high)))
+}
+
 /// The least and the greatest point of a word, if it has one.
 pub fn range<S: State>(state: &S, word: u8) -> Option<(u32, u32)>
     ensures { MatchOption result (HasNoPoint (S.known state.now) word) (λ p. IsRange (S.known state.now) word p.0 p.1) }
 {
-    let summary = summarize(state, word);
-    let least = first_free(state, word, summary.low, summary.high);
-    if least > summary.high as u64 {
-        return None;
-    }
-    let least = least as u32;
-    Some((least, last_free(state, word, least, summary.high)))
+    range_by(state, word, &summarize(state, word))
 }

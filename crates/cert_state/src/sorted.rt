@@ -1,16 +1,21 @@
 //! The literals of a state by their words, for a state that is asked often.
-ghost use Rattle.std.specs.Prelude.{◌≡◌, ◌<◌, ◌≤◌, IfSome, drop, length, slice_range, take, true};
+ghost use Rattle.std.specs.Prelude.{◌≡◌, ◌<◌, ◌≤◌, [], ℕ, IfSome, drop, length, slice_range, take, true};
+ghost use Rattle.std.specs.Int.{bit_at};
 ghost use Rattle.cert_state.specs.inner.Gathered.{AreFactsOf};
-ghost use Rattle.cert_state.specs.inner.Sorted.{IsPartOf, IsSorted, IsSorted-prop, of_word};
+ghost use Rattle.cert_state.specs.inner.Sorted.{IsPartOf, IsSorted, IsSorted-prop, lits_in, of_word};
 
 use crate::entailment::entails;
 use crate::gathered::{NOTHING, WordFacts, facts_of, gives};
+use crate::knowledge::Knowledge;
 use crate::literal::{Lit, Regs};
 use crate::points::range;
 use crate::state::State;
 
 // Room for the literals of a node, and for one more.
 const ROOM: usize = 513;
+
+// Room for those of most nodes.
+const FEW: usize = 24;
 
 const NO_LITERAL: Lit = Lit::In(0, 0, 0);
 
@@ -60,26 +65,71 @@ const NO_PART: Part = Part {
     facts: NOTHING,
 };
 
+/// A table of literals, which is made anew for each state: it is a short one where that will do.
+#[derive(Drop)]
+enum Table {
+    Few([Lit; FEW]),
+    Many([Lit; ROOM]),
+}
+
+impl Table {
+    // Its literals.
+    fn lits(&self) -> &[Lit]
+        ensures { result.now ≡ lits_in self.now }
+    {
+        match self {
+            Table::Few(lits) => lits,
+            Table::Many(lits) => lits,
+        }
+    }
+}
+
 /// The literals of a state, those of a word in a row.
 #[derive(Drop)]
 struct Sorted {
-    lits: [Lit; ROOM],
+    table: Table,
     parts: [Part; 16],
     /// Whether there was room for all.
     all: bool,
 }
 
-// Puts the literals of a word at this place and after it, and tells where they end, if there is room for them.
-fn put_word<S: State>(state: &S, word: u8, lits: &mut [Lit; ROOM], from: usize) -> Option<usize>
-    requires { from ≤ 513 }
-    ensures before { take from lits.new ≡ take from lits.old }
-    ensures put { IfSome result (λ to. (from ≤ to) × (to ≤ 513) × (slice_range lits.new from to ≡ of_word word (S.known state.now))) }
+// A bit for each word of which a literal speaks.
+fn spoken<S: State>(state: &S) -> u64
+    ensures { (w : ℕ) → w < 16 → bit_at result w ≡ 0 → of_word w (S.known state.now) ≡ [] }
 {
+    let mut seen = 0u64;
+    let mut at = state.start();
+    while let Some((literal, next)) = state.next(at) {
+        seen |= 1u64 << (literal.word() % 64);
+        at = next;
+    }
+    seen
+}
+
+// Puts the literals of a word, of which there are none if its bit is not set, at this place and after it, and tells where
+// they end, if there is room for them.
+fn put_word<S: State>(
+    state: &S,
+    seen: u64,
+    word: u8,
+    lits: &mut [Lit],
+    from: usize,
+) -> Option<usize>
+    requires room { from ≤ length lits.old }
+    requires word { word < 16 }
+    requires seen { bit_at seen word ≡ 0 → of_word word (S.known state.now) ≡ [] }
+    ensures before { take from lits.new ≡ take from lits.old }
+    ensures put { IfSome result (λ to.
+        (from ≤ to) × (to ≤ length lits.old) × (slice_range lits.new from to ≡ of_word word (S.known state.now))) }
+{
+    if seen >> word & 1 == 0 {
+        return Some(from);
+    }
     let mut to = from;
     let mut at = state.start();
     while let Some((literal, next)) = state.next(at) {
         if literal.word() == word {
-            if to == ROOM {
+            if to == lits.len() {
                 return None;
             }
             lits[to] = literal;
@@ -91,8 +141,8 @@ fn put_word<S: State>(state: &S, word: u8, lits: &mut [Lit; ROOM], from: usize) 
 }
 
 // The part of a word whose literals stand there.
-fn part_of<S: State>(state: &S, word: u8, lits: &[Lit; ROOM], from: usize, to: usize) -> Part
-    requires { (from ≤ to) × (to ≤ 513) × (slice_range lits.now from to ≡ of_word word (S.known state.now)) }
+fn part_of<S: State>(state: &S, word: u8, lits: &[Lit], from: usize, to: usize) -> Part
+    requires { (from ≤ to) × (to ≤ length lits.now) × (slice_range lits.now from to ≡ of_word word (S.known state.now)) }
     ensures part { IsPartOf (S.known state.now) lits.now word result }
     ensures end { result.to ≡ to }
 {
@@ -108,13 +158,13 @@ fn part_of<S: State>(state: &S, word: u8, lits: &[Lit; ROOM], from: usize, to: u
 }
 
 // Copies the literals of a state, and tells how many there are, if there is room for them.
-fn copy_all<S: State>(state: &S, lits: &mut [Lit; ROOM]) -> Option<usize>
-    ensures { IfSome result (λ count. (count ≤ 513) × (slice_range lits.new 0 count ≡ S.known state.now)) }
+fn copy_all<S: State>(state: &S, lits: &mut [Lit]) -> Option<usize>
+    ensures { IfSome result (λ count. (count ≤ length lits.old) × (slice_range lits.new 0 count ≡ S.known state.now)) }
 {
     let mut count = 0;
     let mut at = state.start();
     while let Some((literal, next)) = state.next(at) {
-        if count == ROOM {
+        if count == lits.len() {
             return None;
         }
         lits[count] = literal;
@@ -124,47 +174,67 @@ fn copy_all<S: State>(state: &S, lits: &mut [Lit; ROOM]) -> Option<usize>
     Some(count)
 }
 
-// The literals of a state by their words.
-fn by_words<S: State>(state: &S) -> Sorted
-    ensures { result.all ≡ true → IsSorted (S.known state.now) result.lits result.parts }
+// Puts the literals of a state by their words, and tells where those of each word stand, if there is room for them.
+fn by_words<S: State>(state: &S, lits: &mut [Lit]) -> Option<[Part; 16]>
+    ensures { IfSome result (IsSorted (S.known state.now) lits.new) }
 {
-    let mut lits = [NO_LITERAL; ROOM];
     let mut parts = [NO_PART; 16];
+    let seen = spoken(state);
     let mut from = 0;
     for i in 0..16_usize {
-        let Some(to) = put_word(state, i as u8, &mut lits, from) else {
-            return Sorted {
-                lits,
-                parts,
-                all: false,
-            };
-        };
-        parts[i] = part_of(state, i as u8, &lits, from, to);
+        let to = put_word(state, seen, i as u8, lits, from)?;
+        parts[i] = part_of(state, i as u8, lits, from, to);
         from = to;
     }
+    Some(parts)
+}
+
+// The literals of a state by their words, where they are many.
+fn sort_many<S: State>(state: &S) -> Sorted
+    ensures { result.all ≡ true → IsSorted (S.known state.now) (lits_in result.table) result.parts }
+{
+    let mut copy = [NO_LITERAL; ROOM];
+    if let Some(count) = copy_all(state, &mut copy) {
+        let own = OfWord {
+            state,
+            lits: &copy[0..count],
+        };
+        let mut lits = [NO_LITERAL; ROOM];
+        if let Some(parts) = by_words(&own, &mut lits) {
+            return Sorted {
+                table: Table::Many(lits),
+                parts,
+                all: true,
+            };
+        }
+    }
     Sorted {
-        lits,
-        parts,
-        all: true,
+        table: Table::Few([NO_LITERAL; FEW]),
+        parts: [NO_PART; 16],
+        all: false,
     }
 }
 
-// The literals of a state by their words. The state is read once: its literals may stand far apart.
+// The literals of a state by their words. The state is read once, where they are few: its literals may stand far apart.
 fn sort<S: State>(state: &S) -> Sorted
-    ensures { result.all ≡ true → IsSorted (S.known state.now) result.lits result.parts }
+    ensures { result.all ≡ true → IsSorted (S.known state.now) (lits_in result.table) result.parts }
 {
-    let mut lits = [NO_LITERAL; ROOM];
-    match copy_all(state, &mut lits) {
-        Some(count) => by_words(&OfWord {
+    let mut copy = [NO_LITERAL; FEW];
+    if let Some(count) = copy_all(state, &mut copy) {
+        let own = OfWord {
             state,
-            lits: &lits[0..count],
-        }),
-        None => Sorted {
-            lits,
-            parts: [NO_PART; 16],
-            all: false,
-        },
+            lits: &copy[0..count],
+        };
+        let mut lits = [NO_LITERAL; FEW];
+        if let Some(parts) = by_words(&own, &mut lits) {
+            return Sorted {
+                table: Table::Few(lits),
+                parts,
+                all: true,
+            };
+        }
     }
+    sort_many(state)
 }
 
 /// A state with what it says of each word, gathered once, for many questions. A question costs a few comparisons, or at
@@ -173,14 +243,12 @@ fn sort<S: State>(state: &S) -> Sorted
 pub struct Facts<'a, S: State> {
     pub state: &'a S,
     sorted: Sorted,
-    ghost so: { sorted.all ≡ true → IsSorted (S.known state.now) sorted.lits sorted.parts } by { IsSorted-prop (S.known state.now) sorted.lits sorted.parts sorted.all },
+    ghost so: { sorted.all ≡ true → IsSorted (S.known state.now) (lits_in sorted.table) sorted.parts } by { IsSorted-prop (S.known state.now) (lits_in sorted.table) sorted.parts sorted.all },
 }
 
 impl<'a, S: State> Facts<'a, S> {
-    ghost use Rattle.std.specs.Prelude.{◌≡◌, ◌↔◌, ◌<◌, IsTrue, MatchOption};
-    ghost use Rattle.cert_state.specs.Points.{HasNoPoint, IsRange};
-    ghost use Rattle.cert_state.specs.Entailment.{Entails};
-    ghost use Rattle.cert_state.specs.inner.Sorted.{IsPartOf};
+    ghost use Rattle.std.specs.Prelude.{◌≡◌, ◌<◌};
+    ghost use Rattle.cert_state.specs.inner.Sorted.{IsPartOf, lits_in};
 
     /// What a state says of each word.
     pub fn of(state: &'a S) -> Facts<'a, S>
@@ -196,15 +264,16 @@ impl<'a, S: State> Facts<'a, S> {
     fn part(&self, word: u8) -> Part
         requires word { word < 16 }
         requires all { self.now.sorted.all ≡ true }
-        ensures { IsPartOf (S.known self.now.state.now) self.now.sorted.lits word result }
+        ensures { IsPartOf (S.known self.now.state.now) (lits_in self.now.sorted.table) word result }
     {
         self.sorted.parts[word as usize]
     }
+}
 
-    /// Whether a literal follows from those of the state.
-    pub fn entails(&self, literal: &Lit) -> bool
-        ensures { IsTrue result ↔ Entails (S.known self.now.state.now) literal.now }
-    {
+impl<S: State> Knowledge for Facts<'_, S> {
+    ghost known = { λ f. S.known f.state.now };
+
+    fn entails(&self, literal: &Lit) -> bool {
         let word = literal.word();
         if !self.sorted.all || word > 15 {
             return entails(self.state, literal);
@@ -212,17 +281,12 @@ impl<'a, S: State> Facts<'a, S> {
         let part = self.part(word);
         let own = OfWord {
             state: self.state,
-            lits: &self.sorted.lits[part.from..part.to],
+            lits: &self.sorted.table.lits()[part.from..part.to],
         };
         gives(&own, &part.facts, literal)
     }
 
-    /// The least and the greatest point of a word, if it has one.
-    pub fn range(&self, word: u8) -> Option<(u32, u32)>
-        requires { word < 16 }
-        ensures { let known = S.known self.now.state.now in
-            MatchOption result (HasNoPoint known word) (λ p. IsRange known word p.0 p.1) }
-    {
+    fn range(&self, word: u8) -> Option<(u32, u32)> {
         if !self.sorted.all {
             return range(self.state, word);
         }

@@ -4,7 +4,7 @@
 use call_record::least_below;
 use cert_form::Claim;
 use cert_parts::{Table, listed};
-use cert_state::{Lit, dead, entails, range};
+use cert_state::{Knowledge, Learned, LearnedWord, Lit, dead, range};
 use std::alloc::{AllocError, Global};
 
 /// How many numbers are tried for the least one of a word.
@@ -21,23 +21,14 @@ pub(crate) struct Short {
     pub(crate) datum: u32,
 }
 
-// Nothing is known of a word.
-const ANY: Short = Short {
-    least: 0,
-    greatest: u32::MAX,
-    mask: 0,
-    datum: 0,
-};
-
 /// Literals by their words, the last of which go first.
 #[derive(Drop)]
 pub(crate) struct Known {
-    words: Vec<Vec<Lit>>,
-    short: [Short; 16],
-    // For each literal, in the order in which they came, its word, and what was known of that before.
-    order: Vec<(u8, Short)>,
-    /// A bit for each word of which nothing is told for now.
-    pub(crate) hidden: u16,
+    pub(crate) learned: Learned,
+    // For each literal, in the order in which they came, its word.
+    order: Vec<u8>,
+    // What is known of words that are left out for now.
+    spared: Vec<LearnedWord>,
 }
 
 // The mask under which one of the literals excludes a datum under a mask.
@@ -59,18 +50,25 @@ fn next_under(number: u32, mask: u32) -> Option<u32> {
     (number | lowest.wrapping_sub(1)).checked_add(1)
 }
 
+// The union of the masks of the `Bits` among literals of one word, and that of their data.
+fn bits_of(own: &[Lit]) -> (u32, u32) {
+    let (mut mask, mut datum) = (0, 0);
+    for literal in own {
+        if let Lit::Bits(_, m, d) = literal {
+            mask |= m;
+            datum |= d;
+        }
+    }
+    (mask, datum)
+}
+
 impl Known {
     /// Nothing is known.
     pub(crate) fn new(alloc: Global) -> Result<Known, AllocError> {
-        let mut words = Vec::new(alloc);
-        for _ in 0..16 {
-            words.push(Vec::new(alloc))?;
-        }
         Ok(Known {
-            words,
-            short: [ANY; 16],
+            learned: Learned::new(alloc)?,
             order: Vec::new(alloc),
-            hidden: 0,
+            spared: Vec::new(alloc),
         })
     }
 
@@ -81,67 +79,69 @@ impl Known {
 
     /// The literals of a word.
     pub(crate) fn of(&self, word: u8) -> &[Lit] {
-        match self.words.get((word % 16) as usize) {
-            Some(own) if self.hidden >> (word % 16) & 1 == 0 => own.as_slice(),
-            _ => &[],
-        }
+        self.learned.of(word % 16)
     }
 
-    /// What is known of a word, but for what is excluded of it.
+    /// What is known of a word, but for what is excluded of it. A word that is one number has all its bits.
     pub(crate) fn short(&self, word: u8) -> Short {
-        if self.hidden >> (word % 16) & 1 == 1 {
-            return ANY;
+        let (least, greatest) = self.range(word).unwrap_or((1, 0));
+        let (mask, datum) = bits_of(self.of(word));
+        if least == greatest && least & mask == datum {
+            return Short {
+                least,
+                greatest,
+                mask: u32::MAX,
+                datum: least,
+            };
         }
-        self.short[(word % 16) as usize]
+        Short {
+            least,
+            greatest,
+            mask,
+            datum,
+        }
     }
 
     /// Adds a literal.
     pub(crate) fn push(&mut self, literal: Lit) -> Result<(), AllocError> {
-        let word = literal.word() % 16;
-        let before = self.short(word);
-        self.order.push((word, before))?;
-        if let Some(own) = self.words.get_mut(word as usize) {
-            own.push(literal)?;
+        let word = literal.word();
+        if word < 16 {
+            self.order.push(word)?;
+            self.learned.push(literal)?;
         }
-        let (mask, datum) = match literal {
-            Lit::Bits(_, mask, datum) => (mask, datum),
-            _ => (0, 0),
-        };
-        let mut short = before;
-        short.mask |= mask;
-        short.datum |= datum;
-        (short.least, short.greatest) = match range(&listed(self.of(word)), word) {
-            Some(ends) if before.mask & mask & (before.datum ^ datum) == 0 => ends,
-            _ => (1, 0),
-        };
-        // A word that is one number has all its bits.
-        if short.least == short.greatest && short.least & short.mask == short.datum {
-            short.mask = u32::MAX;
-            short.datum = short.least;
-        }
-        self.short[word as usize] = short;
         Ok(())
     }
 
     /// Forgets all literals but the first of them.
     pub(crate) fn truncate(&mut self, count: usize) {
         for _ in count..self.len() {
-            if let Some((word, before)) = self.order.pop() {
-                self.short[(word % 16) as usize] = before;
-                if let Some(own) = self.words.get_mut(word as usize) {
-                    own.pop();
-                }
+            if let Some(word) = self.order.pop() {
+                self.learned.pop(word % 16);
             }
+        }
+    }
+
+    /// Leaves a word out: nothing is known of it for now.
+    pub(crate) fn spare(&mut self, word: u8) -> Result<(), AllocError> {
+        let own = self.learned.take(word % 16);
+        self.spared.push(own)?;
+        Ok(())
+    }
+
+    /// What is known of the word that was left out last is known again. Answers whether there was one.
+    pub(crate) fn recall(&mut self) -> bool {
+        match self.spared.pop() {
+            Some(own) => {
+                self.learned.put(own);
+                true
+            }
+            None => false,
         }
     }
 
     /// The least and the greatest number of a word, if it has one.
     pub(crate) fn range(&self, word: u8) -> Option<(u32, u32)> {
-        let short = self.short(word);
-        if short.least > short.greatest {
-            return None;
-        }
-        Some((short.least, short.greatest))
+        self.learned.range(word % 16)
     }
 
     /// How many steps it takes at most to see whether a literal of a word follows.
@@ -149,28 +149,9 @@ impl Known {
         self.of(word).len().saturating_add(8)
     }
 
-    // What is known of a word, but for what is excluded of it.
-    fn in_short(&self, word: u8) -> [Lit; 2] {
-        let short = self.short(word);
-        [
-            Lit::In(word, short.least, short.greatest),
-            Lit::Bits(word, short.mask, short.datum),
-        ]
-    }
-
     /// Whether a literal follows.
     pub(crate) fn entails(&self, literal: Lit) -> bool {
-        let word = literal.word();
-        let short = self.short(word);
-        match literal {
-            Lit::Bits(_, mask, _) if mask & !short.mask != 0 && short.least < short.greatest =>
-                false,
-            Lit::NotBits(_, mask, datum) if excluding(self.of(word), mask, datum).is_some() => true,
-            Lit::NotBits(_, u32::MAX, datum) => datum < short.least
-                || short.greatest < datum
-                || short.mask & (short.datum ^ datum) != 0,
-            _ => entails(&listed(&self.in_short(word)), &literal),
-        }
+        self.learned.entails(&literal)
     }
 
     /// Whether a word is another number.
@@ -180,9 +161,7 @@ impl Known {
 
     /// Whether the literals of a word can not all be true.
     pub(crate) fn is_dead(&self, word: u8) -> bool {
-        let short = self.short(word);
-        excluding(self.of(word), short.mask, short.datum).is_some()
-            || dead(&listed(&self.in_short(word)))
+        self.learned.is_dead_at(word % 16)
     }
 
     /// The least number that a word may be, if it is found soon.

@@ -6,6 +6,7 @@ use crate::rules::Rules;
 use crate::words::{ARGUMENTS, NUMBER, TOKEN};
 use call_record::{Word, halves};
 use call_tables::Arch;
+use cert_check::{Judged, judge_condition};
 use cert_parts::{Cut, cut_below, cut_of_bits};
 use cert_state::{Lit, is_bit, lowest_bit};
 use profile::{Cond, Op, Rule, foreign_numbers};
@@ -22,61 +23,26 @@ fn both(one: Answer, other: Answer) -> Answer {
     }
 }
 
-// Whether a word has these bits under a mask.
-fn judge_word(known: &Known, word: u8, mask: u32, datum: u32) -> Answer {
-    if known.entails(Lit::Bits(word, mask, datum)) {
-        Ok(true)
-    } else if known.entails(Lit::NotBits(word, mask, datum)) {
-        Ok(false)
-    } else {
-        Err(cut_of_bits(word, mask, datum))
-    }
-}
-
-// An argument of which a condition asks: its low word, and whether this alone is compared. The high one counts as 0 then.
-#[derive(Clone, Copy)]
-struct Argument {
-    word: u8,
-    narrow: bool,
-    ghost within: { word < 15 },
-}
-
-// Whether the high word of an argument has these bits under a mask.
-fn judge_above(known: &Known, of: Argument, mask: u32, datum: u32) -> Answer {
-    if of.narrow {
-        return Ok(datum == 0);
-    }
-    judge_word(known, of.word + 1, mask, datum)
-}
-
-// Whether an argument has these bits under a mask.
-fn judge_bits(known: &Known, of: Argument, mask: u64, datum: u64) -> Answer {
+// Where an argument is cut of which a condition asks for bits under a mask: its high word, unless that has them.
+fn cut_by_bits(known: &Known, narrow: bool, word: u8, mask: u64, datum: u64) -> Cut
+    requires { word < 15 }
+{
     let (mask_below, mask_above) = halves(mask);
     let (below, above) = halves(datum);
-    let above = judge_above(known, of, mask_above, above);
-    both(above, judge_word(known, of.word, mask_below, below))
+    if narrow || known.entails(Lit::Bits(word + 1, mask_above, above)) {
+        return cut_of_bits(word, mask_below, below);
+    }
+    cut_of_bits(word + 1, mask_above, above)
 }
 
-// The least and the greatest number of a high word.
-fn range_above(known: &Known, of: Argument) -> (u32, u32) {
-    if of.narrow {
+// The least and the greatest number of a high word. That of a narrow argument counts as 0.
+fn range_above(known: &Known, narrow: bool, word: u8) -> (u32, u32)
+    requires { word < 15 }
+{
+    if narrow {
         return (0, 0);
     }
-    known.range(of.word + 1).unwrap_or((0, u32::MAX))
-}
-
-// Whether a comparison by order has one answer at both ends of an argument.
-fn judge_order(known: &Known, of: Argument, cond: &Cond) -> Answer {
-    let (least, greatest) = known.range(of.word).unwrap_or((0, u32::MAX));
-    let (from, to) = range_above(known, of);
-    match (
-        cond.holds(u64::from(from) << 32 | u64::from(least)),
-        cond.holds(u64::from(to) << 32 | u64::from(greatest)),
-    ) {
-        (true, true) => Ok(true),
-        (false, false) => Ok(false),
-        _ => Err(cut_at(of.word, cond, from, to)),
-    }
+    known.range(word + 1).unwrap_or((0, u32::MAX))
 }
 
 // Where an argument is cut whose high word lies from one number to another: at the value of the condition.
@@ -96,24 +62,34 @@ fn cut_at(word: u8, cond: &Cond, from: u32, to: u32) -> Cut
     cut.unwrap_or(cut_of_bits(word, u32::MAX, low))
 }
 
-// Whether a condition is met.
-fn judge_condition(known: &Known, narrow: bool, cond: &Cond) -> Answer {
+// Where the argument of a condition is cut that is not settled.
+fn cut_of_condition(known: &Known, narrow: bool, cond: &Cond) -> Cut {
     let word = ARGUMENTS + 2 * cond.index;
-    let of = Argument { word, narrow };
     match cond.op {
-        Op::Eq => judge_bits(known, of, u64::MAX, cond.value),
-        Op::Ne => judge_bits(known, of, u64::MAX, cond.value).map(|is| !is),
-        Op::MaskedEq => judge_bits(known, of, cond.value, cond.datum),
-        Op::Lt | Op::Le | Op::Ge | Op::Gt => judge_order(known, of, cond),
+        Op::Eq | Op::Ne => cut_by_bits(known, narrow, word, u64::MAX, cond.value),
+        Op::MaskedEq => cut_by_bits(known, narrow, word, cond.value, cond.datum),
+        Op::Lt | Op::Le | Op::Ge | Op::Gt => {
+            let (from, to) = range_above(known, narrow, word);
+            cut_at(word, cond, from, to)
+        }
+    }
+}
+
+// Whether a condition is met: the checker's question.
+fn ask_condition(known: &Known, narrow: bool, cond: &Cond) -> Answer {
+    match judge_condition(&known.learned, narrow, cond) {
+        Judged::Yes => Ok(true),
+        Judged::No => Ok(false),
+        Judged::Open => Err(cut_of_condition(known, narrow, cond)),
     }
 }
 
 // Whether all conditions of a rule are met.
-fn judge_conditions(known: &Known, rule: &Rule) -> Answer {
+fn ask_conditions(known: &Known, rule: &Rule) -> Answer {
     let narrow = rule.is_narrow();
     let mut all = Ok(true);
     for cond in rule.conds.as_slice() {
-        all = both(all, judge_condition(known, narrow, cond));
+        all = both(all, ask_condition(known, narrow, cond));
     }
     all
 }
@@ -244,7 +220,7 @@ impl Question<'_> {
             if !is_one && (same && is_default || self.known.excludes(NUMBER, *nr)) {
                 continue;
             }
-            match judge_conditions(self.known, rule) {
+            match ask_conditions(self.known, rule) {
                 Ok(false) => {}
                 _ if *nr > least => return cut(cut_below(NUMBER, *nr)),
                 _ if !is_one => return cut(cut_below(NUMBER, nr.saturating_add(1))),

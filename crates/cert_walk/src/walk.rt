@@ -19,7 +19,7 @@ use cert_parts::{Cut, NO_REGS, NOBODY, cut_below};
 use cert_state::{AVal, Lit, Regs};
 use kernel_check::Accepted;
 use profile::Profile;
-use std::alloc::Global;
+use std::alloc::{AllocError, Global};
 
 // Each node is come back to at most three times: at first, and after each of its ways.
 const MAX_TURNS: usize = 4 * MAX_NODES;
@@ -232,7 +232,7 @@ impl<'a> Walk<'a> {
             // The work is counted where the question is asked again of either half.
             Err(cut) => self.wait(place, Some(cut)),
             Ok(true) => {
-                self.spare_words(word, asked);
+                self.spare_words(word, asked)?;
                 self.make_return(place.pc, regs)
             }
             Ok(false) => {
@@ -242,28 +242,30 @@ impl<'a> Walk<'a> {
         }
     }
 
-    // Hides the words of the record without which the question is settled as well.
-    fn spare_words(&mut self, word: Word, asked: usize) {
+    // Leaves the words of the record out without which the question is settled as well.
+    fn spare_words(&mut self, word: Word, asked: usize) -> Result<(), AllocError> {
         for spared in SPARED {
             if self.known.of(spared).is_empty() {
                 continue;
             }
-            let hidden = self.known.hidden;
-            self.known.hidden |= 1u16 << spared;
+            self.known.spare(spared)?;
             self.work.spend(asked);
             if !matches!(self.question(word).settle(), Ok(true)) {
-                self.known.hidden = hidden;
+                self.known.recall();
             }
         }
+        Ok(())
     }
 
-    // Makes a return that states what is known and not hidden.
+    // Makes a return that states what is known and not left out.
     fn make_return(&mut self, pc: u16, regs: Regs) -> Found {
         self.needs = Needs::new(self.alloc);
         for word in SPARED.iter().rev() {
             self.needs.add_word(&self.known, *word)?;
         }
-        self.known.hidden = 0;
+        for _ in 0..16 {
+            self.known.recall();
+        }
         self.make(Kind::Return, pc, regs)
     }
 

@@ -1,5 +1,6 @@
 pub mod Fault
 pub mod Tables
 pub mod inner
+pub mod Certificates
 pub mod Conviction
 pub mod Right

@@ -2,11 +2,10 @@
 ghost use Rattle.std.specs.Prelude.{◌≡◌, ◌≢◌, IfErr, IfOk, IfSome, None};
 ghost use Rattle.call_record.specs.Record.{words};
 ghost use Rattle.kernel_check.specs.Lent.{accepted_insns};
-ghost use Rattle.rule_compile.specs.Steady.{IsSteady, Nothing};
 ghost use Rattle.profile.specs.Policy.{IsClear};
-ghost use Rattle.cert_check.specs.Right.{IsRight, ValidIsRight};
+ghost use Rattle.cert_check.specs.Right.{ValidIsRight};
 ghost use Rattle.cert_paths.specs.Fault.{IsWrongOn, TellsWrong};
-ghost use Rattle.certify.specs.Conviction.{Convicts};
+ghost use Rattle.certify.specs.Conviction.{FindsConviction, IsConviction, NoneIsRight};
 ghost use Rattle.certify.specs.Fault.{IsOfSize};
 
 use bpf_interp::verdict;
@@ -28,7 +27,7 @@ pub struct Conviction {
 
 // The words of a record, where they are unlike.
 fn unlike(profile: &Profile, program: &Accepted<'_>, call: Record) -> Option<Conviction>
-    ensures found { IfSome result (λ found. Convicts profile.now (accepted_insns program.now) (words found.call) found.given found.said) }
+    ensures found { IfSome result (IsConviction profile.now (accepted_insns program.now)) }
     ensures none { result ≡ None → IsWrongOn profile.now (accepted_insns program.now) (words call) → ⊥ }
 {
     let given = verdict(program, &call);
@@ -45,8 +44,7 @@ fn by_error(
     program: &Accepted<'_>,
     error: PathsError,
 ) -> Result<Option<Conviction>, CertifyError>
-    ensures found { IfOk result (λ answer. IfSome answer (λ found.
-        Convicts profile.now (accepted_insns program.now) (words found.call) found.given found.said)) }
+    ensures found { FindsConviction profile.now (accepted_insns program.now) result }
     ensures sure { TellsWrong profile.now (accepted_insns program.now) error → IfOk result (λ answer. answer ≢ None) }
     ensures size { IfErr result IsOfSize }
 {
@@ -73,10 +71,8 @@ fn on_its_paths(
     profile: &Profile,
     program: &Accepted<'_>,
 ) -> Result<Option<Conviction>, CertifyError>
-    ensures found { IfOk result (λ answer. IfSome answer (λ found.
-        Convicts profile.now (accepted_insns program.now) (words found.call) found.given found.said)) }
-    ensures sure { IsSteady (accepted_insns program.now) 0 Nothing
-        → IfOk result (λ answer. answer ≡ None → IsRight profile.now (accepted_insns program.now)) }
+    ensures found { FindsConviction profile.now (accepted_insns program.now) result }
+    ensures sure { NoneIsRight profile.now (accepted_insns program.now) result }
     ensures size { IfErr result IsOfSize }
 {
     match by_paths(alloc, profile, program).err() {
@@ -94,8 +90,7 @@ fn on_a_search(
     profile: &Profile,
     program: &Accepted<'_>,
 ) -> Result<Option<Conviction>, CertifyError>
-    ensures found { IfOk result (λ answer. IfSome answer (λ found.
-        Convicts profile.now (accepted_insns program.now) (words found.call) found.given found.said)) }
+    ensures found { FindsConviction profile.now (accepted_insns program.now) result }
     ensures memory { IfErr result (λ e. e ≡ CertifyError.OutOfMemory) }
 {
     // Nothing else than memory ends a search early.
@@ -118,11 +113,9 @@ pub fn convict(
     profile: &Profile,
     program: &Accepted<'_>,
 ) -> Result<Option<Conviction>, CertifyError>
-    ensures found { IfOk result (λ answer. IfSome answer (λ found.
-        Convicts profile.now (accepted_insns program.now) (words found.call) found.given found.said)) }
+    ensures found { FindsConviction profile.now (accepted_insns program.now) result }
     // Where none is found of a filter that compares steadily, the filter is right.
-    ensures sure { IsSteady (accepted_insns program.now) 0 Nothing
-        → IfOk result (λ answer. answer ≡ None → IsRight profile.now (accepted_insns program.now)) }
+    ensures sure { NoneIsRight profile.now (accepted_insns program.now) result }
     ensures size { IfErr result IsOfSize }
 {
     match on_a_search(alloc, profile, program) {

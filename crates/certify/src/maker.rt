@@ -1,14 +1,12 @@
 //! The maker of certificates.
-ghost use Rattle.std.specs.Prelude.{◌≡◌, ◌↔◌, [], All, IfErr, IfOk, IfSome, IsTrue, None, OnOk};
+ghost use Rattle.std.specs.Prelude.{◌≡◌, ◌↔◌, [], All, IfErr, IfSome, IsTrue, None, OnOk};
 ghost use Rattle.bpf_insn.specs.Program.{insns};
 ghost use Rattle.kernel_check.specs.Accepted.{IsAccepted};
 ghost use Rattle.kernel_check.specs.Lent.{accepted_insns};
-ghost use Rattle.rule_compile.specs.Shape.{IsCallFilter, IsPlain};
-ghost use Rattle.rule_compile.specs.Steady.{IsSteady, Nothing};
-ghost use Rattle.cert_check.specs.Right.{IsRight};
 ghost use Rattle.cert_check.specs.Valid.{IsValidCertificate};
 ghost use Rattle.cert_paths.specs.Fault.{IsSize};
 ghost use Rattle.cert_walk.specs.declared.fault.CertifyError.TheVariants.{OutOfMemory};
+ghost use Rattle.certify.specs.Certificates.{MakesOwnValid, MakesValid, OwnLacksMemory, RightLacksRoom};
 ghost use Rattle.certify.specs.Fault.{IsOfSize};
 
 use crate::own::with_conditions;
@@ -36,10 +34,8 @@ fn certified(
     program: &Accepted<'_>,
     outline: Option<&Outline>,
 ) -> Result<Vec<u8>, CertifyError>
-    ensures own { IsPlain profile.now → IsCallFilter profile.now (accepted_insns program.now)
-        → IfOk result (λ bytes. IsValidCertificate profile.now (accepted_insns program.now) bytes.items) }
-    ensures never { IsPlain profile.now → IsCallFilter profile.now (accepted_insns program.now)
-        → IfErr result (λ e. e ≡ OutOfMemory) }
+    ensures own { MakesOwnValid profile.now (accepted_insns program.now) result }
+    ensures never { OwnLacksMemory profile.now (accepted_insns program.now) result }
 {
     if !are_plain(profile.rules()) {
         return with_conditions(alloc, profile, *program, outline);
@@ -88,9 +84,8 @@ fn followed(
     program: &Accepted<'_>,
     before: Option<CertifyError>,
 ) -> Result<Vec<u8>, CertifyError>
-    ensures valid { IfOk result (λ bytes. IsValidCertificate profile.now (accepted_insns program.now) bytes.items) }
-    ensures sure { IsRight profile.now (accepted_insns program.now) → IsSteady (accepted_insns program.now) 0 Nothing
-        → IfErr result IsOfSize }
+    ensures valid { MakesValid profile.now (accepted_insns program.now) result }
+    ensures sure { RightLacksRoom profile.now (accepted_insns program.now) result }
 {
     match by_paths(alloc, profile, program) {
         Ok(certificate) => Ok(certificate),
@@ -105,9 +100,8 @@ fn once_checked(
     program: &Accepted<'_>,
     bytes: Vec<u8>,
 ) -> Result<Vec<u8>, CertifyError>
-    ensures valid { IfOk result (λ made. IsValidCertificate profile.now (accepted_insns program.now) made.items) }
-    ensures sure { IsRight profile.now (accepted_insns program.now) → IsSteady (accepted_insns program.now) 0 Nothing
-        → IfErr result IsOfSize }
+    ensures valid { MakesValid profile.now (accepted_insns program.now) result }
+    ensures sure { RightLacksRoom profile.now (accepted_insns program.now) result }
     ensures never { IsValidCertificate profile.now (accepted_insns program.now) bytes.items → IfErr result (λ e. e ≡ OutOfMemory) }
 {
     match broken(alloc, profile, program, &bytes) {
@@ -124,12 +118,9 @@ fn proposed(
     program: &Accepted<'_>,
     outline: Option<&Outline>,
 ) -> Result<Vec<u8>, CertifyError>
-    ensures own { IsPlain profile.now → IsCallFilter profile.now (accepted_insns program.now)
-        → IfOk result (λ bytes. IsValidCertificate profile.now (accepted_insns program.now) bytes.items) }
-    ensures sure { IsRight profile.now (accepted_insns program.now) → IsSteady (accepted_insns program.now) 0 Nothing
-        → IfErr result IsOfSize }
-    ensures never { IsPlain profile.now → IsCallFilter profile.now (accepted_insns program.now)
-        → IfErr result (λ e. e ≡ OutOfMemory) }
+    ensures own { MakesOwnValid profile.now (accepted_insns program.now) result }
+    ensures sure { RightLacksRoom profile.now (accepted_insns program.now) result }
+    ensures never { OwnLacksMemory profile.now (accepted_insns program.now) result }
 {
     match certified(alloc, profile, program, outline) {
         Ok(bytes) => Ok(bytes),
@@ -149,12 +140,10 @@ pub fn certify_accepted(
     program: &Accepted<'_>,
 ) -> Result<Vec<u8>, CertifyError>
     // The certificate keeps each rule of the checker.
-    ensures valid { IfOk result (λ bytes. IsValidCertificate profile.now (accepted_insns program.now) bytes.items) }
+    ensures valid { MakesValid profile.now (accepted_insns program.now) result }
     // A right filter that compares steadily is certified, if memory and the format have room for it.
-    ensures sure { IsRight profile.now (accepted_insns program.now) → IsSteady (accepted_insns program.now) 0 Nothing
-        → IfErr result IsOfSize }
-    ensures never { IsPlain profile.now → IsCallFilter profile.now (accepted_insns program.now)
-        → IfErr result (λ e. e ≡ OutOfMemory) }
+    ensures sure { RightLacksRoom profile.now (accepted_insns program.now) result }
+    ensures never { OwnLacksMemory profile.now (accepted_insns program.now) result }
 {
     let bytes = proposed(alloc, profile, program, None)?;
     once_checked(alloc, profile, program, bytes)
@@ -168,11 +157,10 @@ pub fn certify(
 ) -> Result<Vec<u8>, CertifyError>
     ensures accepted { OnOk result (IsAccepted (insns program.now)) }
     // The certificate keeps each rule of the checker.
-    ensures valid { IfOk result (λ bytes. IsValidCertificate profile.now (insns program.now) bytes.items) }
+    ensures valid { MakesValid profile.now (insns program.now) result }
     // A right filter that the kernel accepts and that compares steadily is certified, if memory and the format have room for it.
-    ensures sure { IsAccepted (insns program.now) → IsRight profile.now (insns program.now) → IsSteady (insns program.now) 0 Nothing
-        → IfErr result IsOfSize }
-    ensures never { IsPlain profile.now → IsCallFilter profile.now (insns program.now) → IfErr result (λ e. e ≡ OutOfMemory) }
+    ensures sure { IsAccepted (insns program.now) → RightLacksRoom profile.now (insns program.now) result }
+    ensures never { OwnLacksMemory profile.now (insns program.now) result }
 {
     match accept(program) {
         Ok(accepted) => certify_accepted(alloc, profile, &accepted),
@@ -188,13 +176,10 @@ pub fn propose(
     program: &Accepted<'_>,
     outline: &Outline,
 ) -> Result<Vec<u8>, CertifyError>
-    ensures own { IsPlain profile.now → IsCallFilter profile.now (accepted_insns program.now)
-        → IfOk result (λ bytes. IsValidCertificate profile.now (accepted_insns program.now) bytes.items) }
+    ensures own { MakesOwnValid profile.now (accepted_insns program.now) result }
     // Of a right filter that compares steadily, as each of the compiler's is, an error tells of memory or of the format's limits.
-    ensures sure { IsRight profile.now (accepted_insns program.now) → IsSteady (accepted_insns program.now) 0 Nothing
-        → IfErr result IsOfSize }
-    ensures never { IsPlain profile.now → IsCallFilter profile.now (accepted_insns program.now)
-        → IfErr result (λ e. e ≡ OutOfMemory) }
+    ensures sure { RightLacksRoom profile.now (accepted_insns program.now) result }
+    ensures never { OwnLacksMemory profile.now (accepted_insns program.now) result }
 {
     proposed(alloc, profile, program, Some(outline))
 }
@@ -205,9 +190,8 @@ pub fn follow(
     profile: &Profile,
     program: &Accepted<'_>,
 ) -> Result<Vec<u8>, CertifyError>
-    ensures valid { IfOk result (λ bytes. IsValidCertificate profile.now (accepted_insns program.now) bytes.items) }
-    ensures sure { IsRight profile.now (accepted_insns program.now) → IsSteady (accepted_insns program.now) 0 Nothing
-        → IfErr result IsOfSize }
+    ensures valid { MakesValid profile.now (accepted_insns program.now) result }
+    ensures sure { RightLacksRoom profile.now (accepted_insns program.now) result }
 {
     followed(alloc, profile, program, None)
 }

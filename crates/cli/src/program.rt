@@ -11,9 +11,10 @@ use crate::run::run_bundles;
 use crate::stops::{Stop, report};
 use call_tables::Arch;
 use command_line::{Command, Form, read_words};
+use describe::{annotated, drawn};
 use explain::Told;
 use pipeline::{certify_bundle, check_line, export_bundle, verdict_line};
-use std::alloc::Global;
+use std::alloc::{AllocError, Global};
 use streams::{Sink, Source, write_all};
 
 // Answers a filter to a record.
@@ -147,28 +148,19 @@ fn assemble<'a>(
     tell(&explain::assembled(alloc, &listing)?, out)
 }
 
-// Tells what the lines of a filter's listing mean.
-fn annotate<'a>(
+// Shows a filter: tells what the lines of its listing mean, or its graph.
+fn show<'a, T: FnOnce(Global, Arch, &[u8]) -> Result<Told, AllocError>>(
     alloc: Global,
     native: Arch,
     filter: &'a str,
+    told: T,
     files: &mut impl Files,
     out: &mut impl Sink,
-) -> Result<bool, Stop<'a>> {
+) -> Result<bool, Stop<'a>>
+    requires { T.IsAlwaysCallable told }
+{
     let filter = read_filter(alloc, files, filter)?;
-    tell(&describe::annotated(alloc, native, &filter)?, out)
-}
-
-// Tells a filter as a graph.
-fn draw<'a>(
-    alloc: Global,
-    native: Arch,
-    filter: &'a str,
-    files: &mut impl Files,
-    out: &mut impl Sink,
-) -> Result<bool, Stop<'a>> {
-    let filter = read_filter(alloc, files, filter)?;
-    tell(&describe::drawn(alloc, native, &filter)?, out)
+    tell(&told(alloc, native, &filter)?, out)
 }
 
 // Writes the bundle that is made of an engine's configuration, or why there is none, and tells what was changed.
@@ -245,8 +237,8 @@ fn obey<'a, F: Files, I: Source, O: Sink, E: Sink>(
         Command::Read { native, bundle } => read_out(alloc, native, bundle, files, out),
         Command::Record { native, call } => tell(&explain::record(alloc, native, call)?, out),
         Command::Assemble { listing } => assemble(alloc, listing, files, out),
-        Command::Annotate { native, filter } => annotate(alloc, native, filter, files, out),
-        Command::Draw { native, filter } => draw(alloc, native, filter, files, out),
+        Command::Annotate { native, filter } => show(alloc, native, filter, annotated, files, out),
+        Command::Draw { native, filter } => show(alloc, native, filter, drawn, files, out),
         Command::Compare {
             native,
             first,

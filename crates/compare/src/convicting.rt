@@ -1,8 +1,7 @@
 //! The call record that convicts a filter, explained.
 ghost use Rattle.std.specs.Prelude.{IfSome, string_bytes};
-ghost use Rattle.call_record.specs.Record.{words};
 ghost use Rattle.bpf_insn.specs.Bytes.{insns_of};
-ghost use Rattle.certify.specs.Conviction.{Convicts};
+ghost use Rattle.certify.specs.Conviction.{IsConviction};
 ghost use Rattle.compare.specs.Conviction.{IsConvicting};
 
 use bpf_insn::Program;
@@ -16,7 +15,7 @@ use std::alloc::Global;
 
 // A record on which a filter gives another word than a profile says, if one is found.
 fn convicted(alloc: Global, profile: &Profile, filter: &[u8]) -> Option<Conviction>
-    ensures { IfSome result (λ found. Convicts profile.now (insns_of filter.now) (words found.call) found.given found.said) }
+    ensures { IfSome result (IsConviction profile.now (insns_of filter.now)) }
 {
     let program = Program::view(filter).ok()?;
     let accepted = accept(&program).ok()?;

@@ -7,6 +7,7 @@ ghost use Rattle.kernel_check.specs.Lent.{accepted_insns};
 ghost use Rattle.call_tables.specs.declared.arch.Arch.{Arch as TheArch};
 ghost use Rattle.rule_compile.specs.Steady.{IsSteady, Nothing};
 ghost use Rattle.cert_check.specs.Right.{IsRight};
+ghost use Rattle.certify.specs.Certificates.{RightLacksRoom};
 ghost use Rattle.certify.specs.Fault.{IsOfSize};
 ghost use Rattle.pipeline.specs.Certified.{AreJudged, Certifies, CertifiesOwn, IsOwnFilter, conviction_line, digits_line};
 ghost use Rattle.profile.specs.Policy.{Policy};
@@ -35,8 +36,7 @@ fn certified(
     ensures ok { (filter : List ℕ) → view_fault filter ≡ None → IsAccepted (insns_of filter)
         → accepted_insns program.now ≡ insns_of filter → IfOk result (λ cert. IsYes profile.now filter cert.items) }
     // Of a right filter that compares steadily an error tells of memory or of the format's limits.
-    ensures sure { IsRight profile.now (accepted_insns program.now) → IsSteady (accepted_insns program.now) 0 Nothing
-        → IfErr result IsOfSize }
+    ensures sure { RightLacksRoom profile.now (accepted_insns program.now) result }
     // Of a filter of this project's own only memory is refused.
     ensures own { (native : TheArch) (bundle filter : List ℕ) → IsOwnFilter native bundle filter profile.now
         → accepted_insns program.now ≡ insns_of filter → IfErr result (λ e. e ≡ CertifyError.OutOfMemory) }

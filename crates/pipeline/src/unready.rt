@@ -1,5 +1,10 @@
 //! Why a bundle has no checked filter.
-ghost use Rattle.pipeline.specs.Exported.{Refuses};
+ghost use Rattle.profile_json.specs.declared.fault.ProfileError.TheVariants as refusal;
+ghost use Rattle.rule_compile.specs.declared.fault.CompileError.TheVariants as compiler;
+ghost use Rattle.cert_walk.specs.declared.fault.CertifyError.TheVariants as maker;
+ghost use Rattle.cert_check.specs.declared.fault.CheckError.TheVariants as checker;
+ghost use Rattle.pipeline.specs.Exported.{IsToldAs, Refuses};
+ghost use Rattle.pipeline.specs.declared.unready.Unready.TheVariants.{Profile, Compile, Certify, Check};
 
 use cert_check::CheckError;
 use certify::CertifyError;
@@ -45,11 +50,7 @@ impl fmt::Display for Unready {
 impl Error for Unready {}
 
 impl From<ProfileError> for Unready {
-    ghost use Rattle.profile_json.specs.declared.fault.ProfileError.TheVariants.{OutOfMemory};
-    ghost use Rattle.pipeline.specs.Exported.{IsToldAs};
-    ghost use Rattle.pipeline.specs.declared.unready.Unready.TheVariants.{Profile};
-
-    ghost from_gives = { λ error unready. IsToldAs Profile OutOfMemory error unready };
+    ghost from_gives = { IsToldAs Profile refusal.OutOfMemory };
 
     fn from(error: ProfileError) -> Unready {
         match error {
@@ -60,11 +61,7 @@ impl From<ProfileError> for Unready {
 }
 
 impl From<CompileError> for Unready {
-    ghost use Rattle.rule_compile.specs.declared.fault.CompileError.TheVariants.{OutOfMemory};
-    ghost use Rattle.pipeline.specs.Exported.{IsToldAs};
-    ghost use Rattle.pipeline.specs.declared.unready.Unready.TheVariants.{Compile};
-
-    ghost from_gives = { λ error unready. IsToldAs Compile OutOfMemory error unready };
+    ghost from_gives = { IsToldAs Compile compiler.OutOfMemory };
 
     fn from(error: CompileError) -> Unready {
         match error {
@@ -75,11 +72,7 @@ impl From<CompileError> for Unready {
 }
 
 impl From<CertifyError> for Unready {
-    ghost use Rattle.cert_walk.specs.declared.fault.CertifyError.TheVariants.{OutOfMemory};
-    ghost use Rattle.pipeline.specs.Exported.{IsToldAs};
-    ghost use Rattle.pipeline.specs.declared.unready.Unready.TheVariants.{Certify};
-
-    ghost from_gives = { λ error unready. IsToldAs Certify OutOfMemory error unready };
+    ghost from_gives = { IsToldAs Certify maker.OutOfMemory };
 
     fn from(error: CertifyError) -> Unready {
         match error {
@@ -90,11 +83,7 @@ impl From<CertifyError> for Unready {
 }
 
 impl From<CheckError> for Unready {
-    ghost use Rattle.cert_check.specs.declared.fault.CheckError.TheVariants.{OutOfMemory};
-    ghost use Rattle.pipeline.specs.Exported.{IsToldAs};
-    ghost use Rattle.pipeline.specs.declared.unready.Unready.TheVariants.{Check};
-
-    ghost from_gives = { λ error unready. IsToldAs Check OutOfMemory error unready };
+    ghost from_gives = { IsToldAs Check checker.OutOfMemory };
 
     fn from(error: CheckError) -> Unready {
         match error {

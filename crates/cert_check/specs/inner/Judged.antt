@@ -14,17 +14,12 @@ use Rattle.cert_state.specs.Points.{IsRange}
 use Rattle.cert_state.specs.Entailment.{Entails}
 use Rattle.cert_check.specs.Agree.{IsRangeAbove, IsYes, IsNo, IsYesRule, IsNoRule, IsRefuted, IsLeft, SomeIsNo, AllAreYes, OneIsNo}
 use Rattle.cert_check.specs.declared.judged.Judged.{Judged}
+use Rattle.cert_check.specs.Judged.{IsJudged}
 use Rattle.cert_check.specs.declared.judged.Judged.TheVariants.{Yes, No, Open}
 use Rattle.cert_check.specs.declared.judged.Number.{Number}
 use Rattle.cert_check.specs.declared.judged.Answered.{Answered}
 use Rattle.cert_check.specs.declared.judged.Bearing.{Bearing}
 use Rattle.cert_check.specs.declared.judged.Bearing.TheVariants.{Settles, Agrees, Differs}
-
--- the answer says which of two facts stands, or that none does
-abbrev pub IsJudged : Type 0 → Type 0 → Judged → Type 0
-IsJudged stands fails Yes = stands
-IsJudged stands fails No = fails
-IsJudged stands fails Open = (stands → ⊥) × (fails → ⊥)
 
 -- the comparisons by order
 abbrev pub IsOrder : Op → Type 0
@@ -132,3 +127,9 @@ IsOutThen here there known place rule = Contains there place → Contains here p
 -- so are the first rules
 abbrev pub AreOutSoFar : List ℕ → List ℕ → List Lit → List Rule → ℕ → Type 0
 AreOutSoFar here there known rules n = (k : ℕ) (d : Rule) → k < n → IsOutThen here there known k (slice_index_or rules k d)
+
+-- a rule at a place is left for the machine, is yes, and has the word v
+pub record SaysAt (out : List ℕ) (met : List (ℕ × ℕ)) (known : List Lit) (v : ℕ) (arch : Arch) (place : ℕ) (rule : Rule) : Type 0 where
+  pub left : IsLeft out arch place rule
+  pub is_yes : IsYesRule met known place rule
+  pub word : rule.word ≡ v

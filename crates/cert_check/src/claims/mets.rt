@@ -125,7 +125,7 @@ fn is_yes<S: State>(facts: &Facts<'_, S>, narrow: bool, cond: &Cond) -> bool
 
 // Whether a condition, by the places of its rule and its own, is met: it is one of the profile's, and was met before or
 // is yes by what is known.
-fn is_met<S: State>(
+pub(crate) fn is_met<S: State>(
     profile: &Profile,
     facts: &Facts<'_, S>,
     here: &Mets<'_, '_>,

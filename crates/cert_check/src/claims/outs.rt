@@ -7,14 +7,16 @@ ghost use Rattle.profile.specs.declared.rules.Rule.{Rule as TheRule};
 ghost use Rattle.profile.specs.Rule.{is_narrow_rule};
 ghost use Rattle.cert_check.specs.Agree.{IsRefuted, SomeIsNo};
 ghost use Rattle.cert_check.specs.Rules.{IsOutOn};
-ghost use Rattle.cert_check.specs.inner.Judged.{AreOutSoFar, AreYes, IsJudged, IsOutThen};
+ghost use Rattle.cert_check.specs.Judged.{IsJudged};
+ghost use Rattle.cert_check.specs.inner.Judged.{AreOutSoFar, AreYes, IsOutThen};
 ghost use Rattle.cert_check.specs.inner.Ways.{edge_of};
 
-use crate::agree::{NUMBER, TOKEN, answer_of};
+use crate::agree::{NUMBER, TOKEN};
+use crate::answered::answer_of;
 use crate::edges::Way;
 use crate::judged::{Answered, Judged};
 use cert_form::NodeView;
-use cert_state::{Facts, Lit, State, With};
+use cert_state::{Facts, Knowledge, Lit, State, With};
 use profile::{Profile, Rule};
 
 /// The rules that a node says to be out, each marked at its place: a profile has at most 8,192 rules. Without a node none is.
@@ -120,7 +122,7 @@ fn is_no(judged: Judged) -> bool
 }
 
 // Whether what is known refutes a rule, by the answer to its conditions.
-fn refutes<S: State>(facts: &Facts<'_, S>, rule: &Rule, conds: Judged) -> bool
+pub(crate) fn refutes<S: State>(facts: &Facts<'_, S>, rule: &Rule, conds: Judged) -> bool
     requires { let known = S.known facts.now.state.now in
         IsJudged (AreYes (is_narrow_rule rule.now) known rule.now.conds.items)
         (SomeIsNo (is_narrow_rule rule.now) known rule.now.conds.items) conds }

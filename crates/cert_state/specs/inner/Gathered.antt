@@ -1,5 +1,5 @@
 -- What was gathered of a word.
-use Rattle.std.specs.Prelude.{◌≡◌, ◌≢◌, ℕ, ◌<◌, ◌≤◌, ⊤, true, List, Contains, bit_and}
+use Rattle.std.specs.Prelude.{◌≡◌, ◌≢◌, ℕ, ◌<◌, ◌≤◌, ⊤, true, List, Contains, bit_and, length, slice_index_or, take}
 use Rattle.std.proofs.Props.{props}
 use Rattle.cert_state.specs.declared.literal.Lit.{Lit}
 use Rattle.cert_state.specs.declared.literal.Lit.TheVariants.{In, Bits, NotBits}
@@ -54,3 +54,10 @@ IsRange-prop lits w lo hi = hlevel (props, Meets-prop)
 
 pub AreFactsOf-prop : (lits : List Lit) (w : ℕ) (facts : WordFacts) → IsProp (AreFactsOf lits w facts)
 AreFactsOf-prop lits w facts = hlevel (props, IsRange-prop)
+
+-- what is kept for each place of a list was gathered of the literals before it
+abbrev pub AreKept : List Lit → ℕ → List WordFacts → Type 0
+AreKept lits w before = (k : ℕ) (d : WordFacts) → k < length lits → AreFactsOf (take k lits) w (slice_index_or before k d)
+
+pub AreKept-prop : (lits : List Lit) (w : ℕ) (before : List WordFacts) → IsProp (AreKept lits w before)
+AreKept-prop lits w before = hlevel (props, AreFactsOf-prop)

@@ -4,5 +4,5 @@ use Rattle.cert_check.proofs.conditions.ends_above.Goals as goal
 
 pub returns : goal.returns
 returns g c =
-    let known = g.S.State.known c.args.facts.now.state.now in
+    let known = g.K.Knowledge.known c.args.known.now in
     wide_ends c.args.narrow known c.args.index _ c.range.result c.if-narrow.false (omega (arith, c.low_word.ensures)) c.range.ensures

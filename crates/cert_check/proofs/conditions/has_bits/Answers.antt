@@ -6,7 +6,7 @@ use Rattle.cert_check.proofs.conditions.has_bits.Goals as goal
 
 pub returns-then-not-has_above : goal.returns-then-not-has_above
 returns-then-not-has_above g c =
-    let known = g.S.State.known c.args.facts.now.state.now in
+    let known = g.K.Knowledge.known c.args.known.now in
     let same = same_has_above c.args.narrow known c.args.index c.halves-mask.result.1 c.halves-datum.result.1
     (c.args.mask / 2 ^ 32) (c.args.datum / 2 ^ 32) c.halves-mask.ensures.high c.halves-datum.ensures.high in (
       λ t. let e : false ≡ true = t in cc,
@@ -15,7 +15,7 @@ returns-then-not-has_above g c =
 
 pub returns : goal.returns
 returns g c =
-    let known = g.S.State.known c.args.facts.now.state.now in
+    let known = g.K.Knowledge.known c.args.known.now in
     let j = c.args.index in
     let word = c.low_word.ensures in
     let mask = c.halves-mask.ensures.low in

@@ -1,12 +1,12 @@
 use Rattle.std.proofs.Common.{sym, subst}
 use Rattle.profile.specs.declared.conditions.Op.{Op}
 use Rattle.cert_check.specs.Agree.{IsYesBy, IsNoBy}
-use Rattle.cert_check.specs.inner.Judged.{IsJudged}
+use Rattle.cert_check.specs.Judged.{IsJudged}
 use Rattle.cert_check.proofs.conditions.judge_condition.Goals as goal
 
 pub returns-in-Eq : goal.returns-in-Eq
 returns-in-Eq g c =
-    let known = g.S.State.known c.args.facts.now.state.now in
+    let known = g.K.Knowledge.known c.args.known.now in
     let cond = c.args.cond.now in
     let P : Op → Type 0 = λ op.
     IsJudged (IsYesBy op c.args.narrow known cond.index cond.value cond.datum)
@@ -15,7 +15,7 @@ returns-in-Eq g c =
 
 pub returns-in-MaskedEq : goal.returns-in-MaskedEq
 returns-in-MaskedEq g c =
-    let known = g.S.State.known c.args.facts.now.state.now in
+    let known = g.K.Knowledge.known c.args.known.now in
     let cond = c.args.cond.now in
     let P : Op → Type 0 = λ op.
     IsJudged (IsYesBy op c.args.narrow known cond.index cond.value cond.datum)
@@ -25,7 +25,7 @@ returns-in-MaskedEq g c =
 
 pub returns-in-Ne : goal.returns-in-Ne
 returns-in-Ne g c =
-    let known = g.S.State.known c.args.facts.now.state.now in
+    let known = g.K.Knowledge.known c.args.known.now in
     let cond = c.args.cond.now in
     let P : Op → Type 0 = λ op.
     IsJudged (IsYesBy op c.args.narrow known cond.index cond.value cond.datum)

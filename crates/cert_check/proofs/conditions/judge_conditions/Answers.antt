@@ -9,7 +9,7 @@ returns-in-No g c = (c.cond-item.result, (c.loop-cond.cond-index, c.loop-cond-te
 
 pub loop-cond-preserved : goal.loop-cond-preserved
 loop-cond-preserved g c =
-    let known = g.S.State.known c.args.facts.now.state.now in
+    let known = g.K.Knowledge.known c.args.known.now in
     let conds = c.args.conds.now in
     let n = c.loop-cond.cond-index in
     let so = c.loop-cond.invariant in

@@ -24,7 +24,7 @@ judge_unless_met-requires-clause-own g c =
 
 pub returns-in-No : goal.returns-in-No
 returns-in-No g c =
-    let known = g.S.State.known c.args.facts.now.state.now in
+    let known = g.K.Knowledge.known c.args.known.now in
     let met = mets_of c.args.mets.now.node in
     let conds = c.args.conds.now in
     let n = c.loop-cond.cond-index in
@@ -39,7 +39,7 @@ returns-in-No g c =
 
 pub loop-cond-preserved : goal.loop-cond-preserved
 loop-cond-preserved g c =
-    let known = g.S.State.known c.args.facts.now.state.now in
+    let known = g.K.Knowledge.known c.args.known.now in
     let met = mets_of c.args.mets.now.node in
     let conds = c.args.conds.now in
     let n = c.loop-cond.cond-index in
@@ -67,7 +67,7 @@ loop-cond-preserved g c =
 
 pub returns-else-all_yes : goal.returns-else-all_yes
 returns-else-all_yes g c =
-    let known = g.S.State.known c.args.facts.now.state.now in
+    let known = g.K.Knowledge.known c.args.known.now in
     let met = mets_of c.args.mets.now.node in
     let so = c.loop-cond.invariant.conditions in (
       so.not_all c.if-all_yes.false,
@@ -77,7 +77,7 @@ returns-else-all_yes g c =
 
 pub returns-then-all_yes : goal.returns-then-all_yes
 returns-then-all_yes g c =
-    let known = g.S.State.known c.args.facts.now.state.now in
+    let known = g.K.Knowledge.known c.args.known.now in
     let met = mets_of c.args.mets.now.node in
     let so = c.loop-cond.invariant.conditions in
     λ own cond stands. each_at (λ k x. IsYesOrMet c.args.narrow met known c.args.place k x) c.args.conds.now c.loop-cond.cond-index own cond

@@ -4,7 +4,7 @@ use Rattle.cert_check.proofs.conditions.judge_order.Goals as goal
 
 pub returns-in_default : goal.returns-in_default
 returns-in_default g c =
-    let known = g.S.State.known c.args.facts.now.state.now in
+    let known = g.K.Knowledge.known c.args.known.now in
     let cond = c.args.cond.now in (
       no_ends c.args.narrow known cond.index cond.op cond.value true c.in_default.ensures,
       λ h. no_ends c.args.narrow known cond.index cond.op cond.value false c.in_default.ensures h.0,
@@ -12,7 +12,7 @@ returns-in_default g c =
 
 pub returns-else-holds-2 : goal.returns-else-holds-2
 returns-else-holds-2 g c =
-    let known = g.S.State.known c.args.facts.now.state.now in
+    let known = g.K.Knowledge.known c.args.known.now in
     let cond = c.args.cond.now in
     let low = c.in-Some.low in
     let high = c.in-Some.high in (
@@ -22,7 +22,7 @@ returns-else-holds-2 g c =
 
 pub returns-then-holds-3 : goal.returns-then-holds-3
 returns-then-holds-3 g c =
-    let known = g.S.State.known c.args.facts.now.state.now in
+    let known = g.K.Knowledge.known c.args.known.now in
     let cond = c.args.cond.now in
     let low = c.in-Some.low in
     let high = c.in-Some.high in (
@@ -32,7 +32,7 @@ returns-then-holds-3 g c =
 
 pub returns-else-holds-3 : goal.returns-else-holds-3
 returns-else-holds-3 g c =
-    let known = g.S.State.known c.args.facts.now.state.now in
+    let known = g.K.Knowledge.known c.args.known.now in
     let cond = c.args.cond.now in
     let low = c.in-Some.low in
     let high = c.in-Some.high in (

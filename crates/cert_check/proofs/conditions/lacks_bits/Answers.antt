@@ -6,7 +6,7 @@ use Rattle.cert_check.proofs.conditions.lacks_bits.Goals as goal
 
 pub returns : goal.returns
 returns g c =
-    let known = g.S.State.known c.args.facts.now.state.now in
+    let known = g.K.Knowledge.known c.args.known.now in
     let j = c.args.index in
     let word = c.low_word.ensures in
     let mask = c.halves-mask.ensures.low in
@@ -24,7 +24,7 @@ returns g c =
 
 pub returns-then-lacks_above : goal.returns-then-lacks_above
 returns-then-lacks_above g c =
-    let known = g.S.State.known c.args.facts.now.state.now in
+    let known = g.K.Knowledge.known c.args.known.now in
     let same = same_lacks_above c.args.narrow known c.args.index c.halves-mask.result.1 c.halves-datum.result.1
     (c.args.mask / 2 ^ 32) (c.args.datum / 2 ^ 32) c.halves-mask.ensures.high c.halves-datum.ensures.high in
     (λ _. inl (same.0 (c.if-lacks_above.ensures.0 refl)), λ _. refl)

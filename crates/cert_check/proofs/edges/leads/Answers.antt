@@ -11,7 +11,7 @@ returns c =
     let way = c.args.way.now in
     let n = says c.node.result in
     let greater : c.args.i < way.to = let past = c.if-to-i.false in omega (arith, past) in
-    let at : slice_get ns way.to ≡ Some n = c.node.ensures in
+    let at : slice_get ns way.to ≡ Some n = c.node.ensures.node in
     let its : c.from.result ≡ n.pc = c.from.ensures ∙ c.pc.ensures in (
       λ t. (greater, (n, at, sym its ∙ eqb-true c.from.result way.pc t)),
       λ l. eq-eqb c.from.result way.pc (its ∙ (ap (λ m. m.pc) (same_Some n l.1.0 (sym at ∙ l.1.1)) ∙ l.1.2)),

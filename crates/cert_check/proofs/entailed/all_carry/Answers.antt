@@ -8,21 +8,21 @@ use Rattle.cert_check.specs.inner.Ways.{edge_list, edge_of}
 use Rattle.cert_check.proofs.Elements.{all_one, all_two, all_none}
 use Rattle.cert_check.proofs.entailed.all_carry.Goals as goal
 
-pub carries_to-requires : goal.carries_to-requires
-carries_to-requires c =
+pub carries_to-requires-clause-there : goal.carries_to-requires-clause-there
+carries_to-requires-clause-there c =
     let P : Edge → Type 0 = λ e. e.to < length (nodes_of c.args.view.now) in
-    All-head P (edge_of c.in-One.way) [] (subst (λ w. All P (edge_list w)) c.in-One.is c.requires)
+    All-head P (edge_of c.in-One.way) [] (subst (λ w. All P (edge_list w)) c.in-One.is c.requires.there)
 
-pub carries_to-requires-in-Two : goal.carries_to-requires-in-Two
-carries_to-requires-in-Two c =
+pub carries_to-requires-in-Two-clause-there : goal.carries_to-requires-in-Two-clause-there
+carries_to-requires-in-Two-clause-there c =
     let P : Edge → Type 0 = λ e. e.to < length (nodes_of c.args.view.now) in
-    All-head P (edge_of c.in-Two.first) (edge_of c.in-Two.second ∷ []) (subst (λ w. All P (edge_list w)) c.in-Two.is c.requires)
+    All-head P (edge_of c.in-Two.first) (edge_of c.in-Two.second ∷ []) (subst (λ w. All P (edge_list w)) c.in-Two.is c.requires.there)
 
-pub carries_to-requires-in-Two-2 : goal.carries_to-requires-in-Two-2
-carries_to-requires-in-Two-2 c =
+pub carries_to-requires-in-Two-2-clause-there : goal.carries_to-requires-in-Two-2-clause-there
+carries_to-requires-in-Two-2-clause-there c =
     let P : Edge → Type 0 = λ e. e.to < length (nodes_of c.args.view.now) in
     All-head P (edge_of c.in-Two.second) []
-    (All-tail P (edge_of c.in-Two.first) (edge_of c.in-Two.second ∷ []) (subst (λ w. All P (edge_list w)) c.in-Two.is c.requires))
+    (All-tail P (edge_of c.in-Two.first) (edge_of c.in-Two.second ∷ []) (subst (λ w. All P (edge_list w)) c.in-Two.is c.requires.there))
 
 pub returns-in-One : goal.returns-in-One
 returns-in-One c =

@@ -14,13 +14,15 @@ returns c =
     let ForScratch : Regs → Type 0 = λ regs. (j : ℕ) (v : AVal) → slice_get regs.scratch j ≡ Some v
     → Allows v (slice_index_or way.scratch j Unknown) in
     let is = c.regs-regs.ensures in (
-      λ t. record {
-        literals = c.if-not-entails_all.ensures.0 refl;
-        outs = c.if-not-outs_follow.ensures.0 refl;
-        mets = c.mets_follow.ensures.0 t;
-        for_a = subst ForA is (c.if-not-allows.ensures.0 refl);
-        for_x = subst ForX is (c.if-not-allows-2.ensures.0 refl);
-        for_scratch = subst ForScratch is (c.if-not-allows_scratch.ensures.0 refl);
-      },
-      λ h. c.mets_follow.ensures.1 h.mets,
+      λ t.
+          let all = c.claims_follow.ensures.0 t in
+          record {
+            literals = all.literals;
+            outs = all.outs;
+            mets = all.mets;
+            for_a = subst ForA is (c.if-not-allows.ensures.0 refl);
+            for_x = subst ForX is (c.if-not-allows-2.ensures.0 refl);
+            for_scratch = subst ForScratch is (c.if-not-allows_scratch.ensures.0 refl);
+          },
+      λ h. c.claims_follow.ensures.1 (record { literals = h.literals; outs = h.outs; mets = h.mets }),
     )

@@ -17,7 +17,7 @@ returns-in_default c =
     let i = c.args.i in
     let n = says c.node-node.result in
     let past : slice_get p n.pc ≡ None = subst (λ k. slice_get p k ≡ None) c.pc.ensures c.in_default.ensures in
-    found_at policy p ns i n (Err (Edge i)) c.node-node.ensures (refl, no_insn p ns i n past)
+    found_at policy p ns i n (Err (Edge i)) c.node-node.ensures.node (refl, no_insn p ns i n past)
 
 pub returns-in_default-ways_of : goal.returns-in_default-ways_of
 returns-in_default-ways_of c =
@@ -28,7 +28,7 @@ returns-in_default-ways_of c =
     let n = says c.node-node.result in
     let insn = c.in-Some.insn in
     let at : slice_get p n.pc ≡ Some insn = subst (λ k. slice_get p k ≡ Some insn) c.pc.ensures c.in-Some.ensures.0 in
-    found_at policy p ns i n (Err (Edge i)) c.node-node.ensures (refl, no_edges policy p ns i n insn at (sym c.in_default-ways_of.ensures))
+    found_at policy p ns i n (Err (Edge i)) c.node-node.ensures.node (refl, no_edges policy p ns i n insn at (sym c.in_default-ways_of.ensures))
 
 pub returns-then-not-all_lead : goal.returns-then-not-all_lead
 returns-then-not-all_lead c =
@@ -41,7 +41,7 @@ returns-then-not-all_lead c =
     let at : slice_get p n.pc ≡ Some insn = subst (λ k. slice_get p k ≡ Some insn) c.pc.ensures c.in-Some.ensures.0 in
     let out = edge_list c.in-Some-ways_of.ways in
     let leave : edges n insn ≡ Some out = sym c.in-Some-ways_of.ensures in
-    found_at policy p ns i n (Err (Edge i)) c.node-node.ensures
+    found_at policy p ns i n (Err (Edge i)) c.node-node.ensures.node
     (refl, λ rule. let e : false ≡ true = c.if-not-all_lead.ensures.1 (edge_back policy p ns i n insn at out leave rule) in cc)
 
 pub returns-then-not-split_is_kept : goal.returns-then-not-split_is_kept
@@ -57,11 +57,11 @@ returns-then-not-split_is_kept c =
     let leave : edges n insn ≡ Some out = sym c.in-Some-ways_of.ensures in
     let lead = c.if-not-all_lead.ensures.0 refl in
     let edge = edge_from policy p ns i n insn at out leave lead in
-    found_at policy p ns i n (Err (Split i)) c.node-node.ensures
+    found_at policy p ns i n (Err (Split i)) c.node-node.ensures.node
     (refl, edge, λ rule. let e : false ≡ true = c.if-not-split_is_kept.ensures.1 rule in cc)
 
-pub entail_is_kept-requires : goal.entail_is_kept-requires
-entail_is_kept-requires c =
+pub entail_is_kept-requires-clause-there : goal.entail_is_kept-requires-clause-there
+entail_is_kept-requires-clause-there c =
     let policy = c.args.profile.now in
     let p = accepted_insns c.args.accepted.now in
     let ns = nodes_of c.args.view.now in
@@ -87,7 +87,7 @@ returns-then-not-entail_is_kept c =
     let lead = c.if-not-all_lead.ensures.0 refl in
     let edge = edge_from policy p ns i n insn at out leave lead in
     let split = c.if-not-split_is_kept.ensures.0 refl in
-    found_at policy p ns i n (Err (Entail i)) c.node-node.ensures (
+    found_at policy p ns i n (Err (Entail i)) c.node-node.ensures.node (
       refl,
       edge,
       split,
@@ -110,7 +110,7 @@ returns-then-not-return_is_kept c =
     let edge = edge_from policy p ns i n insn at out leave lead in
     let split = c.if-not-split_is_kept.ensures.0 refl in
     let entail = entail_from policy p ns i n insn at out leave (c.if-not-entail_is_kept.ensures.0 refl) in
-    found_at policy p ns i n (Err (Return i)) c.node-node.ensures (
+    found_at policy p ns i n (Err (Return i)) c.node-node.ensures.node (
       refl,
       edge,
       split,
@@ -134,7 +134,7 @@ returns c =
     let edge = edge_from policy p ns i n insn at out leave lead in
     let split = c.if-not-split_is_kept.ensures.0 refl in
     let entail = entail_from policy p ns i n insn at out leave (c.if-not-entail_is_kept.ensures.0 refl) in
-    found_at policy p ns i n (Ok tt) c.node-node.ensures
+    found_at policy p ns i n (Ok tt) c.node-node.ensures.node
     (record {
       edge = edge;
       split = split;

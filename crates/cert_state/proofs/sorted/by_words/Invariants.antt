@@ -6,8 +6,8 @@ use Rattle.cert_state.proofs.sorted.by_words.Given as goal
 
 abbrev pub invariant-loop-i : goal.invariant-loop-i
 invariant-loop-i g l = record {
-  within : l.from ≤ 513;
-  room : length l.lits ≡ 513;
+  within : l.from ≤ length l.initial.lits;
+  room : length l.lits ≡ length l.initial.lits;
   sixteen : length l.parts ≡ 16;
   parts : (w : ℕ) (part : Part) → w < l.i
       → (IsPartOf (g.S.State.known l.state) l.lits w (slice_index_or l.parts w part)) × ((slice_index_or l.parts w part).to ≤ l.from);

@@ -6,8 +6,8 @@ use Rattle.cert_state.proofs.sorted.put_word.Given as goal
 abbrev pub invariant-loop-literal : goal.invariant-loop-literal
 invariant-loop-literal g l = record {
   ordered : l.from ≤ l.to;
-  within : l.to ≤ 513;
-  room : length l.lits ≡ 513;
+  within : l.to ≤ length l.initial.lits;
+  room : length l.lits ≡ length l.initial.lits;
   before : take l.from l.lits ≡ take l.from l.initial.lits;
   put : take l.to l.lits ++ of_word l.word (g.S.State.rest l.state l.at)
       ≡ take l.from l.initial.lits ++ of_word l.word (g.S.State.known l.state);

@@ -7,7 +7,8 @@ use Rattle.std.specs.Prelude.{List}
 use Rattle.profile.specs.declared.conditions.Cond.{Cond}
 use Rattle.profile.specs.Rule.{is_narrow_rule}
 use Rattle.cert_check.specs.Agree.{SomeIsNo}
-use Rattle.cert_check.specs.inner.Judged.{AreYes, IsJudged}
+use Rattle.cert_check.specs.Judged.{IsJudged}
+use Rattle.cert_check.specs.inner.Judged.{AreYes}
 use Rattle.cert_check.specs.declared.judged.Judged.{Judged}
 use Rattle.cert_check.specs.declared.judged.Judged.TheVariants.{Yes, No, Open}
 use Rattle.cert_check.proofs.claims.outs.refutes.Goals as goal

@@ -1,7 +1,7 @@
-use Rattle.std.proofs.Common.{sym, ap, ◌∙◌, ◌<◌, ℕ, length, subst, rules}
+use Rattle.std.proofs.Common.{refl, sym, ap, ◌∙◌, ◌<◌, ℕ, length, subst, rules}
 use Rattle.std.specs.Prelude.{Some}
 use Rattle.cert_form.specs.declared.view.CertView.{CertView}
-use Rattle.cert_form.specs.Views.{nodes_of, says}
+use Rattle.cert_form.specs.Views.{bytes_of, certificate_of, nodes_of, says}
 use Rattle.cert_form.specs.Reading.{node_at, node_count}
 use Rattle.cert_form.specs.inner.Places.{IsNodeThere, AreNodesThere}
 use Rattle.cert_form.proofs.ReadLaws.{length-nodes_in, slice_get-nodes_in}
@@ -20,8 +20,12 @@ invariant_of-result-clause-there c =
     subst (λ k. IsNodeThere c.args.self.now.bytes.now k) (sym c.place.ensures)
     (there.nodes c.args.i (within c.args.self.now c.args.i c.requires))
 
-pub returns : goal.returns
+pub returns-clause-node : goal.returns-clause-node
 unfolding nodes_of says
-returns c =
+returns-clause-node c =
     slice_get-nodes_in c.args.self.now.bytes.now c.args.i (within c.args.self.now c.args.i c.requires)
     ∙ ap (λ k. Some (node_at c.args.self.now.bytes.now k)) (sym c.place.ensures)
+
+pub returns-clause-same : goal.returns-clause-same
+unfolding bytes_of certificate_of
+returns-clause-same c = refl

@@ -1,0 +1,172 @@
+//! The claims of a node that are new on the way to it: its chain and that of the node before mostly share all but a few.
+ghost use Rattle.std.specs.Prelude.{◌≡◌, ◌↔◌, ◌<◌, ◌++◌, All, IsTrue, Some, length, option_to_list, slice_get};
+ghost use Rattle.cert_form.specs.Reading.{claims_in};
+ghost use Rattle.cert_form.specs.Views.{all_claims, certificate_of, claims_from, claims_of, says};
+ghost use Rattle.profile.specs.declared.rules.Rule.{Rule as TheRule};
+ghost use Rattle.cert_check.specs.inner.Followed.{AllFollow, AreBut, IsFact, IsPlaced, IsRefutedAt, IsShown};
+ghost use Rattle.cert_check.specs.inner.Ways.{edge_of};
+
+use crate::claims::mets::{Mets, is_met};
+use crate::claims::outs::refutes;
+use crate::conditions::judge_conditions;
+use crate::edges::Way;
+use cert_form::{CertView, Claim, NodeView};
+use cert_state::{Facts, Knowledge, Lit, State, With};
+use profile::Profile;
+
+// Whether a number is below another.
+fn is_below(number: usize, end: usize) -> bool
+    ensures { IsTrue result ↔ (number < end) }
+{
+    number < end
+}
+
+// Whether the profile has a rule, and a condition of it, by their places.
+fn has_condition(profile: &Profile, place: u32, own: u32) -> bool
+    ensures { IsTrue result ↔ ((rule : TheRule) × (slice_get profile.now.rules place ≡ Some rule) × (own < length rule.conds.items)) }
+{
+    let rules = profile.rules();
+    let place = place as usize;
+    if place >= rules.len() {
+        return false;
+    }
+    let rule = &rules[place];
+    let conds = rule.conds.as_slice();
+    is_below(own as usize, conds.len())
+}
+
+// Whether the profile has the rule of a claim, and the condition.
+fn is_placed(profile: &Profile, claim: Claim) -> bool
+    ensures { IsTrue result ↔ IsPlaced profile.now claim }
+{
+    match claim {
+        Claim::Knows(_) => true,
+        Claim::Out(place) => is_below(place as usize, profile.rules().len()),
+        Claim::Met(place, own) => has_condition(profile, place, own),
+    }
+}
+
+/// Whether the profile has the rules, and the conditions, of all claims of a certificate, whatever nodes make them.
+pub(crate) fn are_placed(profile: &Profile, view: &CertView<'_>) -> bool
+    ensures { IsTrue result ↔ All (IsPlaced profile.now) (all_claims view.now) }
+{
+    for i in 0..view.claim_count() {
+        if !is_placed(profile, view.claim(i)) {
+            return false;
+        }
+    }
+    true
+}
+
+// Whether what is known refutes the rule at a place.
+fn is_refuted_at<S: State>(profile: &Profile, facts: &Facts<'_, S>, place: u32) -> bool
+    ensures { IsTrue result ↔ IsRefutedAt profile.now (S.known facts.now.state.now) place }
+{
+    let rules = profile.rules();
+    let place = place as usize;
+    if place >= rules.len() {
+        return false;
+    }
+    let rule = &rules[place];
+    let conds = judge_conditions(facts, rule.is_narrow(), rule.conds.as_slice());
+    refutes(facts, rule, conds)
+}
+
+// Whether a claim follows from what is known, whatever else was claimed.
+fn is_shown<S: State>(profile: &Profile, facts: &Facts<'_, S>, claim: Claim) -> bool
+    ensures { IsTrue result ↔ IsShown profile.now (S.known facts.now.state.now) claim }
+{
+    match claim {
+        Claim::Knows(literal) => facts.entails(&literal),
+        Claim::Out(place) => is_refuted_at(profile, facts, place),
+        Claim::Met(place, own) => is_met(profile, facts, &Mets::none(), (place, own)),
+    }
+}
+
+// Whether a claim is the fact of an edge.
+fn is_fact(fact: Option<Lit>, claim: Claim) -> bool
+    ensures { IsTrue result ↔ IsFact fact claim }
+{
+    match claim {
+        Claim::Knows(literal) => fact == Some(literal),
+        Claim::Out(_) => false,
+        Claim::Met(_, _) => false,
+    }
+}
+
+// The place of a node's chain behind those first claims that are the fact of an edge, or where the shared ones begin.
+fn after_fact(fact: Option<Lit>, node: &NodeView<'_>, shared: usize) -> usize
+    ensures { AreBut (IsFact fact) (claims_from node.now result) (claims_of node.now) }
+{
+    let mut at = node.chain();
+    while at != shared {
+        let Some((claim, next)) = node.next_claim(at) else {
+            return at;
+        };
+        if !is_fact(fact, claim) {
+            return at;
+        }
+        at = next;
+    }
+    at
+}
+
+// Whether each claim of a node from a place on follows from what is known, up to where the shared ones begin.
+fn are_shown<S: State>(
+    profile: &Profile,
+    known: &With<'_, S>,
+    node: &NodeView<'_>,
+    from: usize,
+    shared: usize,
+) -> bool
+    ensures { let all = S.known known.now.state.now ++ option_to_list known.now.more in
+        IsTrue result → AreBut (IsShown profile.now all) (claims_from node.now shared) (claims_from node.now from) }
+{
+    let facts = Facts::of(known);
+    let mut at = from;
+    while at != shared {
+        let Some((claim, next)) = node.next_claim(at) else {
+            return true;
+        };
+        if !is_shown(profile, &facts, claim) {
+            return false;
+        }
+        at = next;
+    }
+    true
+}
+
+/// Whether all that a node claims is seen to follow on the way to it by its new claims alone: the others are claims of
+/// the node before, since their chains are one from where they meet. Where it is not, it may follow all the same, as
+/// where `placed` does not tell that the profile has the rules of all claims.
+pub(crate) fn new_claims_follow(
+    profile: &Profile,
+    node: &NodeView<'_>,
+    way: &Way,
+    there: &NodeView<'_>,
+    placed: bool,
+) -> bool
+    requires same { certificate_of node.now ≡ certificate_of there.now }
+    requires placed { IsTrue placed → All (IsPlaced profile.now) (claims_in (certificate_of node.now)) }
+    ensures { IsTrue result → AllFollow profile.now (says node.now) (edge_of way.now) (says there.now) }
+{
+    if !placed {
+        return false;
+    }
+    if !node.is_sharp() {
+        return false;
+    }
+    if !there.is_sharp() {
+        return false;
+    }
+    let shared = node.meeting(there);
+    let from = after_fact(way.fact, there, shared);
+    if from == shared {
+        return true;
+    }
+    let known = With {
+        state: node,
+        more: way.fact,
+    };
+    are_shown(profile, &known, there, from, shared)
+}

@@ -1,0 +1,17 @@
+use Rattle.std.proofs.Common.{List, ap, ◌∙◌, sym, subst}
+use Rattle.std.specs.Prelude.{slice_range}
+use Rattle.cert_state.specs.declared.literal.Lit.{Lit}
+use Rattle.cert_state.specs.Entailment.{Entails}
+use Rattle.cert_state.proofs.WordLaws.{entails_of_all, entails_of_own}
+use Rattle.cert_state.proofs.sorted.FactsKnowledge.entails.Goals as goal
+
+pub returns : goal.returns
+returns g c =
+    let known = g.S.State.known c.args.self.now.state.now in
+    let l = c.args.literal.now in
+    let part = c.part-part.result in
+    let same = ap (λ ls. slice_range ls part.from part.to) c.lits.ensures ∙ c.part-part.ensures.literals in
+    let at = sym c.word-word.ensures in (
+      λ t. entails_of_all c.word-word.result known l at (subst (λ (ks : List Lit). Entails ks l) same (c.gives.ensures.0 t)),
+      λ h. c.gives.ensures.1 (subst (λ (ks : List Lit). Entails ks l) (sym same) (entails_of_own c.word-word.result known l at h)),
+    )
