@@ -70,14 +70,9 @@ impl Left {
         })
     }
 
-    /// Whether a rule may hold.
-    pub(crate) fn has(&self, rule: u32) -> bool {
-        for left in &self.rules {
-            if left.rule == rule {
-                return true;
-            }
-        }
-        false
+    /// Whether a rule stands at a place among those that may hold. They stand in the order of their part.
+    pub(crate) fn is_at(&self, place: usize, rule: u32) -> bool {
+        matches!(self.rules.get(place), Some(left) if left.rule == rule)
     }
 }
 

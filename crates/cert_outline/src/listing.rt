@@ -148,8 +148,8 @@ fn chain_of(
     before: u32,
 ) -> Result<u32, OutlineError> {
     let stated = maker.stated(spot)?;
-    let claims = stated.sorted(maker.alloc, chains, before)?;
-    Ok(chains.of(&claims)?)
+    let (claims, shared) = stated.sorted(maker.alloc, chains, before)?;
+    Ok(chains.of(&claims, shared)?)
 }
 
 /// The certificate of all spots of a maker, with what they do.

@@ -5,7 +5,7 @@
 
 use crate::stating::Stated;
 use cert_form::Claim;
-use cert_parts::Chains;
+use cert_parts::{Chains, Shared};
 use std::alloc::{AllocError, Global};
 
 // More rules than a profile has.
@@ -92,28 +92,32 @@ impl Stated {
         Ok(())
     }
 
-    /// All claims, with the rules that are out in the better order, where the chain of a node before is given.
+    /// All claims, with the rules that are out in the better order, where the chain of a node before is given; and what their
+    /// chain shares with those that are there.
     pub(crate) fn sorted(
         &self,
         alloc: Global,
         chains: &Chains,
         before: u32,
-    ) -> Result<Vec<Claim>, AllocError> {
+    ) -> Result<(Vec<Claim>, Shared), AllocError> {
         let outs = self.outs(alloc)?;
         if outs.len() < 2 {
-            return self.with(alloc, &outs);
+            let claims = self.with(alloc, &outs)?;
+            let shared = chains.shared(&claims);
+            return Ok((claims, shared));
         }
         let before = chains.outs(alloc, before)?;
         let one = self.as_before(alloc, &outs, &before)?;
         let shared = chains.shared(&one);
-        if shared >= self.call.items.len().saturating_add(before.len()) {
-            return Ok(one);
+        if shared.count >= self.call.items.len().saturating_add(before.len()) {
+            return Ok((one, shared));
         }
         let other = self.in_halves(alloc)?;
-        if shared >= chains.shared(&other) {
-            return Ok(one);
+        let also = chains.shared(&other);
+        if shared.count >= also.count {
+            return Ok((one, shared));
         }
-        Ok(other)
+        Ok((other, also))
     }
 }
 

@@ -74,6 +74,13 @@ impl Stated {
         }
     }
 
+    // Makes room for so many rules more.
+    fn expect(&mut self, count: usize) {
+        if self.rules.reserve(count).is_err() {
+            self.is_refused = true;
+        }
+    }
+
     /// Adds a rule that may be out, with whether it is.
     pub(crate) fn add_rule(&mut self, rule: u32, is_out: bool) {
         if self.rules.push((rule, is_out)).is_err() {
@@ -91,9 +98,14 @@ impl<'a> Maker<'a> {
     // Which rules of a call are out, of those of the parts that were asked and of the one that is asked.
     fn rules_stated(&self, call: &AskedCall, left: &Left, stated: &mut Stated) {
         for (place, part) in call.parts.iter().enumerate() {
+            stated.expect(part.len());
+            let mut next = 0usize;
             for rule in part {
-                let is_asked = place == left.part && !left.has(*rule);
-                stated.add_rule(*rule, place < left.part || is_asked);
+                let is_left = place == left.part && left.is_at(next, *rule);
+                if is_left {
+                    next = next.saturating_add(1);
+                }
+                stated.add_rule(*rule, place <= left.part && !is_left);
             }
         }
     }

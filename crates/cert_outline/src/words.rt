@@ -1,7 +1,7 @@
 //! What is known of some words of a record, as literals.
 
 use cert_parts::{Item, listed, mixed};
-use cert_state::{Knowledge, Lit, dead, range};
+use cert_state::{Knowledge, Lit, is_dead_at, range};
 use std::alloc::{AllocError, Global};
 
 /// Literals of whole words, word by word, and of bits under masks. What is known of bits under one mask is not looked at for those
@@ -144,10 +144,10 @@ impl Words {
     // Whether those of one word can not all be true.
     fn are_dead_at(&self, alloc: Global, word: u8) -> Result<bool, AllocError> {
         let next = word.saturating_add(1);
-        let mut own = Vec::new(alloc);
+        let mut own = Vec::with_capacity(alloc, self.whole.len().saturating_add(1))?;
         add_words(&mut own, &self.whole, word, next)?;
         add_words(&mut own, &self.masked, word, next)?;
-        Ok(dead(&listed(&own)))
+        Ok(is_dead_at(&listed(&own), word))
     }
 
     // The same, with a literal more.

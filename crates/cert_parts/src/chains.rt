@@ -11,6 +11,13 @@ pub struct Chains {
     entries: Table<(u32, Claim)>,
 }
 
+/// What a list of claims shares with chains that are there: how many of the first of them, and the chain of these.
+#[derive(Clone, Copy)]
+pub struct Shared {
+    pub chain: u32,
+    pub count: usize,
+}
+
 impl Item for Claim {
     fn key(&self) -> u32 {
         match *self {
@@ -50,30 +57,29 @@ impl Chains {
         Ok(place as u32 + 1)
     }
 
-    /// The chain of these claims.
-    pub fn of(&mut self, claims: &[Claim]) -> Result<u32, FormError> {
+    /// The chain of these claims, of which the first so many stand in this one.
+    pub fn of(&mut self, claims: &[Claim], shared: Shared) -> Result<u32, FormError> {
         if claims.len() > MAX_LITERALS {
             return Err(FormError::BadCount);
         }
-        let mut chain = 0;
-        for claim in claims {
+        let mut chain = shared.chain;
+        for claim in claims.get(shared.count..).unwrap_or(&[]) {
             chain = self.longer(chain, *claim)?;
         }
         Ok(chain)
     }
 
-    /// How many entries the chain of these claims shares with what is there.
-    pub fn shared(&self, claims: &[Claim]) -> usize {
-        let mut chain = 0;
-        let mut count = 0usize;
+    /// What the chain of these claims shares with those that are there.
+    pub fn shared(&self, claims: &[Claim]) -> Shared {
+        let mut shared = Shared { chain: 0, count: 0 };
         for claim in claims {
-            let Some(place) = self.entries.find(&(chain, *claim)) else {
-                return count;
+            let Some(place) = self.entries.find(&(shared.chain, *claim)) else {
+                return shared;
             };
-            chain = place.min(MAX_ENTRIES) as u32 + 1;
-            count = count.saturating_add(1);
+            shared.chain = place.min(MAX_ENTRIES) as u32 + 1;
+            shared.count = shared.count.saturating_add(1);
         }
-        count
+        shared
     }
 
     /// The last claim of a chain, with the chain before it.
@@ -99,11 +105,17 @@ impl Chains {
     /// The rules that a chain says to be out.
     pub fn outs(&self, alloc: Global, chain: u32) -> Result<Vec<u32>, AllocError> {
         let mut outs = Vec::new(alloc);
-        for claim in &self.claims(alloc, chain)? {
+        let mut left = chain;
+        for _ in 0..MAX_LITERALS {
+            let Some((parent, claim)) = self.last(left) else {
+                break;
+            };
             if let Claim::Out(rule) = claim {
-                outs.push(*rule)?;
+                outs.push(rule)?;
             }
+            left = parent;
         }
+        outs.reverse();
         Ok(outs)
     }
 

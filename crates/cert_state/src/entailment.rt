@@ -100,8 +100,8 @@ pub fn entails<S: State>(state: &S, literal: &Lit) -> bool
     gives(state, &briefly_of(state, literal.word()), literal)
 }
 
-// Whether the literals of a word can not all be true.
-pub(crate) fn is_dead_at<S: State>(state: &S, word: u8) -> bool
+/// Whether the literals of a word can not all be true.
+pub fn is_dead_at<S: State>(state: &S, word: u8) -> bool
     ensures { IsTrue result ↔ IsDeadAt (S.known state.now) word }
 {
     let summary = summarize(state, word);

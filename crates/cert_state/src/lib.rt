@@ -22,7 +22,7 @@ mod state;
 mod summary;
 
 pub use after::{edge_fact, transfer};
-pub use entailment::{dead, entails};
+pub use entailment::{dead, entails, is_dead_at};
 pub use knowledge::Knowledge;
 pub use laws::{
     dead_is_sound, edge_fact_is_sound, entails_is_sound, sharp_fact_is_sound, transfer_is_sound,
