@@ -13,13 +13,13 @@ ghost use Rattle.profile_json.specs.inner.Reading as spec;
 ghost use Rattle.profile_json.specs.inner.View.{said_parts};
 
 use crate::action::default_of;
+use crate::contents::Contents;
 use crate::fault::ProfileError;
 use crate::machines::archs_of;
 use crate::overlaps::overlap_of;
 use crate::refused::refuse_keys;
 use crate::root::root_of;
 use crate::rules::{Rules, rules_of};
-use crate::said::Said;
 use crate::syscalls::entries_of;
 use call_tables::Arch;
 use profile::{BuildError, Profile, in_order};
@@ -53,7 +53,7 @@ pub(crate) fn said_of<'a>(
     alloc: Global,
     seccomp: &'a Value,
     native: Arch,
-) -> Result<Said<'a>, ProfileError>
+) -> Result<Contents<'a>, ProfileError>
     ensures reading { GivesWithMemory said_parts result (spec.said_of native (view seccomp.now)) }
     ensures native_listed { IfOk result (λ s. list_any (same_arch native) s.archs.items ≡ true) }
 {
@@ -61,7 +61,7 @@ pub(crate) fn said_of<'a>(
     refuse_keys(seccomp)?;
     let archs = archs_of(alloc, seccomp, native)?;
     let entries = entries_of(alloc, seccomp, native.family())?;
-    Ok(Said {
+    Ok(Contents {
         default_word,
         archs,
         entries,
@@ -69,7 +69,7 @@ pub(crate) fn said_of<'a>(
 }
 
 /// The profile of the rules that the entries say.
-fn profile_of(alloc: Global, said: &Said, native: Arch) -> Result<Profile, ProfileError>
+fn profile_of(alloc: Global, said: &Contents, native: Arch) -> Result<Profile, ProfileError>
     requires native_listed { list_any (same_arch native) said.now.archs.items ≡ true }
     requires of_family { AreOfFamily (family_of native) said.now.archs.items }
     ensures ok { IfOk result (IsMade (said_parts said.now) native) }

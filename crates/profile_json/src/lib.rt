@@ -6,6 +6,7 @@ mod action;
 mod argument;
 mod bundle;
 mod by_entry;
+mod contents;
 mod entry;
 mod fault;
 mod key;
@@ -17,7 +18,6 @@ mod overlaps;
 mod refused;
 mod root;
 mod rules;
-mod said;
 mod syscalls;
 
 pub use action::Action;

@@ -17,8 +17,8 @@ impl CompileError {
     ghost use Rattle.std.specs.Prelude.{◌≡◌};
     ghost use Rattle.rule_compile.specs.Fault.{label_of};
 
-    // The number and the name by which it is told.
-    fn label(self) -> (u32, &'static str)
+    /// The number and the name by which it is told.
+    pub fn label(self) -> (u32, &'static str)
         ensures number { result.0 ≡ (label_of self).0 }
         ensures name { result.1.now ≡ (label_of self).1 }
     {
@@ -26,20 +26,6 @@ impl CompileError {
             CompileError::TooLong => (1, "TooLong"),
             CompileError::OutOfMemory => (9, "OutOfMemory"),
         }
-    }
-
-    /// The number by which the error is told.
-    pub fn number(self) -> u32
-        ensures { result ≡ (label_of self).0 }
-    {
-        self.label().0
-    }
-
-    /// The name of the error.
-    pub fn name(self) -> &'static str
-        ensures { result.now ≡ (label_of self).1 }
-    {
-        self.label().1
     }
 }
 
