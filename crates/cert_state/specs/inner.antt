@@ -3,3 +3,4 @@ pub mod Window
 pub mod Exclusion
 pub mod Gathered
 pub mod Sorted
+pub mod Compared

@@ -1,8 +1,10 @@
 //! What is known after an instruction, and on an edge of a conditional jump.
 ghost use Rattle.std.specs.Prelude.{◌≡◌};
 ghost use Rattle.bpf_insn.specs.Causes.{IsPlain};
+ghost use Rattle.bpf_insn.specs.Code.{operation_of};
 ghost use Rattle.cert_state.specs.Transfer.{certain_fact, computed_value, masked_fact, operand_value};
-ghost use Rattle.cert_state.specs.Transfer.{edge_fact as fact_of, transfer as regs_after};
+ghost use Rattle.cert_state.specs.Transfer.{edge_fact as fact_of, test_fact as fact_of_test, transfer as regs_after};
+ghost use Rattle.cert_state.specs.inner.Compared.{compared_by};
 
 use crate::literal::{AVal, Lit, Regs};
 use crate::state::State;
@@ -11,8 +13,8 @@ use bpf_insn::{Arithmetic, Insn, Operand, Operation, Test};
 // A literal that is true of no record.
 const FALSE: Lit = Lit::In(0, 1, 0);
 
-/// What is known of the second operand.
-pub(crate) fn value(operand: Operand, insn: &Insn, regs: &Regs) -> AVal
+// What is known of the second operand.
+fn value(operand: Operand, insn: &Insn, regs: &Regs) -> AVal
     ensures { result ≡ operand_value operand insn.now regs.now }
 {
     match operand {
@@ -72,8 +74,8 @@ pub fn transfer<S: State>(state: &S, insn: &Insn) -> Regs
     regs
 }
 
-/// What is known where a comparison of two constants came out so.
-pub(crate) fn certain(holds: bool) -> Option<Lit>
+// What is known where a comparison of two constants came out so.
+fn certain(holds: bool) -> Option<Lit>
     ensures { result ≡ certain_fact holds }
 {
     if holds { None } else { Some(FALSE) }
@@ -104,18 +106,33 @@ pub(crate) fn masked(test: Test, word: u8, mask: u32, c: u32, taken: bool) -> Op
     }
 }
 
-/// What is known on the edge of a conditional jump that is taken where its test holds, or on the other
-/// one.
-pub fn edge_fact<S: State>(state: &S, insn: &Insn, taken: bool) -> Option<Lit>
-    ensures { result ≡ fact_of (S.regs state.now) insn.now taken }
+/// What is known where a comparison of A with its operand came out so.
+pub(crate) fn test_fact(test: Test, a: AVal, operand: AVal, taken: bool) -> Option<Lit>
+    ensures { result ≡ fact_of_test test a operand taken }
+{
+    match (a, operand) {
+        (AVal::Const(a), AVal::Const(c)) => certain(test.holds(a, c) == taken),
+        (AVal::Masked(word, mask), AVal::Const(c)) => masked(test, word, mask, c, taken),
+        _ => None,
+    }
+}
+
+/// What an instruction compares, if it is a conditional jump: its test, and what is known of A and of its operand.
+pub(crate) fn compared<S: State>(state: &S, insn: &Insn) -> Option<(Test, AVal, AVal)>
+    ensures { result ≡ compared_by (operation_of insn.now.code) insn.now (S.regs state.now) }
 {
     let Some(Operation::Branch(test, operand)) = insn.operation() else {
         return None;
     };
     let regs = state.regs();
-    match (regs.a, value(operand, insn, &regs)) {
-        (AVal::Const(a), AVal::Const(c)) => certain(test.holds(a, c) == taken),
-        (AVal::Masked(word, mask), AVal::Const(c)) => masked(test, word, mask, c, taken),
-        _ => None,
-    }
+    Some((test, regs.a, value(operand, insn, &regs)))
+}
+
+/// What is known on the edge of a conditional jump that is taken where its test holds, or on the other
+/// one.
+pub fn edge_fact<S: State>(state: &S, insn: &Insn, taken: bool) -> Option<Lit>
+    ensures { result ≡ fact_of (S.regs state.now) insn.now taken }
+{
+    let (test, a, operand) = compared(state, insn)?;
+    test_fact(test, a, operand, taken)
 }

@@ -1,12 +1,13 @@
 //! Sharp facts: what certificates of form 4 tell on an edge of a conditional jump.
 ghost use Rattle.std.specs.Prelude.{◌≡◌};
 ghost use Rattle.cert_state.specs.Sharp.{above_fact, sharp_masked_fact};
-ghost use Rattle.cert_state.specs.Sharp.{is_bit as has_one, is_high as has_high, lowest_bit as lowest_of, sharp_fact as fact_of};
+ghost use Rattle.cert_state.specs.Sharp.{is_bit as has_one, is_high as has_high, lowest_bit as lowest_of};
+ghost use Rattle.cert_state.specs.Sharp.{sharp_fact as fact_of, sharp_test_fact as fact_of_test};
 
-use crate::after::{certain, masked, value};
+use crate::after::{compared, masked, test_fact};
 use crate::literal::{AVal, Lit};
 use crate::state::State;
-use bpf_insn::{Insn, Operation, Test};
+use bpf_insn::{Insn, Test};
 
 /// The lowest bit of a number; of 0 it is the one above all 32.
 pub fn lowest_bit(number: u32) -> u64
@@ -55,18 +56,21 @@ fn sharp(test: Test, word: u8, mask: u32, c: u32, taken: bool) -> Option<Lit>
     }
 }
 
+// What is known where a comparison of A with its operand came out so.
+fn sharp_test_fact(test: Test, a: AVal, operand: AVal, taken: bool) -> Option<Lit>
+    ensures { result ≡ fact_of_test test a operand taken }
+{
+    match (a, operand) {
+        (AVal::Masked(word, mask), AVal::Const(c)) => sharp(test, word, mask, c, taken),
+        _ => test_fact(test, a, operand, taken),
+    }
+}
+
 /// What certificates of form 4 tell on the edge of a conditional jump that is taken where its test holds, or on the other
 /// one.
 pub fn sharp_fact<S: State>(state: &S, insn: &Insn, taken: bool) -> Option<Lit>
     ensures { result ≡ fact_of (S.regs state.now) insn.now taken }
 {
-    let Some(Operation::Branch(test, operand)) = insn.operation() else {
-        return None;
-    };
-    let regs = state.regs();
-    match (regs.a, value(operand, insn, &regs)) {
-        (AVal::Const(a), AVal::Const(c)) => certain(test.holds(a, c) == taken),
-        (AVal::Masked(word, mask), AVal::Const(c)) => sharp(test, word, mask, c, taken),
-        _ => None,
-    }
+    let (test, a, operand) = compared(state, insn)?;
+    sharp_test_fact(test, a, operand, taken)
 }
