@@ -243,6 +243,17 @@ fn bounds<S: State>(state: &S, facts: &WordFacts, word: u8, low: u32, high: u32)
     states(state, &Lit::In(word, low, high))
 }
 
+// Whether a literal is among those of a state, which is not asked where it is known not to be.
+fn is_stated<S: State>(state: &S, literal: Lit, never: bool) -> bool
+    requires { never ≡ true → Contains (S.known state.now) literal → ⊥ }
+    ensures { IsTrue result ↔ Contains (S.known state.now) literal }
+{
+    if never {
+        return false;
+    }
+    states(state, &literal)
+}
+
 // Whether the `Bits` of a word say the datum under the mask.
 fn says(facts: &WordFacts, mask: u32, datum: u32) -> bool
     ensures { IsTrue result ↔ IsWithin mask facts.now.mask × (bit_and facts.now.datum mask ≡ datum) }
@@ -268,10 +279,7 @@ fn fixes<S: State>(state: &S, facts: &WordFacts, word: u8, mask: u32, datum: u32
     if is_one(facts, mask, datum) {
         return true;
     }
-    if facts.whole {
-        return false;
-    }
-    states(state, &Lit::Bits(word, mask, datum))
+    is_stated(state, Lit::Bits(word, mask, datum), facts.whole)
 }
 
 // Whether the `Bits` of a word say another datum on a bit of the mask.
@@ -318,10 +326,7 @@ fn excludes<S: State>(state: &S, facts: &WordFacts, word: u8, mask: u32, datum: 
     if is_excluded(state, word, mask, datum) {
         return true;
     }
-    if facts.exact {
-        return false;
-    }
-    states(state, &Lit::NotBits(word, mask, datum))
+    is_stated(state, Lit::NotBits(word, mask, datum), facts.exact)
 }
 
 /// Whether a literal follows, by what was gathered of its word.

@@ -32,37 +32,21 @@ returns-then-facts g c =
       ],
     )
 
+pub is_stated-requires : goal.is_stated-requires
+is_stated-requires g c = λ exact has.
+    let known = g.S.State.known c.args.state.now in
+    let out = excludes_itself known c.args.word c.args.mask c.args.datum has (c.requires.exact exact c.args.mask c.args.datum has) in
+    let e : false ≡ true = c.if-is_excluded.ensures.1 out in
+    cc
+
 pub returns : goal.returns
 returns g c =
     let known = g.S.State.known c.args.state.now in
     let differ = differ_by known c.args.word c.args.facts.now c.requires c.args.mask c.args.datum in
     let missed = missed_by known c.args.word c.args.facts.now c.requires c.args.mask c.args.datum in (
-      λ t. inl (c.states.ensures.0 t),
+      λ t. inl (c.is_stated.ensures.0 t),
       λ h. elim h [
-        | inl has ↦ c.states.ensures.1 has
-        | inr derived ↦
-            elim derived [
-              | inl other ↦ absurd (let e : false ≡ true = c.if-differs.ensures.1 (differ.0 other) in cc)
-              | inr derived ↦
-                  elim derived [
-                    | inl out ↦ absurd (let e : false ≡ true = c.if-is_excluded.ensures.1 out in cc)
-                    | inr none ↦ absurd (let e : false ≡ true = c.if-misses.ensures.1 (missed.0 none) in cc)
-                  ]
-            ]
-      ],
-    )
-
-pub returns-then-facts-2 : goal.returns-then-facts-2
-returns-then-facts-2 g c =
-    let known = g.S.State.known c.args.state.now in
-    let differ = differ_by known c.args.word c.args.facts.now c.requires c.args.mask c.args.datum in
-    let missed = missed_by known c.args.word c.args.facts.now c.requires c.args.mask c.args.datum in (
-      λ t. let e : false ≡ true = t in cc,
-      λ h. elim h [
-        | inl has ↦
-            absurd (let out = excludes_itself known c.args.word c.args.mask c.args.datum has
-            (c.requires.exact c.if-facts-2.true c.args.mask c.args.datum has) in
-            let e : false ≡ true = c.if-is_excluded.ensures.1 out in cc)
+        | inl has ↦ c.is_stated.ensures.1 has
         | inr derived ↦
             elim derived [
               | inl other ↦ absurd (let e : false ≡ true = c.if-differs.ensures.1 (differ.0 other) in cc)

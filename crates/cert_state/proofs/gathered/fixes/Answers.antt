@@ -12,31 +12,20 @@ returns-then-is_one g c =
     let at = one_by (g.S.State.known c.args.state.now) c.args.word c.args.facts.now c.requires c.args.mask c.args.datum in
     (λ t. inr (inr (at.1 (c.if-is_one.ensures.0 refl))), λ h. refl)
 
-pub returns-then-facts : goal.returns-then-facts
-returns-then-facts g c =
-    let known = g.S.State.known c.args.state.now in
-    let says = known_by known c.args.word c.args.facts.now c.requires c.args.mask c.args.datum in
-    let one = one_by known c.args.word c.args.facts.now c.requires c.args.mask c.args.datum in (
-      λ t. let e : false ≡ true = t in cc,
-      λ h. elim h [
-        | inl has ↦
-            absurd (let e : false ≡ true = c.if-says.ensures.1 (says.0 (c.requires.whole c.if-facts.true c.args.mask c.args.datum has)) in cc)
-        | inr derived ↦
-            elim derived [
-              | inl stated ↦ absurd (let e : false ≡ true = c.if-says.ensures.1 (says.0 stated) in cc)
-              | inr point ↦ absurd (let e : false ≡ true = c.if-is_one.ensures.1 (one.0 point) in cc)
-            ]
-      ],
-    )
+pub is_stated-requires : goal.is_stated-requires
+is_stated-requires g c = λ whole has.
+    let says = known_by (g.S.State.known c.args.state.now) c.args.word c.args.facts.now c.requires c.args.mask c.args.datum in
+    let e : false ≡ true = c.if-says.ensures.1 (says.0 (c.requires.whole whole c.args.mask c.args.datum has)) in
+    cc
 
 pub returns : goal.returns
 returns g c =
     let known = g.S.State.known c.args.state.now in
     let says = known_by known c.args.word c.args.facts.now c.requires c.args.mask c.args.datum in
     let one = one_by known c.args.word c.args.facts.now c.requires c.args.mask c.args.datum in (
-      λ t. inl (c.states.ensures.0 t),
+      λ t. inl (c.is_stated.ensures.0 t),
       λ h. elim h [
-        | inl has ↦ c.states.ensures.1 has
+        | inl has ↦ c.is_stated.ensures.1 has
         | inr derived ↦
             elim derived [
               | inl stated ↦ absurd (let e : false ≡ true = c.if-says.ensures.1 (says.0 stated) in cc)
