@@ -10,7 +10,7 @@ use Rattle.cert_form.specs.declared.node.Claim.{Claim}
 use Rattle.cert_form.specs.declared.node.Claim.TheVariants.{Knows, Out, Met}
 use Rattle.cert_form.specs.Spelling.{literal, claim, IsClaim}
 use Rattle.cert_form.specs.Reading.{long_at, literal_at, claim_at, version_of}
-use Rattle.cert_form.specs.Faults.{HasTag, SaysOut, SaysMet, IsBadClaim}
+use Rattle.cert_form.specs.Faults.{SaysOut, SaysMet, IsBadClaim}
 use Rattle.cert_form.specs.inner.Standing.{Stands, IsLiteralThere, IsClaimThere}
 use Rattle.cert_form.proofs.StandLaws.{AreBytes, both, other, ended, byte_is, long_stands, long_below}
 use Rattle.cert_form.proofs.PartLaws.{length-literal, literal_is, literal_not_bad, fields_are, second_is, pair_stands}

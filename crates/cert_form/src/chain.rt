@@ -7,6 +7,7 @@ ghost use Rattle.cert_form.specs.inner.Places.{IsHeadThere};
 
 use crate::node::Claim;
 use crate::part::{read_claim, read_long};
+use crate::sought::Sought;
 use cert_state::Lit;
 
 /// What the entry of a number states, with the number of the next one. There is no entry 0, and none above all.
@@ -30,6 +31,24 @@ pub(crate) fn next_claim(bytes: &[u8], at: usize) -> Option<(Claim, usize)>
     Some((claim, read_long(bytes, entry) as usize))
 }
 
+// The first thing of a kind that a chain states from an entry on, with the number of the entry after it.
+fn next_sought<T: Sought>(bytes: &[u8], at: usize) -> Option<(T, usize)>
+    requires head { IsHeadThere bytes.now }
+    requires form { version_of bytes.now ≢ 1 }
+    ensures more { let es = entries_of bytes.now in MatchOption result (T.among (on_chain es at) ≡ [])
+        (λ p. T.among (on_chain es at) ≡ p.0 ∷ T.among (on_chain es p.1)) }
+    ensures bound { IfSome result (λ p. p.1 ≤ 0xffffffff) }
+{
+    let mut entry = at;
+    while let Some((claim, next)) = next_claim(bytes, entry) {
+        if let Some(sought) = T::of(claim) {
+            return Some((sought, next));
+        }
+        entry = next;
+    }
+    None
+}
+
 /// The first literal of a chain from an entry on, with the number of the entry after it.
 pub(crate) fn next_literal(bytes: &[u8], at: usize) -> Option<(Lit, usize)>
     requires head { IsHeadThere bytes.now }
@@ -38,14 +57,7 @@ pub(crate) fn next_literal(bytes: &[u8], at: usize) -> Option<(Lit, usize)>
         (λ p. literals_in (on_chain es at) ≡ p.0 ∷ literals_in (on_chain es p.1)) }
     ensures bound { IfSome result (λ p. p.1 ≤ 0xffffffff) }
 {
-    let mut entry = at;
-    while let Some((claim, next)) = next_claim(bytes, entry) {
-        if let Claim::Knows(literal) = claim {
-            return Some((literal, next));
-        }
-        entry = next;
-    }
-    None
+    next_sought(bytes, at)
 }
 
 /// The first rule that a chain says to be out from an entry on, with the number of the entry after it.
@@ -55,14 +67,7 @@ pub(crate) fn next_out(bytes: &[u8], at: usize) -> Option<(u32, usize)>
     ensures { let es = entries_of bytes.now in MatchOption result (outs_in (on_chain es at) ≡ [])
         (λ p. outs_in (on_chain es at) ≡ p.0 ∷ outs_in (on_chain es p.1)) }
 {
-    let mut entry = at;
-    while let Some((claim, next)) = next_claim(bytes, entry) {
-        if let Claim::Out(place) = claim {
-            return Some((place, next));
-        }
-        entry = next;
-    }
-    None
+    next_sought(bytes, at)
 }
 
 /// The first condition that a chain says to be met from an entry on, with the number of the entry after it.
@@ -72,14 +77,7 @@ pub(crate) fn next_met(bytes: &[u8], at: usize) -> Option<((u32, u32), usize)>
     ensures { let es = entries_of bytes.now in MatchOption result (mets_in (on_chain es at) ≡ [])
         (λ p. mets_in (on_chain es at) ≡ p.0 ∷ mets_in (on_chain es p.1)) }
 {
-    let mut entry = at;
-    while let Some((claim, next)) = next_claim(bytes, entry) {
-        if let Claim::Met(rule, condition) = claim {
-            return Some(((rule, condition), next));
-        }
-        entry = next;
-    }
-    None
+    next_sought(bytes, at)
 }
 
 // The number of the entry after one, or 0.

@@ -13,6 +13,7 @@ mod listed;
 mod node;
 mod part;
 mod put;
+mod sought;
 mod view;
 mod writing;
 
