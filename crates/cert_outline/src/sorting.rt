@@ -5,7 +5,7 @@
 
 use crate::stating::Stated;
 use cert_form::Claim;
-use cert_parts::{Chains, Shared};
+use cert_parts::{Chains, Link, Shared};
 use std::alloc::{AllocError, Global};
 
 // More rules than a profile has.
@@ -103,22 +103,34 @@ impl Stated {
         let outs = self.outs(alloc)?;
         if outs.len() < 2 {
             let claims = self.with(alloc, &outs)?;
-            let shared = chains.shared(&claims);
+            let shared = chains.shared(&claims, &[]);
             return Ok((claims, shared));
         }
-        let before = chains.outs(alloc, before)?;
+        let links = chains.links(alloc, before)?;
+        let before = outs_of(alloc, &links)?;
         let one = self.as_before(alloc, &outs, &before)?;
-        let shared = chains.shared(&one);
+        let shared = chains.shared(&one, &links);
         if shared.count >= self.call.items.len().saturating_add(before.len()) {
             return Ok((one, shared));
         }
         let other = self.in_halves(alloc)?;
-        let also = chains.shared(&other);
+        let also = chains.shared(&other, &links);
         if shared.count >= also.count {
             return Ok((one, shared));
         }
         Ok((other, also))
     }
+}
+
+// The rules that a chain says to be out.
+fn outs_of(alloc: Global, links: &[Link]) -> Result<Vec<u32>, AllocError> {
+    let mut outs = Vec::with_capacity(alloc, links.len())?;
+    for link in links {
+        if let Claim::Out(rule) = link.claim {
+            outs.push(rule)?;
+        }
+    }
+    Ok(outs)
 }
 
 fn add_all(sorted: &mut Vec<u32>, rules: &[(u32, bool)]) -> Result<(), AllocError> {

@@ -5,10 +5,20 @@ use cert_form::{ChainNode, Claim, FormError, MAX_ENTRIES, MAX_LITERALS, write_cl
 use cert_state::Lit;
 use std::alloc::{AllocError, Global};
 
+// How many links most chains have at most.
+const LIKELY: usize = 64;
+
 /// Entries, each with the number of its parent, or 0, and a claim. They are numbered from 1.
 #[derive(Drop)]
 pub struct Chains {
     entries: Table<(u32, Claim)>,
+}
+
+/// A claim of a chain, and the chain up to it.
+#[derive(Clone, Copy)]
+pub struct Link {
+    pub claim: Claim,
+    pub chain: u32,
 }
 
 /// What a list of claims shares with chains that are there: how many of the first of them, and the chain of these.
@@ -16,6 +26,21 @@ pub struct Chains {
 pub struct Shared {
     pub chain: u32,
     pub count: usize,
+}
+
+impl Shared {
+    // What a list of claims shares with one chain.
+    fn with(links: &[Link], claims: &[Claim]) -> Shared {
+        let mut shared = Shared { chain: 0, count: 0 };
+        for (link, claim) in links.iter().zip(claims) {
+            if link.claim != *claim {
+                break;
+            }
+            shared.chain = link.chain;
+            shared.count = shared.count.saturating_add(1);
+        }
+        shared
+    }
 }
 
 impl Item for Claim {
@@ -69,10 +94,10 @@ impl Chains {
         Ok(chain)
     }
 
-    /// What the chain of these claims shares with those that are there.
-    pub fn shared(&self, claims: &[Claim]) -> Shared {
-        let mut shared = Shared { chain: 0, count: 0 };
-        for claim in claims {
+    /// What the chain of these claims shares with those that are there. One that it is likely to begin with is looked at first.
+    pub fn shared(&self, claims: &[Claim], likely: &[Link]) -> Shared {
+        let mut shared = Shared::with(likely, claims);
+        for claim in claims.get(shared.count..).unwrap_or(&[]) {
             let Some(place) = self.entries.find(&(shared.chain, *claim)) else {
                 return shared;
             };
@@ -102,21 +127,19 @@ impl Chains {
         Ok(claims)
     }
 
-    /// The rules that a chain says to be out.
-    pub fn outs(&self, alloc: Global, chain: u32) -> Result<Vec<u32>, AllocError> {
-        let mut outs = Vec::new(alloc);
+    /// The links of a chain, the first claim first.
+    pub fn links(&self, alloc: Global, chain: u32) -> Result<Vec<Link>, AllocError> {
+        let mut links = Vec::with_capacity(alloc, LIKELY)?;
         let mut left = chain;
         for _ in 0..MAX_LITERALS {
             let Some((parent, claim)) = self.last(left) else {
                 break;
             };
-            if let Claim::Out(rule) = claim {
-                outs.push(rule)?;
-            }
+            links.push(Link { claim, chain: left })?;
             left = parent;
         }
-        outs.reverse();
-        Ok(outs)
+        links.reverse();
+        Ok(links)
     }
 
     /// The certificate of these nodes, whose chains are made here.

@@ -10,7 +10,7 @@ mod kinds;
 mod states;
 mod table;
 
-pub use chains::{Chains, Shared};
+pub use chains::{Chains, Link, Shared};
 pub use cuts::{Cut, cut_below, cut_of_bits};
 pub use kinds::{NOBODY, followers, leading_to};
 pub use states::{NO_REGS, listed};
