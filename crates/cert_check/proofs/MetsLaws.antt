@@ -3,7 +3,7 @@ use Rattle.std.proofs.Common.{◌≡◌, ℕ, suc, ◌+◌, ◌*◌, ◌<◌, �
 use Rattle.std.proofs.Common.{◌∷◌, length, refl, sym, subst, ap, ◌∙◌, inl, inr, ◌⊎◌, arith}
 use Rattle.std.specs.Prelude.{◌↔◌, Contains, Some, replicate, slice_get, slice_index_or}
 use Rattle.std.proofs.lemmas.Bool.{cases_eq, eq-eqb, ne_eqb}
-use Rattle.std.proofs.lemmas.List.{get_or-replicate}
+use Rattle.std.proofs.lemmas.List.{get_or-replicate, length-replicate}
 use Rattle.std.proofs.lemmas.Option.{slice_get-get_or, same_Some}
 use Rattle.profile.specs.declared.conditions.Cond.{Cond}
 use Rattle.cert_state.specs.declared.literal.Lit.{Lit}
@@ -17,44 +17,49 @@ use Rattle.cert_check.specs.inner.Judged.{AreYes, IsAnswered, IsNoNorMet, IsYesO
 use Rattle.cert_check.specs.declared.judged.Answered.{Answered}
 use Rattle.cert_check.specs.declared.judged.Judged.{Judged}
 use Rattle.cert_check.specs.declared.judged.Judged.TheVariants.{Yes, No, Open}
-use Rattle.cert_check.specs.inner.Marked.{is_said, AreMetMarked, AreMetMarkedBut}
+use Rattle.cert_check.specs.inner.Marked.{is_said, AreMetMarked, AreMetMarkedBut, IsClear}
 use Rattle.cert_check.proofs.Elements.{contains_at}
 use Rattle.cert_check.proofs.OutsLaws.{cases, first, later, same_answer}
 
 -- ---- places marked
 
-pub none_marked : (places rest : List (ℕ × ℕ)) → rest ≡ places → AreMetMarkedBut places (replicate 49152 false) rest
-none_marked places rest e rule own d lt below = (
+-- a table that is made
+pub made_clear : (size : ℕ) → IsClear (replicate size false)
+made_clear size k d lt = get_or-replicate size k false d (subst (λ n. k < n) (length-replicate size false) lt)
+
+pub none_marked : (places : List (ℕ × ℕ)) (table : List Bool) (rest : List (ℕ × ℕ)) → rest ≡ places → IsClear table
+    → AreMetMarkedBut places table rest
+none_marked places table rest e clear rule own d below within = (
   λ h. elim h [
-    | inl marked ↦ absurd (let is : false ≡ true = sym (get_or-replicate 49152 (6 * rule + own) false d (omega (arith, lt, below)))
-        ∙ marked in cc)
+    | inl marked ↦ absurd (let is : false ≡ true = sym (clear (6 * rule + own) d within) ∙ marked in cc)
     | inr has ↦ subst (λ xs. Contains xs (rule, own)) e has
   ],
   λ has. inr (subst (λ xs. Contains xs (rule, own)) (sym e) has),
 )
 
-same_place : (a b : ℕ × ℕ) → a.0 ≡ b.0 → a.1 ≡ b.1 → a ≡ b
+pub same_place : (a b : ℕ × ℕ) → a.0 ≡ b.0 → a.1 ≡ b.1 → a ≡ b
 same_place a b p q = ap (λ k. (k, a.1)) p ∙ ap (λ k. (b.0, k)) q
 
 pub one_marked : (places : List (ℕ × ℕ)) (old new : List Bool) (all : List (ℕ × ℕ)) (place : ℕ × ℕ) (rest : List (ℕ × ℕ))
     → all ≡ place ∷ rest
+    → length new ≡ length old
     → AreMetMarkedBut places old all
-    → ((rule own : ℕ) (d : Bool) → rule < 8192 → own < 6
+    → ((rule own : ℕ) (d : Bool) → own < 6 → 6 * rule + own < length old
     → (slice_index_or new (6 * rule + own) d ≡ true) ↔ ((slice_index_or old (6 * rule + own) d ≡ true)
     ⊎ ((rule ≡ place.0) × (own ≡ place.1))))
     → AreMetMarkedBut places new rest
-one_marked places old new all place rest e so step rule own d lt below = (
+one_marked places old new all place rest e same so step rule own d below inside = let within : 6 * rule + own < length old = omega (arith, same, inside) in (
   λ h. elim h [
-    | inl marked ↦ elim ((step rule own d lt below).0 marked) [
-      | inl before ↦ (so rule own d lt below).0 (inl before)
-      | inr is ↦ (so rule own d lt below).0 (inr (first place all rest e (rule, own) (same_place place (rule, own) (sym is.0) (sym is.1))))
+    | inl marked ↦ elim ((step rule own d below within).0 marked) [
+      | inl before ↦ (so rule own d below within).0 (inl before)
+      | inr is ↦ (so rule own d below within).0 (inr (first place all rest e (rule, own) (same_place place (rule, own) (sym is.0) (sym is.1))))
     ]
-    | inr has ↦ (so rule own d lt below).0 (inr (later place all rest e (rule, own) has))
+    | inr has ↦ (so rule own d below within).0 (inr (later place all rest e (rule, own) has))
   ],
-  λ has. elim ((so rule own d lt below).1 has) [
-    | inl before ↦ inl ((step rule own d lt below).1 (inl before))
+  λ has. elim ((so rule own d below within).1 has) [
+    | inl before ↦ inl ((step rule own d below within).1 (inl before))
     | inr waits ↦ elim (cases place all rest e (rule, own) waits) [
-      | inl is ↦ inl ((step rule own d lt below).1 (inr (sym (ap (λ (p : ℕ × ℕ). p.0) is), sym (ap (λ (p : ℕ × ℕ). p.1) is))))
+      | inl is ↦ inl ((step rule own d below within).1 (inr (sym (ap (λ (p : ℕ × ℕ). p.0) is), sym (ap (λ (p : ℕ × ℕ). p.1) is))))
       | inr has ↦ inr has
     ]
   ],
@@ -97,10 +102,10 @@ said (p ∷ places) rule own = elim (is_place p rule own) [
 
 pub all_marked : (places : List (ℕ × ℕ)) (table : List Bool) (rest : List (ℕ × ℕ)) → rest ≡ [] → AreMetMarkedBut places table rest
     → AreMetMarked places table
-all_marked places table rest e so rule own d lt below =
+all_marked places table rest e so rule own d below within =
     same_answer (slice_index_or table (6 * rule + own) d) (is_said places rule own)
-    (λ marked. (said places rule own).1 ((so rule own d lt below).0 (inl marked))) (λ is.
-    elim ((so rule own d lt below).1 ((said places rule own).0 is)) [
+    (λ marked. (said places rule own).1 ((so rule own d below within).0 (inl marked))) (λ is.
+    elim ((so rule own d below within).1 ((said places rule own).0 is)) [
       | inl marked ↦ marked
       | inr waits ↦ absurd (omega (arith, (subst (λ xs. Contains xs (rule, own)) e waits).1))
     ])

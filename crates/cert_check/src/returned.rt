@@ -6,15 +6,16 @@ ghost use Rattle.cert_form.specs.Views.{says};
 ghost use Rattle.cert_check.specs.Agree.{Agrees};
 ghost use Rattle.cert_check.specs.Rules.{word_by};
 ghost use Rattle.cert_check.specs.inner.Broken.{ReturnsAt};
-ghost use Rattle.cert_check.specs.inner.Claimed.{outs_of};
+ghost use Rattle.cert_check.specs.inner.Claimed.{mets_of, outs_of};
+ghost use Rattle.cert_check.specs.inner.Marked.{IsClear};
 
 use crate::agree::Agreement;
-use crate::claims::{Mets, Outs, has_no_met, has_none, mark_mets, mark_outs};
+use crate::claims::{FEW_RULES, Mets, Outs, has_no_met, has_none, mark_mets, mark_outs};
 use bpf_insn::{Insn, Operation};
 use call_record::Word;
 use cert_form::{Kind, NodeView};
 use cert_state::{AVal, Facts, Regs, State};
-use profile::Profile;
+use profile::{MAX_RULES, Profile};
 
 // The word that a return gives, where it is known.
 fn word_of(insn: &Insn, regs: &Regs) -> Option<u32>
@@ -30,24 +31,62 @@ fn word_of(insn: &Insn, regs: &Regs) -> Option<u32>
     }
 }
 
-// The same by a table of the conditions that the node says to be met. A table is made in a function of its own, and where
-// the node names something alone: so no other return makes room for it.
-#[inline(never)]
-fn agrees_by_mets(profile: &Profile, node: &NodeView<'_>, outs: Outs<'_, '_>, word: Word) -> bool
-    requires { outs_of outs.node ≡ (says node.now).out }
+// Whether the profile says a word of all that a node knows, of which these rules are out and these conditions met.
+fn agrees_with(
+    profile: &Profile,
+    node: &NodeView<'_>,
+    outs: Outs<'_, '_>,
+    mets: Mets<'_, '_>,
+    word: Word,
+) -> bool
+    requires outs { outs_of outs.node ≡ (says node.now).out }
+    requires mets { mets_of mets.node ≡ (says node.now).met }
     ensures { let n = says node.now in IsTrue result ↔ Agrees profile.now n.out n.met n.known word }
 {
     let facts = Facts::of(node);
-    let mut marked = [false; 49152];
-    mark_mets(node, &mut marked);
     let agreement = Agreement {
         profile,
         outs,
-        mets: Mets::of(node, &marked),
+        mets,
         facts: &facts,
         word,
     };
     agreement.agrees()
+}
+
+// The same by a table for the conditions, in which none is marked yet.
+fn agrees_by(
+    profile: &Profile,
+    node: &NodeView<'_>,
+    outs: Outs<'_, '_>,
+    word: Word,
+    table: &mut [bool],
+) -> bool
+    requires outs { outs_of outs.node ≡ (says node.now).out }
+    requires table { IsClear table.old }
+    ensures { let n = says node.now in IsTrue result ↔ Agrees profile.now n.out n.met n.known word }
+{
+    mark_mets(node, table);
+    agrees_with(profile, node, outs, Mets::of(node, table), word)
+}
+
+// The same where the profile has few rules. A table is made in a function of its own, and where the node names something
+// alone: so no other return makes room for it.
+#[inline(never)]
+fn agrees_by_few(profile: &Profile, node: &NodeView<'_>, outs: Outs<'_, '_>, word: Word) -> bool
+    requires { outs_of outs.node ≡ (says node.now).out }
+    ensures { let n = says node.now in IsTrue result ↔ Agrees profile.now n.out n.met n.known word }
+{
+    agrees_by(profile, node, outs, word, &mut [false; 6 * FEW_RULES])
+}
+
+// The same where it has many.
+#[inline(never)]
+fn agrees_by_many(profile: &Profile, node: &NodeView<'_>, outs: Outs<'_, '_>, word: Word) -> bool
+    requires { outs_of outs.node ≡ (says node.now).out }
+    ensures { let n = says node.now in IsTrue result ↔ Agrees profile.now n.out n.met n.known word }
+{
+    agrees_by(profile, node, outs, word, &mut [false; 6 * MAX_RULES])
 }
 
 // Whether the profile says a word of all that a node knows, of which these rules are out.
@@ -56,17 +95,12 @@ fn agrees_but_for(profile: &Profile, node: &NodeView<'_>, outs: Outs<'_, '_>, wo
     ensures { let n = says node.now in IsTrue result ↔ Agrees profile.now n.out n.met n.known word }
 {
     if has_no_met(node) {
-        let facts = Facts::of(node);
-        let agreement = Agreement {
-            profile,
-            outs,
-            mets: Mets::none(),
-            facts: &facts,
-            word,
-        };
-        return agreement.agrees();
+        return agrees_with(profile, node, outs, Mets::none(), word);
     }
-    agrees_by_mets(profile, node, outs, word)
+    if profile.rules().len() <= FEW_RULES {
+        return agrees_by_few(profile, node, outs, word);
+    }
+    agrees_by_many(profile, node, outs, word)
 }
 
 // The same by a table of the rules that the node says to be out.

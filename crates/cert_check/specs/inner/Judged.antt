@@ -15,7 +15,6 @@ use Rattle.cert_state.specs.Entailment.{Entails}
 use Rattle.cert_check.specs.Agree.{IsRangeAbove, IsYes, IsNo, IsYesRule, IsNoRule, IsRefuted, IsLeft, SomeIsNo, AllAreYes, OneIsNo}
 use Rattle.cert_check.specs.declared.judged.Judged.{Judged}
 use Rattle.cert_check.specs.Judged.{IsJudged}
-use Rattle.cert_check.specs.declared.judged.Judged.TheVariants.{Yes, No, Open}
 use Rattle.cert_check.specs.declared.judged.Number.{Number}
 use Rattle.cert_check.specs.declared.judged.Answered.{Answered}
 use Rattle.cert_check.specs.declared.judged.Bearing.{Bearing}

@@ -1,6 +1,6 @@
 -- Places that are marked in a table.
 use Rattle.std.specs.Prelude.{◌≡◌, ◌↔◌, ◌==◌, ℕ, ◌+◌, ◌*◌, ◌<◌, ◌⊎◌, true, false, Bool}
-use Rattle.std.specs.Prelude.{if◌then◌else◌, List, [], ◌∷◌, Contains, slice_index_or}
+use Rattle.std.specs.Prelude.{if◌then◌else◌, List, [], ◌∷◌, Contains, length, slice_index_or}
 
 abbrev pub is_among : List ℕ → ℕ → Bool
 is_among [] place = false
@@ -20,13 +20,17 @@ is_said [] rule own = false
 is_said (p ∷ places) rule own =
     if p.0 == rule then (if p.1 == own then true else is_said places rule own) else is_said places rule own
 
--- of the conditions with a place in a table, six for each of 8,192 rules, just these are marked
+-- no place of a table is marked
+abbrev pub IsClear : List Bool → Type 0
+IsClear table = (k : ℕ) (d : Bool) → k < length table → slice_index_or table k d ≡ false
+
+-- of the conditions with a place in a table, six for each rule, just these are marked
 abbrev pub AreMetMarked : List (ℕ × ℕ) → List Bool → Type 0
 AreMetMarked places table =
-    (rule own : ℕ) (d : Bool) → rule < 8192 → own < 6 → slice_index_or table (6 * rule + own) d ≡ is_said places rule own
+    (rule own : ℕ) (d : Bool) → own < 6 → 6 * rule + own < length table → slice_index_or table (6 * rule + own) d ≡ is_said places rule own
 
 -- they are, once those are marked as well that are left
 abbrev pub AreMetMarkedBut : List (ℕ × ℕ) → List Bool → List (ℕ × ℕ) → Type 0
 AreMetMarkedBut places table rest =
-    (rule own : ℕ) (d : Bool) → rule < 8192 → own < 6
+    (rule own : ℕ) (d : Bool) → own < 6 → 6 * rule + own < length table
     → ((slice_index_or table (6 * rule + own) d ≡ true) ⊎ Contains rest (rule, own)) ↔ Contains places (rule, own)

@@ -1,9 +1,9 @@
 //! The conditions that a node says to be met, by the places of their rules in the profile's order and their own, and
 //! whether they are met on the way to it.
-ghost use Rattle.std.specs.Prelude.{◌≡◌, ◌↔◌, ◌+◌, ◌*◌, ◌<◌, ◌⊎◌, [], ℕ, Bool as TheBool, Contains, IsTrue, false, replicate, slice_index_or, true, ◌++◌, All, option_to_list};
+ghost use Rattle.std.specs.Prelude.{◌≡◌, ◌↔◌, ◌+◌, ◌*◌, ◌<◌, ◌⊎◌, [], ℕ, Bool as TheBool, Contains, IsTrue, length, slice_index_or, true, ◌++◌, All, option_to_list};
 ghost use Rattle.cert_form.specs.Views.{says};
 ghost use Rattle.cert_check.specs.inner.Claimed.{mets_of};
-ghost use Rattle.cert_check.specs.inner.Marked.{AreMetMarked};
+ghost use Rattle.cert_check.specs.inner.Marked.{AreMetMarked, IsClear};
 ghost use Rattle.cert_check.specs.Agree.{IsYes};
 ghost use Rattle.cert_check.specs.Rules.{IsMetBy, known_on};
 ghost use Rattle.cert_check.specs.inner.Ways.{edge_of};
@@ -13,39 +13,40 @@ use crate::edges::Way;
 use crate::judged::Judged;
 use cert_form::NodeView;
 use cert_state::{Facts, State, With};
-use profile::{Cond, Profile};
+use profile::{Cond, MAX_RULES, Profile};
 
-/// The conditions that a node says to be met, each marked at its place: a profile has at most 8,192 rules of at most six
-/// conditions. Without a node none is.
+/// The conditions that a node says to be met, each marked at its place in a table of six for each of the first rules: a
+/// profile has at most 8,192 rules of at most six conditions. Without a node none is.
 #[derive(Clone, Copy)]
 pub(crate) struct Mets<'t, 'a> {
     pub(crate) node: Option<NodeView<'a>>,
-    marked: &'t [bool; 49152],
+    marked: &'t [bool],
     ghost whole: { AreMetMarked (mets_of node) marked.now },
 }
 
-// No condition is marked.
-const NO_CONDITION: &[bool; 49152] = &[false; 49152];
+/// How many rules a short table is made for: most profiles have no more.
+pub(crate) const FEW_RULES: usize = 512;
 
 // Marks a condition, if the table has it.
-fn mark(marked: &mut [bool; 49152], place: (u32, u32))
-    ensures { (rule own : ℕ) (d : TheBool) → rule < 8192 → own < 6 → (slice_index_or marked.new (6 * rule + own) d ≡ true)
+fn mark(marked: &mut [bool], place: (u32, u32))
+    ensures { (rule own : ℕ) (d : TheBool) → own < 6 → 6 * rule + own < length marked.old
+        → (slice_index_or marked.new (6 * rule + own) d ≡ true)
         ↔ ((slice_index_or marked.old (6 * rule + own) d ≡ true) ⊎ ((rule ≡ place.0) × (own ≡ place.1))) }
 {
-    let rule = place.0 as usize;
     let own = place.1 as usize;
-    if rule >= 8192 {
-        return;
-    }
     if own >= 6 {
         return;
     }
-    marked[6 * rule + own] = true;
+    let at = 6 * place.0 as usize + own;
+    if at >= marked.len() {
+        return;
+    }
+    marked[at] = true;
 }
 
 /// Marks the conditions that a node says to be met, in a table where none is.
-pub(crate) fn mark_mets(node: &NodeView<'_>, marked: &mut [bool; 49152])
-    requires { marked.old ≡ replicate 49152 false }
+pub(crate) fn mark_mets(node: &NodeView<'_>, marked: &mut [bool])
+    requires { IsClear marked.old }
     ensures { AreMetMarked (says node.now).met marked.new }
 {
     let mut at = node.first_met();
@@ -53,6 +54,30 @@ pub(crate) fn mark_mets(node: &NodeView<'_>, marked: &mut [bool; 49152])
         mark(marked, place);
         at = next;
     }
+}
+
+// Whether these are the places of a rule and of a condition of it.
+fn is_place(place: (u32, u32), rule: usize, own: usize) -> bool
+    ensures { IsTrue result ↔ (place ≡ (rule, own)) }
+{
+    if place.0 as usize != rule {
+        return false;
+    }
+    place.1 as usize == own
+}
+
+// Whether a node says a condition to be met, by its chain.
+fn says_met(node: &NodeView<'_>, rule: usize, own: usize) -> bool
+    ensures { IsTrue result ↔ Contains (says node.now).met (rule, own) }
+{
+    let mut at = node.first_met();
+    while let Some((place, next)) = node.next_met(at) {
+        if is_place(place, rule, own) {
+            return true;
+        }
+        at = next;
+    }
+    false
 }
 
 impl<'t, 'a> Mets<'t, 'a> {
@@ -67,12 +92,12 @@ impl<'t, 'a> Mets<'t, 'a> {
     {
         Mets {
             node: None,
-            marked: NO_CONDITION,
+            marked: &[],
         }
     }
 
     /// The conditions that a node says to be met, by its table.
-    pub(crate) fn of(node: &NodeView<'a>, marked: &'t [bool; 49152]) -> Mets<'t, 'a>
+    pub(crate) fn of(node: &NodeView<'a>, marked: &'t [bool]) -> Mets<'t, 'a>
         requires { AreMetMarked (says node.now).met marked.now }
         ensures { mets_of result.node ≡ (says node.now).met }
     {
@@ -88,7 +113,14 @@ impl<'t, 'a> Mets<'t, 'a> {
         requires own { own < 6 }
         ensures { IsTrue result ↔ Contains (mets_of self.now.node) (rule, own) }
     {
-        self.marked[6 * rule + own]
+        let at = 6 * rule + own;
+        if at < self.marked.len() {
+            return self.marked[at];
+        }
+        match &self.node {
+            Some(node) => says_met(node, rule, own),
+            None => false,
+        }
     }
 
     /// Whether some condition of the rule at a place is.
@@ -171,6 +203,42 @@ fn all_are_met<S: State>(
     true
 }
 
+// Whether each condition that a node says to be met is met on the way to it, by a table for those that the node before
+// says to be met.
+fn are_met_by(
+    profile: &Profile,
+    node: &NodeView<'_>,
+    way: &Way,
+    there: &NodeView<'_>,
+    table: &mut [bool],
+) -> bool
+    requires { IsClear table.old }
+    ensures { IsTrue result ↔ All (IsMetBy profile.now (says node.now).met (known_on (says node.now) (edge_of way.now))) (says there.now).met }
+{
+    mark_mets(node, table);
+    let known = With {
+        state: node,
+        more: way.fact,
+    };
+    all_are_met(profile, &known, &Mets::of(node, table), there)
+}
+
+// The same where the profile has few rules. A table is made in a function of its own, so that no other way makes room for it.
+#[inline(never)]
+fn are_met_by_few(profile: &Profile, node: &NodeView<'_>, way: &Way, there: &NodeView<'_>) -> bool
+    ensures { IsTrue result ↔ All (IsMetBy profile.now (says node.now).met (known_on (says node.now) (edge_of way.now))) (says there.now).met }
+{
+    are_met_by(profile, node, way, there, &mut [false; 6 * FEW_RULES])
+}
+
+// The same where it has many.
+#[inline(never)]
+fn are_met_by_many(profile: &Profile, node: &NodeView<'_>, way: &Way, there: &NodeView<'_>) -> bool
+    ensures { IsTrue result ↔ All (IsMetBy profile.now (says node.now).met (known_on (says node.now) (edge_of way.now))) (says there.now).met }
+{
+    are_met_by(profile, node, way, there, &mut [false; 6 * MAX_RULES])
+}
+
 /// Whether each condition that a node says to be met is met on the way to it.
 pub(crate) fn mets_follow(
     profile: &Profile,
@@ -183,14 +251,15 @@ pub(crate) fn mets_follow(
     if has_no_met(there) {
         return true;
     }
-    let known = With {
-        state: node,
-        more: way.fact,
-    };
     if has_no_met(node) {
+        let known = With {
+            state: node,
+            more: way.fact,
+        };
         return all_are_met(profile, &known, &Mets::none(), there);
     }
-    let mut marked = [false; 49152];
-    mark_mets(node, &mut marked);
-    all_are_met(profile, &known, &Mets::of(node, &marked), there)
+    if profile.rules().len() <= FEW_RULES {
+        return are_met_by_few(profile, node, way, there);
+    }
+    are_met_by_many(profile, node, way, there)
 }

@@ -14,6 +14,3 @@ returns-then-has_no_met c =
 pub returns-then-has_no_met-2 : goal.returns-then-has_no_met-2
 returns-then-has_no_met-2 c =
     let none = c.none.ensures ∙ sym (c.if-has_no_met-2.ensures.0 refl) in simp none at c.all_are_met.ensures
-
-pub returns : goal.returns
-returns c = simp c.of.ensures at c.all_are_met-2.ensures
