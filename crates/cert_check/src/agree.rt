@@ -231,7 +231,29 @@ impl<S: State> Agreement<'_, S> {
         self.is_yes(place, rule)
     }
 
-    // Whether a rule of the only number that is possible is seen to say the word. Then no other rule is asked.
+    // Whether a rule of which a condition is said to be met is of this number and is seen to say the word.
+    fn one_met_says(&self, arch: Arch, nr: u32) -> bool
+        ensures { let a = self.now in IsTrue result → OneSays a.profile.now (out_of a) (met_of a) (known_of a) a.word arch }
+    {
+        let Some(node) = &self.mets.node else {
+            return false;
+        };
+        let rules = self.profile.rules();
+        let mut at = node.first_met();
+        while let Some((met, next)) = node.next_met(at) {
+            let place = met.0 as usize;
+            if place < rules.len() {
+                if self.says_at(place, &rules[place], arch, nr) {
+                    return true;
+                }
+            }
+            at = next;
+        }
+        false
+    }
+
+    // Whether a rule of the only number that is possible is seen to say the word, first of those of which conditions are
+    // said to be met: mostly it is one of them. Then no other rule is asked.
     fn one_says(&self, arch: Arch) -> bool
         ensures { let a = self.now in IsTrue result → OneSays a.profile.now (out_of a) (met_of a) (known_of a) a.word arch }
     {
@@ -240,6 +262,9 @@ impl<S: State> Agreement<'_, S> {
         };
         if least != greatest {
             return false;
+        }
+        if self.one_met_says(arch, least) {
+            return true;
         }
         let rules = self.profile.rules();
         for place in 0..rules.len() {
