@@ -1,6 +1,7 @@
 -- Elements of a list.
-use Rattle.std.proofs.Common.{◌≡◌, ℕ, zero, suc, ◌<◌, Bool, List, [], ◌∷◌, length, Some, refl, sym, subst, arith}
+use Rattle.std.proofs.Common.{◌≡◌, ℕ, zero, suc, ◌<◌, Bool, List, [], ◌∷◌, length, Option, Some, None, refl, sym, subst, arith}
 use Rattle.std.specs.Prelude.{slice_get, All, Contains, IsTrue, ◌↔◌}
+use Rattle.std.specs.Option.{IsSomeAnd}
 use Rattle.std.proofs.lemmas.List.Elements.{All-contains_itself, All-weaker, All-nil, All-cons, All-head, All-tail}
 use Rattle.std.proofs.lemmas.Option.{slice_get_within, get_or_from_slice_get}
 
@@ -33,3 +34,11 @@ all_none P x xs b untrue never = (λ t. absurd (untrue t), λ all. absurd (never
 pub all_but_first : {X : Type 0} (P : X → Type 0) (x : X) (all rest : List X) → all ≡ x ∷ rest → P x → All P all ↔ All P rest
 all_but_first P x all rest is first =
     (λ h. All-tail P x rest (subst (All P) is h), λ h. subst (All P) (sym is) (All-cons P x rest first h))
+
+-- what holds of what is there, if something is
+pub of_some : {X : Type 0} (P : X → Type 0) (o : Option X) → IsSomeAnd o P → (x : X) × (o ≡ Some x) × P x
+of_some P None h = absurd h
+of_some P (Some x) h = (x, refl, h)
+
+pub some_of : {X : Type 0} (P : X → Type 0) (o : Option X) (x : X) → o ≡ Some x → P x → IsSomeAnd o P
+some_of {X = X} P o x is h = subst (λ (it : Option X). IsSomeAnd it P) (sym is) h

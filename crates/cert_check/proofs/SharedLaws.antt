@@ -1,8 +1,9 @@
 -- Claims that are new on the way to a node, and those that its chain shares with the node before.
-use Rattle.std.proofs.Common.{◌≡◌, ℕ, true, List, [], ◌∷◌, ◌++◌, refl, sym, subst, inl, inr, ◌⊎◌, arith, ap}
-use Rattle.std.specs.Prelude.{All, Contains, Option, option_to_list}
+use Rattle.std.proofs.Common.{◌≡◌, ℕ, true, List, [], ◌∷◌, ◌<◌, ◌++◌, refl, sym, subst, inl, inr, ◌⊎◌, arith, ap}
+use Rattle.std.specs.Prelude.{All, Contains, Option, length, option_to_list, slice_get}
 use Rattle.std.proofs.lemmas.List.Elements.{All-nil, All-cons, All-head, All-tail, All-weaker, All-contains}
 use Rattle.std.proofs.lemmas.List.Elements.{Contains-append_left, Contains-append_right}
+use Rattle.profile.specs.declared.rules.Rule.{Rule}
 use Rattle.profile.specs.Policy.{Policy}
 use Rattle.cert_state.specs.declared.literal.Lit.{Lit}
 use Rattle.cert_state.specs.Entailment.{Entails}
@@ -16,7 +17,7 @@ use Rattle.cert_form.proofs.NumberLaws.{stated_by_some}
 use Rattle.cert_form.proofs.ReadLaws.{known_claimed, mets_claimed, outs_claimed}
 use Rattle.cert_check.specs.Rules.{Edge, IsMetBy, IsOutOn, known_on}
 use Rattle.cert_check.specs.inner.Followed.{AllFollow, AreBut, IsFact, IsPlaced, IsShown}
-use Rattle.cert_check.proofs.Elements.{each_of, element_at}
+use Rattle.cert_check.proofs.Elements.{each_of, element_at, of_some}
 use Rattle.cert_check.proofs.OutsLaws.{cases, first, later}
 
 -- ---- claims asked one by one
@@ -128,10 +129,11 @@ module _ (policy : Policy) (n : PlainNode) (e : Edge) where
       let got = element_at policy.rules place placed in
       record { rule = got.0; stands = got.1; reason = inl (subst (λ ps. Contains ps place) states.out (in_outs mine place has)) }
   before mine states (Met place own) has placed =
-      let got = element_at placed.0.conds.items own placed.2 in
+      let its = of_some (λ (rule : Rule). own < length rule.conds.items) (slice_get policy.rules place) placed in
+      let got = element_at its.0.conds.items own its.2 in
       record {
-        rule = placed.0;
-        stands = placed.1;
+        rule = its.0;
+        stands = its.1;
         cond = got.0;
         its = got.1;
         reason = inl (subst (λ ps. Contains ps (place, own)) states.met (in_mets mine place own has));

@@ -5,4 +5,4 @@ mod shared;
 
 pub(crate) use mets::{FEW_RULES, Mets, has_no_met, mark_mets, mets_follow};
 pub(crate) use outs::{Outs, has_none, mark_outs, outs_follow};
-pub(crate) use shared::{are_placed, new_claims_follow};
+pub(crate) use shared::are_placed;

@@ -4,19 +4,18 @@ ghost use Rattle.cert_state.specs.declared.literal.AVal.{AVal as TheValue};
 ghost use Rattle.cert_state.specs.declared.literal.AVal.TheVariants.{Unknown};
 ghost use Rattle.cert_state.specs.Entailment.{Entails, IsDead};
 ghost use Rattle.cert_form.specs.declared.node.Kind.TheVariants as kind;
-ghost use Rattle.cert_form.specs.Reading.{claims_in};
-ghost use Rattle.cert_form.specs.Views.{all_claims, bytes_of, certificate_of, nodes_of, says};
+ghost use Rattle.cert_form.specs.Views.{nodes_of, says};
 ghost use Rattle.cert_check.specs.Rules.{Allows, Carries};
 ghost use Rattle.cert_check.specs.inner.Among.{AreAmong};
 ghost use Rattle.cert_check.specs.inner.Broken.{CarriesTo};
-ghost use Rattle.cert_check.specs.inner.Followed.{AllFollow, IsPlaced};
+ghost use Rattle.cert_check.specs.inner.Followed.{AllFollow};
 ghost use Rattle.cert_check.specs.inner.Ways.{edge_list, edge_of};
 
-use crate::claims::{mets_follow, new_claims_follow, outs_follow};
+use crate::claims::{mets_follow, outs_follow};
 use crate::edges::{Way, Ways};
-use cert_form::{CertView, Kind, NodeView};
+use crate::passage::{Origin, Passage};
+use cert_form::{Kind, NodeView};
 use cert_state::{AVal, Facts, Knowledge, Lit, State, With, dead};
-use profile::Profile;
 
 // Whether a node may say this of a register of which that is known.
 fn allows(there: AVal, here: AVal) -> bool
@@ -150,97 +149,44 @@ fn entails_all<S: State, T: State>(known: &With<'_, S>, there: &T) -> bool
     follow_from(known, there, at, from)
 }
 
-// Whether all that a node claims follows on the way to it. Mostly its new claims tell that.
-fn claims_follow(
-    profile: &Profile,
-    node: &NodeView<'_>,
-    way: &Way,
-    there: &NodeView<'_>,
-    placed: bool,
-) -> bool
-    requires same { certificate_of node.now ≡ certificate_of there.now }
-    requires placed { IsTrue placed → All (IsPlaced profile.now) (claims_in (certificate_of node.now)) }
-    ensures { IsTrue result ↔ AllFollow profile.now (says node.now) (edge_of way.now) (says there.now) }
-{
-    if new_claims_follow(profile, node, way, there, placed) {
-        return true;
-    }
-    let known = With {
-        state: node,
-        more: way.fact,
-    };
-    if !entails_all(&known, there) {
-        return false;
-    }
-    if !outs_follow(profile, node, way, there) {
-        return false;
-    }
-    mets_follow(profile, node, way, there)
-}
-
-// Whether what is known on a way gives what its node says.
-fn carries(
-    profile: &Profile,
-    node: &NodeView<'_>,
-    way: &Way,
-    there: &NodeView<'_>,
-    placed: bool,
-) -> bool
-    requires same { certificate_of node.now ≡ certificate_of there.now }
-    requires placed { IsTrue placed → All (IsPlaced profile.now) (claims_in (certificate_of node.now)) }
-    ensures { IsTrue result ↔ Carries profile.now (says node.now) (edge_of way.now) (says there.now) }
-{
-    let regs = there.regs();
-    if !allows(regs.a, way.regs.a) {
-        return false;
-    }
-    if !allows(regs.x, way.regs.x) {
-        return false;
-    }
-    if !allows_scratch(&regs.scratch, &way.regs.scratch) {
-        return false;
-    }
-    claims_follow(profile, node, way, there, placed)
-}
-
-// Whether what is known on a way gives what the node there says.
-fn carries_to(
-    profile: &Profile,
-    view: &CertView<'_>,
-    node: &NodeView<'_>,
-    way: &Way,
-    placed: bool,
-) -> bool
-    requires there { way.now.to < length (nodes_of view.now) }
-    requires same { certificate_of node.now ≡ bytes_of view.now }
-    requires placed { IsTrue placed → All (IsPlaced profile.now) (all_claims view.now) }
-    ensures { IsTrue result ↔ CarriesTo profile.now (nodes_of view.now) (says node.now) (edge_of way.now) }
-{
-    carries(profile, node, way, &view.node(way.to as usize), placed)
-}
-
-// Whether each way carries what its node says.
-fn all_carry(
-    profile: &Profile,
-    view: &CertView<'_>,
-    node: &NodeView<'_>,
-    ways: &Ways,
-    placed: bool,
-) -> bool
-    requires there { All (λ e. e.to < length (nodes_of view.now)) (edge_list ways.now) }
-    requires same { certificate_of node.now ≡ bytes_of view.now }
-    requires placed { IsTrue placed → All (IsPlaced profile.now) (all_claims view.now) }
-    ensures { IsTrue result ↔ All (CarriesTo profile.now (nodes_of view.now) (says node.now)) (edge_list ways.now) }
-{
-    match ways {
-        Ways::Nowhere => true,
-        Ways::One(way) => carries_to(profile, view, node, way, placed),
-        Ways::Two(first, second) => {
-            if !carries_to(profile, view, node, first, placed) {
-                return false;
-            }
-            carries_to(profile, view, node, second, placed)
+impl Passage<'_> {
+    // Whether all that the node there claims follows. Mostly its new claims tell that.
+    fn claims_follow(&self) -> bool
+        ensures { let p = self.now in
+            IsTrue result ↔ AllFollow p.profile.now (says p.node.now) (edge_of p.way.now) (says p.there.now) }
+    {
+        if self.new_claims_follow() {
+            return true;
         }
+        let known = With {
+            state: self.node,
+            more: self.way.fact,
+        };
+        if !entails_all(&known, self.there) {
+            return false;
+        }
+        if !outs_follow(self.profile, self.node, self.way, self.there) {
+            return false;
+        }
+        mets_follow(self.profile, self.node, self.way, self.there)
+    }
+
+    // Whether what is known on the way gives what the node there says.
+    fn carries(&self) -> bool
+        ensures { let p = self.now in
+            IsTrue result ↔ Carries p.profile.now (says p.node.now) (edge_of p.way.now) (says p.there.now) }
+    {
+        let regs = self.there.regs();
+        if !allows(regs.a, self.way.regs.a) {
+            return false;
+        }
+        if !allows(regs.x, self.way.regs.x) {
+            return false;
+        }
+        if !allows_scratch(&regs.scratch, &self.way.regs.scratch) {
+            return false;
+        }
+        self.claims_follow()
     }
 }
 
@@ -256,23 +202,52 @@ fn dead_is_dead(node: &NodeView<'_>) -> bool
     }
 }
 
-/// Whether each way carries what its node says, and a dead node can hold no record. It is seen faster where `placed` tells
-/// that the profile has the rules, and the conditions, of all claims of the certificate.
-pub(crate) fn entail_is_kept(
-    profile: &Profile,
-    view: &CertView<'_>,
-    node: &NodeView<'_>,
-    ways: &Ways,
-    placed: bool,
-) -> bool
-    requires there { All (λ e. e.to < length (nodes_of view.now)) (edge_list ways.now) }
-    requires same { certificate_of node.now ≡ bytes_of view.now }
-    requires placed { IsTrue placed → All (IsPlaced profile.now) (all_claims view.now) }
-    ensures { IsTrue result ↔ All (CarriesTo profile.now (nodes_of view.now) (says node.now)) (edge_list ways.now)
-        × ((says node.now).kind ≡ kind.Dead → IsDead (says node.now).known) }
-{
-    if !all_carry(profile, view, node, ways, placed) {
-        return false;
+impl Origin<'_> {
+    // Whether what is known on a way gives what the node there says.
+    fn carries_to(&self, way: &Way) -> bool
+        requires { way.now.to < length (nodes_of self.now.view.now) }
+        ensures { let o = self.now in
+            IsTrue result ↔ CarriesTo o.profile.now (nodes_of o.view.now) (says o.node.now) (edge_of way.now) }
+    {
+        let there = self.view.node(way.to as usize);
+        let passage = Passage {
+            profile: self.profile,
+            node: self.node,
+            way,
+            there: &there,
+            placed: self.placed,
+        };
+        passage.carries()
     }
-    dead_is_dead(node)
+
+    // Whether each way carries what its node says.
+    fn all_carry(&self, ways: &Ways) -> bool
+        requires { All (λ e. e.to < length (nodes_of self.now.view.now)) (edge_list ways.now) }
+        ensures { let o = self.now in
+            IsTrue result ↔ All (CarriesTo o.profile.now (nodes_of o.view.now) (says o.node.now)) (edge_list ways.now) }
+    {
+        match ways {
+            Ways::Nowhere => true,
+            Ways::One(way) => self.carries_to(way),
+            Ways::Two(first, second) => {
+                if !self.carries_to(first) {
+                    return false;
+                }
+                self.carries_to(second)
+            }
+        }
+    }
+
+    /// Whether each way carries what its node says, and a dead node can hold no record.
+    pub(crate) fn entail_is_kept(&self, ways: &Ways) -> bool
+        requires { All (λ e. e.to < length (nodes_of self.now.view.now)) (edge_list ways.now) }
+        ensures { let o = self.now in
+            IsTrue result ↔ All (CarriesTo o.profile.now (nodes_of o.view.now) (says o.node.now)) (edge_list ways.now)
+            × ((says o.node.now).kind ≡ kind.Dead → IsDead (says o.node.now).known) }
+    {
+        if !self.all_carry(ways) {
+            return false;
+        }
+        dead_is_dead(self.node)
+    }
 }

@@ -13,6 +13,7 @@ mod fault;
 mod judged;
 mod law;
 mod nodes;
+mod passage;
 mod returned;
 mod root;
 mod settled;

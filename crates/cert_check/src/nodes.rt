@@ -8,8 +8,8 @@ ghost use Rattle.cert_check.specs.inner.Followed.{IsPlaced};
 
 use crate::claims::are_placed;
 use crate::edges::{all_lead, ways_of};
-use crate::entailed::entail_is_kept;
 use crate::fault::CheckError;
+use crate::passage::Origin;
 use crate::returned::return_is_kept;
 use crate::root::root_is_kept;
 use crate::split::split_is_kept;
@@ -42,7 +42,13 @@ fn check_node(
     if !split_is_kept(&node) {
         return Err(CheckError::Split(i));
     }
-    if !entail_is_kept(profile, view, &node, &ways, placed) {
+    let origin = Origin {
+        profile,
+        view,
+        node: &node,
+        placed,
+    };
+    if !origin.entail_is_kept(&ways) {
         return Err(CheckError::Entail(i));
     }
     if !return_is_kept(profile, &insn, &node) {

@@ -1,5 +1,7 @@
 -- The claims of a node's chain, and those of them that follow on the way to it.
-use Rattle.std.specs.Prelude.{◌≡◌, ℕ, ◌<◌, ◌⊎◌, ⊤, List, [], Option, Some, slice_get, length, All, Contains}
+use Rattle.std.specs.Prelude.{◌≡◌, ℕ, ◌<◌, ◌⊎◌, ⊤, Bool, IsTrue, List, [], Option, Some, slice_get, length, All, Contains}
+use Rattle.std.specs.Option.{IsSomeAnd, IsSomeAnd-prop}
+use Rattle.std.proofs.Props.{props}
 use Rattle.profile.specs.declared.rules.Rule.{Rule}
 use Rattle.profile.specs.Policy.{Policy}
 use Rattle.cert_state.specs.declared.literal.Lit.{Lit}
@@ -14,7 +16,16 @@ use Rattle.cert_check.specs.Rules.{Edge, IsMetBy, IsOutOn, known_on}
 abbrev pub IsPlaced : Policy → Claim → Type 0
 IsPlaced policy (Knows l) = ⊤
 IsPlaced policy (Out place) = place < length policy.rules
-IsPlaced policy (Met place own) = (rule : Rule) × (slice_get policy.rules place ≡ Some rule) × (own < length rule.conds.items)
+IsPlaced policy (Met place own) = IsSomeAnd (slice_get policy.rules place) (λ rule. own < length rule.conds.items)
+
+-- that has at most one proof, and so has that it holds of all claims, if something tells it
+IsPlaced-prop : (policy : Policy) (claim : Claim) → IsProp (IsPlaced policy claim)
+IsPlaced-prop policy (Knows l) = hlevel props
+IsPlaced-prop policy (Out place) = hlevel props
+IsPlaced-prop policy (Met place own) = IsSomeAnd-prop (slice_get policy.rules place) (λ rule. own < length rule.conds.items) (λ rule. hlevel props)
+
+pub ArePlaced-prop : (policy : Policy) (told : Bool) (claims : List Claim) → IsProp (IsTrue told → All (IsPlaced policy) claims)
+ArePlaced-prop policy told claims = hlevel (props, IsPlaced-prop)
 
 -- the rule at a place is refuted by what is known
 abbrev pub IsRefutedAt : Policy → List Lit → ℕ → Type 0

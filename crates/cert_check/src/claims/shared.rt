@@ -1,15 +1,14 @@
 //! The claims of a node that are new on the way to it: its chain and that of the node before mostly share all but a few.
-ghost use Rattle.std.specs.Prelude.{◌≡◌, ◌↔◌, ◌<◌, ◌++◌, All, IsTrue, Some, length, option_to_list, slice_get};
-ghost use Rattle.cert_form.specs.Reading.{claims_in};
-ghost use Rattle.cert_form.specs.Views.{all_claims, certificate_of, claims_from, claims_of, says};
-ghost use Rattle.profile.specs.declared.rules.Rule.{Rule as TheRule};
+ghost use Rattle.std.specs.Prelude.{◌↔◌, ◌<◌, ◌++◌, All, IsTrue, length, option_to_list, slice_get};
+ghost use Rattle.std.specs.Option.{IsSomeAnd};
+ghost use Rattle.cert_form.specs.Views.{all_claims, claims_from, claims_of, says};
 ghost use Rattle.cert_check.specs.inner.Followed.{AllFollow, AreBut, IsFact, IsPlaced, IsRefutedAt, IsShown};
 ghost use Rattle.cert_check.specs.inner.Ways.{edge_of};
 
 use crate::claims::mets::{Mets, is_met};
 use crate::claims::outs::refutes;
 use crate::conditions::judge_conditions;
-use crate::edges::Way;
+use crate::passage::Passage;
 use cert_form::{CertView, Claim, NodeView};
 use cert_state::{Facts, Knowledge, Lit, State, With};
 use profile::Profile;
@@ -23,7 +22,7 @@ fn is_below(number: usize, end: usize) -> bool
 
 // Whether the profile has a rule, and a condition of it, by their places.
 fn has_condition(profile: &Profile, place: u32, own: u32) -> bool
-    ensures { IsTrue result ↔ ((rule : TheRule) × (slice_get profile.now.rules place ≡ Some rule) × (own < length rule.conds.items)) }
+    ensures { IsTrue result ↔ IsSomeAnd (slice_get profile.now.rules place) (λ rule. own < length rule.conds.items) }
 {
     let rules = profile.rules();
     let place = place as usize;
@@ -136,37 +135,32 @@ fn are_shown<S: State>(
     true
 }
 
-/// Whether all that a node claims is seen to follow on the way to it by its new claims alone: the others are claims of
-/// the node before, since their chains are one from where they meet. Where it is not, it may follow all the same, as
-/// where `placed` does not tell that the profile has the rules of all claims.
-pub(crate) fn new_claims_follow(
-    profile: &Profile,
-    node: &NodeView<'_>,
-    way: &Way,
-    there: &NodeView<'_>,
-    placed: bool,
-) -> bool
-    requires same { certificate_of node.now ≡ certificate_of there.now }
-    requires placed { IsTrue placed → All (IsPlaced profile.now) (claims_in (certificate_of node.now)) }
-    ensures { IsTrue result → AllFollow profile.now (says node.now) (edge_of way.now) (says there.now) }
-{
-    if !placed {
-        return false;
+impl Passage<'_> {
+    /// Whether all that the node there claims is seen to follow by its new claims alone: the others are claims of the node
+    /// before, since their chains are one from where they meet. Where it is not, it may follow all the same, as where
+    /// `placed` does not tell that the profile has the rules of all claims.
+    pub(crate) fn new_claims_follow(&self) -> bool
+        ensures { let p = self.now in
+            IsTrue result → AllFollow p.profile.now (says p.node.now) (edge_of p.way.now) (says p.there.now) }
+    {
+        if !self.placed {
+            return false;
+        }
+        if !self.node.is_sharp() {
+            return false;
+        }
+        if !self.there.is_sharp() {
+            return false;
+        }
+        let shared = self.node.meeting(self.there);
+        let from = after_fact(self.way.fact, self.there, shared);
+        if from == shared {
+            return true;
+        }
+        let known = With {
+            state: self.node,
+            more: self.way.fact,
+        };
+        are_shown(self.profile, &known, self.there, from, shared)
     }
-    if !node.is_sharp() {
-        return false;
-    }
-    if !there.is_sharp() {
-        return false;
-    }
-    let shared = node.meeting(there);
-    let from = after_fact(way.fact, there, shared);
-    if from == shared {
-        return true;
-    }
-    let known = With {
-        state: node,
-        more: way.fact,
-    };
-    are_shown(profile, &known, there, from, shared)
 }

@@ -60,8 +60,8 @@ returns-then-not-split_is_kept c =
     found_at policy p ns i n (Err (Split i)) c.node-node.ensures.node
     (refl, edge, λ rule. let e : false ≡ true = c.if-not-split_is_kept.ensures.1 rule in cc)
 
-pub entail_is_kept-requires-clause-there : goal.entail_is_kept-requires-clause-there
-entail_is_kept-requires-clause-there c =
+pub entail_is_kept-requires : goal.entail_is_kept-requires
+entail_is_kept-requires c =
     let policy = c.args.profile.now in
     let p = accepted_insns c.args.accepted.now in
     let ns = nodes_of c.args.view.now in

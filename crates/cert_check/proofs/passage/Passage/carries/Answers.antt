@@ -4,11 +4,11 @@ use Rattle.cert_state.specs.declared.literal.AVal.{AVal}
 use Rattle.cert_state.specs.declared.literal.AVal.TheVariants.{Unknown}
 use Rattle.cert_state.specs.declared.literal.Regs.{Regs}
 use Rattle.cert_check.specs.Rules.{Allows}
-use Rattle.cert_check.proofs.entailed.carries.Goals as goal
+use Rattle.cert_check.proofs.passage.Passage.carries.Goals as goal
 
 pub returns : goal.returns
 returns c =
-    let way : Regs = c.args.way.now.regs in
+    let way : Regs = c.args.self.now.way.now.regs in
     let ForA : Regs → Type 0 = λ regs. Allows regs.a way.a in
     let ForX : Regs → Type 0 = λ regs. Allows regs.x way.x in
     let ForScratch : Regs → Type 0 = λ regs. (j : ℕ) (v : AVal) → slice_get regs.scratch j ≡ Some v

@@ -1,5 +1,5 @@
 use Rattle.std.proofs.Common.{refl}
-use Rattle.cert_check.proofs.entailed.claims_follow.Goals as goal
+use Rattle.cert_check.proofs.passage.Passage.claims_follow.Goals as goal
 
 pub returns-then-new_claims_follow : goal.returns-then-new_claims_follow
 returns-then-new_claims_follow c = (λ _. c.if-new_claims_follow.ensures refl, λ _. refl)
