@@ -24,7 +24,6 @@ use Rattle.cert_form.specs.declared.node.Kind.{Kind}
 use Rattle.cert_form.specs.declared.node.Kind.TheVariants.{Step, Split, Return, Dead}
 use Rattle.cert_form.specs.Nodes.{PlainNode}
 use Rattle.cert_form.specs.Spelling.{IsKind}
-use Rattle.cert_check.specs.Right.{IsRight}
 use Rattle.cert_check.specs.Rules.{Keeps, no_node}
 use Rattle.rule_compile.specs.Steady.{Held, Nothing, Whole, Part, IsOfWord}
 use Rattle.cert_paths.specs.declared.action.Action.TheVariants.{Other}

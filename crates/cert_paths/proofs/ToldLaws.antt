@@ -1,5 +1,5 @@
 -- What errors tell of a program.
-use Rattle.std.proofs.Common.{List, ℕ, ⊎_elim, inl, inr, ◌⊎◌}
+use Rattle.std.proofs.Common.{List, ℕ, inl, inr, ◌⊎◌}
 use Rattle.std.specs.Prelude.{Result, Ok, Err, IfErr}
 use Rattle.call_record.specs.Record.{words}
 use Rattle.bpf_insn.specs.declared.instruction.Insn.{Insn}

@@ -1,4 +1,3 @@
-pub mod Chains
 pub mod Cuts
 pub mod Led
 pub mod Places

@@ -1,49 +1,42 @@
-//! What is known at a place, as a state that the checker's questions are asked of.
+//! The literals of a chain, as a state that the checker's questions are asked of.
 ghost use Rattle.std.specs.Prelude.{◌≡◌, ◌≤◌, ◌↔◌, All, Contains, IsTrue, length};
 ghost use Rattle.call_record.specs.Record.{words};
 ghost use Rattle.cert_state.specs.Literals.{Holds, Meets};
 ghost use Rattle.cert_form.specs.Nodes.{literals};
-ghost use Rattle.cert_paths.specs.inner.Chains.{AreEarlier};
-ghost use Rattle.cert_paths.specs.inner.Places.{regs_of};
+ghost use Rattle.cert_paths.specs.Chains.{AreEarlier};
 
 use call_record::Record;
 use cert_state::{AVal, Lit, Regs, State};
 
-/// What is known of the registers, where A holds this: X holds 0 on each path, and no scratch word is stated.
-pub(crate) fn regs(a: AVal) -> Regs
-    ensures { result ≡ regs_of a }
-{
-    Regs {
-        a,
-        x: AVal::Const(0),
-        scratch: [AVal::Unknown; 16],
-    }
-}
-
-/// Entries, the number of the one that a chain begins with, or 0 for a chain of no literals, and what A holds.
+/// Entries, and the number of the one that a chain begins with, or 0 for a chain of no literals. Of the registers nothing is
+/// said.
 #[derive(Clone, Copy)]
-pub(crate) struct Known<'a> {
-    pub(crate) entries: &'a [(u32, Lit)],
-    pub(crate) number: u32,
-    pub(crate) a: AVal,
-    ghost earlier: { AreEarlier entries.now },
-    ghost few: { length entries.now ≤ 65536 },
+pub struct Chain<'a> {
+    pub entries: &'a [(u32, Lit)],
+    pub number: u32,
+    pub ghost earlier: { AreEarlier entries.now },
+    pub ghost few: { length entries.now ≤ 65536 },
 }
 
-impl State for Known<'_> {
+impl State for Chain<'_> {
+    ghost use Rattle.std.specs.Prelude.{length, replicate};
+    ghost use Rattle.cert_state.specs.declared.literal.AVal.TheVariants.{Unknown};
     ghost use Rattle.cert_form.specs.Nodes.{literals};
-    ghost use Rattle.cert_paths.specs.inner.Places.{regs_of};
 
-    ghost regs = { λ k. regs_of k.a };
+    ghost regs = { λ _. record { a = Unknown; x = Unknown; scratch = replicate 16 Unknown } };
 
-    ghost known = { λ k. literals k.entries.now k.number };
+    ghost known = { λ c. literals c.entries.now c.number };
 
-    ghost rest = { λ k at. literals k.entries.now at };
+    ghost rest = { λ c at. literals c.entries.now at };
 
-    ghost last = { λ k. 0xffffffff };
+    ghost last = { λ c. 0xffffffff };
 
     fn regs(&self) -> Regs {
-        regs(self.a)
+        Regs {
+            a: AVal::Unknown,
+            x: AVal::Unknown,
+            scratch: [AVal::Unknown; 16],
+        }
     }
 
     fn start(&self) -> usize {
@@ -84,7 +77,7 @@ fn is_true(literal: Lit, call: &Record) -> bool
     meets(literal, call.word(word))
 }
 
-impl Known<'_> {
+impl Chain<'_> {
     /// Whether all literals are true of a record.
     pub(crate) fn are_true(&self, call: Record) -> bool
         ensures { IsTrue result → All (λ literal. Holds literal (words call)) (literals self.now.entries.now self.now.number) }

@@ -6,7 +6,7 @@ ghost use Rattle.cert_state.specs.Literals.{IsLit, all_bits};
 ghost use Rattle.cert_check.specs.Rules.{Covers};
 ghost use Rattle.cert_paths.specs.inner.Cuts.{Covers-prop, IsLit-prop};
 
-use crate::chain::Known;
+use crate::chain::Chain;
 use call_tables::Arch;
 use cert_state::{Facts, Knowledge, Lit};
 use profile::{Cond, Op, Profile, Rule, foreign_numbers};
@@ -54,13 +54,13 @@ impl Cut {
     }
 
     // Whether it tells something: neither of the two is known already.
-    fn is_open(&self, facts: &Facts<'_, Known<'_>>) -> bool {
+    fn is_open(&self, facts: &Facts<'_, Chain<'_>>) -> bool {
         !facts.entails(&self.one) && !facts.entails(&self.other)
     }
 }
 
 // The cut, if it tells something.
-fn if_open(cut: Option<Cut>, facts: &Facts<'_, Known<'_>>) -> Option<Cut> {
+fn if_open(cut: Option<Cut>, facts: &Facts<'_, Chain<'_>>) -> Option<Cut> {
     let cut = cut?;
     if cut.is_open(facts) {
         return Some(cut);
@@ -82,7 +82,7 @@ struct Argument {
 }
 
 // Where the high word is cut for a comparison with bits under a mask.
-fn cut_above(facts: &Facts<'_, Known<'_>>, of: Argument, mask: u32, datum: u32) -> Option<Cut> {
+fn cut_above(facts: &Facts<'_, Chain<'_>>, of: Argument, mask: u32, datum: u32) -> Option<Cut> {
     if of.narrow {
         return None;
     }
@@ -90,7 +90,7 @@ fn cut_above(facts: &Facts<'_, Known<'_>>, of: Argument, mask: u32, datum: u32) 
 }
 
 // Where the halves of an argument are cut for a comparison with bits under a mask.
-fn cut_by_bits(facts: &Facts<'_, Known<'_>>, of: Argument, mask: u64, datum: u64) -> Option<Cut> {
+fn cut_by_bits(facts: &Facts<'_, Chain<'_>>, of: Argument, mask: u64, datum: u64) -> Option<Cut> {
     let (high_mask, low_mask) = halves(mask);
     let (high, low) = halves(datum);
     match cut_above(facts, of, high_mask, high) {
@@ -100,7 +100,7 @@ fn cut_by_bits(facts: &Facts<'_, Known<'_>>, of: Argument, mask: u64, datum: u64
 }
 
 // Where a word is cut for a comparison by order: in front of a number, or behind it.
-fn cut_beside(facts: &Facts<'_, Known<'_>>, word: u8, number: u32) -> Option<Cut> {
+fn cut_beside(facts: &Facts<'_, Chain<'_>>, word: u8, number: u32) -> Option<Cut> {
     match if_open(Cut::below(word, number), facts) {
         Some(cut) => Some(cut),
         None => if_open(Cut::below(word, number.checked_add(1)?), facts),
@@ -108,7 +108,7 @@ fn cut_beside(facts: &Facts<'_, Known<'_>>, word: u8, number: u32) -> Option<Cut
 }
 
 // Where the halves of an argument are cut for a comparison by order.
-fn cut_by_order(facts: &Facts<'_, Known<'_>>, of: Argument, value: u64) -> Option<Cut> {
+fn cut_by_order(facts: &Facts<'_, Chain<'_>>, of: Argument, value: u64) -> Option<Cut> {
     let (high, low) = halves(value);
     if !of.narrow
         && let Some(cut) = cut_beside(facts, of.word.saturating_add(1), high)
@@ -119,7 +119,7 @@ fn cut_by_order(facts: &Facts<'_, Known<'_>>, of: Argument, value: u64) -> Optio
 }
 
 // Where the argument of a condition is cut.
-fn cut_of_condition(facts: &Facts<'_, Known<'_>>, narrow: bool, cond: &Cond) -> Option<Cut> {
+fn cut_of_condition(facts: &Facts<'_, Chain<'_>>, narrow: bool, cond: &Cond) -> Option<Cut> {
     let word = cond.index.saturating_mul(2).saturating_add(4);
     let of = Argument { word, narrow };
     match cond.op {
@@ -130,7 +130,7 @@ fn cut_of_condition(facts: &Facts<'_, Known<'_>>, narrow: bool, cond: &Cond) -> 
 }
 
 // Where a rule is cut that is not settled: at its machine, its number, or a condition.
-fn cut_of_rule(facts: &Facts<'_, Known<'_>>, rule: &Rule) -> Option<Cut> {
+fn cut_of_rule(facts: &Facts<'_, Chain<'_>>, rule: &Rule) -> Option<Cut> {
     let machine = Cut::bits(TOKEN, u32::MAX, rule.arch.token());
     if let Some(cut) = if_open(machine, facts) {
         return Some(cut);
@@ -153,7 +153,7 @@ fn cut_of_rule(facts: &Facts<'_, Known<'_>>, rule: &Rule) -> Option<Cut> {
 }
 
 // Where a machine is cut from others, and foreign numbers with its token from the rest.
-fn cut_of_machine(profile: &Profile, facts: &Facts<'_, Known<'_>>, machine: Arch) -> Option<Cut> {
+fn cut_of_machine(profile: &Profile, facts: &Facts<'_, Chain<'_>>, machine: Arch) -> Option<Cut> {
     if let Some(cut) = if_open(Cut::bits(TOKEN, u32::MAX, machine.token()), facts) {
         return Some(cut);
     }
@@ -171,7 +171,7 @@ fn cut_of_machine(profile: &Profile, facts: &Facts<'_, Known<'_>>, machine: Arch
 }
 
 /// Where a profile is cut that is not settled.
-pub(crate) fn cut_of_profile(profile: &Profile, known: &Known<'_>) -> Option<Cut> {
+pub(crate) fn cut_of_profile(profile: &Profile, known: &Chain<'_>) -> Option<Cut> {
     let facts = Facts::of(known);
     for machine in profile.machines() {
         if let Some(cut) = cut_of_machine(profile, &facts, *machine) {

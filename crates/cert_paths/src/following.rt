@@ -32,7 +32,7 @@ use bpf_insn::{Insn, Test};
 use call_record::{Record, Word, words_are_a_record};
 use cert_check::{is_settled, stated_is_settled};
 use cert_form::{Kind, MAX_NODES};
-use cert_state::{AVal, dead, edge_fact};
+use cert_state::{AVal, dead};
 use kernel_check::Accepted;
 use profile::Profile;
 use std::alloc::Global;
@@ -161,16 +161,15 @@ fn at_branch(paths: &mut Paths, from: Place, insn: Insn, test: Test) -> Result<K
     if !tells(test, from.a) {
         return Err(PathsError::Unsettled(u32::from(from.pc)));
     }
-    let known = paths.known(from);
     let taken = Next {
         pc: after(from.pc, u32::from(insn.jt)),
         a: from.a,
-        learned: edge_fact(&known, &insn, true),
+        learned: from.fact(&insn, true),
     };
     let not_taken = Next {
         pc: after(from.pc, u32::from(insn.jf)),
         a: from.a,
-        learned: edge_fact(&known, &insn, false),
+        learned: from.fact(&insn, false),
     };
     let (first, second) = add_two(paths, from, taken, not_taken)?;
     Ok(Kind::Step(first, second))

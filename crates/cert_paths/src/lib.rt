@@ -6,6 +6,7 @@
 //! there is one, if memory and the limits of the format allow it: where all words of a record are told, the profile is settled. If it
 //! says another word then, the record tells that the filter is wrong.
 //! It grows with the number of paths, so it is made only where no smaller one was found.
+//! What is known at a place is lent as a [`Chain`] of literals.
 #![tactic(auto)]
 
 mod action;
@@ -18,5 +19,6 @@ mod place;
 mod told;
 mod unlike;
 
+pub use chain::Chain;
 pub use fault::PathsError;
 pub use following::by_paths;

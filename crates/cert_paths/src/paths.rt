@@ -3,13 +3,14 @@ ghost use Rattle.std.specs.Prelude.{◌≡◌, ◌<◌, ◌^◌, ◌++◌, ◌�
 ghost use Rattle.bpf_insn.specs.declared.instruction.Insn.{Insn as TheInsn};
 ghost use Rattle.profile.specs.Policy.{Policy};
 ghost use Rattle.cert_state.specs.Literals.{IsLit, IsValue};
+ghost use Rattle.cert_form.specs.Nodes.{literals};
 ghost use Rattle.cert_paths.specs.Fault.{IsSize};
 ghost use Rattle.cert_check.specs.Valid.{IsValidCertificate};
 ghost use Rattle.cert_paths.specs.inner.Follow.{IsGiven};
-ghost use Rattle.cert_paths.specs.inner.Places.{AreInside, AreKept, AreNodes, ArePaths, IsAdded, IsLearned, IsPlace, chain_node_of};
+ghost use Rattle.cert_paths.specs.inner.Places.{AreInside, AreKept, AreNodes, ArePaths, IsAdded, IsLearned, IsPlace, chain_node_of, known_at};
 ghost use Rattle.std.specs.Prelude.{List};
 
-use crate::chain::{Known, regs};
+use crate::chain::Chain;
 use crate::fault::PathsError;
 use crate::place::{Next, Place};
 use cert_form::{ChainNode, FormError, Kind, MAX_LITERALS, MAX_NODES, write_chained};
@@ -43,7 +44,7 @@ fn node(place: Place, kind: Kind) -> ChainNode
     ChainNode {
         kind,
         pc: place.pc,
-        regs: regs(place.a),
+        regs: place.regs(),
         chain: place.chain,
     }
 }
@@ -66,16 +67,13 @@ impl Paths {
     }
 
     /// What is known at a place.
-    pub(crate) fn known(&self, place: Place) -> Known<'_>
+    pub(crate) fn known(&self, place: Place) -> Chain<'_>
         requires { ArePaths self.now }
-        ensures entries { result.entries.now ≡ self.now.entries.items }
-        ensures number { result.number ≡ place.chain }
-        ensures a { result.a ≡ place.a }
+        ensures { literals result.entries.now result.number ≡ known_at self.now.entries.items place }
     {
-        Known {
+        Chain {
             entries: &self.entries,
             number: place.chain,
-            a: place.a,
         }
     }
 

@@ -1,7 +1,10 @@
 //! Where a path stands.
 ghost use Rattle.std.specs.Prelude.{◌≡◌, Some};
+ghost use Rattle.cert_state.specs.Transfer.{edge_fact as fact_of};
+ghost use Rattle.cert_paths.specs.inner.Places.{regs_of};
 
-use cert_state::{AVal, Lit};
+use bpf_insn::Insn;
+use cert_state::{AVal, Listed, Lit, Regs, edge_fact};
 
 /// Where a path stands: at a position, with this in A. What is known of the record is what a chain says, of so many literals.
 #[derive(Clone, Copy)]
@@ -20,6 +23,29 @@ impl Place {
         chain: 0,
         depth: 0,
     };
+
+    /// What is known of the registers there: X holds 0 on each path, and no scratch word is stated.
+    pub(crate) fn regs(self) -> Regs
+        ensures { result ≡ regs_of self.a }
+    {
+        Regs {
+            a: self.a,
+            x: AVal::Const(0),
+            scratch: [AVal::Unknown; 16],
+        }
+    }
+
+    /// What is known where a comparison there came out so.
+    pub(crate) fn fact(self, insn: &Insn, taken: bool) -> Option<Lit>
+        ensures { result ≡ fact_of (regs_of self.a) insn.now taken }
+    {
+        let state = Listed {
+            regs: self.regs(),
+            lits: &[],
+            more: None,
+        };
+        edge_fact(&state, insn, taken)
+    }
 
     /// The same place, where a literal is known too.
     pub(crate) fn knowing(self, literal: Lit) -> Next

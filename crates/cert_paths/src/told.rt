@@ -6,7 +6,7 @@ ghost use Rattle.cert_state.specs.Literals.{all_bits};
 ghost use Rattle.cert_form.specs.Nodes.{literals};
 ghost use Rattle.cert_check.specs.Settled.{AreStated};
 
-use crate::chain::Known;
+use crate::chain::Chain;
 use crate::cuts::{Cut, cut_of_profile};
 use call_record::Record;
 use cert_state::{Lit, range};
@@ -23,7 +23,7 @@ fn or_number(cut: Option<Cut>, number: u32) -> Result<u32, Cut>
 }
 
 // The number of a word that is stated, or where the word is cut in halves until it is one number, which is then stated.
-fn told_word(known: &Known<'_>, word: u8) -> Result<u32, Cut>
+fn told_word(known: &Chain<'_>, word: u8) -> Result<u32, Cut>
     requires { word < 16 }
     ensures { IfOk result (λ u. Contains (literals known.now.entries.now known.now.number) (Bits word all_bits u)) }
 {
@@ -38,7 +38,7 @@ fn told_word(known: &Known<'_>, word: u8) -> Result<u32, Cut>
 }
 
 // The number of 64 bits in two words that are stated, the low one first, or where one of them is cut.
-fn told_wide(known: &Known<'_>, word: u8) -> Result<u64, Cut>
+fn told_wide(known: &Chain<'_>, word: u8) -> Result<u64, Cut>
     requires { word < 15 }
     ensures low { IfOk result (λ n. Contains (literals known.now.entries.now known.now.number) (Bits word all_bits (n % 2 ^ 32))) }
     ensures high { IfOk result (λ n. Contains (literals known.now.entries.now known.now.number) (Bits (word + 1) all_bits (n / 2 ^ 32))) }
@@ -49,7 +49,7 @@ fn told_wide(known: &Known<'_>, word: u8) -> Result<u64, Cut>
 }
 
 // The record of which each word is stated, or where one is cut.
-fn told_record(known: &Known<'_>) -> Result<Record, Cut>
+fn told_record(known: &Chain<'_>) -> Result<Record, Cut>
     ensures { IfOk result (λ call. AreStated (literals known.now.entries.now known.now.number) (words call)) }
 {
     Ok(Record {
@@ -69,7 +69,7 @@ fn told_record(known: &Known<'_>) -> Result<Record, Cut>
 
 /// Where what is known is cut in two: where a machine, a rule or a condition is not settled, and else anywhere. There is no such
 /// place only where each word of the record is stated, which is given then.
-pub(crate) fn told_or_cut(profile: &Profile, known: &Known<'_>) -> Result<Record, Cut>
+pub(crate) fn told_or_cut(profile: &Profile, known: &Chain<'_>) -> Result<Record, Cut>
     ensures { IfOk result (λ call. AreStated (literals known.now.entries.now known.now.number) (words call)) }
 {
     match cut_of_profile(profile, known) {

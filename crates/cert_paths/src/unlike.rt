@@ -4,7 +4,7 @@ ghost use Rattle.call_record.specs.Record.{words};
 ghost use Rattle.cert_form.specs.Nodes.{literals};
 ghost use Rattle.cert_paths.specs.inner.Follow.{IsUnlike};
 
-use crate::chain::Known;
+use crate::chain::Chain;
 use call_record::{Record, words_are_a_record};
 use cert_state::{Lit, State, range};
 use profile::Profile;
@@ -21,7 +21,7 @@ fn turned(number: u32, literal: Lit) -> u32 {
 }
 
 // A number that a word may have, as far as one is easily found.
-fn likely(known: &Known<'_>, word: u8) -> u32 {
+fn likely(known: &Chain<'_>, word: u8) -> u32 {
     let (mut number, _) = range(known, word).unwrap_or((0, 0));
     let mut at = known.start();
     while let Some((literal, next)) = known.next(at) {
@@ -34,14 +34,14 @@ fn likely(known: &Known<'_>, word: u8) -> u32 {
 }
 
 // The same of two words, which are a number of 64 bits, the low half first.
-fn likely_wide(known: &Known<'_>, word: u8) -> u64 {
+fn likely_wide(known: &Chain<'_>, word: u8) -> u64 {
     let low = likely(known, word);
     let high = likely(known, word.saturating_add(1));
     (u64::from(high) << 32) | u64::from(low)
 }
 
 /// A record of which what is known may be true.
-pub(crate) fn likely_record(known: &Known<'_>) -> Record {
+pub(crate) fn likely_record(known: &Chain<'_>) -> Record {
     Record {
         nr: likely(known, 0),
         arch: likely(known, 1),
@@ -58,7 +58,7 @@ pub(crate) fn likely_record(known: &Known<'_>) -> Record {
 }
 
 /// Whether what is known is true of a record, of which the profile says another word.
-pub(crate) fn is_unlike(profile: &Profile, known: &Known<'_>, call: &Record, word: u32) -> bool
+pub(crate) fn is_unlike(profile: &Profile, known: &Chain<'_>, call: &Record, word: u32) -> bool
     ensures { IsTrue result → IsUnlike profile.now (literals known.now.entries.now known.now.number) (words call.now) word }
 {
     words_are_a_record(call);

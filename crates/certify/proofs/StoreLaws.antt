@@ -15,7 +15,7 @@ use Rattle.cert_form.specs.Spelling.{IsKind}
 use Rattle.cert_form.specs.Writing.{AreLiteralEntries, IsChainMeant, IsLiteralEntry}
 use Rattle.certify.specs.declared.plain.place.Place.{Place}
 use Rattle.certify.specs.declared.plain.store.Store.{Store}
-use Rattle.cert_paths.specs.inner.Chains.{AreEarlier}
+use Rattle.cert_paths.specs.Chains.{AreEarlier}
 use Rattle.certify.specs.inner.Leaf.{IsOfCalls}
 use Rattle.certify.specs.inner.Path.{HoldsCall}
 use Rattle.certify.specs.inner.Made.{regs_of}

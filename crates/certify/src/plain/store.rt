@@ -12,9 +12,9 @@ ghost use Rattle.certify.specs.inner.Made.{regs_of};
 ghost use Rattle.certify.specs.inner.Path.{HoldsCall};
 ghost use Rattle.certify.specs.inner.Store.{IsForked, IsStore, chain_node_of, known_at};
 
-use crate::plain::chain::Chain;
 use crate::plain::place::{Fork, Place};
 use cert_form::{ChainNode, Kind};
+use cert_paths::Chain;
 use cert_state::{AVal, Lit, Regs, entails, range};
 use cert_walk::CertifyError;
 use std::alloc::{AllocError, Global};
@@ -105,6 +105,17 @@ impl Store {
         Ok(count as u32 + 1)
     }
 
+    // The literals of a chain.
+    fn known(&self, chain: u32) -> Chain<'_>
+        requires { IsStore self.now }
+        ensures { literals result.entries.now result.number ≡ literals self.now.entries.items chain }
+    {
+        Chain {
+            entries: &self.entries,
+            number: chain,
+        }
+    }
+
     /// The range of a word by the literals of a chain.
     pub(crate) fn range(&self, chain: u32, word: u8) -> Option<(u32, u32)>
         requires store { IsStore self.now }
@@ -112,11 +123,7 @@ impl Store {
         ensures { let known = literals self.now.entries.items chain in
             MatchOption result (HasNoPoint known word) (λ p. IsRange known word p.0 p.1) }
     {
-        let known = Chain {
-            entries: &self.entries,
-            number: chain,
-        };
-        range(&known, word)
+        range(&self.known(chain), word)
     }
 
     /// Whether the literals of a chain rule a token out.
@@ -125,11 +132,7 @@ impl Store {
         requires chain { chain ≤ length self.now.entries.items }
         ensures { IsTrue result ↔ Entails (literals self.now.entries.items chain) (NotBits 1 0xffffffff token) }
     {
-        let known = Chain {
-            entries: &self.entries,
-            number: chain,
-        };
-        entails(&known, &Lit::NotBits(1, u32::MAX, token))
+        entails(&self.known(chain), &Lit::NotBits(1, u32::MAX, token))
     }
 
     /// Whether a word may be a number, by the literals of a chain.
@@ -138,10 +141,7 @@ impl Store {
         requires chain { chain ≤ length self.now.entries.items }
         ensures { IsTrue result → IsPoint (literals self.now.entries.items chain) word number }
     {
-        let known = Chain {
-            entries: &self.entries,
-            number: chain,
-        };
+        let known = self.known(chain);
         let Some((_low, _high)) = range(&known, word) else {
             return false;
         };

@@ -1,5 +1,5 @@
-use Rattle.std.proofs.Common.{◌≡◌, ℕ, ◌+◌, ◌^◌, ◌<◌, sym, subst, ◌∙◌, arith, inl, inr, ◌⊎◌, ⊎_elim, List, length}
-use Rattle.std.specs.Prelude.{Result, Ok, Err, IfErr, IfOk, Some, OnOk}
+use Rattle.std.proofs.Common.{◌≡◌, ℕ, ◌+◌, ◌^◌, ◌<◌, sym, subst, ◌∙◌, arith, ◌⊎◌, ⊎_elim, List, length}
+use Rattle.std.specs.Prelude.{Result, Ok, Err, IfOk, Some, OnOk}
 use Rattle.bpf_insn.specs.declared.code.Operand.TheVariants.{K}
 use Rattle.bpf_insn.specs.declared.code.Arithmetic.TheVariants.{And}
 use Rattle.bpf_insn.specs.declared.code.Operation.TheVariants.{Compute, Jump, LoadWord, ReturnK}

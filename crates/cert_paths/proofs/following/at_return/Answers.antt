@@ -1,12 +1,12 @@
-use Rattle.std.proofs.Common.{◌≡◌, ℕ, List, [], ap, sym, subst, ◌∙◌}
-use Rattle.std.specs.Prelude.{All, IsTrue, Result, Ok, Err, IfErr, ⊤}
+use Rattle.std.proofs.Common.{◌≡◌, ℕ, List, [], sym, subst}
+use Rattle.std.proofs.lemmas.Bool.{iff_false}
+use Rattle.std.specs.Prelude.{All, Result, Ok, Err, IfErr}
 use Rattle.call_record.specs.Record.{words}
 use Rattle.profile.specs.Said.{said}
 use Rattle.profile.specs.Policy.{Policy}
 use Rattle.profile.proofs.SaidLaws.{each_record_is_said_one_word}
 use Rattle.cert_state.specs.declared.literal.Lit.{Lit}
 use Rattle.cert_state.specs.Literals.{IsLit}
-use Rattle.cert_form.specs.Nodes.{literals}
 use Rattle.cert_form.specs.declared.node.Kind.{Kind}
 use Rattle.cert_check.specs.Agree.{Agrees}
 use Rattle.cert_paths.specs.declared.fault.PathsError.{PathsError}
@@ -30,11 +30,7 @@ of_size policy known word (Err OutOfMemory) is = is
 
 pub returns-then-is_unlike-clause-unlike : goal.returns-then-is_unlike-clause-unlike
 returns-then-is_unlike-clause-unlike c =
-    let es = c.args.paths.now.entries.items in
-    let state = c.known-known.result in
-    let same : literals state.entries.now state.number ≡ known_at es c.args.from =
-    ap (λ xs. literals xs state.number) c.known-known.ensures.entries ∙ ap (λ n. literals es n) c.known-known.ensures.number in
-    subst (λ ls. IsUnlike c.args.profile.now ls (words c.likely_record-likely.result) c.args.word) same
+    subst (λ ls. IsUnlike c.args.profile.now ls (words c.likely_record-likely.result) c.args.word) c.known-known.ensures
     (c.is_unlike.ensures c.if-is_unlike.true)
 
 pub returns-in-Err-clause-unlike : goal.returns-in-Err-clause-unlike
@@ -46,12 +42,9 @@ returns-in-Ok-clause-unlike c =
     let es = c.args.paths.now.entries.items in
     let policy = c.args.profile.now in
     let known : List Lit = known_at es c.args.from in
-    let state = c.known-known.result in
-    let same : literals state.entries.now state.number ≡ known =
-    ap (λ xs. literals xs state.number) c.known-known.ensures.entries ∙ ap (λ n. literals es n) c.known-known.ensures.number in
     let lits : All IsLit known = known_lits es c.args.from.chain c.requires.paths.entries in
     let r : List ℕ = words c.in-Ok.call in
-    let told : AreStated known r = subst (λ ls. AreStated ls r) same c.in-Ok.ensures in
+    let told : AreStated known r = subst (λ ls. AreStated ls r) c.known-known.ensures c.in-Ok.ensures in
     let by = stated_by_record known lits r c.settles.ensures.is_record told c.requires.alive in
     let agrees : Agrees policy [] [] known (said policy r) =
     c.settles.ensures.settled policy known r c.settles.ensures.is_profile.machines_in_order by.is_record by.all_hold by.stated in
@@ -61,8 +54,7 @@ returns-in-Ok-clause-unlike c =
       unlike = λ says.
           let is : c.args.word ≡ said policy r =
           (each_record_is_said_one_word policy r c.args.word c.settles.ensures.is_profile.clear by.is_record).0 says in
-          let now : Agrees policy [] [] (literals state.entries.now state.number) c.args.word =
-          subst (λ ls. Agrees policy [] [] ls c.args.word) (sym same) (subst (λ v. Agrees policy [] [] known v) (sym is) agrees) in
-          let yes : IsTrue c.is_settled.result = c.is_settled.ensures.1 now in
-          cc;
+          iff_false c.is_settled.ensures c.if-is_settled.false
+          (subst (λ ls. Agrees policy [] [] ls c.args.word) (sym c.known-known.ensures)
+          (subst (λ v. Agrees policy [] [] known v) (sym is) agrees));
     }

@@ -1,8 +1,8 @@
-use Rattle.std.proofs.Common.{◌≡◌, ap, sym, subst, ◌∙◌, IsTrue, length}
+use Rattle.std.proofs.Common.{sym, subst, ◌∙◌, length}
 use Rattle.std.proofs.lemmas.Option.{slice_get-get_or, none-some}
+use Rattle.std.proofs.lemmas.Bool.{iff_false}
 use Rattle.kernel_check.specs.Lent.{accepted_insns}
 use Rattle.cert_state.specs.Entailment.{IsDead}
-use Rattle.cert_form.specs.Nodes.{literals}
 use Rattle.cert_paths.specs.inner.Places.{IsPlace, known_at}
 use Rattle.cert_paths.proofs.FollowLaws.{dead_followed, from_inside}
 use Rattle.cert_paths.proofs.GrowLaws.{all_at}
@@ -11,10 +11,7 @@ use Rattle.cert_paths.proofs.following.follow.Goals as goal
 pub returns-then-dead-clause-followed : goal.returns-then-dead-clause-followed
 returns-then-dead-clause-followed c =
     let es = c.args.paths.now.entries.items in
-    let state = c.known.result in
-    let same : literals state.entries.now state.number ≡ known_at es c.args.from =
-    ap (λ xs. literals xs state.number) c.known.ensures.entries ∙ ap (λ n. literals es n) c.known.ensures.number in
-    let is : IsDead (known_at es c.args.from) = subst IsDead same (c.dead.ensures.0 c.if-dead.true) in
+    let is : IsDead (known_at es c.args.from) = subst IsDead c.known.ensures (c.dead.ensures.0 c.if-dead.true) in
     dead_followed c.args.profile.now (accepted_insns c.args.program.now) c.args.paths.now c.requires.paths c.requires.inside c.args.from
     c.requires.from is
 
@@ -30,10 +27,4 @@ at_insn-requires-clause-place c =
     c.requires.paths.places c.requires.from
 
 pub at_insn-requires-clause-alive : goal.at_insn-requires-clause-alive
-at_insn-requires-clause-alive c = λ is.
-    let es = c.args.paths.now.entries.items in
-    let state = c.known.result in
-    let same : literals state.entries.now state.number ≡ known_at es c.args.from =
-    ap (λ xs. literals xs state.number) c.known.ensures.entries ∙ ap (λ n. literals es n) c.known.ensures.number in
-    let yes : IsTrue c.dead.result = c.dead.ensures.1 (subst IsDead (sym same) is) in
-    cc
+at_insn-requires-clause-alive c = λ is. iff_false c.dead.ensures c.if-dead.false (subst IsDead (sym c.known.ensures) is)

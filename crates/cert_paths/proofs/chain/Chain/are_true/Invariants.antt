@@ -3,7 +3,7 @@ use Rattle.std.specs.Prelude.{All}
 use Rattle.call_record.specs.Record.{words}
 use Rattle.cert_state.specs.Literals.{Holds}
 use Rattle.cert_form.specs.Nodes.{literals}
-use Rattle.cert_paths.proofs.chain.Known.are_true.Given as goal
+use Rattle.cert_paths.proofs.chain.Chain.are_true.Given as goal
 
 abbrev pub invariant-loop-literal : goal.invariant-loop-literal
 invariant-loop-literal l =

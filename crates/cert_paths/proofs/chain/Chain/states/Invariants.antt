@@ -1,7 +1,7 @@
 use Rattle.std.proofs.Common.{◌↔◌, length}
 use Rattle.std.specs.Prelude.{Contains}
 use Rattle.cert_form.specs.Nodes.{literals}
-use Rattle.cert_paths.proofs.chain.Known.states.Given as goal
+use Rattle.cert_paths.proofs.chain.Chain.states.Given as goal
 
 abbrev pub invariant-loop-literal : goal.invariant-loop-literal
 invariant-loop-literal l =

@@ -4,9 +4,9 @@ use Rattle.std.proofs.lemmas.Option.{slice_get-get_or}
 use Rattle.cert_state.specs.declared.literal.Lit.{Lit}
 use Rattle.cert_state.specs.declared.literal.Lit.TheVariants.{In}
 use Rattle.cert_form.specs.Nodes.{literals}
-use Rattle.cert_paths.specs.inner.Chains.{AreEarlier}
+use Rattle.cert_paths.specs.Chains.{AreEarlier}
 use Rattle.cert_paths.proofs.ChainFacts.{literals_none, literals_past, chain_next}
-use Rattle.certify.proofs.plain.chain.ChainState.next.Goals as goal
+use Rattle.cert_paths.proofs.chain.ChainState.next.Goals as goal
 
 pub returns-then-at-eq0-clause-more : goal.returns-then-at-eq0-clause-more
 returns-then-at-eq0-clause-more c =

@@ -5,7 +5,7 @@ use Rattle.call_record.specs.Record.{words}
 use Rattle.cert_state.specs.declared.literal.Lit.{Lit}
 use Rattle.cert_state.specs.Literals.{Holds}
 use Rattle.cert_form.specs.Nodes.{literals}
-use Rattle.cert_paths.proofs.chain.Known.are_true.Goals as goal
+use Rattle.cert_paths.proofs.chain.Chain.are_true.Goals as goal
 
 pub loop-literal-init : goal.loop-literal-init
 loop-literal-init c = λ all. subst (All (λ (l : Lit). Holds l (words c.args.call))) c.start-at.ensures.all all

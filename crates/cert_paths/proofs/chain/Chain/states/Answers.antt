@@ -2,7 +2,7 @@ use Rattle.std.proofs.Common.{rules, ◌≡◌, inl, inr}
 use Rattle.std.specs.Prelude.{Contains}
 use Rattle.cert_form.specs.Nodes.{literals}
 use Rattle.cert_state.proofs.ListLaws.{contains_split, contains_later}
-use Rattle.cert_paths.proofs.chain.Known.states.Goals as goal
+use Rattle.cert_paths.proofs.chain.Chain.states.Goals as goal
 
 pub loop-literal-preserved : goal.loop-literal-preserved
 loop-literal-preserved c =
