@@ -210,10 +210,7 @@ pub(crate) fn tokens(
         (return_cost profile.now.machines at (inside 512 profile.now.machines (known_at store.old place)))) }
     ensures never { IsMeant profile.now (insns program.now) → IfErr result (λ e. e ≡ OutOfMemory) }
 {
-    let Some((_low, _high)) = store.range(place.chain, 0) else {
-        return dead(store, profile, program, place);
-    };
-    let Some((from, to)) = store.range(place.chain, 1) else {
+    let Some(((_low, _high), (from, to))) = store.ranges(place.chain) else {
         return dead(store, profile, program, place);
     };
     if is_refusal(profile, word) {

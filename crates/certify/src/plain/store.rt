@@ -3,7 +3,7 @@ ghost use Rattle.std.specs.Prelude.{◌↔◌, ◌≡◌, ◌+◌, ◌*◌, ◌�
 ghost use Rattle.cert_form.specs.Nodes.{literals};
 ghost use Rattle.cert_form.specs.Spelling.{IsKind};
 ghost use Rattle.cert_state.specs.declared.literal.Lit.TheVariants.{NotBits};
-ghost use Rattle.cert_state.specs.Entailment.{Entails};
+ghost use Rattle.cert_state.specs.Entailment.{Entails, IsDead};
 ghost use Rattle.cert_state.specs.Literals.{IsLit};
 ghost use Rattle.cert_state.specs.Points.{HasNoPoint, IsPoint, IsRange};
 ghost use Rattle.cert_walk.specs.declared.fault.CertifyError.TheVariants.{OutOfMemory};
@@ -124,6 +124,18 @@ impl Store {
             MatchOption result (HasNoPoint known word) (λ p. IsRange known word p.0 p.1) }
     {
         range(&self.known(chain), word)
+    }
+
+    /// The ranges of a call's number and of its machine's token by the literals of a chain. Where there are none, no record is left.
+    pub(crate) fn ranges(&self, chain: u32) -> Option<((u32, u32), (u32, u32))>
+        requires store { IsStore self.now }
+        requires chain { chain ≤ length self.now.entries.items }
+        ensures { let known = literals self.now.entries.items chain in
+            MatchOption result (IsDead known) (λ p. IsRange known 0 p.0.0 p.0.1 × IsRange known 1 p.1.0 p.1.1) }
+    {
+        let numbers = self.range(chain, 0)?;
+        let tokens = self.range(chain, 1)?;
+        Some((numbers, tokens))
     }
 
     /// Whether the literals of a chain rule a token out.

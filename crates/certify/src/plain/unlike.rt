@@ -81,10 +81,7 @@ pub(crate) fn is_unlike(store: &Store, profile: &Profile, place: Place, word: u3
     requires chain { place.chain ≤ length store.now.entries.items }
     ensures { IsClear profile.now.rules → SaysThere profile.now (known_at store.now place) word → result ≡ false }
 {
-    let Some((low, high)) = store.range(place.chain, 0) else {
-        return false;
-    };
-    let Some((from, to)) = store.range(place.chain, 1) else {
+    let Some(((low, high), (from, to))) = store.ranges(place.chain) else {
         return false;
     };
     if says_other_there(store, profile, place, word, from, low) {

@@ -61,10 +61,7 @@ pub(crate) fn enter(
         (path_cost (insns program.now) place.pc (inside 512 profile.now.machines (known_at store.old place)))) }
     ensures never { IsMeant profile.now (insns program.now) → IfErr result (λ e. e ≡ OutOfMemory) }
 {
-    let Some((_low, _high)) = store.range(place.chain, 0) else {
-        return dead(store, profile, program, place);
-    };
-    let Some((_from, _to)) = store.range(place.chain, 1) else {
+    let Some(_ranges) = store.ranges(place.chain) else {
         return dead(store, profile, program, place);
     };
     let insn = program.get(place.pc as usize);

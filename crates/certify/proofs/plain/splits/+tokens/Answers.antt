@@ -1,4 +1,4 @@
-use Rattle.std.proofs.Common.{◌≡◌, ◌+◌, ◌-◌, ◌<◌, ◌≤◌, inl, refl, sym, subst, ◌∙◌, arith, length, ◌∷◌, Some, true, false}
+use Rattle.std.proofs.Common.{◌≡◌, ◌+◌, ◌-◌, ◌<◌, ◌≤◌, refl, sym, subst, ◌∙◌, arith, length, ◌∷◌, Some, true, false}
 use Rattle.std.specs.Prelude.{slice_get}
 use Rattle.std.proofs.lemmas.Option.{slice_get_within}
 use Rattle.call_tables.specs.Arch.{token_of}
@@ -19,23 +19,20 @@ use Rattle.certify.proofs.WayLaws.{at_child, few_known, foreign_agrees_there, li
 use Rattle.certify.proofs.WayLaws.{new_there, out_child, out_more, stays_short, yes_child}
 use Rattle.certify.proofs.plain.splits.+tokens.Goals as goal
 
-pub dead-requires-in_default-range-clause-dead : goal.dead-requires-in_default-range-clause-dead
-dead-requires-in_default-range-clause-dead t c = (1, omega arith, inl c.in_default-range.ensures)
-
 pub ends-requires-clause-agrees : goal.ends-requires-clause-agrees
 ends-requires-clause-agrees t c = λ meant.
     let is = c.is_refusal.ensures.0 c.if-is_refusal.true in
     zero_agrees c.args.profile.now (known_at c.args.store.now c.args.place) c.args.word c.in-Some._low c.in-Some._high
-    c.in-Some-range.from c.in-Some-range.to meant.profile.machines_in_order
+    c.in-Some.from c.in-Some.to meant.profile.machines_in_order
     (few_known c.args.store.now (insns c.args.program.now) c.args.place c.requires.at.fits)
-    meant.plain.rules meant.plain.small (c.requires.at.store.calls c.args.place.chain) (c.requires.at.says meant) c.in-Some.ensures
-    c.in-Some-range.ensures is.0 is.1
+    meant.plain.rules meant.plain.small (c.requires.at.store.calls c.args.place.chain) (c.requires.at.says meant) c.in-Some.ensures.0
+    c.in-Some.ensures.1 is.0 is.1
 
 pub ends-requires-in_default-machine_at-clause-agrees : goal.ends-requires-in_default-machine_at-clause-agrees
 ends-requires-in_default-machine_at-clause-agrees t c = λ meant.
     foreign_agrees_there c.args.profile.now (insns c.args.program.now) c.args.store.now c.args.place c.args.word c.in-Some._low
-    c.in-Some._high c.in-Some-range.from c.in-Some-range.to
-    meant c.requires.at c.in-Some.ensures c.in-Some-range.ensures
+    c.in-Some._high c.in-Some.from c.in-Some.to
+    meant c.requires.at c.in-Some.ensures.0 c.in-Some.ensures.1
     (none_left c.args.profile.now c.args.store.now c.args.place c.args.at c.requires.out (sym c.in_default-machine_at.ensures.found))
 
 pub machine-requires-clause-listed : goal.machine-requires-clause-listed
@@ -44,7 +41,7 @@ machine-requires-clause-listed t c =
 
 pub machine-requires-clause-only : goal.machine-requires-clause-only
 machine-requires-clause-only t c = λ u at.
-    let range : IsRange (known_at c.args.store.now c.args.place) 1 c.in-Some-range.from c.in-Some-range.to = c.in-Some-range.ensures in
+    let range : IsRange (known_at c.args.store.now c.args.place) 1 c.in-Some.from c.in-Some.to = c.in-Some.ensures.1 in
     let b = range.between u at in
     omega (arith, b, c.if-from-to.true, c.if-from-token.true, c.token-token.ensures)
 
@@ -55,7 +52,7 @@ pub tokens-requires : goal.tokens-requires
 tokens-requires t c =
     let policy = c.args.profile.now in
     let s = c.args.store.now in
-    let range : IsRange (known_at s c.args.place) 1 c.in-Some-range.from c.in-Some-range.to = c.in-Some-range.ensures in
+    let range : IsRange (known_at s c.args.place) 1 c.in-Some.from c.in-Some.to = c.in-Some.ensures.1 in
     let here : slice_get policy.machines c.args.at ≡ Some c.in-Some-machine_at.arch = sym c.in-Some-machine_at.ensures.found in
     let within = slice_get_within policy.machines c.args.at c.in-Some-machine_at.arch here in
     let less : length policy.machines - (c.args.at + 1) < t = omega (arith, c.decreases, within) in (
@@ -109,8 +106,8 @@ machine-requires-2-clause-room t c =
     let place = c.args.place in
     let arch_here = c.in-Some-machine_at.arch in
     let there : slice_get policy.machines c.args.at ≡ Some arch_here = sym c.in-Some-machine_at.ensures.found in
-    let tokens_are : IsRange (known_at s place) 1 c.in-Some-range.from c.in-Some-range.to = c.in-Some-range.ensures in
-    let new = new_there policy s place c.args.at arch_here c.in-Some-range.from c.in-Some-range.to tokens_are c.requires.out there
+    let tokens_are : IsRange (known_at s place) 1 c.in-Some.from c.in-Some.to = c.in-Some.ensures.1 in
+    let new = new_there policy s place c.args.at arch_here c.in-Some.from c.in-Some.to tokens_are c.requires.out there
     (λ known. let e : false ≡ true = sym c.if-rules_out.false
     ∙ c.rules_out.ensures.1 (subst (λ n. Entails (known_at s place) (NotBits 1 0xffffffff n)) (sym c.token-token.ensures) known) in cc) in
     let fork = c.in_ok-fork.fork in
@@ -145,7 +142,7 @@ tokens-requires-then-rules_out t c =
         (
           out_more policy s c.args.place c.args.at arch c.requires.out here
               (ruled_out (known_at s c.args.place) (token_of arch) c.in-Some._low (c.requires.at.store.calls c.args.place.chain)
-              c.in-Some.ensures.least out),
+              c.in-Some.ensures.0.least out),
           (λ meant. let nodes = (c.requires.room meant).nodes in let literals = (c.requires.room meant).literals in
               let past = past_machine policy.machines c.args.at (inside 512 policy.machines (known_at s c.args.place)) within in
               record { nodes = omega (arith, nodes, past); literals = omega (arith, literals) }),
@@ -177,8 +174,8 @@ tokens-requires-2 t c =
     let place = c.args.place in
     let arch_here = c.in-Some-machine_at.arch in
     let there : slice_get policy.machines c.args.at ≡ Some arch_here = sym c.in-Some-machine_at.ensures.found in
-    let tokens_are : IsRange (known_at s place) 1 c.in-Some-range.from c.in-Some-range.to = c.in-Some-range.ensures in
-    let new = new_there policy s place c.args.at arch_here c.in-Some-range.from c.in-Some-range.to tokens_are c.requires.out there
+    let tokens_are : IsRange (known_at s place) 1 c.in-Some.from c.in-Some.to = c.in-Some.ensures.1 in
+    let new = new_there policy s place c.args.at arch_here c.in-Some.from c.in-Some.to tokens_are c.requires.out there
     (λ known. let e : false ≡ true = sym c.if-rules_out.false
     ∙ c.rules_out.ensures.1 (subst (λ n. Entails (known_at s place) (NotBits 1 0xffffffff n)) (sym c.token-token.ensures) known) in cc) in
     let fork = c.in_ok-fork.fork in
@@ -235,8 +232,8 @@ returns-clause-made t c =
     let place = c.args.place in
     let arch_here = c.in-Some-machine_at.arch in
     let there : slice_get policy.machines c.args.at ≡ Some arch_here = sym c.in-Some-machine_at.ensures.found in
-    let tokens_are : IsRange (known_at s place) 1 c.in-Some-range.from c.in-Some-range.to = c.in-Some-range.ensures in
-    let new = new_there policy s place c.args.at arch_here c.in-Some-range.from c.in-Some-range.to tokens_are c.requires.out there
+    let tokens_are : IsRange (known_at s place) 1 c.in-Some.from c.in-Some.to = c.in-Some.ensures.1 in
+    let new = new_there policy s place c.args.at arch_here c.in-Some.from c.in-Some.to tokens_are c.requires.out there
     (λ known. let e : false ≡ true = sym c.if-rules_out.false
     ∙ c.rules_out.ensures.1 (subst (λ n. Entails (known_at s place) (NotBits 1 0xffffffff n)) (sym c.token-token.ensures) known) in cc) in
     let fork = c.in_ok-fork.fork in

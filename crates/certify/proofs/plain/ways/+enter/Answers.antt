@@ -1,4 +1,4 @@
-use Rattle.std.proofs.Common.{rules, ◌≡◌, ◌+◌, ◌-◌, ◌<◌, ◌≤◌, ◌^◌, ◌⊎◌, inl, ⊎_elim, refl, sym, subst, ◌∙◌, ap, arith}
+use Rattle.std.proofs.Common.{rules, ◌≡◌, ◌+◌, ◌-◌, ◌<◌, ◌≤◌, ◌^◌, ◌⊎◌, ⊎_elim, refl, sym, subst, ◌∙◌, ap, arith}
 use Rattle.std.proofs.Common.{length, ◌∷◌, Some, true, false, List, ℕ}
 use Rattle.bpf_insn.specs.Program.{insns}
 use Rattle.bpf_insn.specs.Code.{operation_of}
@@ -35,35 +35,16 @@ returns-in_default-clause-made t c =
     made_within_if policy p s c.dead.new.store place 1 (path_cost p place.pc (inside 512 policy.machines (known_at s place))) c.dead.result
     (λ meant. let some = some_weight p place.pc c.requires.way.fits.inside in omega (arith, some)) c.dead.ensures.made
 
-pub dead-requires-in_default-range-clause-dead : goal.dead-requires-in_default-range-clause-dead
-dead-requires-in_default-range-clause-dead t c = (1, omega arith, inl c.in_default-range.ensures)
-
-pub dead-requires-in_default-range-clause-room : goal.dead-requires-in_default-range-clause-room
-dead-requires-in_default-range-clause-room t c = λ meant.
-    let some = some_weight (insns c.args.program.now) c.args.place.pc c.requires.way.fits.inside in
-    let nodes = (c.requires.room meant).nodes in
-    omega (arith, some, nodes)
-
-pub returns-in_default-range-clause-made : goal.returns-in_default-range-clause-made
-returns-in_default-range-clause-made t c =
-    let policy = c.args.profile.now in
-    let p = insns c.args.program.now in
-    let s = c.args.store.now in
-    let place = c.args.place in
-    made_within_if policy p s c.dead-in_default-range.new.store place 1
-    (path_cost p place.pc (inside 512 policy.machines (known_at s place))) c.dead-in_default-range.result
-    (λ meant. let some = some_weight p place.pc c.requires.way.fits.inside in omega (arith, some)) c.dead-in_default-range.ensures.made
-
 pub returns-in-None-clause-never : goal.returns-in-None-clause-never
 returns-in-None-clause-never t c = λ meant.
     let small : c.get-insn.result.k < 2 ^ 32 = search rules in
     absurd (way_moves c.args.profile.now (insns c.args.program.now) c.args.store.now c.args.place c.requires.way
     c.get-insn.result c.get-insn.ensures small meant
     (record {
-      token = c.in-Some-range._from;
-      number = c.in-Some._low;
-      token_is = c.in-Some-range.ensures.least;
-      number_is = c.in-Some.ensures.least;
+      token = c.in-Some._ranges.1.0;
+      number = c.in-Some._ranges.0.0;
+      token_is = c.in-Some.ensures.1.least;
+      number_is = c.in-Some.ensures.0.least;
     })
     (sym c.in-None.ensures))
 
