@@ -7,3 +7,4 @@ pub mod Ways
 pub mod Broken
 pub mod Among
 pub mod Followed
+pub mod Passed

@@ -8,10 +8,9 @@ ghost use Rattle.cert_form.specs.Views.{nodes_of, says};
 ghost use Rattle.cert_check.specs.Rules.{Allows, Carries};
 ghost use Rattle.cert_check.specs.inner.Among.{AreAmong};
 ghost use Rattle.cert_check.specs.inner.Broken.{CarriesTo};
-ghost use Rattle.cert_check.specs.inner.Followed.{AllFollow};
+ghost use Rattle.cert_check.specs.inner.Passed.{ClaimsFollow};
 ghost use Rattle.cert_check.specs.inner.Ways.{edge_list, edge_of};
 
-use crate::claims::{mets_follow, outs_follow};
 use crate::edges::{Way, Ways};
 use crate::passage::{Origin, Passage};
 use cert_form::{Kind, NodeView};
@@ -152,8 +151,7 @@ fn entails_all<S: State, T: State>(known: &With<'_, S>, there: &T) -> bool
 impl Passage<'_> {
     // Whether all that the node there claims follows. Mostly its new claims tell that.
     fn claims_follow(&self) -> bool
-        ensures { let p = self.now in
-            IsTrue result ↔ AllFollow p.profile.now (says p.node.now) (edge_of p.way.now) (says p.there.now) }
+        ensures { IsTrue result ↔ ClaimsFollow self.now }
     {
         if self.new_claims_follow() {
             return true;
@@ -165,10 +163,10 @@ impl Passage<'_> {
         if !entails_all(&known, self.there) {
             return false;
         }
-        if !outs_follow(self.profile, self.node, self.way, self.there) {
+        if !self.outs_follow() {
             return false;
         }
-        mets_follow(self.profile, self.node, self.way, self.there)
+        self.mets_follow()
     }
 
     // Whether what is known on the way gives what the node there says.

@@ -5,12 +5,12 @@ ghost use Rattle.cert_form.specs.Views.{says};
 ghost use Rattle.cert_check.specs.inner.Claimed.{mets_of};
 ghost use Rattle.cert_check.specs.inner.Marked.{AreMetMarked, IsClear};
 ghost use Rattle.cert_check.specs.Agree.{IsYes};
-ghost use Rattle.cert_check.specs.Rules.{IsMetBy, known_on};
-ghost use Rattle.cert_check.specs.inner.Ways.{edge_of};
+ghost use Rattle.cert_check.specs.Rules.{IsMetBy};
+ghost use Rattle.cert_check.specs.inner.Passed.{MetsFollow};
 
 use crate::conditions::judge_condition;
-use crate::edges::Way;
 use crate::judged::Judged;
+use crate::passage::Passage;
 use cert_form::NodeView;
 use cert_state::{Facts, State, With};
 use profile::{Cond, MAX_RULES, Profile};
@@ -203,63 +203,60 @@ fn all_are_met<S: State>(
     true
 }
 
-// Whether each condition that a node says to be met is met on the way to it, by a table for those that the node before
-// says to be met.
-fn are_met_by(
-    profile: &Profile,
-    node: &NodeView<'_>,
-    way: &Way,
-    there: &NodeView<'_>,
-    table: &mut [bool],
-) -> bool
-    requires { IsClear table.old }
-    ensures { IsTrue result ↔ All (IsMetBy profile.now (says node.now).met (known_on (says node.now) (edge_of way.now))) (says there.now).met }
-{
-    mark_mets(node, table);
-    let known = With {
-        state: node,
-        more: way.fact,
-    };
-    all_are_met(profile, &known, &Mets::of(node, table), there)
-}
-
-// The same where the profile has few rules. A table is made in a function of its own, so that no other way makes room for it.
-#[inline(never)]
-fn are_met_by_few(profile: &Profile, node: &NodeView<'_>, way: &Way, there: &NodeView<'_>) -> bool
-    ensures { IsTrue result ↔ All (IsMetBy profile.now (says node.now).met (known_on (says node.now) (edge_of way.now))) (says there.now).met }
-{
-    are_met_by(profile, node, way, there, &mut [false; 6 * FEW_RULES])
-}
-
-// The same where it has many.
-#[inline(never)]
-fn are_met_by_many(profile: &Profile, node: &NodeView<'_>, way: &Way, there: &NodeView<'_>) -> bool
-    ensures { IsTrue result ↔ All (IsMetBy profile.now (says node.now).met (known_on (says node.now) (edge_of way.now))) (says there.now).met }
-{
-    are_met_by(profile, node, way, there, &mut [false; 6 * MAX_RULES])
-}
-
-/// Whether each condition that a node says to be met is met on the way to it.
-pub(crate) fn mets_follow(
-    profile: &Profile,
-    node: &NodeView<'_>,
-    way: &Way,
-    there: &NodeView<'_>,
-) -> bool
-    ensures { IsTrue result ↔ All (IsMetBy profile.now (says node.now).met (known_on (says node.now) (edge_of way.now))) (says there.now).met }
-{
-    if has_no_met(there) {
-        return true;
-    }
-    if has_no_met(node) {
+impl Passage<'_> {
+    // Whether each condition that the node there says to be met is met on the way to it, by a table for those that the node
+    // before says to be met.
+    fn mets_follow_by(&self, table: &mut [bool]) -> bool
+        requires { IsClear table.old }
+        ensures { IsTrue result ↔ MetsFollow self.now }
+    {
+        mark_mets(self.node, table);
         let known = With {
-            state: node,
-            more: way.fact,
+            state: self.node,
+            more: self.way.fact,
         };
-        return all_are_met(profile, &known, &Mets::none(), there);
+        all_are_met(
+            self.profile,
+            &known,
+            &Mets::of(self.node, table),
+            self.there,
+        )
     }
-    if profile.rules().len() <= FEW_RULES {
-        return are_met_by_few(profile, node, way, there);
+
+    // The same where the profile has few rules. A table is made in a function of its own, so that no other way makes room
+    // for it.
+    #[inline(never)]
+    fn mets_follow_by_few(&self) -> bool
+        ensures { IsTrue result ↔ MetsFollow self.now }
+    {
+        self.mets_follow_by(&mut [false; 6 * FEW_RULES])
     }
-    are_met_by_many(profile, node, way, there)
+
+    // The same where it has many.
+    #[inline(never)]
+    fn mets_follow_by_many(&self) -> bool
+        ensures { IsTrue result ↔ MetsFollow self.now }
+    {
+        self.mets_follow_by(&mut [false; 6 * MAX_RULES])
+    }
+
+    /// Whether each condition that the node there says to be met is met on the way to it.
+    pub(crate) fn mets_follow(&self) -> bool
+        ensures { IsTrue result ↔ MetsFollow self.now }
+    {
+        if has_no_met(self.there) {
+            return true;
+        }
+        if has_no_met(self.node) {
+            let known = With {
+                state: self.node,
+                more: self.way.fact,
+            };
+            return all_are_met(self.profile, &known, &Mets::none(), self.there);
+        }
+        if self.profile.rules().len() <= FEW_RULES {
+            return self.mets_follow_by_few();
+        }
+        self.mets_follow_by_many()
+    }
 }

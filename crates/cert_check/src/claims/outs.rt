@@ -6,15 +6,14 @@ ghost use Rattle.cert_check.specs.inner.Marked.{AreMarked};
 ghost use Rattle.profile.specs.declared.rules.Rule.{Rule as TheRule};
 ghost use Rattle.profile.specs.Rule.{is_narrow_rule};
 ghost use Rattle.cert_check.specs.Agree.{IsRefuted, SomeIsNo};
-ghost use Rattle.cert_check.specs.Rules.{IsOutOn};
 ghost use Rattle.cert_check.specs.Judged.{IsJudged};
 ghost use Rattle.cert_check.specs.inner.Judged.{AreOutSoFar, AreYes, IsOutThen};
-ghost use Rattle.cert_check.specs.inner.Ways.{edge_of};
+ghost use Rattle.cert_check.specs.inner.Passed.{OutsFollow};
 
 use crate::agree::{NUMBER, TOKEN};
 use crate::answered::answer_of;
-use crate::edges::Way;
 use crate::judged::{Answered, Judged};
+use crate::passage::Passage;
 use cert_form::NodeView;
 use cert_state::{Facts, Knowledge, Lit, State, With};
 use profile::{Profile, Rule};
@@ -177,32 +176,29 @@ fn all_are_out<S: State>(
     true
 }
 
-/// Whether each rule that a node says to be out is out on the way to it.
-pub(crate) fn outs_follow(
-    profile: &Profile,
-    node: &NodeView<'_>,
-    way: &Way,
-    there: &NodeView<'_>,
-) -> bool
-    ensures { IsTrue result ↔ All (IsOutOn profile.now (says node.now) (edge_of way.now)) (says there.now).out }
-{
-    if has_none(there) {
-        return true;
+impl Passage<'_> {
+    /// Whether each rule that the node there says to be out is out on the way to it.
+    pub(crate) fn outs_follow(&self) -> bool
+        ensures { IsTrue result ↔ OutsFollow self.now }
+    {
+        if has_none(self.there) {
+            return true;
+        }
+        if !are_below(self.there, self.profile.rules().len()) {
+            return false;
+        }
+        let known = With {
+            state: self.node,
+            more: self.way.fact,
+        };
+        let mut newly = [false; 8192];
+        mark_outs(self.there, &mut newly);
+        let there = Outs::of(self.there, &newly);
+        if has_none(self.node) {
+            return all_are_out(self.profile, &known, &Outs::none(), &there);
+        }
+        let mut marked = [false; 8192];
+        mark_outs(self.node, &mut marked);
+        all_are_out(self.profile, &known, &Outs::of(self.node, &marked), &there)
     }
-    if !are_below(there, profile.rules().len()) {
-        return false;
-    }
-    let known = With {
-        state: node,
-        more: way.fact,
-    };
-    let mut newly = [false; 8192];
-    mark_outs(there, &mut newly);
-    let there = Outs::of(there, &newly);
-    if has_none(node) {
-        return all_are_out(profile, &known, &Outs::none(), &there);
-    }
-    let mut marked = [false; 8192];
-    mark_outs(node, &mut marked);
-    all_are_out(profile, &known, &Outs::of(node, &marked), &there)
 }

@@ -1,9 +1,9 @@
 //! The claims of a node that are new on the way to it: its chain and that of the node before mostly share all but a few.
 ghost use Rattle.std.specs.Prelude.{◌↔◌, ◌<◌, ◌++◌, All, IsTrue, length, option_to_list, slice_get};
 ghost use Rattle.std.specs.Option.{IsSomeAnd};
-ghost use Rattle.cert_form.specs.Views.{all_claims, claims_from, claims_of, says};
-ghost use Rattle.cert_check.specs.inner.Followed.{AllFollow, AreBut, IsFact, IsPlaced, IsRefutedAt, IsShown};
-ghost use Rattle.cert_check.specs.inner.Ways.{edge_of};
+ghost use Rattle.cert_form.specs.Views.{all_claims, claims_from, claims_of};
+ghost use Rattle.cert_check.specs.inner.Followed.{AreBut, IsFact, IsPlaced, IsRefutedAt, IsShown};
+ghost use Rattle.cert_check.specs.inner.Passed.{ClaimsFollow};
 
 use crate::claims::mets::{Mets, is_met};
 use crate::claims::outs::refutes;
@@ -140,8 +140,7 @@ impl Passage<'_> {
     /// before, since their chains are one from where they meet. Where it is not, it may follow all the same, as where
     /// `placed` does not tell that the profile has the rules of all claims.
     pub(crate) fn new_claims_follow(&self) -> bool
-        ensures { let p = self.now in
-            IsTrue result → AllFollow p.profile.now (says p.node.now) (edge_of p.way.now) (says p.there.now) }
+        ensures { IsTrue result → ClaimsFollow self.now }
     {
         if !self.placed {
             return false;

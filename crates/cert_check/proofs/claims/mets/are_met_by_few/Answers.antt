@@ -1,5 +1,0 @@
-use Rattle.cert_check.proofs.MetsLaws.{made_clear}
-use Rattle.cert_check.proofs.claims.mets.are_met_by_few.Goals as goal
-
-pub are_met_by-requires : goal.are_met_by-requires
-are_met_by-requires c = made_clear 3072
