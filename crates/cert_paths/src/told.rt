@@ -67,13 +67,29 @@ fn told_record(known: &Chain<'_>) -> Result<Record, Cut>
     })
 }
 
-/// Where what is known is cut in two: where a machine, a rule or a condition is not settled, and else anywhere. There is no such
-/// place only where each word of the record is stated, which is given then.
+// Where a word is cut that may be one number alone, which is not stated: what is known of its bits may exclude that one too.
+fn cut_of_point(known: &Chain<'_>) -> Option<Cut> {
+    for word in 0..16_u8 {
+        if let Some((low, high)) = range(known, word)
+            && low == high
+            && !known.states(Lit::Bits(word, u32::MAX, low))
+        {
+            return Cut::bits(word, u32::MAX, low);
+        }
+    }
+    None
+}
+
+/// Where what is known is cut in two: where a machine, a rule or a condition is not settled, then where a word may be one number
+/// alone, and else anywhere. There is no such place only where each word of the record is stated, which is given then.
 pub(crate) fn told_or_cut(profile: &Profile, known: &Chain<'_>) -> Result<Record, Cut>
     ensures { IfOk result (λ call. AreStated (literals known.now.entries.now known.now.number) (words call)) }
 {
-    match cut_of_profile(profile, known) {
-        Some(cut) => Err(cut),
-        None => told_record(known),
+    if let Some(cut) = cut_of_profile(profile, known) {
+        return Err(cut);
     }
+    if let Some(cut) = cut_of_point(known) {
+        return Err(cut);
+    }
+    told_record(known)
 }

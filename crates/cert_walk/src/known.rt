@@ -159,9 +159,11 @@ impl Known {
         self.entails(Lit::NotBits(word, u32::MAX, number))
     }
 
-    /// Whether the literals of a word can not all be true.
+    /// Whether the literals of a word can not all be true. Where it is one number, that may be excluded by its bits.
     pub(crate) fn is_dead(&self, word: u8) -> bool {
-        self.learned.is_dead_at(word % 16)
+        let short = self.short(word);
+        excluding(self.of(word), short.mask, short.datum).is_some()
+            || self.learned.is_dead_at(word % 16)
     }
 
     /// The least number that a word may be, if it is found soon.
