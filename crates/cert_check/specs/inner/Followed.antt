@@ -22,7 +22,8 @@ IsPlaced policy (Met place own) = IsSomeAnd (slice_get policy.rules place) (λ r
 IsPlaced-prop : (policy : Policy) (claim : Claim) → IsProp (IsPlaced policy claim)
 IsPlaced-prop policy (Knows l) = hlevel props
 IsPlaced-prop policy (Out place) = hlevel props
-IsPlaced-prop policy (Met place own) = IsSomeAnd-prop (slice_get policy.rules place) (λ rule. own < length rule.conds.items) (λ rule. hlevel props)
+IsPlaced-prop policy (Met place own) =
+    IsSomeAnd-prop (slice_get policy.rules place) (λ rule. own < length rule.conds.items) (λ rule. hlevel props)
 
 pub ArePlaced-prop : (policy : Policy) (told : Bool) (claims : List Claim) → IsProp (IsTrue told → All (IsPlaced policy) claims)
 ArePlaced-prop policy told claims = hlevel (props, IsPlaced-prop)
