@@ -59,7 +59,7 @@ impl Changes {
     pub(crate) fn tell_nothing_written(&mut self) {
         let widening = self.widening;
         self.lines.put(format_args!(
-            "ccell: nothing is written: {widening} of these changes widen the profile, and the word widen behind the file allows them\n"
+            "ccell: nothing is written: {widening} of these changes widen the profile, and widen behind the file allows them\n"
         ));
     }
 }

@@ -49,7 +49,7 @@ impl Grid {
         Ok(())
     }
 
-    /// The first record where the filter's verdict is not the word of the profile.
+    /// The first record where the filter's verdict is not the verdict of the profile.
     pub fn first_difference(&self, accepted: &Accepted<'_>, profile: &Profile) -> Option<Record> {
         for arch in TOKENS {
             for nr in &self.numbers {

@@ -2,8 +2,8 @@
 //! line each, and then a line `.`. Drawing, counting, comparing and all texts that people read or write are the script's.
 //!
 //! A question begins with what it is on (`profile`, `filter`, `cert`, `word`, `kernel` or `runtime`) and what is asked; the
-//! module of that name has the words. Between any two words stands one space. Numbers are decimal and bytes hexadecimal
-//! digits; a word that is missing, or none of these, counts as 0. Of many values the answer is their `Debug`. Where there is no
+//! module of that name has the parts. Between any two parts stands one space. Numbers are decimal and bytes hexadecimal
+//! digits; a part that is missing, or none of these, counts as 0. Of many values the answer is their `Debug`. Where there is no
 //! memory, or nothing that a question is on, no answer is written at all, and the status is 1.
 #![tactic(auto)]
 

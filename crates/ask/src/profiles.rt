@@ -1,8 +1,8 @@
 //! Questions on profiles: `bundle MACHINE TEXT` and `build NATIVE DEFAULT COUNT MACHINE .. COUNT RULE ..` make one and tell its
-//! parts, and `decide RECORD` asks for its word. Of it and the filter, `compile` makes the filter, and `certify` the certificate,
-//! as does `follow`, which follows each path: these tell their bytes. `check CERTIFICATE` asks the checker, and `agrees` whether
-//! their words are alike on the records of the last `grid COUNT NUMBER .. COUNT ARGUMENTS ..`. `keep` has the three kept for
-//! containers.
+//! parts, and `decide RECORD` asks for its verdict. Of it and the filter, `compile` makes the filter, and `certify` the
+//! certificate, as does `follow`, which follows each path: these tell their bytes. `check CERTIFICATE` asks the checker, and
+//! `agrees` whether their verdicts are alike on the records of the last `grid COUNT NUMBER .. COUNT ARGUMENTS ..`. `keep` has
+//! the three kept for containers.
 
 use crate::answers::Answers;
 use crate::desk::{Desk, Made};
@@ -159,7 +159,7 @@ fn tell_check(out: &mut Answers, profile: &Profile, filter: &[u8], digits: &str)
     }
 }
 
-// Tells the first record of a grid on which a filter that the kernel accepts answers another word than its profile says.
+// Tells the first record of a grid on which a filter that the kernel accepts answers another verdict than its profile says.
 fn tell_agreement(out: &mut Answers, profile: &Profile, filter: &[u8], grid: &Grid) {
     let Ok(program) = Program::view(filter) else {
         return out.fail();

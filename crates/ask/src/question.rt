@@ -1,4 +1,4 @@
-//! The words of a question.
+//! The parts of a question.
 
 use call_record::{Record, Word};
 use call_tables::Arch;
@@ -15,7 +15,7 @@ impl<'a> Question<'a> {
         Question { rest: line }
     }
 
-    /// The next word, empty where none is left.
+    /// The next part, empty where none is left.
     pub fn word(&mut self) -> &'a str {
         let (word, rest) = self.rest.split_once(' ').unwrap_or((self.rest, ""));
         self.rest = rest;
@@ -37,7 +37,7 @@ impl<'a> Question<'a> {
         self.word().parse::<usize>().unwrap_or(0)
     }
 
-    /// The next word of a verdict.
+    /// The next verdict.
     pub fn verdict(&mut self) -> Word {
         Word(self.narrow())
     }

@@ -1,11 +1,11 @@
-//! Questions on words of verdicts and on records: `strictest COUNT WORD ..`, the newest filter's first, `effect WORD`, `record RECORD`,
+//! Questions on verdicts and on records: `strictest COUNT WORD ..`, the newest filter's first, `effect WORD`, `record RECORD`,
 //! and `least BITS FROM MASK DATUM`.
 
 use crate::answers::Answers;
 use crate::question::Question;
 use call_record::{Record, least_below, lets_through, strictest};
 
-/// Answers a question on words and records.
+/// Answers a question on verdicts and records.
 pub fn answer(out: &mut Answers, mut question: Question<'_>) {
     match question.word() {
         "strictest" => tell_strictest(out, question),
@@ -15,7 +15,7 @@ pub fn answer(out: &mut Answers, mut question: Question<'_>) {
     }
 }
 
-// The strictest of words.
+// The strictest of verdicts.
 fn tell_strictest(out: &mut Answers, mut question: Question<'_>) {
     let mut newest_first = Vec::new(out.alloc);
     for _ in 0..question.number() {
@@ -24,7 +24,7 @@ fn tell_strictest(out: &mut Answers, mut question: Question<'_>) {
     out.tell(strictest(&newest_first));
 }
 
-// What ends, the error, and whether a call with this word is carried out.
+// What ends, the error, and whether a call with this verdict is carried out.
 fn tell_effect(out: &mut Answers, mut question: Question<'_>) {
     let word = question.verdict();
     out.tell(format_args!("{:?}", word.ends()));

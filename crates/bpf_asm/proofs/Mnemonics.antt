@@ -1,4 +1,4 @@
--- The mnemonics of the code are the words of the forms.
+-- The mnemonics of the code are those of the forms.
 use Rattle.std.proofs.Common.{◌≡◌, ◌≢◌, ℕ, Bool, true, false, cond, List, [], ◌∷◌, refl, ap, ◌∙◌}
 use Rattle.std.specs.Prelude.{Some, None, find, nat_le}
 use Rattle.std.specs.List.{list_all}
@@ -84,7 +84,7 @@ mnemonic_at_sound text w h = looked_up text w mnemonics h
 pub mnemonic_at_none : (text : List ℕ) → mnemonic_at text ≡ None → (w : Mnemonic) → text ≢ text_of w
 mnemonic_at_none text h w e = let read = ap mnemonic_at e ∙ mnemonic_at-text_of w in absurd (cc)
 
--- the mnemonic of a form is its word
+-- the mnemonic of a form is what its lines begin with
 pub text_of-mnemonic_of : (form : Form) → text_of (mnemonic_of form) ≡ word_of form
 text_of-mnemonic_of (Some operations.LoadWord) = refl
 text_of-mnemonic_of (Some operations.LoadScratch) = refl

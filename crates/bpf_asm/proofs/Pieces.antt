@@ -1,4 +1,4 @@
--- What is read after a word is what is written there.
+-- What is read after a mnemonic is what is written there.
 use Rattle.std.proofs.Common.{◌≡◌, ◌≢◌, ℕ, ◌<◌, Bool, true, false, cond, List, [], ◌∷◌, ◌++◌, refl, ap, sym, ◌∙◌, arith, lit<}
 use Rattle.std.specs.Prelude.{◌==◌, Option, Some, None, option_and_then, codes}
 use Rattle.std.specs.Option.{option_map}

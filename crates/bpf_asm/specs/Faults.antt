@@ -29,11 +29,11 @@ pub record IsShaped (line : List ℕ) (form : Form) (digits : Digits) : Type 0 w
 abbrev pub first_word : List ℕ → List ℕ
 first_word line = before_first (λ b. b == space) line
 
--- the line begins with the word of no form
+-- the line begins with the mnemonic of no form
 abbrev pub IsUnknown : List ℕ → Type 0
 IsUnknown line = (form : Form) → first_word line ≢ word_of form
 
--- it begins with a form's word, and has the shape of none
+-- it begins with a form's mnemonic, and has the shape of none
 pub record IsShapeless (line : List ℕ) : Type 0 where
   pub form : Form
   pub begins : first_word line ≡ word_of form

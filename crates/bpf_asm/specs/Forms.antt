@@ -90,7 +90,7 @@ word_of_arithmetic Or = codes "or"
 word_of_arithmetic And = codes "and"
 word_of_arithmetic Xor = codes "xor"
 
--- the word that a line of the form begins with
+-- the mnemonic that a line of the form begins with
 abbrev pub word_of : Form → List ℕ
 word_of (Some LoadWord) = codes "ld"
 word_of (Some LoadScratch) = codes "ld"

@@ -12,7 +12,7 @@ use Rattle.bpf_asm.specs.Forms.{Digits, Field, Form, Jf, Jt, K, base_of, line_te
 abbrev pub is_told : Field → Insn → Operation → Bool
 is_told field i operation = is_some (notation_in (pieces_of (Some operation)) field) || number_at field i == 0
 
--- so is each field but the code, for which the word stands
+-- so is each field but the code, for which the mnemonic stands
 abbrev pub has_own_form : Insn → Operation → Bool
 has_own_form i operation = is_told Jt i operation && (is_told Jf i operation && is_told K i operation)
 

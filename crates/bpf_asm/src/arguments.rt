@@ -1,11 +1,11 @@
-//! What stands after the word of a line.
+//! What stands after the mnemonic of a line.
 ghost use Rattle.std.specs.Prelude.{◌≡◌};
 ghost use Rattle.texts.specs.Splits.{split_at};
 ghost use Rattle.bpf_asm.specs.inner.Reading.{arguments_at, bracketed_at, decimal_at, hexadecimal_at, last_parts, part_at};
 
 use texts::{is_decimal, is_hexadecimal, split};
 
-/// What stands after the word of a line, between two commas.
+/// What stands after the mnemonic of a line, between two commas.
 ///
 /// Of a number there is the value, where it has no leading zero and 64 bits hold it.
 #[derive(Clone, Copy)]
@@ -26,7 +26,7 @@ pub(crate) enum Part {
     Hexadecimal(Option<u64>),
 }
 
-/// All that stands after the word of a line.
+/// All that stands after the mnemonic of a line.
 #[derive(Clone, Copy)]
 pub(crate) enum Arguments {
     Nothing,

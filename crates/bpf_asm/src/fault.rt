@@ -7,17 +7,17 @@ use std::fmt;
 
 /// What is wrong with a line.
 ///
-/// Of two faults of a line this one is told: that it is line 4097; its word; its shape; a number; that it
+/// Of two faults of a line this one is told: that it is line 4097; its mnemonic; its shape; a number; that it
 /// need not be `raw`; that its line feed is missing.
 #[derive(Clone, Copy, Debug, PartialEq, Eq)]
 pub enum LineFault {
-    /// It begins with no word of the listing.
+    /// It begins with no mnemonic of the listing.
     UnknownWord,
     /// A number has a leading zero, or is too large for its field.
     BadNumber,
     /// It is line 4097.
     TooLong,
-    /// What follows the word has none of its shapes, a `raw` line is of an instruction that has another
+    /// What follows the mnemonic has none of its shapes, a `raw` line is of an instruction that has another
     /// form, the line feed is missing, or there is no line at all.
     BadLine,
 }

@@ -94,7 +94,7 @@ impl Fields {
     }
 }
 
-// The instruction that a word and what stands after it are of, or what is wrong with them.
+// The instruction that a mnemonic and what stands after it are of, or what is wrong with them.
 fn read_fields(word: &str, arguments: Option<Arguments>) -> Result<Insn, LineFault>
     ensures { result ≡ judged (with_fields (mnemonic_at word.now) arguments) }
 {

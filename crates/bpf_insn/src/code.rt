@@ -51,9 +51,9 @@ pub enum Operation {
     SetA,
     /// `LDX IMM`: X becomes k.
     SetX,
-    /// `RET K`: the run ends with the word k.
+    /// `RET K`: the run ends with the verdict k.
     ReturnK,
-    /// `RET A`: the run ends with the word in A.
+    /// `RET A`: the run ends with the verdict in A.
     ReturnA,
     /// `JA`: the next k instructions are skipped.
     Jump,

@@ -97,13 +97,13 @@ pub far : (nr arch : ℕ) (i : Insn) (s : Registers) → loads_further (operatio
     → step (nr ∷ arch ∷ []) i s ≡ Stuck
 far nr arch i s h = far_by (operation_of i.code) nr arch i s h
 
--- the word of a run whose last step is this
+-- the verdict of a run whose last step is this
 pub last_word : (p : List Insn) (r : List ℕ) (count pc word : ℕ) (i : Insn) (s : Registers) → IsMoment p r count pc s
     → slice_get p pc ≡ Some i → step r i s ≡ Ends word → Some word ≡ verdict_of p r
 last_word p r count pc word i s now found e =
     sym (ap (option_map (λ (end : ℕ × ℕ). end.0)) (now.same ∙ ap (counted count) (ending_ends p pc i s r word found e)))
 
--- the word of a run that is stuck
+-- the verdict of a run that is stuck
 pub no_word : (p : List Insn) (r : List ℕ) (count pc : ℕ) (i : Insn) (s : Registers) → IsMoment p r count pc s
     → slice_get p pc ≡ Some i → step r i s ≡ Stuck → None ≡ verdict_of p r
 no_word p r count pc i s now found e =

@@ -8,11 +8,11 @@ use Rattle.call_record.specs.declared.layout.Record.{Record}
 use Rattle.call_record.specs.Record.{words}
 use Rattle.call_record.specs.Verdict.{action, allow}
 
--- the word in which the run ends where no other word of the record is known: a load of another one is stuck
+-- the verdict in which the run ends where no other word of the record is known: a load of another one is stuck
 abbrev pub fixed_word : List Insn → ℕ → ℕ → Option ℕ
 fixed_word p arch nr = verdict_of p (nr ∷ arch ∷ [])
 
--- there is a word, and it allows the call
+-- there is a verdict, and it allows the call
 abbrev pub is_allow : Option ℕ → Bool
 is_allow None = false
 is_allow (Some word) = action word == allow
@@ -21,6 +21,6 @@ is_allow (Some word) = action word == allow
 abbrev pub is_fixed_allow : List Insn → ℕ → ℕ → Bool
 is_fixed_allow p arch nr = is_allow (fixed_word p arch nr)
 
--- a word that is fixed so is the word on each record with these two words
+-- a verdict that is fixed so is the verdict on each record with these two words
 abbrev pub FixedIsTheWord : Type 0
 FixedIsTheWord = (p : List Insn) (r : Record) (word : ℕ) → fixed_word p r.arch r.nr ≡ Some word → verdict_of p (words r) ≡ Some word

@@ -12,7 +12,7 @@ use call_record::{Record, Word};
 use kernel_check::Accepted;
 
 /// Whether a filter lets each call of this machine with this number through, whatever the rest of its
-/// record holds: its run loads no other word of the record, and ends in a word of the action ALLOW.
+/// record holds: its run loads no other word of the record, and ends in a verdict of the action ALLOW.
 pub fn fixed_allow(accepted: &Accepted<'_>, arch: u32, nr: u32) -> bool
     ensures { result ≡ is_fixed_allow (accepted_insns accepted.now) arch nr }
 {
@@ -22,7 +22,7 @@ pub fn fixed_allow(accepted: &Accepted<'_>, arch: u32, nr: u32) -> bool
     }
 }
 
-/// A word that is fixed by the number and the machine of a call is the filter's word on each record
+/// A verdict that is fixed by the number and the machine of a call is the filter's verdict on each record
 /// with these two.
 pub fn fixed_is_the_word()
     ensures { FixedIsTheWord }
@@ -38,7 +38,7 @@ fn loads_further(insn: &Insn) -> bool
     }
 }
 
-// The word in which the run ends, if no other word of the record is loaded.
+// The verdict in which the run ends, if no other word of the record is loaded.
 fn fixed_word(accepted: &Accepted<'_>, arch: u32, nr: u32) -> Option<Word>
     ensures { result ≡ fixed_word (accepted_insns accepted.now) arch nr }
 {

@@ -8,14 +8,14 @@ use crate::step::{Next, Registers, advance};
 use call_record::{Record, Word};
 use kernel_check::Accepted;
 
-/// The word that a filter answers to a record.
+/// The verdict that a filter answers to a record.
 pub fn verdict(accepted: &Accepted<'_>, call: &Record) -> Word
     ensures { verdict_of (accepted_insns accepted.now) (words call.now) ≡ Some result }
 {
     verdict_counted(accepted, call).0
 }
 
-/// The word that a filter answers to a record, and how many instructions were run: at most as many as
+/// The verdict that a filter answers to a record, and how many instructions were run: at most as many as
 /// the filter has.
 pub fn verdict_counted(accepted: &Accepted<'_>, call: &Record) -> (Word, u32)
     ensures gives { Gives (accepted_insns accepted.now) (words call.now) result.0 result.1 }

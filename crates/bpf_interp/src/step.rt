@@ -36,7 +36,7 @@ impl Registers {
 /// What one instruction does.
 #[derive(Clone, Copy)]
 pub enum Next {
-    /// The run ends with this word.
+    /// The run ends with this verdict.
     Returns(u32),
     /// The run goes on past so many of the instructions after it.
     Continues(u32),

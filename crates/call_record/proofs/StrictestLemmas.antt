@@ -1,4 +1,4 @@
--- Which word is strictest, by the ranks of the actions.
+-- Which verdict is strictest, by the ranks of the actions.
 use Rattle.std.proofs.Common.{◌≡◌, ℕ, ◌+◌, ◌*◌, ◌/◌, ◌%◌, ◌^◌, ◌<◌, ◌≤◌, Bool, true, false, cond, List, [], ◌∷◌, Some}
 use Rattle.std.proofs.Common.{refl, ap, sym, ◌∙◌, arith, inl, inr, min, reverse}
 use Rattle.std.specs.Prelude.{◌==◌, ◌&&◌, not, find, unwrap_or, int_lt, nat_le, nat_lt, fold}
@@ -14,7 +14,7 @@ use Rattle.std.proofs.lemmas.Int.{ints}
 use Rattle.std.proofs.lemmas.Nat.Bits.{and_high}
 use Rattle.call_record.specs.Verdict.{action, allow, log, is_stricter, is_least, strictest_of, IsRefusal, Through}
 
--- the rank of a word: its action as a signed number, moved up so that the least one is 0
+-- the rank of a verdict: its action as a signed number, moved up so that the least one is 0
 pub rank : ℕ → ℕ
 rank v = (action v + 2 ^ 31) % 2 ^ 32
 
@@ -22,7 +22,7 @@ rank v = (action v + 2 ^ 31) % 2 ^ 32
 abbrev top : ℕ
 top = 0xffff0000
 
--- an action is the high half of the word
+-- an action is the high half of the verdict
 action-high : (v : ℕ) → action v ≡ v / 2 ^ 16 % 2 ^ 16 * 2 ^ 16
 action-high v = and_high v 16 16
 
@@ -35,7 +35,7 @@ signed_order : (a b : ℕ) → a < 2 ^ 32 → b < 2 ^ 32
     → int_lt (cast_signed w32 a) (cast_signed w32 b) ≡ nat_lt ((a + 2 ^ 31) % 2 ^ 32) ((b + 2 ^ 31) % 2 ^ 32)
 signed_order a b p q = grind (arith, ints, nat_tests)
 
--- the stricter word has the lower rank
+-- the stricter verdict has the lower rank
 pub is_stricter-rank : (v w : ℕ) → is_stricter v w ≡ nat_lt (rank v) (rank w)
 unfolding rank
 is_stricter-rank v w =
@@ -83,7 +83,7 @@ find_same p q same [] = refl
 find_same p q same (w ∷ ws) =
     ap (λ b. cond b (Some w) (find p ws)) (same w) ∙ ap (λ o. cond (q w) (Some w) o) (find_same p q same ws)
 
--- the first word of at most this rank
+-- the first verdict of at most this rank
 abbrev first_at : ℕ → List ℕ → ℕ
 first_at t ws = unwrap_or (find (λ v. nat_le (rank v) t) ws) allow
 
@@ -121,7 +121,7 @@ unfolding least_rank
 least_rank_le_top [] = omega arith
 least_rank_le_top (w ∷ ws) = let h : least_rank ws ≤ top = least_rank_le_top ws in omega arith
 
--- the strictest word has the least rank
+-- the strictest verdict has the least rank
 pub rank-strictest_of : (ws : List ℕ) → rank (strictest_of ws) ≡ least_rank ws
 rank-strictest_of ws =
     elim (cases_lt (least_rank ws) top) [
@@ -140,7 +140,7 @@ least_rank-two v ws =
     let h : least_rank ws ≤ top = least_rank_le_top ws in
     omega arith
 
--- the strictest of a list is that of its newest word and the strictest of the others
+-- the strictest of a list is that of its newest verdict and the strictest of the others
 pub strictest_of-cons : (v : ℕ) (ws : List ℕ) → strictest_of (v ∷ ws) ≡ strictest_of (v ∷ strictest_of ws ∷ [])
 unfolding least_rank
 strictest_of-cons v ws =
@@ -170,7 +170,7 @@ least_rank-front v w ws =
     let h : least_rank ws ≤ top = least_rank_le_top ws in
     omega arith
 
--- the two newest words may be taken first
+-- the two newest verdicts may be taken first
 pub strictest_of-front : (v w : ℕ) (ws : List ℕ) → strictest_of (strictest_of (v ∷ w ∷ []) ∷ ws) ≡ strictest_of (v ∷ w ∷ ws)
 unfolding least_rank
 strictest_of-front v w ws =
@@ -198,12 +198,12 @@ strictest_of-front v w ws =
           ]
     ]
 
--- a word that is the strictest alone stays
+-- a verdict that is the strictest alone stays
 pub strictest_of-alone : (v : ℕ) → strictest_of (v ∷ allow ∷ []) ≡ strictest_of (v ∷ [])
 unfolding strictest_of
 strictest_of-alone v = sym (strictest_of-cons v [])
 
--- Of two words the newer one, unless the older one is stricter. Data of ALLOW are dropped.
+-- Of two verdicts the newer one, unless the older one is stricter. Data of ALLOW are dropped.
 pub older_is_stricter : (newer older : ℕ) → is_stricter older newer ≡ true → strictest_of (newer ∷ older ∷ []) ≡ older
 unfolding least_rank
 older_is_stricter newer older h =
@@ -229,7 +229,7 @@ newer_stays newer older h a =
     let low : rank newer < top = leb-false _ _ (sym (is_allow-rank newer) ∙ a) in
     strictest_of-first (newer ∷ older ∷ []) (omega arith) ∙ first_at-here _ newer (older ∷ []) (omega arith)
 
--- the words taken one after the other, from the oldest on
+-- the verdicts taken one after the other, from the oldest on
 pub fold-strictest_of : (ws : List ℕ) → fold (λ older newer. strictest_of (newer ∷ older ∷ [])) allow (reverse ws) ≡ strictest_of ws
 unfolding strictest_of
 fold-strictest_of [] = refl
@@ -249,7 +249,7 @@ all_above (w ∷ ws) =
 least_rank_le : (ws : List ℕ) (v : ℕ) → Contains ws v → least_rank ws ≤ rank v
 least_rank_le ws v h = All-contains (λ w. least_rank ws ≤ rank w) ws v (all_above ws) h
 
--- the strictest of a list is no less strict than each word of it
+-- the strictest of a list is no less strict than each verdict of it
 pub strictest_of-least : (ws : List ℕ) (v : ℕ) → Contains ws v → is_stricter v (strictest_of ws) ≡ false
 strictest_of-least ws v h =
     is_stricter-rank v (strictest_of ws) ∙ le-ltb _ _ (rw rank-strictest_of (least_rank_le ws v h))

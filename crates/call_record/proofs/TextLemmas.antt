@@ -1,4 +1,4 @@
--- The text of a word is text.
+-- The text of a verdict is text.
 use Rattle.std.proofs.Common.{ℕ, zero, suc, ◌/◌, ◌%◌, ◌^◌, ◌<◌, arith}
 use Rattle.std.specs.Str.{IsAscii, IsUtf8}
 use Rattle.std.specs.Char.{digit_char}

@@ -1,4 +1,4 @@
--- The text of a verdict word.
+-- The text of a verdict.
 use Rattle.std.specs.Prelude.{ℕ, zero, suc, ◌/◌, ◌%◌, ◌^◌, List, [], ◌∷◌, ◌++◌, codes}
 use Rattle.std.specs.Char.{digit_char}
 

@@ -1,4 +1,4 @@
--- What a verdict word says, and which of several is strictest (seccomp(2), the return values of a filter).
+-- What a verdict says, and which of several is strictest (seccomp(2), the return values of a filter).
 use Rattle.std.specs.Prelude.{ℕ, ◌==◌, min, Bool, not, ◌||◌, IsTrue, if◌then◌else◌, List, Option, Some, None}
 use Rattle.std.specs.Prelude.{bit_and, unwrap_or, int_lt, find}
 use Rattle.std.specs.List.{list_all}
@@ -29,7 +29,7 @@ log = 0x7ffc0000
 abbrev pub allow : ℕ
 allow = 0x7fff0000
 
--- the action of a word, and its data
+-- the action of a verdict, and its data
 abbrev pub action : ℕ → ℕ
 action v = bit_and v 0xffff0000
 
@@ -55,15 +55,15 @@ errno_of v =
 abbrev pub is_stricter : ℕ → ℕ → Bool
 is_stricter v w = int_lt (cast_signed w32 (action v)) (cast_signed w32 (action w))
 
--- the word is stricter than LOG, so the call is not carried out whatever other filters answer
+-- the verdict is stricter than LOG, so the call is not carried out whatever other filters answer
 abbrev pub IsRefusal : ℕ → Type 0
 IsRefusal v = IsTrue (is_stricter v log)
 
--- no word of the list is stricter
+-- no verdict of the list is stricter
 abbrev pub is_least : List ℕ → ℕ → Bool
 is_least ws v = list_all (λ w. not (is_stricter w v)) ws
 
--- the first of the strictest words, and ALLOW with no data where each word allows
+-- the first of the strictest verdicts, and ALLOW with no data where each verdict allows
 unfoldable pub strictest_of : List ℕ → ℕ
 strictest_of ws =
     if list_all (λ w. action w == allow) ws

@@ -1,8 +1,8 @@
-//! The record of one call, as a filter sees it, and the word that a filter answers (seccomp(2)).
+//! The record of one call, as a filter sees it, and the verdict that a filter answers (seccomp(2)).
 //!
 //! A `Record` is sixteen words of 32 bits, and 64 bytes. A `Word` says what becomes of the call;
-//! `strictest` picks the word that counts where a task has several filters, and `Word::ends` says
-//! what ends by a word. `least_below` finds the least number with given bits under a mask, which
+//! `strictest` picks the verdict that counts where a task has several filters, and `Word::ends` says
+//! what ends by a verdict. `least_below` finds the least number with given bits under a mask, which
 //! decides whether conditions on an argument can be met together.
 #![tactic(auto)]
 

@@ -1,4 +1,4 @@
-//! The text of a verdict word.
+//! The text of a verdict.
 ghost use Rattle.std.specs.Prelude.{◌≡◌, ◌%◌};
 ghost use Rattle.std.specs.Char.{digit_char};
 ghost use Rattle.call_record.specs.Text.{text_of};
@@ -19,7 +19,7 @@ fn digit(bits: u32) -> u8
 }
 
 impl Word {
-    /// The text of the word: `0x` and eight lower-case hexadecimal digits.
+    /// The text of the verdict: `0x` and eight lower-case hexadecimal digits.
     pub fn text(self) -> [u8; 10]
         ensures { result ≡ text_of self }
     {

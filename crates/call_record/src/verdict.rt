@@ -1,4 +1,4 @@
-//! The word that a filter answers, and its effect on the call.
+//! The verdict that a filter answers, and its effect on the call.
 ghost use Rattle.std.specs.Prelude.{◌≡◌, ◌+◌};
 ghost use Rattle.call_record.specs.Verdict.{action, datum, errno_of, is_through};
 
@@ -48,21 +48,21 @@ impl Word {
     /// The call is carried out.
     pub const ALLOW: Word = Word(0x7fff_0000);
 
-    /// The word without its data.
+    /// The verdict without its data.
     pub fn action(self) -> Word
         ensures { result ≡ action self }
     {
         Word(self.0 & 0xffff_0000)
     }
 
-    /// The data of the word.
+    /// The data of the verdict.
     pub fn data(self) -> u16
         ensures { result ≡ datum self }
     {
         (self.0 & 0xffff) as u16
     }
 
-    /// The word with this action and these data.
+    /// The verdict with this action and these data.
     pub fn with_data(self, data: u16) -> Word
         ensures { result ≡ action self + «data» }
     {

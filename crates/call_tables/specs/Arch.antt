@@ -36,7 +36,7 @@ table_of LinuxX32 = machines.linux_x32_table
 table_of LinuxAarch64 = machines.linux_aarch64_table
 table_of LinuxArm = machines.linux_arm_table
 
--- the word by which a user of the program calls a machine
+-- the name by which a user of the program calls a machine
 abbrev pub word_of : Arch → List ℕ
 word_of X86_64 = codes "x86-64"
 word_of Aarch64 = codes "aarch64"
@@ -46,7 +46,7 @@ word_of LinuxX32 = codes "linux-x32"
 word_of LinuxAarch64 = codes "linux-aarch64"
 word_of LinuxArm = codes "linux-arm"
 
--- the machine that a word calls, of those that a container may be for
+-- the machine with this name, of those that a container may be for
 unfoldable pub native_called : List ℕ → Option Arch
 native_called word =
     if bytes_eq word (word_of X86_64) then Some X86_64
@@ -55,7 +55,7 @@ native_called word =
     else if bytes_eq word (word_of LinuxAarch64) then Some LinuxAarch64
     else None
 
--- the machine that a word calls
+-- the machine with this name
 unfoldable pub machine_called : List ℕ → Option Arch
 machine_called word =
     if bytes_eq word (word_of LinuxX86) then Some LinuxX86

@@ -152,7 +152,7 @@ impl Arch {
         }
     }
 
-    /// The word by which a user of the program calls the machine.
+    /// The name by which a user of the program calls the machine.
     pub fn word(self) -> &'static str
         ensures { result.now ≡ word_of self }
     {
@@ -167,7 +167,7 @@ impl Arch {
         }
     }
 
-    /// The machine that a word calls, of those that a container may be for: a kernel of x86-64 runs the calls of x86
+    /// The machine with this name, of those that a container may be for: a kernel of x86-64 runs the calls of x86
     /// and x32, and one of AArch64 those of ARM.
     #[tactic(auto, unfolding(crate::specs::Arch::native_called))]
     pub fn native_called(word: &str) -> Option<Arch>
@@ -188,7 +188,7 @@ impl Arch {
         None
     }
 
-    /// The machine that a word calls.
+    /// The machine with this name.
     #[tactic(auto, unfolding(crate::specs::Arch::machine_called))]
     pub fn called(word: &str) -> Option<Arch>
         ensures { result ≡ machine_called word.now }

@@ -1,4 +1,4 @@
-//! `ccell` on the words, files and streams of its process.
+//! `ccell` on the arguments, files and streams of its process.
 #![tactic(auto)]
 
 mod disk;
@@ -20,7 +20,7 @@ fn texts_of(alloc: Global, words: &[String]) -> Result<Vec<&str>, AllocError> {
     Ok(texts)
 }
 
-// Runs the program on these words, and gives the exit status.
+// Runs the program on these arguments, and gives the exit status.
 fn run(rt: &HostRuntime, words: &[&str]) -> Result<u8, Stop<'static>> {
     let Ok(input) = BufReader::new(rt.alloc(), rt.stdin()) else {
         return Err(Stop::OutOfMemory);

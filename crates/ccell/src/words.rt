@@ -1,4 +1,4 @@
-//! The words of the command line.
+//! The arguments of the command line.
 use cli::Stop;
 use std::alloc::Global;
 use std::env::FillError;
@@ -6,7 +6,7 @@ use std::rt::Env;
 use std::{env, io};
 
 // The environment of the process, with no text as the program's name. So a name that is not UTF-8 does not matter: only
-// the words after it are judged.
+// the arguments after it are judged.
 #[derive(Drop)]
 struct Nameless<'a>(&'a HostRuntime);
 
@@ -24,7 +24,7 @@ impl Env for Nameless<'_> {
     }
 }
 
-// A word that is not UTF-8 is a fault of the command line.
+// An argument that is not UTF-8 is a fault of the command line.
 fn stop_of(error: io::Error) -> Stop<'static> {
     match error.kind() {
         io::ErrorKind::OutOfMemory => Stop::OutOfMemory,
@@ -32,7 +32,7 @@ fn stop_of(error: io::Error) -> Stop<'static> {
     }
 }
 
-/// The words after the program's name.
+/// The arguments after the program's name.
 pub fn words_of(rt: &HostRuntime, alloc: Global) -> Result<Vec<String>, Stop<'static>> {
     let mut words = Vec::new(alloc);
     for word in env::args(&(Nameless(rt), alloc)).map_err(stop_of)?.skip(1) {

@@ -1,4 +1,4 @@
--- What is known of a record settles the word that the profile says of it.
+-- What is known of a record settles the verdict that the profile says of it.
 use Rattle.std.proofs.Common.{◌≡◌, ◌≢◌, ℕ, ◌+◌, ◌*◌, ◌/◌, ◌%◌, ◌^◌, ◌<◌, ◌≤◌, Bool, true, false, List, refl, sym, ap, ◌∙◌, subst, inl, inr, arith}
 use Rattle.std.specs.Prelude.{bit_and, slice_get, slice_index, slice_index_or, All, Any, Contains, Some}
 use Rattle.std.proofs.lemmas.Nat.{and_block, and_le_l}
@@ -279,7 +279,7 @@ module _ (r : List ℕ) (rec : IsRecord r) (known : List Lit) (so : All (λ l. H
         (All-contains (λ d. Meets d (seen (is_narrow_rule rule) r d.index)) rule.conds.items c (met_conditions rule m)
         (contains_at rule.conds.items one.own c one.stands))
 
-    -- a rule that matches has the word, where the record's machine agrees
+    -- a rule that matches has the verdict, where the record's machine agrees
     rule_agrees : (arch : Arch) (rule : Rule) → word r 1 ≡ token_of arch → Contains policy.rules rule → Matches rule r
         → RulesAgree policy out met known v arch → v ≡ rule.word
     rule_agrees arch rule machine has m (inl one) =
@@ -293,7 +293,7 @@ module _ (r : List ℕ) (rec : IsRecord r) (known : List Lit) (so : All (λ l. H
           left = left;
         })) [ inl denied ↦ absurd (no_rule place rule denied m) | inr e ↦ sym e ]
 
-    -- where none matches, the default is the word
+    -- where none matches, the default is the verdict
     default_agrees : (arch : Arch) → word r 1 ≡ token_of arch → All (λ rule. ¬ Matches rule r) policy.rules
         → RulesAgree policy out met known v arch
         → v ≡ policy.default_word

@@ -86,11 +86,11 @@ no_memory policy p ns (Split i) found same = cc
 no_memory policy p ns (Entail i) found same = cc
 no_memory policy p ns (Return i) found same = cc
 
--- what is right gives no other word
+-- what is right gives no other verdict
 pub only_the_profiles : (policy : Policy) (p : List Insn) → IsClear policy.rules → IsRight policy p → GivesOnly policy p
 only_the_profiles policy p clear right r rec v given = (each_record_is_said_one_word policy r v clear rec).0 ((right r rec v).0 given)
 
--- and an accepted program that gives no other word is right
+-- and an accepted program that gives no other verdict is right
 pub right_of : (policy : Policy) (p : List Insn) → IsClear policy.rules → IsAccepted p → GivesOnly policy p → IsRight policy p
 right_of policy p clear accepted only r rec v =
     let one = each_record_is_said_one_word policy r v clear rec in

@@ -1,4 +1,4 @@
--- A valid certificate follows each run to a return whose word the profile says.
+-- A valid certificate follows each run to a return whose verdict the profile says.
 use Rattle.std.proofs.Common.{◌≡◌, ◌==◌, ℕ, zero, suc, ◌+◌, ◌<◌, ◌≤◌, Bool, true, false, cond, List, [], ◌∷◌, ◌++◌}
 use Rattle.std.proofs.Common.{length, Option, Some, None, sym, refl, ap, ◌∙◌, subst, inl, inr, ◌⊎◌, arith}
 use Rattle.std.specs.Prelude.{bit_and, IsTrue, slice_index, slice_index_or, slice_get, unwrap_or, All, Contains, IfSome, option_to_list}
@@ -48,7 +48,7 @@ use Rattle.cert_check.proofs.Agreement.{AreOut, AreMet, refuted_rule, yes_condit
 use Rattle.cert_check.specs.Rules.{no_node, Edge, one_edge, step_edges, edges_by, fact_at, Leads, Covers, CoversSharply, SplitRule, Allows}
 use Rattle.cert_check.specs.Rules.{IsOutOn, IsMetBy, Carries, known_on, value_word, word_by, Keeps, IsValid}
 
--- what gives a word after one instruction gives it before
+-- what gives a verdict after one instruction gives it before
 after_one_gives : (e : Ending) (v n : ℕ) → after_one e ≡ Some (v, n) → (m : ℕ) × (e ≡ Some (v, m))
 after_one_gives None v n h = absurd (none-some (v, n) h)
 after_one_gives (Some (w, k)) v n h =
@@ -68,7 +68,7 @@ guarded_goes : (b : Bool) (n : ℕ) (s : Registers) (word : ℕ) → cond b (wit
 guarded_goes true n s word e = cc
 guarded_goes false n s word e = cc
 
--- a run ends by the word that a return is known to give
+-- a run ends by the verdict that a return is known to give
 ends_by : (op : Option Operation) (r : List ℕ) (i : Insn) (s : Registers) (regs : Regs) (word w : ℕ) → HasValue regs.a r s.a
     → perform_if op r i s ≡ Ends word → word_by op regs i ≡ Some w → word ≡ w
 ends_by None r i s regs word w has e known = absurd (none-some w known)
@@ -107,7 +107,7 @@ abbrev IsTrueOf : Policy → List ℕ → List (ℕ × ℕ) → List ℕ → Typ
 IsTrueOf policy out met r = AreOut policy out r × AreMet policy met r
 
 module _ (r : List ℕ) (rec : IsRecord r) (p : List Insn) (accepted : IsAccepted p) (policy : Policy) where
-  -- from this position, with these registers, only words that the profile says are given
+  -- from this position, with these registers, only verdicts that the profile says are given
   abbrev Right : ℕ → Registers → Type 0
   Right pc s = (v n : ℕ) → ending p pc s r ≡ Some (v, n) → Says policy r v
 
@@ -344,7 +344,7 @@ module _ (r : List ℕ) (rec : IsRecord r) (p : List Insn) (accepted : IsAccepte
   module _ (ns : List PlainNode)
       (settles : (out : List ℕ) (met : List (ℕ × ℕ)) (known : List Lit) (w : ℕ) → Agrees policy out met known w → All (λ l. Holds l r) known
       → IsTrueOf policy out met r → Says policy r w) where
-    -- from node j, wherever a run is inside it and what it says of rules is true, only words that the profile says are
+    -- from node j, wherever a run is inside it and what it says of rules is true, only verdicts that the profile says are
     -- given
     abbrev GoesFrom : ℕ → Type 0
     GoesFrom j =

@@ -17,7 +17,7 @@ each_at P xs n place x enough at h =
 
 module _ (policy : Policy) (out : List ℕ) (met : List (ℕ
     × ℕ)) (known : List Lit) (v : ℕ) (arch : Arch) (n : ℕ) (enough : length policy.rules ≤ n) where
-  -- no rule is yes with the word
+  -- no rule is yes with the verdict
   none_sure : (others : Bool) → RulesSoFar out met known v arch policy.rules n others
       → (place : ℕ) (rule : Rule) → IsRuleOf policy out arch place rule
       → IsYesRule met known place rule → rule.word ≢ v
@@ -35,7 +35,7 @@ module _ (policy : Policy) (out : List ℕ) (met : List (ℕ
         | inr e ↦ found.other.1 e
       ]
 
-  -- where none does, they agree if the default word is this one
+  -- where none does, they agree if the default verdict is this one
   pub default_agrees : RulesSoFar out met known v arch policy.rules n false → (b : Bool) → (IsTrue b ↔ (policy.default_word ≡ v))
       → (IsTrue b ↔ RulesAgree policy out met known v arch)
   default_agrees so b test = (λ t. agree (test.0 t), λ h. test.1 (is_default h)) where

@@ -84,7 +84,7 @@ module _ (out : List ℕ) (met : List (ℕ
     another = so.another;
   }
 
-  -- a rule with the word, or one that is no
+  -- a rule with the verdict, or one that is no
   pub rule_settled : (IsYesRule met known n rule → rule.word ≢ v) → IsNoRule met known n rule ⊎ (rule.word ≡ v)
       → RulesSoFar out met known v arch rules (n + 1) others
   rule_settled not_sure fine = record {
@@ -95,7 +95,7 @@ module _ (out : List ℕ) (met : List (ℕ
     another = so.another;
   }
 
-  -- a rule with another word that is not no
+  -- a rule with another verdict that is not no
   pub rule_is_other : IsLeft out arch n rule → IsOther met known v n rule → RulesSoFar out met known v arch rules (n + 1) true
   rule_is_other left other = record {
     none_sure = one_more_placed (λ k x. IsLeft out arch k x → IsYesRule met known k x

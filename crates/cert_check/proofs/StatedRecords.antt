@@ -1,4 +1,4 @@
--- Where each word of a record is stated, the rule of returns is kept by the word that the profile says.
+-- Where each word of a record is stated, the rule of returns is kept by the verdict that the profile says.
 use Rattle.std.proofs.Common.{◌≡◌, ℕ, zero, suc, ◌⊎◌, Bool, true, false, List, [], ◌∷◌, Some, None}
 use Rattle.std.proofs.Common.{refl, sym, subst, ◌∙◌, inl, inr, arith}
 use Rattle.std.specs.Prelude.{slice_get, find, unwrap_or, All, Any, Contains}
@@ -27,7 +27,7 @@ use Rattle.cert_check.proofs.Elements.{each_of}
 use Rattle.cert_check.proofs.StatedPoints.{between_follows, word_follows, another_follows}
 use Rattle.cert_check.proofs.StatedRules.{match_is_yes, mismatch_is_no, none_said}
 
--- the word of the first rule that passes, or of none, by the rule's place
+-- the verdict of the first rule that passes, or of none, by the rule's place
 abbrev first_word : (Rule → Bool) → ℕ → List Rule → ℕ
 first_word test default rules = unwrap_or (option_map (λ rule. rule.word) (find test rules)) default
 

@@ -1,4 +1,4 @@
--- Where what is known of a record settles the word that a profile says of it. Arguments have 64 bits, and what is
+-- Where what is known of a record settles the verdict that a profile says of it. Arguments have 64 bits, and what is
 -- known is of their halves: the low half of argument j is word 4 + 2 * j, the high half the word after it. Of a narrow
 -- argument the low half alone is compared, and the high one counts as 0, whatever is known of it.
 use Rattle.std.specs.Prelude.{◌≡◌, ◌≢◌, ℕ, ◌+◌, ◌*◌, ◌/◌, ◌%◌, ◌^◌, ◌⊎◌, Bool, true, false, List, [], All, Any, Contains, Some, slice_get}
@@ -126,7 +126,7 @@ pub record IsRuleOf (policy : Policy) (out : List ℕ) (arch : Arch) (place : �
   pub stands : slice_get policy.rules place ≡ Some rule
   pub left : IsLeft out arch place rule
 
--- one that is yes has the word v
+-- one that is yes has the verdict v
 pub record OneSays (policy : Policy) (out : List ℕ) (met : List (ℕ × ℕ)) (known : List Lit) (v : ℕ) (arch : Arch) : Type 0 where
   pub place : ℕ
   pub rule : Rule
@@ -134,7 +134,7 @@ pub record OneSays (policy : Policy) (out : List ℕ) (met : List (ℕ × ℕ)) 
   pub is_yes : IsYesRule met known place rule
   pub word : rule.word ≡ v
 
--- none is yes, the default is v, and each one that is not no has the word v
+-- none is yes, the default is v, and each one that is not no has the verdict v
 pub record NoneSays (policy : Policy) (out : List ℕ) (met : List (ℕ × ℕ)) (known : List Lit) (v : ℕ) (arch : Arch) : Type 0 where
   pub none_yes : (place : ℕ) (rule : Rule) → IsRuleOf policy out arch place rule → IsYesRule met known place rule → ⊥
   pub default : policy.default_word ≡ v

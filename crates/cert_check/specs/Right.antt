@@ -9,11 +9,11 @@ use Rattle.profile.specs.Said.{said}
 use Rattle.cert_form.specs.Nodes.{PlainNode}
 use Rattle.cert_check.specs.Rules.{IsValid}
 
--- on each record the program gives the word that the profile says of it, and no other
+-- on each record the program gives the verdict that the profile says of it, and no other
 abbrev pub IsRight : Policy → List Insn → Type 0
 IsRight policy p = (r : List ℕ) → IsRecord r → (v : ℕ) → (verdict_of p r ≡ Some v) ↔ Says policy r v
 
--- each word that the program gives on a record is the profile's
+-- each verdict that the program gives on a record is the profile's
 abbrev pub GivesOnly : Policy → List Insn → Type 0
 GivesOnly policy p = (r : List ℕ) → IsRecord r → (v : ℕ) → verdict_of p r ≡ Some v → v ≡ said policy r
 

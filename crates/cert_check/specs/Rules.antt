@@ -148,7 +148,7 @@ pub record EntailRule (policy : Policy) (p : List Insn) (ns : List PlainNode) (n
       → All (λ e. (m : PlainNode) → slice_get ns e.to ≡ Some m → Carries policy n e m) out
   pub dead : n.kind ≡ Dead → IsDead n.known
 
--- the word that a return gives, where it is known
+-- the verdict that a return gives, where it is known
 abbrev pub value_word : AVal → Option ℕ
 value_word (Const c) = Some c
 value_word Unknown = None
@@ -159,7 +159,7 @@ word_by (Some ReturnK) regs i = Some i.k
 word_by (Some ReturnA) regs i = value_word regs.a
 word_by _ regs i = None
 
--- Return: the node stands at a return whose word is known, and that is the profile's on all that is known
+-- Return: the node stands at a return whose verdict is known, and that is the profile's on all that is known
 pub record ReturnRule (policy : Policy) (p : List Insn) (n : PlainNode) : Type 0 where
   pub insn : Insn
   pub inside : slice_get p n.pc ≡ Some insn

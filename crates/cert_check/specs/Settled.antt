@@ -1,4 +1,4 @@
--- What is known in full is settled: where each word of a record is stated, the rule of returns is kept by the word that the
+-- What is known in full is settled: where each word of a record is stated, the rule of returns is kept by the verdict that the
 -- profile says of the record. The listed machines are of one family, so that each number of a token is one machine's own: of
 -- machines of two families a number may be one's own and foreign to the other.
 use Rattle.std.specs.Prelude.{◌<◌, ℕ, List, [], All, Contains}

@@ -1,4 +1,4 @@
-//! Whether what is known of a record settles the word that a profile says of it.
+//! Whether what is known of a record settles the verdict that a profile says of it.
 ghost use Rattle.std.specs.Prelude.{◌≡◌, ◌<◌, ◌↔◌, ◌⊎◌, ℕ, IsTrue, All, Any, Contains};
 ghost use Rattle.call_tables.specs.Arch.{token_of};
 ghost use Rattle.call_tables.specs.declared.arch.Arch.{Arch as TheArch};
@@ -19,7 +19,7 @@ use call_tables::{Arch, Numbers};
 use cert_state::{Facts, Knowledge, Lit, State};
 use profile::{Cond, Op, Profile, Rule, foreign_numbers};
 
-/// What a word is judged by: the profile, what a node says of its rules, and what is known of the record.
+/// What a verdict is judged by: the profile, what a node says of its rules, and what is known of the record.
 #[derive(Drop)]
 pub(crate) struct Agreement<'a, S: State> {
     pub(crate) profile: &'a Profile,
@@ -144,7 +144,7 @@ impl<S: State> Agreement<'_, S> {
         (answer.judged, answer)
     }
 
-    // How a rule of the record's machine bears on the word, by whether it is settled.
+    // How a rule of the record's machine bears on the verdict, by whether it is settled.
     fn bearing_of(&self, rule: &Rule, judged: Judged) -> Bearing
         ensures { (place : ℕ) → IsJudgedAt (met_of self.now) (known_of self.now) place rule.now judged
             → Bears (met_of self.now) (known_of self.now) self.now.word place rule.now result }
@@ -164,7 +164,7 @@ impl<S: State> Agreement<'_, S> {
         }
     }
 
-    // How the rule of the record's machine at a place bears on the word, with the last answer to conditions. That of a rule
+    // How the rule of the record's machine at a place bears on the verdict, with the last answer to conditions. That of a rule
     // of another number is not asked for.
     fn weigh<'r>(
         &self,
@@ -214,7 +214,7 @@ impl<S: State> Agreement<'_, S> {
         }
     }
 
-    // Whether a rule at a place is of this number, says the word, is left for the machine, and is yes.
+    // Whether a rule at a place is of this number, says the verdict, is left for the machine, and is yes.
     fn says_at(&self, place: usize, rule: &Rule, arch: Arch, nr: u32) -> bool
         requires { place < 8192 }
         ensures { IsTrue result → SaysAt (out_of self.now) (met_of self.now) (known_of self.now) self.now.word arch place rule.now }
@@ -231,7 +231,7 @@ impl<S: State> Agreement<'_, S> {
         self.is_yes(place, rule)
     }
 
-    // Whether a rule of which a condition is said to be met is of this number and is seen to say the word.
+    // Whether a rule of which a condition is said to be met is of this number and is seen to say the verdict.
     fn one_met_says(&self, arch: Arch, nr: u32) -> bool
         ensures { let a = self.now in IsTrue result → OneSays a.profile.now (out_of a) (met_of a) (known_of a) a.word arch }
     {
@@ -252,7 +252,7 @@ impl<S: State> Agreement<'_, S> {
         false
     }
 
-    // Whether a rule of the only number that is possible is seen to say the word, first of those of which conditions are
+    // Whether a rule of the only number that is possible is seen to say the verdict, first of those of which conditions are
     // said to be met: mostly it is one of them. Then no other rule is asked.
     fn one_says(&self, arch: Arch) -> bool
         ensures { let a = self.now in IsTrue result → OneSays a.profile.now (out_of a) (met_of a) (known_of a) a.word arch }
@@ -275,7 +275,7 @@ impl<S: State> Agreement<'_, S> {
         false
     }
 
-    // Whether the rules that are left for a machine agree with the word, each of which is asked.
+    // Whether the rules that are left for a machine agree with the verdict, each of which is asked.
     fn all_rules_agree(&self, arch: Arch) -> bool
         ensures { let a = self.now in IsTrue result ↔ RulesAgree a.profile.now (out_of a) (met_of a) (known_of a) a.word arch }
     {
@@ -306,7 +306,7 @@ impl<S: State> Agreement<'_, S> {
         self.profile.default_word() == self.word
     }
 
-    // Whether the rules that are left for a machine agree with the word.
+    // Whether the rules that are left for a machine agree with the verdict.
     fn rules_agree(&self, arch: Arch) -> bool
         ensures { let a = self.now in IsTrue result ↔ RulesAgree a.profile.now (out_of a) (met_of a) (known_of a) a.word arch }
     {
@@ -316,7 +316,7 @@ impl<S: State> Agreement<'_, S> {
         self.all_rules_agree(arch)
     }
 
-    // Whether no foreign number is possible, of these, or such a one gets its word.
+    // Whether no foreign number is possible, of these, or such a one gets its verdict.
     fn foreign_numbers_agree(&self, arch: Arch, foreign: &[Numbers]) -> bool
         ensures { IsTrue result ↔ ForeignNumbersAgree (known_of self.now) self.now.word arch foreign.now }
     {
@@ -330,7 +330,7 @@ impl<S: State> Agreement<'_, S> {
         is_among(self.facts, own)
     }
 
-    // Whether a machine agrees with the word.
+    // Whether a machine agrees with the verdict.
     fn machine_agrees(&self, arch: Arch) -> bool
         ensures { let a = self.now in IsTrue result ↔ MachineAgrees a.profile.now (out_of a) (met_of a) (known_of a) a.word arch }
     {
@@ -344,7 +344,7 @@ impl<S: State> Agreement<'_, S> {
         self.rules_agree(arch)
     }
 
-    // Whether a listed machine is another than the record's, or agrees with the word.
+    // Whether a listed machine is another than the record's, or agrees with the verdict.
     fn listed_agrees(&self, arch: Arch) -> bool
         ensures { let a = self.now in IsTrue result ↔ ListedAgrees a.profile.now (out_of a) (met_of a) (known_of a) a.word arch }
     {
@@ -368,7 +368,7 @@ impl<S: State> Agreement<'_, S> {
         true
     }
 
-    // Whether a foreign record is impossible, or gets its word.
+    // Whether a foreign record is impossible, or gets its verdict.
     fn foreign_agrees(&self) -> bool
         ensures { let a = self.now in IsTrue result ↔ ((arch : TheArch) × Contains a.profile.now.machines arch
             × Entails (known_of a) (Bits 1 all_bits (token_of arch))) ⊎ (a.word ≡ 0) }
@@ -379,7 +379,7 @@ impl<S: State> Agreement<'_, S> {
         is_listed(self.facts, self.profile.machines())
     }
 
-    /// Whether the profile says the word of each record of which this is known, and also that no rule matches that is out
+    /// Whether the profile says the verdict of each record of which this is known, and also that no rule matches that is out
     /// and that the conditions are met that are said to be.
     pub(crate) fn agrees(&self) -> bool
         ensures { let a = self.now in IsTrue result ↔ Agrees a.profile.now (out_of a) (met_of a) (known_of a) a.word }

@@ -5,7 +5,7 @@ ghost use Rattle.cert_check.specs.Right.{GivesOnly};
 use kernel_check::Accepted;
 use profile::Profile;
 
-/// A profile, a filter that answers each call record with the profile's word, and the certificate that says why, lent
+/// A profile, a filter that answers each call record with the profile's verdict, and the certificate that says why, lent
 /// in the bytes that they were read from.
 ///
 /// `check` makes one, and nothing else does.

@@ -79,7 +79,7 @@ fn checked<'a>(
     })
 }
 
-/// Whether the certificate shows that the filter gives each call record the word that the profile says.
+/// Whether the certificate shows that the filter gives each call record the verdict that the profile says.
 ///
 /// The first rule that is broken is told, in this order: of the filter's bytes, the kernel's check, the certificate's
 /// bytes, its root, and then of the nodes from 0, at each Edge, Split, Entail, Return. Memory is asked for only where
@@ -95,7 +95,7 @@ pub fn check<'a>(
     ensures filter { IfOk result (λ checked. program_of checked ≡ insns_of filter.now) }
     ensures cert { IfOk result (λ checked. cert_of checked ≡ cert.now) }
 
-    // Yes: the kernel accepts the filter, which gives each record the profile's word and no other.
+    // Yes: the kernel accepts the filter, which gives each record the profile's verdict and no other.
     ensures accepted { IfOk result (λ _. IsAccepted (insns_of filter.now)) }
     ensures right { IfOk result (λ _. IsRight profile.now (insns_of filter.now)) }
 
@@ -123,7 +123,7 @@ pub fn check_accepted(
     program: &Accepted<'_>,
     cert: &[u8],
 ) -> Result<(), CheckError>
-    // Yes: the filter gives each record the profile's word and no other.
+    // Yes: the filter gives each record the profile's verdict and no other.
     ensures right { IfOk result (λ _. IsRight profile.now (accepted_insns program.now)) }
 
     // Exactly: it is yes where each rule is kept, if there is memory, and an error names the first that is broken.

@@ -21,7 +21,7 @@ pub enum CheckError {
     Edge(u32),
     /// What is known at the node does not give what its successor says, or a dead node is not dead.
     Entail(u32),
-    /// The node gives no word, or another than the profile.
+    /// The node gives no verdict, or another than the profile.
     Return(u32),
     /// The two literals of a split do not cover each record.
     Split(u32),

@@ -10,14 +10,14 @@ pub enum Judged {
     Open,
 }
 
-/// How a rule bears on a word.
+/// How a rule bears on a verdict.
 #[derive(Clone, Copy)]
 pub(crate) enum Bearing {
-    /// Each record matches the rule, which says the word.
+    /// Each record matches the rule, which says the verdict.
     Settles,
-    /// No record matches it, or it says the word.
+    /// No record matches it, or it says the verdict.
     Agrees,
-    /// Some record may match it, and it says another word.
+    /// Some record may match it, and it says another verdict.
     Differs,
 }
 

@@ -1,4 +1,4 @@
-//! The checker of certificates: whether a filter gives each call record the word that a profile says.
+//! The checker of certificates: whether a filter gives each call record the verdict that a profile says.
 #![tactic(auto)]
 
 mod agree;

@@ -17,7 +17,7 @@ use cert_form::{Kind, NodeView};
 use cert_state::{AVal, Facts, Regs, State};
 use profile::{MAX_RULES, Profile};
 
-// The word that a return gives, where it is known.
+// The verdict that a return gives, where it is known.
 fn word_of(insn: &Insn, regs: &Regs) -> Option<u32>
     ensures { result ≡ word_by (operation_of insn.now.code) regs.now insn.now }
 {
@@ -31,7 +31,7 @@ fn word_of(insn: &Insn, regs: &Regs) -> Option<u32>
     }
 }
 
-// Whether the profile says a word of all that a node knows, of which these rules are out and these conditions met.
+// Whether the profile says a verdict of all that a node knows, of which these rules are out and these conditions met.
 fn agrees_with(
     profile: &Profile,
     node: &NodeView<'_>,
@@ -89,7 +89,7 @@ fn agrees_by_many(profile: &Profile, node: &NodeView<'_>, outs: Outs<'_, '_>, wo
     agrees_by(profile, node, outs, word, &mut [false; 6 * MAX_RULES])
 }
 
-// Whether the profile says a word of all that a node knows, of which these rules are out.
+// Whether the profile says a verdict of all that a node knows, of which these rules are out.
 fn agrees_but_for(profile: &Profile, node: &NodeView<'_>, outs: Outs<'_, '_>, word: Word) -> bool
     requires { outs_of outs.node ≡ (says node.now).out }
     ensures { let n = says node.now in IsTrue result ↔ Agrees profile.now n.out n.met n.known word }
@@ -113,7 +113,7 @@ fn agrees_by_outs(profile: &Profile, node: &NodeView<'_>, word: Word) -> bool
     agrees_but_for(profile, node, Outs::of(node, &marked), word)
 }
 
-// Whether the instruction returns a word that is known, and the profile's on all that the node knows.
+// Whether the instruction returns a verdict that is known, and the profile's on all that the node knows.
 fn returns(profile: &Profile, insn: &Insn, node: &NodeView<'_>) -> bool
     ensures { IsTrue result ↔ ReturnsAt profile.now insn.now (says node.now) }
 {
@@ -126,7 +126,7 @@ fn returns(profile: &Profile, insn: &Insn, node: &NodeView<'_>) -> bool
     agrees_by_outs(profile, node, Word(word))
 }
 
-/// Whether a node, if it is a return, returns the profile's word at its instruction.
+/// Whether a node, if it is a return, returns the profile's verdict at its instruction.
 pub(crate) fn return_is_kept(profile: &Profile, insn: &Insn, node: &NodeView<'_>) -> bool
     ensures { IsTrue result ↔ ((says node.now).kind ≡ kind.Return → ReturnsAt profile.now insn.now (says node.now)) }
 {

@@ -116,7 +116,7 @@ claim_left bytes (suc j) some h g =
     chain_goes_on bytes (chain_count bytes) j (omega arith) (subst (λ k. parent_at bytes k < k + 1) e g)
     ∙ ap (λ k. claim_at bytes (16 + 14 * k + 4) ∷ on_chain (entries_of bytes) (parent_at bytes k)) (sym e)
 
--- ---- rules that are out and conditions that are met, of which form 4 alone has a word
+-- ---- rules that are out and conditions that are met, which form 4 alone can state
 
 abbrev IsKnown : Claim → Type 0
 IsKnown (Knows l) = Unit {0}

@@ -78,7 +78,7 @@ claim (Knows l) = literal l
 claim (Out i) = 4 ∷ 0 ∷ little_bytes 4 i ++ little_bytes 4 0
 claim (Met i j) = 5 ∷ 0 ∷ little_bytes 4 i ++ little_bytes 4 j
 
--- forms 2 to 4: the entries of chains, where each node stands, and the nodes; form 2 has no word of
+-- forms 2 to 4: the entries of chains, where each node stands, and the nodes; form 2 has no field for
 -- scratch words
 abbrev pub entry : ℕ × Claim → List ℕ
 entry e = little_bytes 4 e.0 ++ claim e.1

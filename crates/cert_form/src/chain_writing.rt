@@ -51,7 +51,7 @@ fn put_claims(out: &mut Vec<u8>, entries: &[(u32, Claim)]) -> Result<(), AllocEr
     Ok(())
 }
 
-// How many bytes the scratch words take, of which form 2 has no word.
+// How many bytes the scratch words take, for which form 2 has no field.
 fn scratch_size(version: u32, words: &[AVal; 16]) -> usize
     ensures size { result ≡ length (if version == 2 then [] else scratch words.now) }
     ensures few { result ≤ 98 }

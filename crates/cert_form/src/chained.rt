@@ -83,7 +83,7 @@ fn judge_values(bytes: &[u8], bits: u16, from: usize) -> Result<(), FormError>
     Ok(())
 }
 
-// The scratch words, of which form 2 has no word.
+// The scratch words, for which form 2 has no field.
 fn judge_scratch(bytes: &[u8], at: usize) -> Result<(), FormError>
     requires { at + 16 ≤ length bytes.now }
     ensures sound { OnOk result (IsScratchThere bytes.now at) }

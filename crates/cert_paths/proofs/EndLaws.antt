@@ -13,7 +13,7 @@ use Rattle.bpf_insn.specs.Machine.{Ending, Ends, Goes, Registers, after_one, end
 use Rattle.bpf_insn.proofs.RunLaws.{ending_ends, ending_goes}
 use Rattle.rule_compile.specs.Steady.{Held, Whole, Part, IsSteady, steady_by}
 
--- the word that is given from a position on
+-- the verdict that is given from a position on
 abbrev pub given : List Insn → ℕ → Registers → List ℕ → Option ℕ
 given p pc s r = option_map (λ (end : ℕ × ℕ). end.0) (ending p pc s r)
 

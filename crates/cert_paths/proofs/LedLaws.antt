@@ -124,7 +124,7 @@ module _ (p : List Insn) (pc : ℕ) (i : Insn) (found : slice_get p pc ≡ Some 
         by_way one other true = one
         by_way one other false = other
 
-    -- the word of a return
+    -- the verdict of a return
     pub led_return : operation_of i.code ≡ Some ReturnK → (r : List ℕ) → IsRecord r → All (λ l. Holds l r) known → verdict_of p r ≡ Some i.k
     led_return is r is_r all =
         let from = led.runs r is_r all in

@@ -29,7 +29,7 @@ module _ (policy : Policy) (p : List Insn) where
   of_size_or (Err e) P (inl size) never = size_tells e size
   of_size_or (Err e) P (inr other) never = absurd (never other)
 
-  -- a record of which the policy says another word than a return's
+  -- a record of which the policy says another verdict than a return's
   pub of_unlike : {A : Type 0} → (known : List Lit) (word : ℕ) (result : Result A PathsError) → IfErr result (TellsUnlike policy known word)
       → ((r : List ℕ) → IsUnlike policy known r word → IsWrongOn policy p r)
       → IfErr result (TellsWrong policy p)

@@ -15,7 +15,7 @@ IsSize (Unsettled pc) = ⊥
 IsSize TooLarge = ⊤
 IsSize OutOfMemory = ⊤
 
--- the program gives a record a word that the profile does not say of it
+-- the program gives a record a verdict that the profile does not say of it
 pub record IsWrongOn (policy : Policy) (p : List Insn) (r : List ℕ) : Type 0 where
   pub is_record : IsRecord r
   pub word : ℕ

@@ -6,8 +6,8 @@ use std::alloc::{AllocError, AllocFailed};
 /// Why there is no certificate that follows each path.
 #[derive(Clone, Copy, Debug, PartialEq, Eq)]
 pub enum PathsError {
-    /// At the return at this position the profile says another word of this call record, which comes there if the filter compares
-    /// steadily.
+    /// At the return at this position the profile says another verdict of this call record, which comes there if the filter
+    /// compares steadily.
     Unlike(u32, Record),
     /// The path that comes to this position is not settled: what the filter does or compares there tells of no word.
     Unsettled(u32),

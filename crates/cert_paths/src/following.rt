@@ -115,8 +115,8 @@ fn split(paths: &mut Paths, from: Place, cut: Cut) -> Result<Kind, PathsError>
     Ok(Kind::Split(one, other, first, second))
 }
 
-// The node of a place at a return: what is known is cut until the profile is settled. A record that is seen to get another word
-// than the profile says ends that; and if all words were cut, the one that is left is such a record.
+// The node of a place at a return: what is known is cut until the profile is settled. A record that is seen to get another
+// verdict than the profile says ends that; and if all words were cut, the one that is left is such a record.
 fn at_return(
     paths: &mut Paths,
     profile: &Profile,

@@ -1,4 +1,4 @@
-//! Whether a filter is seen to be wrong at a return: the profile says another word of a record that comes there.
+//! Whether a filter is seen to be wrong at a return: the profile says another verdict of a record that comes there.
 ghost use Rattle.std.specs.Prelude.{IsTrue};
 ghost use Rattle.call_record.specs.Record.{words};
 ghost use Rattle.cert_form.specs.Nodes.{literals};
@@ -57,7 +57,7 @@ pub(crate) fn likely_record(known: &Chain<'_>) -> Record {
     }
 }
 
-/// Whether what is known is true of a record, of which the profile says another word.
+/// Whether what is known is true of a record, of which the profile says another verdict.
 pub(crate) fn is_unlike(profile: &Profile, known: &Chain<'_>, call: &Record, word: u32) -> bool
     ensures { IsTrue result → IsUnlike profile.now (literals known.now.entries.now known.now.number) (words call.now) word }
 {

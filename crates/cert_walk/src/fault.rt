@@ -8,7 +8,7 @@ use std::fmt;
 /// Why no certificate is made.
 #[derive(Clone, Copy, Debug, PartialEq, Eq)]
 pub enum CertifyError {
-    /// The kernel refuses the filter at this position, or it was not found that the return there gives the profile's word.
+    /// The kernel refuses the filter at this position, or it was not found that the return there gives the profile's verdict.
     Undecided(u32),
     /// The certificate is larger than a certificate may be.
     TooLarge,

@@ -1,4 +1,4 @@
-//! The search for records that get unlike words.
+//! The search for records that get unlike verdicts.
 
 use crate::known::{Known, TRIES};
 use crate::trace::Traced;
@@ -176,7 +176,7 @@ impl Trials<'_> {
         self.attempt(&words)
     }
 
-    // Tries words of which each comparison of a run comes out otherwise, or with one bit flipped of the word that it gives.
+    // Tries words of which each comparison of a run comes out otherwise, or with one bit flipped of the word that it returns.
     fn flip_all(&mut self, words: &Words) -> Result<(), AllocError> {
         let (end, _) = self.run(words, 0)?;
         let mut compared = Vec::new(self.alloc);

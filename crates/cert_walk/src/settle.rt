@@ -1,4 +1,4 @@
-//! Whether what is known settles that the profile says a word, and else how to come to know more.
+//! Whether what is known settles that the profile says a verdict, and else how to come to know more.
 ghost use Rattle.std.specs.Prelude.{◌<◌};
 
 use crate::known::Known;
@@ -94,7 +94,7 @@ fn ask_conditions(known: &Known, rule: &Rule) -> Answer {
     all
 }
 
-/// Whether the profile says a word of each record of which this is known. Where it is not said that it does, the profile
+/// Whether the profile says a verdict of each record of which this is known. Where it is not said that it does, the profile
 /// says another one of some record, or nothing more can be asked. The cut is where it is asked again of either half.
 #[derive(Clone, Copy)]
 pub(crate) struct Question<'a> {
@@ -103,7 +103,7 @@ pub(crate) struct Question<'a> {
     pub(crate) word: Word,
 }
 
-// What a literal says in other words, in certificates of form 4: that a word has not this bit, as it has the other one;
+// What a literal says, put another way, in certificates of form 4: that a word has not this bit, as it has the other one;
 // that it has some bits, as it is at least the lowest. The first half says the contrary.
 fn sharpened(literal: Lit) -> Option<Cut> {
     let Lit::NotBits(word, mask, datum) = literal else {
@@ -140,7 +140,7 @@ impl Question<'_> {
         asked
     }
 
-    /// The answer. Where nothing more can be asked, what is known is said in other words first.
+    /// The answer. Where nothing more can be asked, what is known is put another way first.
     pub(crate) fn settle(&self) -> Answer {
         if self.answer()? {
             return Ok(true);
@@ -182,12 +182,12 @@ impl Question<'_> {
         self.rules.profile.default_word() == self.word
     }
 
-    // Whether the word is the one that foreign records get.
+    // Whether the verdict is the one that foreign records get.
     fn is_foreign(&self) -> bool {
         self.word == Word::KILL_THREAD
     }
 
-    // Whether the records with a machine's token get the word. Those of foreign numbers come apart first.
+    // Whether the records with a machine's token get the verdict. Those of foreign numbers come apart first.
     fn settle_machine(&self, arch: Arch) -> Answer {
         let Some((least, greatest)) = self.known.range(NUMBER) else {
             return Ok(false);
@@ -206,7 +206,7 @@ impl Question<'_> {
         self.settle_numbers(arch.token(), least, greatest)
     }
 
-    // Whether the rules of a machine say the word of all numbers from one to another. One that may bear on it comes apart.
+    // Whether the rules of a machine say the verdict of all numbers from one to another. One that may bear on it comes apart.
     fn settle_numbers(&self, token: u32, least: u32, greatest: u32) -> Answer {
         let is_one = least == greatest;
         let is_default = self.is_default();

@@ -1,4 +1,4 @@
-//! Records that are tried for unlike words.
+//! Records that are tried for unlike verdicts.
 
 use crate::rules::Rules;
 use crate::trace::{A, Run, Traced};
@@ -39,7 +39,7 @@ pub(crate) struct Trials<'a> {
     pub(crate) compared: Vec<(Traced, Traced)>,
     /// Records whose runs took a way that none before them took.
     pub(crate) queue: Vec<Words>,
-    /// A record that gets unlike words: a call of the tables, and any other one.
+    /// A record that gets unlike verdicts: a call of the tables, and any other one.
     pub(crate) found: Option<Record>,
     pub(crate) other: Option<Record>,
 }
@@ -90,7 +90,7 @@ impl<'a> Trials<'a> {
         self.found.is_some() || self.work.is_over()
     }
 
-    /// The number that the filter gives, and whether its run took a way that no run before took to this word of the profile.
+    /// The number that the filter gives, and whether its run took a way that no run before took to this verdict of the profile.
     pub(crate) fn run(&mut self, words: &Words, said: u32) -> Result<(Traced, bool), AllocError> {
         let mut run = Run::new();
         let mut is_new = false;

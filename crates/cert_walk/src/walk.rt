@@ -63,13 +63,13 @@ struct Walk<'a> {
     nodes: Nodes,
     // What the node states that is made next.
     needs: Needs,
-    // Where it looks for a record that gets unlike words, those that were tried.
+    // Where it looks for a record that gets unlike verdicts, those that were tried.
     trials: Option<Trials<'a>>,
     work: Work,
 }
 
 impl<'a> Walk<'a> {
-    // A walk that begins. It may look for a record that gets unlike words.
+    // A walk that begins. It may look for a record that gets unlike verdicts.
     fn new(
         alloc: Global,
         rules: &'a Rules<'a>,
@@ -215,7 +215,7 @@ impl<'a> Walk<'a> {
         Ok(None)
     }
 
-    // The question whether the profile says a word, by what is known.
+    // The question whether the profile says a verdict, by what is known.
     fn question(&self, word: Word) -> Question<'_> {
         Question {
             rules: self.rules,
@@ -269,7 +269,7 @@ impl<'a> Walk<'a> {
         self.make(Kind::Return, pc, regs)
     }
 
-    // Comes to a return whose word is not the profile's, as far as is known. Who looks for a record tries some that come
+    // Comes to a return whose verdict is not the profile's, as far as is known. Who looks for a record tries some that come
     // here, and goes on elsewhere.
     fn stuck(&mut self, place: &Place) -> Found {
         let Some(trials) = &mut self.trials else {
@@ -343,7 +343,7 @@ impl<'a> Walk<'a> {
     }
 }
 
-/// A certificate that the filter gives each call record the word that the profile says, for the checker to decide on.
+/// A certificate that the filter gives each call record the verdict that the profile says, for the checker to decide on.
 pub fn walk_through<'a>(
     alloc: Global,
     profile: &'a Profile,
@@ -355,7 +355,7 @@ pub fn walk_through<'a>(
     walk.nodes.written()
 }
 
-/// A record for which the filter may give another word than the profile says, if one is found.
+/// A record for which the filter may give another verdict than the profile says, if one is found.
 ///
 /// Calls of the tables of the profile's machines come before all others. That none is found says nothing.
 pub fn hunt<'a>(

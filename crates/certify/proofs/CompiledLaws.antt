@@ -1,4 +1,4 @@
--- What the compiler promises of its filters, in the checker's words.
+-- What the compiler promises of its filters, in the checker's terms.
 use Rattle.std.proofs.Common.{◌∙◌, ap, sym}
 use Rattle.std.specs.Prelude.{Some}
 use Rattle.std.proofs.lemmas.Option.{same_Some}

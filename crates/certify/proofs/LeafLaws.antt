@@ -1,4 +1,4 @@
--- What is known at a return settles the word.
+-- What is known at a return settles the verdict.
 use Rattle.std.proofs.Common.{◌≡◌, ℕ, suc, zero, ◌^◌, ◌<◌, ◌≤◌, List, [], ◌∷◌, sym, refl, ap, subst, ◌∙◌, arith, inl, inr}
 use Rattle.std.proofs.Common.{◌⊎◌, ⊎_elim, get_or, length}
 use Rattle.std.specs.Prelude.{Contains, Some, replicate, slice_index}
@@ -33,7 +33,7 @@ use Rattle.certify.proofs.ForeignLaws.{IsForeignNumber, IsNativeNumber, IsStretc
 use Rattle.certify.proofs.FreeLaws.{point_between}
 use Rattle.certify.proofs.PointFacts.{Asks, point_or_not, bounded, single}
 
--- one number, or the word of the default, or foreign numbers alone
+-- one number, or the default verdict, or foreign numbers alone
 abbrev OneOrRest : ℕ → ℕ → ℕ → ℕ → List Numbers → Type 0
 OneOrRest lo hi default v foreign = (lo ≡ hi) ⊎ ((default ≡ v) ⊎ LieIn lo hi foreign)
 
@@ -130,7 +130,7 @@ module _ (policy : Policy) (known : List Lit) (v lo hi from to : ℕ) (order : I
       first_is_not first rest none not r (zero, lt, is) m = not (subst (IsNumberOf arch n) (sym is) m)
       first_is_not first rest none not r (suc i, lt, is) m = none r (i, omega arith, is) m
 
-  -- where no listed machine is possible the word is 0
+  -- where no listed machine is possible the verdict is 0
   foreign_word : IsForeign policy known → v ≡ 0
   foreign_word none =
       (says from lo tokens.least numbers.least).foreign
@@ -161,7 +161,7 @@ module _ (policy : Policy) (known : List Lit) (v lo hi from to : ℕ) (order : I
     rule_is_small : (rule : Rule) → Contains policy.rules rule → rule.nr < 512
     rule_is_small rule has = (All-contains IsPlainRule policy.rules rule plain has).1
 
-    -- a rule of a number that is not the word's is known to be another's
+    -- a rule that does not say the verdict is known to be of another number
     none_or_word : (place : ℕ) (rule : Rule) → IsRuleOf policy [] arch place rule → (IsYesRule [] known place rule → ⊥)
         → IsNoRule [] known place rule ⊎ (rule.word ≡ v)
     none_or_word place rule is not_yes =
@@ -209,7 +209,7 @@ module _ (policy : Policy) (known : List Lit) (v lo hi from to : ℕ) (order : I
         inr (record { none_yes = not_yes; default = default; each = λ place rule is. none_or_word place rule is (not_yes place rule is) }))
         (rule_or_none arch lo policy.rules)
 
-    -- where the word is not the default one, a number of the machine's own has a rule
+    -- where the verdict is not the default one, a number of the machine's own has a rule
     own_small : (policy.default_word ≡ v → ⊥) → (u : ℕ) → IsPoint known 0 u → IsNative policy (call (token_of arch) u) → u < 512
     own_small differ u at own = ⊎_elim
         (λ (found : (rule : Rule) × Contains policy.rules rule × IsNumberOf arch u rule).
@@ -242,7 +242,7 @@ module _ (policy : Policy) (known : List Lit) (v lo hi from to : ℕ) (order : I
         h)
         (cases_eq lo hi)
 
-    -- where a foreign number is possible the word is 0
+    -- where a foreign number is possible the verdict is 0
     other_word : (u : ℕ) → IsPoint known 0 u → IsForeignNumber policy.machines arch u → v ≡ 0
     other_word u at other = (says (token_of arch) u token at).foreign (foreign u other)
 
@@ -306,7 +306,7 @@ module _ (policy : Policy) (known : List Lit) (v lo hi from to : ℕ) (order : I
       (point_or_not known 1 (token_of arch) (token_of arch) token (token_of a) (token_of-fits a)))
       (cases_eq (token_of arch) (token_of a))
 
-  -- where the word is 0 and the default one, each machine that is possible agrees
+  -- where the verdict is 0 and the default one, each machine that is possible agrees
   each_agrees : policy.default_word ≡ v → (a : Arch) → Contains policy.machines a → ListedAgrees policy [] [] known v a
   each_agrees default a listed = ⊎_elim
       (λ (at : IsPoint known 1 (token_of a)). inr (machine_agrees a listed at (inr (inl default))))
@@ -335,7 +335,7 @@ pub own_is_small : (policy : Policy) (known : List Lit) (v lo hi from to : ℕ) 
 own_is_small policy known v lo hi from to order short plain low_native of says numbers tokens arch listed token differ u at own =
     own_small policy known v lo hi from to order short plain low_native of says numbers tokens arch listed token.least differ u at own
 
--- where the word is 0 and the default one, nothing has to be told apart
+-- where the verdict is 0 and the default one, nothing has to be told apart
 pub zero_agrees : (policy : Policy) (known : List Lit) (v lo hi from to : ℕ) → InOrder policy.machines → length known ≤ 512
     → All IsPlainRule policy.rules → AreSmallNative policy.machines
     → All IsOfCalls known → SaysThere policy known v

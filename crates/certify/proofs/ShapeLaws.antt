@@ -44,7 +44,7 @@ record IsLike (r q : List ℕ) : Type 0 where
   number : slice_index r 0 ≡ slice_index q 0
   machine : slice_index r 1 ≡ slice_index q 1
 
--- from one instruction on the machine gives the word
+-- from one instruction on the machine gives the verdict
 abbrev Agrees : (rest : ℕ → Option ℕ → Option ℕ) → (run : ℕ → Registers → Ending) → List ℕ → Type 0
 Agrees rest run q = (skip : ℕ) (now : Option ℕ) (t : Registers) (v : ℕ) → HeldBy now q t → rest skip now ≡ Some v
     → option_map (λ (end : ℕ × ℕ). end.0) (run skip t) ≡ Some v

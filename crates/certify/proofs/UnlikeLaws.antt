@@ -1,4 +1,4 @@
--- The profile says one word of a call.
+-- The profile says one verdict of a call.
 use Rattle.std.proofs.Common.{◌≡◌, ℕ, ◌^◌, ◌<◌, sym, ◌∙◌}
 use Rattle.profile.specs.Policy.{Policy, IsClear, Says}
 use Rattle.profile.proofs.SaidLaws.{each_record_is_said_one_word}

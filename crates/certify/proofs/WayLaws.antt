@@ -129,7 +129,7 @@ foreign_agrees_there policy p s place v lo hi from to meant at range tokens none
     leaf_agrees policy (known_at s place) v lo hi from to meant.profile.machines_in_order (few_known s p place at.fits)
     meant.plain.rules meant.plain.small (at.store.calls place.chain) (at.says meant) range tokens (inl none)
 
--- where the word is not the default one, each number of the machine's own is small
+-- where the verdict is not the default one, each number of the machine's own is small
 pub small_number : (policy : Policy) (p : List Insn) (s : Store) (place : Place) (v lo hi : ℕ) (arch : Arch) → IsMeant policy p
     → IsAtReturn policy p s place v → IsOfMachine policy s place arch → IsRange (known_at s place) 0 lo hi → (policy.default_word ≡ v → ⊥)
     → (u : ℕ) → IsPoint (known_at s place) 0 u → IsNativeNumber policy.machines arch u → u < 512
@@ -226,7 +226,7 @@ module _ (policy : Policy) (p : List Insn) (s : Store) (place : Place) (way : Is
   lead meant m e = subst (LeadsOn policy p place.pc place.held (known_at s place) i) e
       (paths_lead policy p place.pc place.held (known_at s place) i found small way.fits.held (way.answers meant))
 
-  -- at a return the profile says its word
+  -- at a return the profile says its verdict
   pub way_ends : (v : ℕ) → move_at (operation_of i.code) i.k place.held ≡ Some (Ends v) → IsAtReturn policy p s place v
   way_ends v e = record {
     store = way.store;

@@ -1,5 +1,5 @@
--- What convicts a filter: a record on which it gives another word than the profile says. Words are those of seccomp(2), as
--- PROFILES.md and FILTERS.md tell them.
+-- What convicts a filter: a record on which it gives another verdict than the profile says. Verdicts are those of seccomp(2),
+-- as PROFILES.md and FILTERS.md tell them.
 use Rattle.std.specs.Prelude.{◌≡◌, ◌≢◌, ℕ, List, Option, Some, None, Result, IfOk, IfSome}
 use Rattle.call_record.specs.Record.{words}
 use Rattle.bpf_insn.specs.declared.instruction.Insn.{Insn}
@@ -15,7 +15,7 @@ pub record Convicts (policy : Policy) (p : List Insn) (r : List ℕ) (given said
   pub says : Says policy r said
   pub unlike : given ≢ said
 
--- its record convicts the filter, by its two words
+-- its record convicts the filter, by its two verdicts
 abbrev pub IsConviction : Policy → List Insn → Conviction → Type 0
 IsConviction policy p found = Convicts policy p (words found.call) found.given found.said
 

@@ -6,7 +6,7 @@ use Rattle.cert_check.specs.Right.{IsRight}
 use Rattle.rule_compile.specs.Right.{IsRightFilter}
 use Rattle.rule_compile.specs.Shape.{IsCallFilter, IsPlain}
 
--- a filter of the shape gives each record the word that the profile says, by the kernel's machine, and no other
+-- a filter of the shape gives each record the verdict that the profile says, by the kernel's machine, and no other
 abbrev pub ShapeIsRight : Type 0
 ShapeIsRight = (policy : Policy) (p : List Insn) → IsPlain policy → IsCallFilter policy p → IsRight policy p
 

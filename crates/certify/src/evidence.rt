@@ -17,7 +17,7 @@ use kernel_check::Accepted;
 use profile::Profile;
 use std::alloc::Global;
 
-/// A record, with the word that a filter gives it and the one that a profile says of it.
+/// A record, with the verdict that a filter gives it and the one that a profile says of it.
 #[derive(Clone, Copy, Debug)]
 pub struct Conviction {
     pub call: Record,
@@ -25,7 +25,7 @@ pub struct Conviction {
     pub said: Word,
 }
 
-// The words of a record, where they are unlike.
+// The verdicts on a record, where they are unlike.
 fn unlike(profile: &Profile, program: &Accepted<'_>, call: Record) -> Option<Conviction>
     ensures found { IfSome result (IsConviction profile.now (accepted_insns program.now)) }
     ensures none { result ≡ None → IsWrongOn profile.now (accepted_insns program.now) (words call) → ⊥ }
@@ -103,7 +103,7 @@ fn on_a_search(
     }
 }
 
-/// A record on which the filter gives another word than the profile says, if one is found.
+/// A record on which the filter gives another verdict than the profile says, if one is found.
 ///
 /// It is searched for first, and calls of the tables of the profile's machines come before all others. Where the search finds none,
 /// each path of the filter is followed: then one is found, if the filter compares steadily and is wrong, unless memory or the

@@ -9,13 +9,13 @@ pub fn table_profiles_are_plain()
 {}
 
 /// A filter that has the shape of the filters of a profile without conditions is right: the kernel's machine gives each
-/// call record the word that the profile says.
+/// call record the verdict that the profile says.
 pub fn shape_is_right()
     ensures { ShapeIsRight }
 {}
 
-/// A filter of the compiler is right in the checker's words: on each call record it gives the word that the profile says, and
-/// no other.
+/// A filter of the compiler is right in the checker's terms: on each call record it gives the verdict that the profile says,
+/// and no other.
 pub fn compiled_is_right()
     ensures { CompiledIsRight }
 {}

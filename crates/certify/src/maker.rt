@@ -129,7 +129,7 @@ fn proposed(
     }
 }
 
-/// A certificate that the filter gives each call record the word that the profile says. The checker says yes to it.
+/// A certificate that the filter gives each call record the verdict that the profile says. The checker says yes to it.
 ///
 /// That there is none says nothing of the filter, but for two kinds. Of a right filter that compares steadily, as each of the
 /// compiler's is, an error tells of memory or of the format's limits. Where no rule has a condition and the filter has the shape

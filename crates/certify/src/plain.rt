@@ -2,7 +2,7 @@
 //!
 //! It goes down each path of the filter, and makes a node at each place where it stands. What is known there is the chain
 //! of the comparisons that led there. At a return it splits, by machines and then by halves of the numbers that are left,
-//! until the profile says one word.
+//! until the profile says one verdict.
 ghost use Rattle.std.specs.Prelude.{◌≡◌, IfErr, IfOk};
 ghost use Rattle.profile.specs.Policy.{IsProfile};
 ghost use Rattle.kernel_check.specs.Lent.{accepted_insns};

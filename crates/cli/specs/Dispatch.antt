@@ -91,7 +91,7 @@ module _ {O : Type 0} (held : O → Option (List ℕ)) (failures : O → Failure
       StopsAtFile folder old new (bundle ∷ []) result
       ⊎ ((b : List ℕ) × HasBytes folder bundle b × AnswersBy (Exports held failures old new native b form) result)
 
--- What the program does as a command. `run` alone reads its input. Of the commands that tell in words, nothing is said.
+-- What the program does as a command. `run` alone reads its input. Of commands that tell in plain sentences, nothing is said.
 module _ {I O : Type 0} (left : I → Option (List ℕ)) (given : I → Failures) (held : O → Option (List ℕ)) (taken : O → Failures)
     (folder : Option Folder) (input input' : I) (out out' : O) where
   abbrev pub AnswersRun : Arch → List (List ℕ) → Result Bool Stop → Type 0

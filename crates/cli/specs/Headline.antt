@@ -1,5 +1,5 @@
 -- THE HEADLINE. Where the checker says yes to a profile, a filter and a certificate, the kernel accepts the filter and its
--- verdict on every call record is the word that the profile says. So, for every list of lifecycle commands and process
+-- verdict on every call record is the one that the profile says. So, for every list of lifecycle commands and process
 -- events, the replies are those of the kernel machine whose first judge for each container is its profile, and no call that
 -- the profile refuses is carried out.
 --
@@ -30,7 +30,7 @@ use Rattle.pipeline.specs.Finding.{IsBundle, IsFinding}
 use Rattle.pipeline.specs.declared.check.Finding.TheVariants.{Yes}
 use Rattle.cli.specs.Running.{HasAnswered, name_of}
 
--- The bundle means the profile, the kernel accepts the filter, and its verdict on every call record is the word that the
+-- The bundle means the profile, the kernel accepts the filter, and its verdict on every call record is the one that the
 -- profile says.
 pub record IsRightFor (native : Arch) (bundle : List ℕ) (policy : Policy) (p : List Insn) : Type 0 where
   pub means : IsBundle native bundle policy

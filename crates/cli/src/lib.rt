@@ -1,5 +1,5 @@
-//! The program `ccell` over words, files and streams that are handed in, so that tests can stand in for them. What it judges
-//! and makes is `pipeline`'s, whose public names are found here too.
+//! The program `ccell` over arguments, files and streams that are handed in, so that tests can stand in for them. What it
+//! judges and makes is `pipeline`'s, whose public names are found here too.
 #![tactic(auto)]
 
 mod comparing;

@@ -1,4 +1,4 @@
-//! The whole program, from the words after its name to its exit status.
+//! The whole program, from the arguments after its name to its exit status.
 ghost use Rattle.std.specs.Prelude.{◌≡◌, ◌⊎◌, ◌≤◌, Err, Ok, OnErr, true, map};
 ghost use Rattle.command_line.specs.Arguments.{Given, IsCommandLine, NoCommandLine, given};
 ghost use Rattle.cli.specs.Dispatch.{Answers, AnswersCertify, AnswersCheck, AnswersExport, AnswersRun, AnswersVerdict, Does, TellsChanges};
@@ -51,7 +51,7 @@ fn check<'a, F: Files, O: Sink>(
 }
 
 // Writes a certificate that a filter answers what a bundle says, or what tells that it has none. A record that convicts the
-// filter is told in words too.
+// filter is told in plain sentences too.
 fn certify<'a, F: Files, O: Sink, E: Sink>(
     alloc: Global,
     native: Arch,
@@ -194,7 +194,7 @@ fn manual<'a>(
     }
 }
 
-// Carries a command out: true where it answered a word or yes, wrote what was asked for or ran a script, false where it
+// Carries a command out: true where it answered a verdict or yes, wrote what was asked for or ran a script, false where it
 // refused.
 fn obey<'a, F: Files, I: Source, O: Sink, E: Sink>(
     alloc: Global,
@@ -277,7 +277,7 @@ fn carry_out<'a, F: Files, I: Source, O: Sink, E: Sink>(
     }
 }
 
-/// Runs the program on the words after its name, and gives the exit status: 0 done, 1 refused, 2 a fault of the
+/// Runs the program on the arguments after its name, and gives the exit status: 0 done, 1 refused, 2 a fault of the
 /// command line, 3 a file, a stream or memory that failed.
 pub fn dispatch<F: Files, I: Source, O: Sink, E: Sink>(
     alloc: Global,

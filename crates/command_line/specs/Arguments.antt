@@ -121,7 +121,7 @@ abbrev pub compare : List (List ℕ) → Option Given
 compare (machine ∷ first ∷ second ∷ []) = option_map (λ native. Compare native first second) (native_called machine)
 compare _ = None
 
--- the word `widen` may stand behind the file
+-- the argument `widen` may stand behind the file
 abbrev pub adapt : List (List ℕ) → Option Given
 adapt (machine ∷ config ∷ []) = option_map (λ native. Adapt native config false) (native_called machine)
 adapt (machine ∷ config ∷ word ∷ []) =

@@ -9,7 +9,7 @@ use Rattle.explain.specs.Explanation.{Explains}
 use Rattle.profile.specs.Policy.{Policy}
 use Rattle.compare.specs.Told.{IsBundle}
 
--- the text explains what the bundle says of a record on which the filter gives another word than the profile which it means
+-- the text explains what the bundle says of a record on which the filter gives another verdict than the profile which it means
 pub record IsConvicting (native : Arch) (bundle filter text : List ℕ) : Type 0 where
   pub policy : Policy
   pub means : IsBundle native bundle policy

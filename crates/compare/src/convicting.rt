@@ -13,7 +13,7 @@ use profile::Profile;
 use profile_json::read_bundle;
 use std::alloc::Global;
 
-// A record on which a filter gives another word than a profile says, if one is found.
+// A record on which a filter gives another verdict than a profile says, if one is found.
 fn convicted(alloc: Global, profile: &Profile, filter: &[u8]) -> Option<Conviction>
     ensures { IfSome result (IsConviction profile.now (insns_of filter.now)) }
 {
@@ -22,8 +22,8 @@ fn convicted(alloc: Global, profile: &Profile, filter: &[u8]) -> Option<Convicti
     convict(alloc, profile, &accepted).ok()?
 }
 
-/// Explains what a bundle, which is read for a native machine, says of a call record on which a filter gives another word, if
-/// one is found and there is memory.
+/// Explains what a bundle, which is read for a native machine, says of a call record on which a filter gives another verdict,
+/// if one is found and there is memory.
 pub fn explain_conviction(
     alloc: Global,
     native: Arch,

@@ -1,4 +1,4 @@
-//! Call records of which two profiles say unlike words.
+//! Call records of which two profiles say unlike verdicts.
 ghost use Rattle.std.specs.Prelude.{◌≡◌, IfSome};
 ghost use Rattle.call_record.specs.Verdict.{is_stricter};
 ghost use Rattle.call_tables.specs.Arch.{token_of};
@@ -8,7 +8,7 @@ use call_record::{Record, Word};
 use call_tables::Arch;
 use profile::Profile;
 
-/// A call record, and the words that a first and a second profile say of it.
+/// A call record, and the verdicts that a first and a second profile say of it.
 #[derive(Clone, Copy, Debug)]
 pub struct Difference {
     /// The machine of the call.
@@ -23,7 +23,7 @@ pub struct Difference {
     pub second: Word,
 }
 
-// Whether the action of one word, as a signed number, is less than that of another: it is stricter.
+// Whether the action of one verdict, as a signed number, is less than that of another: it is stricter.
 fn is_stricter(word: Word, other: Word) -> bool
     ensures { result ≡ is_stricter word other }
 {

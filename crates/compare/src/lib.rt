@@ -1,5 +1,5 @@
 //! Two bundles compared: that they say the same of every call record, or calls of which they do not. And the call record
-//! that convicts a filter, in words.
+//! that convicts a filter, in plain sentences.
 #![tactic(auto)]
 
 mod calls;

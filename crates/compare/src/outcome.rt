@@ -23,7 +23,7 @@ use std::fmt::Write;
 pub enum Comparison {
     /// They say the same of every call record.
     Same,
-    /// Call records of which they say unlike words, one at least.
+    /// Call records of which they say unlike verdicts, one at least.
     Differ(Vec<Difference>),
     /// Neither was shown.
     Undecided,

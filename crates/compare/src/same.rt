@@ -51,8 +51,8 @@ pub(crate) fn are_same(
     is_right(alloc, second, program)
 }
 
-/// A record on which a filter of the first profile gives another word than the second says, if it is one of which the two
-/// say unlike words.
+/// A record on which a filter of the first profile gives another verdict than the second says, if it is one of which the two
+/// say unlike verdicts.
 pub(crate) fn hunted(
     alloc: Global,
     family: Family,

@@ -1,4 +1,4 @@
-//! The calls of which two profiles say unlike words.
+//! The calls of which two profiles say unlike verdicts.
 ghost use Rattle.std.specs.Prelude.{IfOk, IfSome, All};
 ghost use Rattle.profile.specs.Policy.{Policy};
 ghost use Rattle.compare.specs.Difference.{IsDifference};
@@ -10,7 +10,7 @@ use call_tables::{Arch, Family};
 use profile::Profile;
 use std::alloc::{AllocError, Global};
 
-// The first of the records that are tried for a call of which the profiles say unlike words; beside another difference, the
+// The first of the records that are tried for a call of which the profiles say unlike verdicts; beside another difference, the
 // first of which they differ the other way.
 fn first_difference(
     first: &Profile,
@@ -58,7 +58,7 @@ fn add_beside(
     }
 }
 
-// Adds a record for a call of which two profiles say unlike words, where one is found, and one of which they differ the
+// Adds a record for a call of which two profiles say unlike verdicts, where one is found, and one of which they differ the
 // other way.
 fn add_differences(
     alloc: Global,
@@ -78,7 +78,7 @@ fn add_differences(
     add_beside(first, second, call, &tried, &found, list)
 }
 
-/// Records for the calls of which two profiles say unlike words, where some are found: those of the tables of a family come
+/// Records for the calls of which two profiles say unlike verdicts, where some are found: those of the tables of a family come
 /// first.
 pub(crate) fn differences(
     alloc: Global,

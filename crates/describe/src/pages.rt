@@ -1,4 +1,4 @@
-//! How the commands are used: the one table of words of which the pages, the man page and the completions are made.
+//! How the commands are used: the one table of texts of which the pages, the man page and the completions are made.
 use explain::Told;
 use std::alloc::{AllocError, Global};
 use std::fmt::Write;
@@ -14,12 +14,12 @@ const PAGES: &[Page] = &[
     Page {
         name: "verdict",
         purpose: "what a filter answers to one call",
-        text: "ccell verdict FILTER RECORD\n\nRuns a filter on a call record of 64 bytes, once it passed the kernel's check, and tells the word that it answers.\nStatus 0, or 1 and a line that begins with 'refused'.\n\nExample: ccell verdict web.bpf write.rec\n",
+        text: "ccell verdict FILTER RECORD\n\nRuns a filter on a call record of 64 bytes, once it passed the kernel's check, and tells its verdict.\nStatus 0, or 1 and a line that begins with 'refused'.\n\nExample: ccell verdict web.bpf write.rec\n",
     },
     Page {
         name: "check",
         purpose: "whether a filter does what a bundle says, by a certificate",
-        text: "ccell check MACHINE BUNDLE FILTER CERTIFICATE\n\nTells yes where the certificate shows that the filter answers on every call record the word that the bundle says.\nStatus 0, or 1 and a line that begins with 'no' or 'refused'.\n\nExample: ccell check x86-64 web.json web.bpf web.cert\n",
+        text: "ccell check MACHINE BUNDLE FILTER CERTIFICATE\n\nTells yes where the certificate shows that the filter gives on every call record the verdict that the bundle says.\nStatus 0, or 1 and a line that begins with 'no' or 'refused'.\n\nExample: ccell check x86-64 web.json web.bpf web.cert\n",
     },
     Page {
         name: "certify",
@@ -39,7 +39,7 @@ const PAGES: &[Page] = &[
     Page {
         name: "explain",
         purpose: "what a bundle says of one call, and why",
-        text: "ccell explain MACHINE BUNDLE WHAT [ARGUMENT..]\nccell explain MACHINE BUNDLE record HEX\n\nTells the call in words, the word that the bundle says, and why: the entry that matches, default or foreign. Under it each\nentry for that call, whether it matches, and which of its conditions hold. WHAT and the arguments are those of a script,\nHEX is what certify tells.\nStatus 0, or 1 and a line that begins with 'refused'.\n\nExample: ccell explain x86-64 web.json write 1 0 0x100000000\n",
+        text: "ccell explain MACHINE BUNDLE WHAT [ARGUMENT..]\nccell explain MACHINE BUNDLE record HEX\n\nTells the call in plain sentences, the verdict that the bundle says, and why: the entry that matches, default or foreign. Under it each\nentry for that call, whether it matches, and which of its conditions hold. WHAT and the arguments are those of a script,\nHEX is what certify tells.\nStatus 0, or 1 and a line that begins with 'refused'.\n\nExample: ccell explain x86-64 web.json write 1 0 0x100000000\n",
     },
     Page {
         name: "read",

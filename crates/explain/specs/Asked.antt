@@ -1,4 +1,4 @@
--- Which call record words ask for: by a call and its arguments, as a line of a script does, or by its bytes.
+-- Which call record command line arguments ask for: by a call and its arguments, as a line of a script does, or by its bytes.
 use Rattle.std.specs.Prelude.{ℕ, ◌≡◌, ◌==◌, ◌⊎◌, Bool, true, false, List, [], ◌∷◌, ◌++◌, Some, None, Ok, codes}
 use Rattle.std.specs.List.{flat_map, list_any}
 use Rattle.std.specs.Str.{bytes_eq}
@@ -13,7 +13,7 @@ use Rattle.call_record.specs.Words.{words_of}
 use Rattle.script.specs.Grammar.{LineIs}
 use Rattle.script.specs.Commands.{Call}
 
--- the line of a script that the words make: a call of the first task of a container c
+-- the line of a script that the command line arguments make: a call of the first task of a container c
 abbrev pub line_of : List (Bor (List ℕ)) → List ℕ
 line_of given = codes "call c 1" ++ flat_map (λ w. space ∷ w.now) given
 
@@ -37,7 +37,7 @@ pub record IsOnLine (native : Arch) (line : List ℕ) (r : Record) : Type 0 wher
   pub is_line : LineIs native line (Some (Call id task arch nr args None))
   pub is_record : IsRecordOf arch nr args r
 
--- the words are the fields of such a line
+-- the command line arguments are the fields of such a line
 pub record IsAsked (native : Arch) (given : List (Bor (List ℕ))) (r : Record) : Type 0 where
   pub fields : list_any (λ w. has_space w.now) given ≡ false
   pub on_line : IsOnLine native (line_of given) r
@@ -48,7 +48,7 @@ pub record IsSpelled (digits : List ℕ) (r : Record) : Type 0 where
   pub decoded : decode_of digits ≡ Ok bytes
   pub spelled : words_of bytes ≡ words r
 
--- the words are `record` and digits
+-- the command line arguments are `record` and digits
 pub record IsByBytes (given : List (Bor (List ℕ))) (r : Record) : Type 0 where
   pub mark : Bor (List ℕ)
   pub digits : Bor (List ℕ)

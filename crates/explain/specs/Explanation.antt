@@ -55,11 +55,11 @@ lines_from place [] ends r = []
 lines_from place (rule ∷ rules) ends r =
     (if is_of rule r then rule_lines (entry_at ends place) rule r else []) ++ lines_from (place + 1) rules ends r
 
--- the call, the word that is said of it, why, and the rules for it
+-- the call, the verdict that is said of it, why, and the rules for it
 abbrev pub told_by : Family → ℕ → Reason → List Rule → List ℕ → Record → List ℕ
 told_by family v reason rules ends r = call_lines family r ++ verdict_line v ++ reason_line reason ++ lines_from 0 rules ends r
 
--- the text explains the word that the profile says, which the bundle means, by the rules of the bundle's entries
+-- the text explains the verdict that the profile says, which the bundle means, by the rules of the bundle's entries
 pub record Explains (native : Arch) (bundle : List ℕ) (r : Record) (text : List ℕ) : Type 0 where
   pub t : Data
   pub is_text : IsText bundle t

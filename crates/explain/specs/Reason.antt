@@ -1,4 +1,4 @@
--- Why a profile says its word of a record.
+-- Why a profile says its verdict of a record.
 use Rattle.std.specs.Prelude.{ℕ, List, Option, Some, None, if◌then◌else◌, nat_lt, position, unwrap_or}
 use Rattle.call_record.specs.declared.layout.Record.{Record}
 use Rattle.call_record.specs.Record.{words}

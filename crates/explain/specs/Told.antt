@@ -11,12 +11,12 @@ use Rattle.explain.specs.declared.told.Told.{Told}
 use Rattle.explain.specs.Asked.{IsCall, IsAsked}
 use Rattle.explain.specs.Explanation.{Explains}
 
--- where it was done: a text that explains what the bundle says of the record that the words ask for
+-- where it was done: a text that explains what the bundle says of the record that the command line arguments ask for
 abbrev pub IsExplained : Arch → List ℕ → List (Bor (List ℕ)) → Told → Type 0
 IsExplained native bundle given told =
     told.done ≡ true → (r : Record) × IsCall native given r × Explains native bundle r told.bytes.items
 
--- where it was done: the bytes of the record that the words ask for
+-- where it was done: the bytes of the record that the command line arguments ask for
 abbrev pub IsRecorded : Arch → List (Bor (List ℕ)) → Told → Type 0
 IsRecorded native given told = told.done ≡ true → (r : Record) × IsAsked native given r × (words_of told.bytes.items ≡ words r)
 

@@ -19,7 +19,7 @@ use Rattle.profile.specs.declared.conditions.Op.TheVariants.{Ne, Lt, Le, Eq, Ge,
 abbrev pub hexadecimal : ℕ → List ℕ
 hexadecimal n = codes "0x" ++ digits 16 false n
 
--- the name of a word's action (seccomp(2), the return values of a filter)
+-- the name of a verdict's action (seccomp(2), the return values of a filter)
 abbrev pub action_name : ℕ → List ℕ
 action_name v =
     if action v == kill_process then codes "KILL_PROCESS"

@@ -1,4 +1,4 @@
-//! The call record that words ask for.
+//! The call record that command line arguments ask for.
 ghost use Rattle.std.specs.Prelude.{◌≡◌, ◌++◌, ◌∷◌, IfOk, IfSome, string_bytes};
 ghost use Rattle.std.specs.List.{flat_map, list_any};
 ghost use Rattle.texts.specs.Lines.{space};
@@ -22,7 +22,7 @@ fn any_has_space(words: &[&str]) -> bool
     words.iter().any(|word| has_space(word))
 }
 
-// Adds words, each behind a space.
+// Adds arguments of the command line, each behind a space.
 fn put_words(text: &mut String, words: &[&str]) -> Result<(), AllocError>
     ensures { IfOk result (λ _. string_bytes text.new ≡ string_bytes text.old ++ flat_map (λ w. space ∷ w.now) words.now) }
 {
@@ -33,7 +33,7 @@ fn put_words(text: &mut String, words: &[&str]) -> Result<(), AllocError>
     Ok(())
 }
 
-// The line of a script that the words make.
+// The line of a script that the command line arguments make.
 fn line_of(alloc: Global, words: &[&str]) -> Result<String, AllocError>
     ensures { IfOk result (λ text. string_bytes text ≡ spec.line_of words.now) }
 {
@@ -72,7 +72,7 @@ fn call_on(native: Arch, line: &str) -> Option<Record>
     }
 }
 
-/// The record of a call that words ask for: its name or number, and its arguments, as in a line of a script.
+/// The record of a call that command line arguments ask for: its name or number, and its arguments, as in a line of a script.
 pub(crate) fn asked(
     alloc: Global,
     native: Arch,
@@ -97,7 +97,7 @@ fn spelled(digits: &str) -> Option<Record>
     }
 }
 
-/// The record that words ask for: `record` and its digits, or a call and its arguments.
+/// The record that command line arguments ask for: `record` and its digits, or a call and its arguments.
 pub(crate) fn call_in(
     alloc: Global,
     native: Arch,

@@ -1,4 +1,4 @@
-//! A call told in words.
+//! A call told as text.
 ghost use Rattle.std.specs.Prelude.{◌≡◌, ◌++◌, IfOk, string_bytes};
 ghost use Rattle.call_tables.specs.Numbers.{has_call};
 ghost use Rattle.explain.specs.Words as spec;

@@ -1,4 +1,4 @@
-//! Calls, verdicts and the reasons for them, told in words.
+//! Calls, verdicts and the reasons for them, told as text.
 #![tactic(auto)]
 
 mod asked;

@@ -1,4 +1,4 @@
-//! Why a profile says its word.
+//! Why a profile says its verdict.
 ghost use Rattle.std.specs.Prelude.{◌≡◌, position};
 ghost use Rattle.call_record.specs.Record.{words};
 ghost use Rattle.profile.specs.Said as said;
@@ -8,7 +8,7 @@ use call_record::Record;
 use profile::{Profile, Rule, are_for};
 use profile_json::EntryRules;
 
-/// Why a profile says its word of a record.
+/// Why a profile says its verdict of a record.
 #[derive(Clone, Copy, Debug, PartialEq, Eq)]
 pub enum Reason {
     /// The record is no call of the profile's machines.
@@ -50,7 +50,7 @@ fn first_match(rules: &[Rule], call: &Record) -> Option<usize>
     rules.iter().position(|rule| is_match(rule, call))
 }
 
-/// Why a profile says its word of a record, by the rules of its bundle's entries.
+/// Why a profile says its verdict of a record, by the rules of its bundle's entries.
 pub(crate) fn reason_of(profile: &Profile, all: &EntryRules, call: &Record) -> Reason
     ensures { result ≡ reason_of profile.now all.now.rules.items all.now.ends.items call.now }
 {

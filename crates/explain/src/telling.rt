@@ -18,7 +18,7 @@ use profile_json::{EntryRules, ProfileError, read_bundle, rules_by_entry};
 use std::alloc::{AllocError, Global};
 use std::fmt::Write;
 
-// Adds the line of a word.
+// Adds the line of a verdict.
 fn put_word(text: &mut String, word: Word) -> Result<(), AllocError>
     ensures { IfOk result (λ _. string_bytes text.new ≡ string_bytes text.old ++ verdict_line word) }
 {
@@ -37,7 +37,7 @@ fn put_reason(text: &mut String, reason: Reason) -> Result<(), AllocError>
     }
 }
 
-// Adds a record, the word that is said of it, why, and the rules for its call.
+// Adds a record, the verdict that is said of it, why, and the rules for its call.
 fn put_explanation(
     text: &mut String,
     family: Family,
@@ -74,7 +74,7 @@ fn explained(
     Ok(text)
 }
 
-/// The text that explains what a bundle, which is read for a native machine, says of a call record: the call, the word, why
+/// The text that explains what a bundle, which is read for a native machine, says of a call record: the call, the verdict, why
 /// it is said, and of each rule for that call whether it matches, and which of its conditions hold.
 pub fn explanation(
     alloc: Global,

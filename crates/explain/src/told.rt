@@ -58,7 +58,8 @@ fn refused_listing(alloc: Global, error: AsmError) -> Result<Told, AllocError>
     })
 }
 
-/// Explains what a bundle, which is read for a native machine, says of the call record that words ask for, and why.
+/// Explains what a bundle, which is read for a native machine, says of the call record that command line arguments ask for,
+/// and why.
 pub fn explain(
     alloc: Global,
     native: Arch,
@@ -88,7 +89,7 @@ fn recorded(alloc: Global, call: &Record) -> Result<Told, AllocError>
     Ok(Told { bytes, done: true })
 }
 
-/// The 64 bytes of the call record that words ask for.
+/// The 64 bytes of the call record that command line arguments ask for.
 pub fn record(alloc: Global, native: Arch, words: &[&str]) -> Result<Told, AllocError>
     ensures { IfOk result (spec.IsRecorded native words.now) }
 {

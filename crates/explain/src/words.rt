@@ -6,7 +6,7 @@ use call_record::Word;
 use profile::{Cond, Op};
 use std::fmt;
 
-/// The name of a word's action.
+/// The name of a verdict's action.
 fn action_name(word: Word) -> &'static str
     ensures { result.now ≡ spec.action_name word }
 {
@@ -23,7 +23,7 @@ fn action_name(word: Word) -> &'static str
     }
 }
 
-/// A verdict word, told by its action, and by its data where they are not 0.
+/// A verdict, told by its action, and by its data where they are not 0.
 #[derive(Clone, Copy)]
 pub struct ActionText(pub Word);
 

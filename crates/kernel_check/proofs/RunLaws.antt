@@ -220,7 +220,7 @@ step-Stuck i r s plain known written e =
 known_whole : (i : Insn) (r : List ℕ) → IsPlain i → length r ≡ 16 → operation_of i.code ≡ Some LoadWord → i.k / 4 < length r
 known_whole i r plain size is = omega (arith, (plain-loads i plain is).0)
 
--- a run that ends, by some word, after no more instructions than these
+-- a run that ends, by some verdict, after no more instructions than these
 abbrev pub EndsWithin : ℕ → Ending → Type 0
 EndsWithin most e = (word : ℕ) × (n : ℕ) × (e ≡ Some (word, n)) × (n ≤ most)
 
@@ -255,7 +255,7 @@ runs_from p r ok size (suc left) pc s fits within enough =
           let own : IsPlain i = plain p pc i ok found in
           absurd (step-Stuck i r s own (known_whole i r own size) (reads_written p pc i s ok found fits) e)
 
--- so it gives a word on each whole record, and runs no instruction twice
+-- so it gives a verdict on each whole record, and runs no instruction twice
 pub runs : AcceptedGive
 runs p r ok size =
     let end = runs_from p r ok size (length p) 0 start (fits_start p) (omega (arith, ok.some)) (omega arith) in

@@ -55,7 +55,7 @@ pub record OneRefusal : Type 0 where
   pub one : (p : List Insn) (e f : Refused) → IsRefusal p e → IsRefusal p f → e ≡ f
   pub none : (p : List Insn) (e : Refused) → IsAccepted p → IsRefusal p e → ⊥
 
--- an accepted program gives a word on each record, in at most its length
+-- an accepted program gives a verdict on each record, in at most its length
 abbrev pub AcceptedGive : Type 0
 AcceptedGive =
     (p : List Insn) (r : List ℕ) → IsAccepted p → length r ≡ 16

@@ -6,7 +6,7 @@ pub fn one_refusal()
     ensures { OneRefusal }
 {}
 
-/// An accepted program gives a word on each record of sixteen words, and runs at most as many
+/// An accepted program gives a verdict on each record of sixteen words, and runs at most as many
 /// instructions as it has.
 pub fn accepted_programs_give_words()
     ensures { AcceptedGive }

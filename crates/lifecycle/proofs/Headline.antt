@@ -18,7 +18,7 @@ use Rattle.lifecycle.specs.Commands.{Command}
 use Rattle.lifecycle.specs.Worlds.{First, World}
 use Rattle.lifecycle.specs.Steps.{run, step}
 
--- the program gives the word that the profile says
+-- the program gives the verdict that the profile says
 gives : (c : Checked) (r : Record) → verdict_of (program_of c) (words r) ≡ Some (said (profile_of c) (words r))
 unfolding profile_of program_of accepted_insns
 gives c r =

@@ -1,4 +1,4 @@
--- How a refusal is told: by its number and its name, and by the word that denied the start.
+-- How a refusal is told: by its number and its name, and by the verdict that denied the start.
 use Rattle.std.specs.Prelude.{ℕ, List, [], ◌++◌, codes}
 use Rattle.std.specs.Fmt.{decimal}
 use Rattle.call_record.specs.Text as word
@@ -16,7 +16,7 @@ label_of BadSignal = (6, codes "BadSignal")
 label_of (StartDenied v) = (7, codes "StartDenied")
 label_of BadId = (8, codes "BadId")
 
--- the word, after a space
+-- the verdict, after a space
 abbrev pub word_of : Refusal → List ℕ
 word_of IdTaken = []
 word_of NoContainer = []

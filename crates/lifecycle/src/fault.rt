@@ -18,7 +18,7 @@ pub enum Refusal {
     NotStopped,
     /// There is no such signal.
     BadSignal,
-    /// The filter refused the call with which the container begins, by this word.
+    /// The filter refused the call with which the container begins, by this verdict.
     StartDenied(Word),
     /// The text is no id.
     BadId,

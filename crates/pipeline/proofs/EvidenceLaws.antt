@@ -162,7 +162,7 @@ yes_of_valid policy p filter cert clear same whole taken valid =
       kept = kept policy filter cert whole taken here;
     }
 
--- where the filter is right it gives the profile's word
+-- where the filter is right it gives the profile's verdict
 right_is_not_convicted : (policy : Policy) (p : List Insn) (r : List ℕ) (given said : ℕ) → IsRight policy p → IsRecord r
     → Convicts policy p r given said → ⊥
 right_is_not_convicted policy p r given said right is h =

@@ -1,5 +1,5 @@
 -- What is said of a filter and a record, both as bytes: the kernel's check (seccomp(2), and the seccomp_filter page of
--- the kernel's documentation), and the word that the filter answers.
+-- the kernel's documentation), and the verdict that the filter answers.
 use Rattle.std.specs.Prelude.{ℕ, ◌≡◌, ◌≢◌, Bool, true, false, List, [], ◌∷◌, ◌++◌, length, Option, Some, None, Result, IfOk, codes}
 use Rattle.texts.specs.Lines.{line_feed}
 use Rattle.call_record.specs.Text as word
@@ -27,7 +27,7 @@ IsAnswer filter rec (Verdict v) =
 abbrev pub OneAnswer : Type 0
 OneAnswer = (filter rec : List ℕ) (a b : Answer) → IsAnswer filter rec a → IsAnswer filter rec b → a ≡ b
 
--- the answer is a word, and no refusal
+-- the answer is a verdict, and no refusal
 abbrev pub is_verdict : Answer → Bool
 is_verdict (Verdict v) = true
 is_verdict other = false
@@ -39,7 +39,7 @@ line_of NoRecord = codes "refused record" ++ line_feed ∷ []
 line_of (NoProgram e) = codes "refused view " ++ view.text_of e ++ line_feed ∷ []
 line_of (Refusal e) = codes "refused kernel " ++ kernel.text_of e ++ line_feed ∷ []
 
--- what was written is the line of the answer, and the call tells whether that is a word
+-- what was written is the line of the answer, and the call tells whether that is a verdict
 pub record WritesAnswer {S : Type 0} (held : S → Option (List ℕ)) (failures : S → Failures) (old new : S) (filter rec : List ℕ)
     (result : Result Bool WriteFault) : Type 0 where
   pub answer : Answer

@@ -39,14 +39,14 @@ pub record AreRecord (rec : List ℕ) : Type 0 where
   pub bytes : (i : ℕ) → slice_index rec i < 256
   pub words : IsRecord (words_of rec)
 
--- on a call record the filter gives one word, and the profile that the bundle means says another
+-- on a call record the filter gives one verdict, and the profile that the bundle means says another
 pub record IsConvicted (native : Arch) (bundle filter rec : List ℕ) (given said : ℕ) : Type 0 where
   pub policy : Policy
   pub judged : AreJudged native bundle filter policy
   pub call : AreRecord rec
   pub convicts : Convicts policy (insns_of filter) (words_of rec) given said
 
--- the line that says it: two hexadecimal digits for each byte of the record, and both words
+-- the line that says it: two hexadecimal digits for each byte of the record, and both verdicts
 abbrev pub digits_line : List ℕ → ℕ → ℕ → List ℕ
 digits_line digits given said =
     codes "no record " ++ digits ++ codes " filter " ++ word.text_of given ++ codes " profile " ++ word.text_of said ++ line_feed ∷ []

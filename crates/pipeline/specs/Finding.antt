@@ -27,7 +27,7 @@ use Rattle.pipeline.specs.declared.check.Finding.TheVariants.{Yes, No, NoProfile
 abbrev pub IsBundle : Arch → List ℕ → Policy → Type 0
 IsBundle native bundle policy = (t : Data) × IsText bundle t × Means t native policy
 
--- the kernel accepts the filter, it gives each record the profile's word and no other, and no rule is broken
+-- the kernel accepts the filter, it gives each record the profile's verdict and no other, and no rule is broken
 pub record IsYes (policy : Policy) (filter cert : List ℕ) : Type 0 where
   pub accepted : IsAccepted (insns_of filter)
   pub right : IsRight policy (insns_of filter)

@@ -52,14 +52,14 @@ fn are_bytes(bytes: &[u8])
     ensures small { (i : ℕ) → slice_index bytes.now i < 256 }
 {}
 
-// The line that tells a record by its digits, with two words.
+// The line that tells a record by its digits, with two verdicts.
 fn line_with(alloc: Global, digits: &str, given: Word, said: Word) -> Result<String, AllocError>
     ensures { IfOk result (λ line. string_bytes line ≡ digits_line digits.now given said) }
 {
     format!(in alloc; "no record {digits} filter {given} profile {said}\n")
 }
 
-// The line that tells a record by its bytes, with two words.
+// The line that tells a record by its bytes, with two verdicts.
 fn line_text(alloc: Global, bytes: &[u8], given: Word, said: Word) -> Result<String, AllocError>
     ensures { IfOk result (λ line. string_bytes line ≡ conviction_line bytes.now given said) }
 {
@@ -162,7 +162,7 @@ fn certify_filter<S: Sink>(
 
 /// Writes a certificate that a filter answers what a bundle says, which is read for a native machine, once the checker says
 /// yes to it. Where there is none, the answer is false, and the line of a call record is written on which the filter gives
-/// another word than the bundle says; or, where none is found, the line that says why there is neither: of a filter that
+/// another verdict than the bundle says; or, where none is found, the line that says why there is neither: of a filter that
 /// compares steadily only that the format has no room.
 pub fn certify_bundle<S: Sink>(
     alloc: Global,

@@ -16,7 +16,7 @@ use streams::{Sink, WriteFault, write_all};
 /// What is found of a bundle, a filter and a certificate. Its text is the line of `ccell check`.
 #[derive(Clone, Copy, Debug, PartialEq, Eq)]
 pub enum Finding {
-    /// The filter gives each call record the word that the bundle says.
+    /// The filter gives each call record the verdict that the bundle says.
     Yes,
     /// A rule is broken: of filters, of the kernel's check, or of certificates.
     No(CheckError),

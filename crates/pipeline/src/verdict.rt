@@ -9,7 +9,7 @@ use kernel_check::{Refused, accept};
 use streams::{Sink, WriteFault, write_all};
 use texts::{Line, put, put_label, put_number};
 
-/// A word, or why there is none.
+/// A verdict, or why there is none.
 #[derive(Clone, Copy)]
 pub enum Answer {
     Verdict(Word),
@@ -60,7 +60,7 @@ fn line(answer: &Answer) -> Line
     line
 }
 
-/// Writes the line for a filter and a record. It is true of a word, and false of a refusal.
+/// Writes the line for a filter and a record. It is true of a verdict, and false of a refusal.
 pub fn verdict_line<S: Sink>(filter: &[u8], rec: &[u8], sink: &mut S) -> Result<bool, WriteFault>
     ensures { WritesAnswer S.held S.failures sink.old sink.new filter.now rec.now result }
 {

@@ -21,7 +21,7 @@ few (f ∷ fs) =
     let rest : length fs ≤ total_size fs = few fs in
     let e : total_size (f ∷ fs) ≡ length f.program + 4 + total_size fs = sum_by-cons (λ (g : Loaded). length g.program + 4) f fs in omega arith
 
--- the words taken one after the other, from the oldest filter on
+-- the verdicts taken one after the other, from the oldest filter on
 pub fold_words : (word : Loaded → ℕ) (fs : List Loaded) → fold (λ older f. strictest_of (word f ∷ older ∷ [])) allow (reverse fs)
     ≡ strictest_of (map word fs)
 unfolding strictest_of

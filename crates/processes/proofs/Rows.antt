@@ -58,7 +58,7 @@ call machine name a b =
       in_range = fits nr (token_of machine) a b;
     }
 
--- these words for the calls with these names, a word for calls of another machine, and ALLOW else
+-- these verdicts for the calls with these names, a verdict for calls of another machine, and ALLOW else
 abbrev pub judging : Arch → Table → ℕ → ℕ → Judge
 judging machine words foreign count = record {
   word = λ r.

@@ -171,7 +171,7 @@ carried_out NoLoad t r a ps = (Failed einval, ps)
 carried_out Plain t r a ps = (Done 0, ps)
 carried_out Missing t r a ps = (Absent, ps)
 
--- the strictest word of a task's filters
+-- the strictest verdict of a task's filters
 abbrev pub verdict_on : Record → Process → ℕ
 verdict_on r t = strictest_of (map (λ f. f.judge.word r) t.filters)
 

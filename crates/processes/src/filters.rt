@@ -36,7 +36,7 @@ impl Loaded {
         Loaded::of(alloc, self.load, &self.program.as_accepted())
     }
 
-    // The word that the filter gives.
+    // The verdict that the filter gives.
     fn word(&self, rec: &Record) -> Word
         ensures { result ≡ (filter_of self.now).judge.word rec.now }
     {
@@ -141,7 +141,7 @@ impl Filters {
         total_size(&self.list)
     }
 
-    /// The strictest word that the filters give.
+    /// The strictest verdict that the filters give.
     pub(crate) fn verdict(&self, rec: &Record) -> Word
         ensures { result ≡ strictest_of (map (λ f. f.judge.word rec.now) (filters_of self.now)) }
     {

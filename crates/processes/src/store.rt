@@ -69,7 +69,7 @@ pub trait Store: Drop {
         ensures size { result ≡ size_beside (filters_of self.now handle.now) }
         ensures small { result ≤ 32772 };
 
-    /// The strictest word that a handle's filters give.
+    /// The strictest verdict that a handle's filters give.
     fn verdict(&self, handle: &Self::Handle, rec: &Record) -> Word
         ensures { result ≡ strictest_of (map (λ f. f.judge.word rec.now) (filters_of self.now handle.now)) };
 

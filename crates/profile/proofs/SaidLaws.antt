@@ -1,4 +1,4 @@
--- A clear profile says one word of a record: that of the first rule that matches.
+-- A clear profile says one verdict of a record: that of the first rule that matches.
 use Rattle.std.proofs.Common.{◌≡◌, ℕ, suc, ◌≤◌, ◌==◌, Bool, true, false, ◌⊎◌, inl, inr, List, [], ◌∷◌}
 use Rattle.std.proofs.Common.{Some, None, bit_and, refl, sym, ◌∙◌, subst, arith}
 use Rattle.std.specs.Bool.{Decides}

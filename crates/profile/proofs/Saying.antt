@@ -1,4 +1,4 @@
--- The word that a profile says, from a rule that matches, and where none does.
+-- The verdict that a profile says, from a rule that matches, and where none does.
 use Rattle.std.proofs.Common.{◌≡◌, ℕ, ◌<◌, List, length, get_or, refl, sym, subst}
 use Rattle.std.specs.List.{All}
 use Rattle.profile.specs.declared.rules.Rule.{Rule}

@@ -16,7 +16,7 @@ pub data KeepsOnce : List Rule → List Rule → Type 0 where
       → KeepsOnce (rules ++ rule ∷ []) (kept ++ rule ∷ [])
   again : (rules kept : List Rule) (rule : Rule) → KeepsOnce rules kept → Contains rules rule → KeepsOnce (rules ++ rule ∷ []) kept
 
--- the profile of this native machine, these machines, this default word and these rules
+-- the profile of this native machine, these machines, this default verdict and these rules
 pub record IsBuiltOf (native : Arch) (archs : List Arch) (default_word : ℕ) (rules : List Rule) (p : Policy) : Type 0 where
   pub is_profile : IsProfile p
   pub native_is : p.native ≡ native

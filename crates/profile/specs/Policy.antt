@@ -1,4 +1,4 @@
--- A profile as contracts see it, what each one is, and the word that it says of a record (OCI Runtime
+-- A profile as contracts see it, what each one is, and the verdict that it says of a record (OCI Runtime
 -- Specification, config-linux, Seccomp; seccomp(2)).
 use Rattle.std.specs.Prelude.{◌≡◌, ◌≤◌, ℕ, List, length, Some, slice_get}
 use Rattle.std.specs.List.{All, Any, Contains}
@@ -22,7 +22,7 @@ pub record Policy : Type 0 where
 abbrev pub IsNative : Policy → List ℕ → Type 0
 IsNative p r = Any (HasCall (word r 1) (word r 0)) p.machines
 
--- The word that the profile says of a record. No order of the rules is known here.
+-- The verdict that the profile says of a record. No order of the rules is known here.
 pub record Says (p : Policy) (r : List ℕ) (v : ℕ) : Type 0 where
   pub foreign : ¬ IsNative p r → v ≡ 0
   pub matched : IsNative p r → (rule : Rule) → Contains p.rules rule → Matches rule r → v ≡ rule.word
@@ -42,7 +42,7 @@ AreDifferent rules = (i j : ℕ) (rule : Rule) → slice_get rules i ≡ Some ru
 abbrev pub most_rules : ℕ
 most_rules = 8192
 
--- no record matches two rules with unlike words
+-- no record matches two rules with unlike verdicts
 abbrev pub IsClear : List Rule → Type 0
 IsClear rules =
     (r : List ℕ) → IsRecord r → (a b : Rule) → Contains rules a → Contains rules b → Matches a r → Matches b r → a.word ≡ b.word

@@ -25,6 +25,6 @@ pub record Matches (rule : Rule) (r : List ℕ) : Type 0 where
 abbrev pub Overlap : Rule → Rule → Type 0
 Overlap a b = (r : List ℕ) × IsRecord r × Matches a r × Matches b r
 
--- some record matches both, and they have unlike words
+-- some record matches both, and they have unlike verdicts
 abbrev pub Clash : Rule → Rule → Type 0
 Clash a b = (a.word ≢ b.word) × Overlap a b

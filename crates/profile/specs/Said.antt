@@ -1,4 +1,4 @@
--- The word that a profile says, as a function: that of the first rule that matches.
+-- The verdict that a profile says, as a function: that of the first rule that matches.
 use Rattle.std.specs.Prelude.{◌≡◌, ◌↔◌, ℕ, ◌==◌, ◌&&◌, Bool, not, List, find, bit_and, nat_lt, nat_le, unwrap_or, if◌then◌else◌}
 use Rattle.std.specs.List.{list_all, list_any}
 use Rattle.std.specs.Option.{option_map}
@@ -30,10 +30,10 @@ matches rule r = word r 1 == token_of rule.arch && word r 0 == rule.nr && list_a
 abbrev pub is_native : Policy → List ℕ → Bool
 is_native p r = list_any (has_call (word r 1) (word r 0)) p.machines
 
--- the word of the first rule that matches, the default where none does, and 0 where the record is not native
+-- the verdict of the first rule that matches, the default where none does, and 0 where the record is not native
 abbrev pub said : Policy → List ℕ → ℕ
 said p r = if is_native p r then unwrap_or (option_map (λ rule. rule.word) (find (λ rule. matches rule r) p.rules)) p.default_word else 0
 
--- where the rules are clear, one word is said of a record, and it is that of the function
+-- where the rules are clear, one verdict is said of a record, and it is that of the function
 abbrev pub EachRecordIsSaidOneWord : Type 0
 EachRecordIsSaidOneWord = (p : Policy) (r : List ℕ) (v : ℕ) → IsClear p.rules → IsRecord r → (Says p r v ↔ (v ≡ said p r))

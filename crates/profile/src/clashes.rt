@@ -1,4 +1,4 @@
-//! Which of a list of rules give unlike words to one record.
+//! Which of a list of rules give unlike verdicts to one record.
 ghost use Rattle.std.specs.Prelude.{◌↔◌, ℕ, IsTrue, IfSome, IfNone, All, length, take, ◌<◌};
 ghost use Rattle.std.specs.List.{HoldsAt};
 ghost use Rattle.profile.specs.Rule.{Clash};

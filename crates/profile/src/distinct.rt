@@ -63,7 +63,7 @@ fn contains(rules: &[Rule], index: &Index, rule: &Rule) -> bool
     false
 }
 
-// Words first: they tell most rules for one call apart.
+// Verdicts first: they tell most rules for one call apart.
 fn same(a: &Rule, b: &Rule) -> bool
     ensures { IsTrue result ↔ (a.now ≡ b.now) }
 {

@@ -10,7 +10,7 @@ pub enum BuildError {
     NativeMissing,
     /// The rule at this place is for a machine that is not listed.
     ForeignRule(usize),
-    /// The rules at these places, the lesser first, have unlike words, and one record matches both.
+    /// The rules at these places, the lesser first, have unlike verdicts, and one record matches both.
     Overlap(usize, usize),
     /// More of the rules are different than a profile may have.
     TooMany,

@@ -1,9 +1,9 @@
-//! Profiles of system calls: which word a call record gets (OCI Runtime Specification,
+//! Profiles of system calls: which verdict a call record gets (OCI Runtime Specification,
 //! config-linux, Seccomp; seccomp(2)).
 //!
-//! A [`Profile`] has a list of machines, a default word and rules. A [`Rule`] gives a word to the
+//! A [`Profile`] has a list of machines, a default verdict and rules. A [`Rule`] gives a verdict to the
 //! records of one call of one machine that meet all its conditions. [`Profile::build`] refuses
-//! rules that give unlike words to one record, so a profile gives each record one word, whatever
+//! rules that give unlike verdicts to one record, so a profile gives each record one verdict, whatever
 //! the order of its rules.
 #![tactic(auto)]
 

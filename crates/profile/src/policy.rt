@@ -15,7 +15,7 @@ use call_tables::Arch;
 use std::alloc::Global;
 use std::marker::Model;
 
-/// A profile: which word a call record gets.
+/// A profile: which verdict a call record gets.
 #[derive(Drop)]
 pub struct Profile {
     native: Arch,
@@ -110,7 +110,7 @@ impl Profile {
         self.machines.as_slice()
     }
 
-    /// The word of a record that no rule matches.
+    /// The verdict of a record that no rule matches.
     pub fn default_word(&self) -> Word
         ensures { result ≡ self.now.default_word }
     {
@@ -125,7 +125,7 @@ impl Profile {
         &self.rules
     }
 
-    /// The word of a record. It is [`Word::KILL_THREAD`] where the record is no call of a listed
+    /// The verdict of a record. It is [`Word::KILL_THREAD`] where the record is no call of a listed
     /// machine.
     pub fn decide(&self, call: &Record) -> Word
         ensures { Says self.now (words call.now) result }
@@ -151,7 +151,7 @@ impl Profile {
     }
 }
 
-/// A clear profile says exactly one word of each record: that of the first rule that matches.
+/// A clear profile says exactly one verdict of each record: that of the first rule that matches.
 pub fn each_record_is_said_one_word()
     ensures { EachRecordIsSaidOneWord }
 {}

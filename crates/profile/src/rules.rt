@@ -11,7 +11,7 @@ use call_record::{Record, Word};
 use call_tables::{Arch, compared, is_narrow};
 use std::alloc::AllocError;
 
-/// A rule for one call of one machine: the word of a record that meets all its conditions.
+/// A rule for one call of one machine: the verdict of a record that meets all its conditions.
 #[derive(Debug, PartialEq, Eq, Drop)]
 pub struct Rule {
     pub arch: Arch,

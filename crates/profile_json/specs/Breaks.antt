@@ -45,7 +45,7 @@ pub data ActionBreaks (k : List ℕ) (d : Data) : Fault → Type 0 where
   action_text : (f : Fault) → NeededBreaks (member text k d) f → ActionBreaks k d f
   action_unknown : (name : List ℕ) → member text k d ≡ holds name → action_named name ≡ None → ActionBreaks k d unknown_action
 
--- the word of the action under one key, with the data under another
+-- the verdict of the action under one key, with the data under another
 pub data WordBreaks (action_key errno_key : List ℕ) (d : Data) : Fault → Type 0 where
   action : (f : Fault) → ActionBreaks action_key d f → WordBreaks action_key errno_key d f
   errno_other : member whole errno_key d ≡ other_type → WordBreaks action_key errno_key d wrong_type
@@ -107,7 +107,7 @@ pub data EntryBreaks (family : Family) (d : Data) : Fault → Type 0 where
   word : (f : Fault) → IsSome (object d) → WordBreaks key.action key.errno_ret d f → EntryBreaks family d f
   args : (f : Fault) → IsSome (object d) → ArgsBreak d f → EntryBreaks family d f
 
--- Under this name both entries have rules with unlike words, and one record matches both.
+-- Under this name both entries have rules with unlike verdicts, and one record matches both.
 pub record ClashUnder (machines : List Arch) (x y : EntryParts) (name : List ℕ) : Type 0 where
   pub in_first : Contains x.names name
   pub in_second : Contains y.names name

@@ -44,7 +44,7 @@ pub data ErrnoMeans (k : List ℕ) (d : Data) (a : Action) : ℕ → Type 0 wher
   none : member whole k d ≡ missing → ErrnoMeans k d a 1
   given : (n : ℕ) → member whole k d ≡ holds n → takes_data a ≡ true → n ≤ 4095 → ErrnoMeans k d a n
 
--- the word of the action under one key, with the data under another
+-- the verdict of the action under one key, with the data under another
 pub record WordMeans (action_key errno_key : List ℕ) (d : Data) (word : ℕ) : Type 0 where
   pub action : Action
   pub action_is : NamesAction action_key d action
@@ -128,7 +128,7 @@ pub record CallsMean (s : Data) (native : Arch) (p : Policy) : Type 0 where
   -- equal ones once, at the first place, and not too many
   pub kept : KeepsOnce said p.rules
   pub few : length p.rules ≤ most_rules
-  -- no record is given unlike words
+  -- no record is given unlike verdicts
   pub clear : IsClear p.rules
 
 -- The bundle t, read for a native machine, means the profile p.

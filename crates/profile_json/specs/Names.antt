@@ -32,7 +32,7 @@ action_named = named (
     (codes "SCMP_ACT_LOG", action.Log) ∷
     (codes "SCMP_ACT_ALLOW", action.Allow) ∷ [])
 
--- an action's word without data
+-- an action's verdict without data
 abbrev pub action_bits : Action → ℕ
 action_bits action.KillThread = verdict.kill_thread
 action_bits action.KillProcess = verdict.kill_process
@@ -52,7 +52,7 @@ takes_data action.Trace = true
 takes_data action.Log = false
 takes_data action.Allow = false
 
--- the word of an action, with the data that ERRNO and TRACE take
+-- the verdict of an action, with the data that ERRNO and TRACE take
 abbrev pub word_of : Action → ℕ → ℕ
 word_of a errno = if takes_data a then action_bits a + errno else action_bits a
 

@@ -1,4 +1,4 @@
-//! Actions, and the word of each.
+//! Actions, and the verdict of each.
 ghost use Rattle.std.specs.Prelude.{◌≡◌, ◌≤◌, IfOk};
 ghost use Rattle.serde_json.specs.View.{view};
 ghost use Rattle.profile_json.specs.Lookup.{member, whole};
@@ -55,7 +55,7 @@ impl Action {
         }
     }
 
-    /// The word, with these data where the action takes them.
+    /// The verdict, with these data where the action takes them.
     fn word(self, errno: u16) -> Word
         requires { errno ≤ 4095 }
         ensures { result ≡ word_of self errno }
@@ -93,7 +93,7 @@ fn errno_at(value: &Value, key: &str, action: Action) -> Result<u16, ProfileErro
     }
 }
 
-/// The word of the action under one key, with the data under another.
+/// The verdict of the action under one key, with the data under another.
 #[tactic(auto, unfolding(crate::specs::inner::Reading::word_at))]
 fn word_at(value: &Value, action_key: &str, errno_key: &str) -> Result<Word, ProfileError>
     ensures { Gives (λ w. w) result (read.word_at action_key.now errno_key.now (view value.now)) }
@@ -103,7 +103,7 @@ fn word_at(value: &Value, action_key: &str, errno_key: &str) -> Result<Word, Pro
     Ok(action.word(errno))
 }
 
-/// The word of calls that no rule matches.
+/// The verdict of calls that no rule matches.
 #[tactic(auto, unfolding(crate::specs::inner::Reading::default_of))]
 pub(crate) fn default_of(seccomp: &Value) -> Result<Word, ProfileError>
     ensures { Gives (λ w. w) result (read.default_of (view seccomp.now)) }
@@ -111,7 +111,7 @@ pub(crate) fn default_of(seccomp: &Value) -> Result<Word, ProfileError>
     word_at(seccomp, DEFAULT_ACTION, DEFAULT_ERRNO_RET)
 }
 
-/// The word of an entry.
+/// The verdict of an entry.
 #[tactic(auto, unfolding(crate::specs::inner::Reading::entry_word))]
 pub(crate) fn word_of(entry: &Value) -> Result<Word, ProfileError>
     ensures { Gives (λ w. w) result (read.entry_word (view entry.now)) }

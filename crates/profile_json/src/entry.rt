@@ -6,7 +6,7 @@ use arrayvec::ArrayVec;
 use call_record::Word;
 use profile::Cond;
 
-/// An entry: the calls that it names, the conditions of each of its rules, and their word.
+/// An entry: the calls that it names, the conditions of each of its rules, and their verdict.
 #[derive(Drop)]
 pub(crate) struct Entry<'a> {
     pub(crate) names: Vec<&'a str>,

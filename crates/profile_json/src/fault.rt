@@ -45,7 +45,7 @@ pub enum ProfileError {
     RepeatedIndex,
     /// A datum of MASKED_EQ has bits outside the mask.
     StrayDatum,
-    /// Two entries, by their places from 0, give unlike words to one record of this call.
+    /// Two entries, by their places from 0, give unlike verdicts to one record of this call.
     Overlap {
         name: ArrayString<64>,
         first: usize,

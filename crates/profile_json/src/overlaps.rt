@@ -1,4 +1,4 @@
-//! Entries that give unlike words to one record.
+//! Entries that give unlike verdicts to one record.
 ghost use Rattle.std.specs.Prelude.{◌≡◌, ◌↔◌, map, nat_lt, position, IsTrue, IsSomeAnd, IfSome, IfNone, Any, Contains};
 ghost use Rattle.std.specs.List.{list_any};
 ghost use Rattle.std.specs.Str.{bytes_eq};
@@ -50,7 +50,7 @@ fn overlap_by_name(first: &Entry, second: &Entry, name: &str, machines: &[Arch])
     overlap_under(first, second, name, machines)
 }
 
-/// The first name of the second entry under which one record gets unlike words of the two.
+/// The first name of the second entry under which one record gets unlike verdicts of the two.
 fn clash_of<'a>(first: &Entry, second: &Entry<'a>, machines: &[Arch]) -> Option<&'a str>
     ensures found { IfSome result (λ name. ClashUnder machines.now (entry_parts first.now) (entry_parts second.now) name.now) }
     ensures none { IfNone result (NoClash machines.now (entry_parts first.now) (entry_parts second.now)) }

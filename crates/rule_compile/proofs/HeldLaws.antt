@@ -27,7 +27,7 @@ held_of_record placed r machine =
     let P : ℕ → Type 0 = λ t. All (λ c. Meets c (compared (is_narrow t) (argument r c.index))) placed.rule.now.conds.items in
     (λ held. subst P (sym machine) held, λ all. subst P machine all)
 
--- the rule that is passed over has the default word
+-- the rule that is passed over has the default verdict
 pub passed_over : (q : Questions) (placed : Placed) (default : ℕ) → placed.rule.now.word ≡ default → IsAdded q q placed default false
 passed_over q placed default is r rec w = (
   λ met. inl met,

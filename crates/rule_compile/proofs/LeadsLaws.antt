@@ -32,7 +32,7 @@ use Rattle.rule_compile.specs.inner.Runs.{AreLed, Leads, LeadsByBits, LeadsByWor
 use Rattle.rule_compile.proofs.FindLaws.{after_all, first_is_least, in_order_parts}
 use Rattle.rule_compile.proofs.RunsLaws.{load_runs, mask_runs, runs_kept}
 
--- a word decides just that word
+-- a verdict decides just that verdict
 pub word_decided : {blocks : List Block} {r : List ℕ} {v w : ℕ} → Decides blocks r v (leaf.Word w) → w ≡ v
 word_decided by_word = refl
 

@@ -209,7 +209,7 @@ same_rules (o ∷ os) (p ∷ ps) same =
     subst (λ t. AllZip AreSame (rules_of (o ∷ os)) (put_first t p (rules_of ps))) (same_begins os ps same.1)
     (same_put (begins_here os) o p (rules_of os) (rules_of ps) same.0 (same_rules os ps same.1))
 
--- what holds of the questions and words of one list holds of those of the other
+-- what holds of the questions and verdicts of one list holds of those of the other
 module _ (P : Open → Type 0) (kept : (o p : Open) → IsSame o p → P o → P p) where
   pub all_same : (os ps : List Open) → AreSame os ps → All P os → All P ps
   all_same [] [] same h = All-nil P

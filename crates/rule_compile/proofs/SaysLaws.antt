@@ -32,7 +32,7 @@ some_or_none (x ∷ xs) r = elim (cases_Bool (matches x r)) [
   ]
 ]
 
--- what is said by rules of which no two disagree is one word
+-- what is said by rules of which no two disagree is one verdict
 pub said_one : (rules : List Rule) (default v w : ℕ) (r : List ℕ) → IsClearOn rules r → IsSaidBy rules default r v → IsSaidBy rules default r w
     → v ≡ w
 said_one rules default v w r clear (inl (a, has_a, ma, is_v)) (inl (b, has_b, mb, is_w)) = sym is_v ∙ clear a b has_a has_b ma mb ∙ is_w
@@ -46,7 +46,7 @@ module _ (p : Policy) (r : List ℕ) (clear : IsClear p.rules) (is_r : IsRecord 
   one_word : (v : ℕ) → Says p r v → said p r ≡ v
   one_word v says = sym ((each_record_is_said_one_word p r v clear is_r).0 says)
 
-  -- of a native record the word of a rule that matches, or the default
+  -- of a native record the verdict of a rule that matches, or the default
   pub said_by : IsNative p r → (v : ℕ) → IsSaidBy p.rules p.default_word r v → said p r ≡ v
   said_by native v (inl (rule, has, m, is)) = one_word v (record {
     foreign = λ not. absurd (not native);
@@ -88,7 +88,7 @@ foreign_other p m r listed token foreign native =
     native_not_foreign p.machines m (slice_index r 0) listed.0 listed.1
     (subst (λ t. Any (HasCall t (slice_index r 0)) p.machines) token native) foreign
 
--- ---- a rule without conditions, and rules with the default word
+-- ---- a rule without conditions, and rules with the default verdict
 
 pub matches_all : (rule : Rule) (token nr : ℕ) (r : List ℕ) → IsFor token nr rule → rule.conds.items ≡ [] → slice_index r 1 ≡ token
     → slice_index r 0 ≡ nr → Matches rule r

@@ -24,7 +24,7 @@ use Rattle.rule_compile.proofs.FindLaws.{all_left, all_right}
 use Rattle.rule_compile.proofs.RulesLaws.{any_cases, any_here, any_later, any_nil, any_weaker, are_same_back, clear_same, met_either, met_left, met_right, met_same}
 use Rattle.rule_compile.proofs.RulesLaws.{rules_append}
 
--- ---- whether a rule with a word is met
+-- ---- whether a rule with a verdict is met
 
 same_or_not : (a b : Bool) → (a ≡ b) ⊎ (a ≡ b → ⊥)
 same_or_not true true = inl refl
@@ -118,7 +118,7 @@ parts_are_rules os place rules least within begins =
       (begins, all_right IsRule (rules_of (take place os)) (rules_of (drop place os)) all),
     )
 
--- ---- rules with the word of what is gone on at
+-- ---- rules with the verdict of what is gone on at
 
 also_put : (other : Leaf) (t : Bool) (o : Open) (rules : List (List Open)) → other ≡ leaf.Word o.answer
     → All (λ rule. other ≡ leaf.Word (word_of rule)) rules → All (λ rule. other ≡ leaf.Word (word_of rule)) (put_first t o rules)

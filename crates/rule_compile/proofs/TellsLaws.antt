@@ -1,4 +1,4 @@
--- Code that gives each call its word, for every profile.
+-- Code that gives each call its verdict, for every profile.
 use Rattle.std.proofs.Common.{◌≡◌, ℕ, zero, suc, ◌<◌, ◌^◌, List, [], ◌∷◌, ◌++◌, length, length-append, inl, inr, refl, ap, sym, ◌∙◌, subst, true, arith}
 use Rattle.std.specs.Prelude.{Err, Ok, OnOk, Result, Some, None, slice_get, slice_index, slice_index_or, if◌then◌else◌}
 use Rattle.std.specs.List.{All}
@@ -101,7 +101,7 @@ module _ (p : Policy) (arch : Arch) (archs : List Arch) (mid top : List Insn) (g
   other_foreign : (r : List ℕ) → IsRecord r → (IsOneOf archs (slice_index r 1) → ⊥) → runs top no (slice_index r 1) r ≡ Some 0
   other_foreign r is_r not = runs_kept mid top g no at (slice_index r 1) r ∙ others.foreign r is_r not
 
-  -- a machine whose calls all get the word of a foreign record is none
+  -- a machine whose calls all get the verdict of a foreign record is none
   pub tells_skip : calls ≡ Return 0 → TellsThese p (arch ∷ archs) top no
   tells_skip none = record {
     listed = λ r is_r is. elim (one_of_or_not archs (slice_index r 1)) [

@@ -146,7 +146,7 @@ pub decides_those : (rules : List Rule) (token nr default : ℕ) (own : List Pla
 decides_those rules token nr default own blocks leaf those decides r is_r at number clear v said =
     by_those rules token nr default own those r at number blocks leaf is_r decides clear v said
 
--- one word decides them all
+-- one verdict decides them all
 pub decides_word : (rules : List Rule) (token nr default word : ℕ) (blocks : List Block) → SaysNumber rules token nr default word
     → DecidesNumber rules token nr default blocks (Word word)
 decides_word rules token nr default word blocks says r is_r at number clear v said =

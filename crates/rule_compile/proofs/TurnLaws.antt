@@ -1,4 +1,4 @@
--- A leaf decides one word of each record, so the parts that stand for questions say what these come to.
+-- A leaf decides one verdict for each record, so the parts that stand for questions say what these come to.
 use Rattle.std.proofs.Common.{◌≡◌, ℕ, zero, suc, ◌<◌, ◌≤◌, ◌⊎◌, ◌^◌, List, [], ◌∷◌, length, refl, sym, ◌∙◌, subst, arith, inl, inr}
 use Rattle.std.specs.Prelude.{Some, slice_get}
 use Rattle.std.specs.List.{All, Contains}
@@ -50,7 +50,7 @@ one_range (z ∷ zs) x y u order has_x has_y in_x in_y =
       ]
     ]
 
--- ---- a leaf decides one word
+-- ---- a leaf decides one verdict
 
 some_block : (blocks : List Block) (place : ℕ) → place < length blocks → (b : Block) × (slice_get blocks place ≡ Some b)
 some_block [] place inside = absurd (omega (arith, inside))

@@ -1,4 +1,4 @@
--- What blocks decide: the word that a record gets from a block on, or from what stands in a block's place.
+-- What blocks decide: the verdict that a record gets from a block on, or from what stands in a block's place.
 use Rattle.std.specs.Prelude.{◌≡◌, ◌≤◌, ◌⊎◌, ℕ, List, Some, slice_get}
 use Rattle.std.specs.List.{Contains}
 use Rattle.call_record.specs.Words.{IsRecord}
@@ -14,13 +14,13 @@ use Rattle.rule_compile.specs.Rules.{IsClearAt, SomeMet}
 abbrev pub IsWithin : Range → ℕ → Type 0
 IsWithin range u = (range.first ≤ u) × (u ≤ range.last)
 
--- a word is what it says; a block goes on by the range that has its bits of the record
+-- a verdict is what it says; a block goes on by the range that has its bits of the record
 pub data Decides (blocks : List Block) (r : List ℕ) (v : ℕ) : Leaf → Type 0 where
   by_word : Decides blocks r v (leaf.Word v)
   by_block : (place : ℕ) (block : Block) (range : Range) → slice_get blocks place ≡ Some block → Contains block.ranges.items range
       → IsWithin range (bits block.subject r) → Decides blocks r v range.leaf → Decides blocks r v (leaf.Block place)
 
--- what questions come to: the word of a rule that is met, and where none is, what is gone on at
+-- what questions come to: the verdict of a rule that is met, and where none is, what is gone on at
 abbrev pub Comes : List Block → List Open → Leaf → List ℕ → ℕ → Type 0
 Comes blocks os other r v = SomeMet os r v ⊎ (((w : ℕ) → SomeMet os r w → ⊥) × Decides blocks r v other)
 

@@ -7,7 +7,7 @@ use Rattle.bpf_insn.specs.declared.code.Test.TheVariants.{Equal, AtLeast}
 use Rattle.bpf_insn.specs.declared.code.Operation.{Operation}
 use Rattle.bpf_insn.specs.declared.code.Operation.TheVariants.{LoadWord, ReturnK, Jump, Branch}
 
--- the run ends by a word; or it goes on past some instructions, with this word of the record in A or with none; or it
+-- the run ends by a verdict; or it goes on past some instructions, with this word of the record in A or with none; or it
 -- compares this word of the record, and goes on by one of two targets
 pub data Move : Type 0 where
   Ends : (word : ℕ) → Move

@@ -29,15 +29,15 @@ StandInTurn blocks other [] whole = whole ≡ other
 StandInTurn blocks other (part ∷ parts) whole =
     StandsFor blocks part.leaf part.rules.items other × StandInTurn blocks part.leaf parts whole
 
--- what parts come to on a record: the word of a rule that it meets in the last of them; and where it meets none there, what the
--- parts before come to, and at last another word
+-- what parts come to on a record: the verdict of a rule that it meets in the last of them; and where it meets none there, what
+-- the parts before come to, and at last another verdict
 abbrev pub ComeInTurn : (ℕ → Type 0) → List Part → List ℕ → ℕ → Type 0
 ComeInTurn other [] r v = other v
 ComeInTurn other (part ∷ parts) r v =
     ComeInTurn (λ w. SomeMet part.rules.items r w ⊎ (((u : ℕ) → SomeMet part.rules.items r u → ⊥) × other w)) parts r v
 
--- The questions of a call are asked in parts, behind which is the default word. The rules of a part that a record of the call
--- meets have one word, and the parts come to what the profile says.
+-- The questions of a call are asked in parts, behind which is the default verdict. The rules of a part that a record of the
+-- call meets have one verdict, and the parts come to what the profile says.
 pub record AreAsked (policy : Policy) (blocks : List Block) (call : Call) (parts : List Part) : Type 0 where
   pub stand : StandInTurn blocks (leaf.Word policy.default_word) parts call.leaf
   pub clear : (r : List ℕ) → IsOfCall call r → All (λ part. IsClearAt part.rules.items r) parts

@@ -11,8 +11,8 @@ use Rattle.profile.specs.Said.{said}
 use Rattle.rule_compile.specs.Shape.{IsCallFilter, IsPlain}
 use Rattle.rule_compile.specs.Steady.{IsSteady, Nothing}
 
--- The kernel refuses it for nothing but its length, it gives each call record the word that the profile says, and it compares
--- steadily. For a plain profile it has the shape of such filters, so it is no longer than the kernel takes.
+-- The kernel refuses it for nothing but its length, it gives each call record the verdict that the profile says, and it
+-- compares steadily. For a plain profile it has the shape of such filters, so it is no longer than the kernel takes.
 pub record IsPlanOf (policy : Policy) (p : List Insn) : Type 0 where
   pub some : 1 ≤ length p
   pub no_cause : (i : ℕ) (k : Cause) → HasCause p i k → ⊥

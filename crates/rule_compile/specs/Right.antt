@@ -1,4 +1,4 @@
--- What a right filter is: the kernel accepts it, and on each call record it gives the word that the profile says.
+-- What a right filter is: the kernel accepts it, and on each call record it gives the verdict that the profile says.
 use Rattle.std.specs.Prelude.{◌≡◌, ℕ, List, Some}
 use Rattle.call_record.specs.Words.{IsRecord}
 use Rattle.bpf_insn.specs.declared.instruction.Insn.{Insn}

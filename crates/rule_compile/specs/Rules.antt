@@ -20,7 +20,7 @@ abbrev pub rules_of : List Open → List (List Open)
 rules_of [] = []
 rules_of (o ∷ os) = put_first (begins_here os) o (rules_of os)
 
--- the word of a rule
+-- the verdict of a rule
 abbrev pub word_of : List Open → ℕ
 word_of [] = 0
 word_of (o ∷ os) = o.answer
@@ -29,10 +29,10 @@ word_of (o ∷ os) = o.answer
 abbrev pub IsRuleMet : List ℕ → List Open → Type 0
 IsRuleMet r rule = All (λ o. IsMet o.question r) rule
 
--- the record meets a rule with this word
+-- the record meets a rule with this verdict
 abbrev pub SomeMet : List Open → List ℕ → ℕ → Type 0
 SomeMet os r w = Any (λ rule. IsRuleMet r rule × (word_of rule ≡ w)) (rules_of os)
 
--- the rules that the record meets have one word
+-- the rules that the record meets have one verdict
 abbrev pub IsClearAt : List Open → List ℕ → Type 0
 IsClearAt os r = (v w : ℕ) → SomeMet os r v → SomeMet os r w → v ≡ w

@@ -36,14 +36,14 @@ pub struct Asker {
 pub struct Open {
     /// Whether the question is the first one of its rule.
     pub begins: bool,
-    /// The word of the rule.
+    /// The verdict of the rule.
     pub answer: Word,
     pub question: Question,
     pub asker: Asker,
 }
 
 impl Open {
-    // Whether both ask the same, for the same word, whoever asks it.
+    // Whether both ask the same, for the same verdict, whoever asks it.
     fn is_like(&self, other: &Open) -> bool
         ensures { IsTrue result → IsSame self.now other.now }
     {
@@ -52,7 +52,7 @@ impl Open {
             && self.question == other.question
     }
 
-    /// A key of what is asked, for which word. What is alike has one key.
+    /// A key of what is asked, for which verdict. What is alike has one key.
     pub(crate) fn key(&self) -> u32 {
         let question = self.question;
         let mut key = mixed(self.answer.0, question.number);
@@ -94,7 +94,7 @@ struct Argument {
 /// What rules come to.
 #[derive(Drop)]
 pub enum Rest {
-    /// The rule at this place of the profile's order holds, and this is its word.
+    /// The rule at this place of the profile's order holds, and this is its verdict.
     Met(usize, Word),
     /// What is left to ask of those that may hold.
     Open(Vec<Open>),
@@ -150,7 +150,7 @@ impl Questions {
         !self.failed && self.asked.len() == self.start
     }
 
-    /// Asks a question for a condition of the rule with this word, unless the rule does not hold.
+    /// Asks a question for a condition of the rule with this verdict, unless the rule does not hold.
     pub(crate) fn ask(
         &mut self,
         asker: Asker,
@@ -175,7 +175,7 @@ impl Questions {
         Ok(())
     }
 
-    /// Asks for a rule, unless it has the default word. Gives whether it holds for sure.
+    /// Asks for a rule, unless it has the default verdict. Gives whether it holds for sure.
     fn add(&mut self, placed: Placed<'_>, default: Word) -> Result<bool, AllocError>
         ensures rules { OnOk result (AreRules self.old.asked.items → AreRules self.new.asked.items) }
         ensures says { IfOk result (IsAdded self.old self.new placed.entry default) }
@@ -370,7 +370,7 @@ impl Questions {
     }
 }
 
-/// What is to be asked of rules. One with the default word makes no difference.
+/// What is to be asked of rules. One with the default verdict makes no difference.
 pub(crate) fn questions_of(
     alloc: Global,
     rules: &[Placed<'_>],

@@ -170,7 +170,7 @@ impl Assembler {
         }
     }
 
-    /// The one return of the word, or where it is far from here, that of a jump to it, as `near`.
+    /// The one return of the verdict, or where it is far from here, that of a jump to it, as `near`.
     pub(crate) fn near_return(&mut self, word: Word) -> Result<Label, AllocError>
         ensures reached { IfOk result (Reaches self.old self.new (Target.Return word)) }
     {

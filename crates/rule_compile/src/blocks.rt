@@ -1,6 +1,6 @@
 //! What decides calls of which rules ask for arguments, as blocks.
 //!
-//! A block asks for bits of one word, and goes on at a word or at another block, by the range that
+//! A block asks for bits of one word, and goes on at a verdict or at another block, by the range that
 //! has the number of these bits. So what is known of a word is used by all rules, and what a failed
 //! half leaves of them is a block as well. Where the same is left to ask, it is the same block,
 //! whichever calls and machines come to it.

@@ -193,7 +193,7 @@ fn has_token(machines: &[Arch], token: u32) -> bool
     machines.iter().any(|arch| arch.token() == token)
 }
 
-// The calls of a machine, if not each of them gets the word of a foreign record.
+// The calls of a machine, if not each of them gets the verdict of a foreign record.
 fn native(calls: Target) -> Option<Target>
     ensures { MatchOption result (calls ≡ Target.Return 0) (λ native. native ≡ calls) }
 {

@@ -14,7 +14,7 @@ pub(crate) struct Label {
 pub(crate) enum Target {
     /// At a place.
     Place(Label),
-    /// At the return of a word, of which a filter has just one.
+    /// At the return of a verdict, of which a filter has just one.
     Return(Word),
 }
 

@@ -10,7 +10,7 @@ use crate::ranges::Leaf;
 // How many ranges may be looked at for each question, before neighbours that go on alike are one.
 const RANGES: usize = 6;
 
-/// Whether each rule has the word of what is gone on at without them.
+/// Whether each rule has the verdict of what is gone on at without them.
 pub(crate) fn all_have(rules: &[Open], other: &Leaf) -> bool
     ensures { IsTrue result → All (λ o. other.now ≡ Leaf.Word o.answer) rules.now }
 {

@@ -106,7 +106,7 @@ impl Blocks {
         Ok(())
     }
 
-    // The block of these rules. Rules with the word of what is gone on at without them make no
+    // The block of these rules. Rules with the verdict of what is gone on at without them make no
     // difference. They are asked all at once where that takes no more ranges than the first half of
     // them before the second. The first of them stands at a place among those of its call. The parts
     // in which they are asked are noted behind the spans that there are.

@@ -22,16 +22,16 @@ use std::alloc::{AllocError, Global};
 /// What decides a call.
 #[derive(Clone, Copy, PartialEq, Eq)]
 pub enum Leaf {
-    /// It gets this word.
+    /// It gets this verdict.
     Word(Word),
     /// The block at this place decides, by the arguments.
     Block(usize),
 }
 
 impl Leaf {
-    // What decides the calls of a number of the machine with the token, where it is a word. Where a
-    // rule for it has no conditions, the others that match have its word, since no record matches two
-    // rules with unlike words.
+    // What decides the calls of a number of the machine with the token, where it is a verdict. Where a
+    // rule for it has no conditions, the others that match have its verdict, since no record matches two
+    // rules with unlike verdicts.
     fn of(rules: &[Rule], token: u32, number: u32, default: Word) -> Option<Leaf>
         ensures told { IfSome result (λ leaf. (word : ℕ) × (leaf ≡ Leaf.Word word) × SaysNumber rules.now token number default word) }
         ensures some { AreUnconditional rules.now → IsSome result }
@@ -54,7 +54,7 @@ impl Leaf {
         Some(Leaf::Word(default))
     }
 
-    // Whether each call gets the word.
+    // Whether each call gets the verdict.
     fn is_word(&self, word: Word) -> bool
         ensures { IsTrue result ↔ (self.now ≡ Leaf.Word word) }
     {

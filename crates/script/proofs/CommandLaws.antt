@@ -22,7 +22,7 @@ same_word word text more h = ap (λ w. w ∷ more) ((bytes_eq-Decides word text)
 
 -- Two fields.
 
--- a command that a word chooses, or what else there is
+-- a command that a field chooses, or what else there is
 chosen_word : (native : Arch) (word text : List ℕ) (more : List (List ℕ)) (command o : Command) (rest : Option Command)
     → (word ∷ more ≡ text ∷ more → AreFieldsOf native (word ∷ more) command) → (rest ≡ Some o → AreFieldsOf native (word ∷ more) o)
     → cond (bytes_eq word text) (Some command) rest ≡ Some o → AreFieldsOf native (word ∷ more) o

@@ -102,7 +102,7 @@ foreign-some family arch text ds p of spelled h =
     let P : Arch × ℕ → Type 0 = λ q. IsForeign family text q.0 q.1 in
     subst P m.2 (record { digits = ds; of_family = of; spelled = spelled; number = w.0; small = w.1 })
 
--- a machine that a word calls, and that another word calls else
+-- a machine that a name calls, and that another name calls else
 called_some : (own arch : Arch) (word : List ℕ) (rest : Option Arch) → (rest ≡ Some arch → word ≡ word_of arch)
     → cond (bytes_eq word (word_of own)) (Some own) rest ≡ Some arch → word ≡ word_of arch
 called_some own arch word rest more h = by_side (chosen (bytes_eq word (word_of own)) (Some own) rest arch h) where

@@ -42,7 +42,7 @@ fn put_outcome(line: &mut Line, outcome: Outcome)
     }
 }
 
-// Adds the word by which a start was refused.
+// Adds the verdict by which a start was refused.
 fn put_word(line: &mut Line, refused: &Refusal)
     requires { array_vec_len line.old ≤ 48 }
     ensures items { line.new.items ≡ line.old.items ++ refusal.word_of refused.now }

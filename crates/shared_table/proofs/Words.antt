@@ -12,7 +12,7 @@ use Rattle.call_record.proofs.StrictestLemmas.{strictest_of-alone}
 use Rattle.processes.specs.Tasks.{Filter, program_judge}
 use Rattle.shared_table.specs.Tree.{Way, all_allow, filters_on}
 
--- the words of a way's filters
+-- the verdicts of a way's filters
 abbrev pub words_on : Record → Way → List ℕ
 words_on r way = map (λ (f : Filter). f.judge.word r) (filters_on way)
 
@@ -35,7 +35,7 @@ pub allowed_at_once : (r : Record) (way : Way) → all_allow r.arch way r.nr ≡
 unfolding strictest_of
 allowed_at_once r way h = rw (each_allows r way h) refl
 
--- where no filter is left, the strictest word so far is that of all
+-- where no filter is left, the strictest verdict so far is that of all
 pub ended : (r : Record) (way : Way) (word all : ℕ) → way ≡ [] → strictest_of (word ∷ words_on r way) ≡ all
     → strictest_of (word ∷ allow ∷ []) ≡ all
 ended r way word all none h = strictest_of-alone word ∙ ap (λ (w : Way). strictest_of (word ∷ words_on r w)) (sym none) ∙ h

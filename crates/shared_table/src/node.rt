@@ -27,7 +27,7 @@ pub(crate) struct Node {
 impl Node {
     ghost use Rattle.processes.specs.Tasks.{program_judge};
 
-    /// The word that the filter gives.
+    /// The verdict that the filter gives.
     pub(crate) fn word(&self, rec: &Record) -> Word
         ensures { result ≡ (program_judge self.now.program).word rec.now }
     {

@@ -108,7 +108,7 @@ impl Tree {
         node.below
     }
 
-    // The strictest word of the filters on the way down from a place.
+    // The strictest verdict of the filters on the way down from a place.
     fn walked(&self, place: u32, rec: &Record) -> Word
         ensures { result ≡ strictest_of (map (λ f. f.judge.word rec.now)
             (filters_on (way_from self.now.nodes.items place))) }

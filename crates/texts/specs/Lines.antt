@@ -1,4 +1,4 @@
--- What stands between words, and at the end of a line.
+-- What stands between the parts of a line, and at its end.
 use Rattle.std.specs.Prelude.{ℕ}
 
 abbrev pub space : ℕ

@@ -13,7 +13,7 @@ use Rattle.cert_check.specs.Agree.{Agrees}
 use Rattle.cert_check.specs.Rules.{Carries, EdgeRule, EntailRule, Keeps, ReturnRule, RootRule, SplitRule, word_by}
 use Rattle.cert_check.specs.Rules as rules
 
--- the instruction gives a word, and the profile says it on all that the node knows
+-- the instruction gives a verdict, and the profile says it on all that the node knows
 pub record ReturnsAt (policy : Policy) (i : Insn) (n : PlainNode) : Type 0 where
   pub word : ℕ
   pub known : word_by (operation_of i.code) n.regs i ≡ Some word

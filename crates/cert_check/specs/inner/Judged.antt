@@ -91,17 +91,17 @@ IsRuleJudged number conds answer =
     (met : List (ℕ × ℕ)) (known : List Lit) (place : ℕ) (rule : Rule) → IsKnownNumber known rule.nr number
     → AreJudgedAt (is_narrow_rule rule) met known place rule.conds.items conds → IsJudgedAt met known place rule answer
 
--- a rule at a place says another word than v, and is not no
+-- a rule at a place says another verdict than v, and is not no
 abbrev pub IsOther : List (ℕ × ℕ) → List Lit → ℕ → ℕ → Rule → Type 0
 IsOther met known v place rule = (IsNoRule met known place rule → ⊥) × (rule.word ≢ v)
 
--- how the rule at a place bears on the word v
+-- how the rule at a place bears on the verdict v
 abbrev pub Bears : List (ℕ × ℕ) → List Lit → ℕ → ℕ → Rule → Bearing → Type 0
 Bears met known v place rule Settles = IsYesRule met known place rule × (rule.word ≡ v)
 Bears met known v place rule Agrees = (IsYesRule met known place rule → rule.word ≢ v) × (IsNoRule met known place rule ⊎ (rule.word ≡ v))
 Bears met known v place rule Differs = IsOther met known v place rule
 
--- a rule that is left, other than the word v
+-- a rule that is left, other than the verdict v
 pub record AnotherIsLeft (out : List ℕ) (met : List (ℕ × ℕ)) (known : List Lit) (v : ℕ) (arch : Arch) (rules : List Rule) : Type 0 where
   pub place : ℕ
   pub rule : Rule
@@ -109,7 +109,7 @@ pub record AnotherIsLeft (out : List ℕ) (met : List (ℕ × ℕ)) (known : Lis
   pub left : IsLeft out arch place rule
   pub other : IsOther met known v place rule
 
--- of the first rules, those that are left for the machine: none is yes with the word v; none is another, or one is
+-- of the first rules, those that are left for the machine: none is yes with the verdict v; none is another, or one is
 pub record RulesSoFar (out : List ℕ) (met : List (ℕ
     × ℕ)) (known : List Lit) (v : ℕ) (arch : Arch) (rules : List Rule) (n : ℕ) (others : Bool) : Type 0 where
   pub none_sure : (k : ℕ) (d : Rule) → k < n → IsLeft out arch k (slice_index_or rules k d)
@@ -127,7 +127,7 @@ IsOutThen here there known place rule = Contains there place → Contains here p
 abbrev pub AreOutSoFar : List ℕ → List ℕ → List Lit → List Rule → ℕ → Type 0
 AreOutSoFar here there known rules n = (k : ℕ) (d : Rule) → k < n → IsOutThen here there known k (slice_index_or rules k d)
 
--- a rule at a place is left for the machine, is yes, and has the word v
+-- a rule at a place is left for the machine, is yes, and has the verdict v
 pub record SaysAt (out : List ℕ) (met : List (ℕ × ℕ)) (known : List Lit) (v : ℕ) (arch : Arch) (place : ℕ) (rule : Rule) : Type 0 where
   pub left : IsLeft out arch place rule
   pub is_yes : IsYesRule met known place rule

@@ -75,13 +75,13 @@ pub record IsCut (old new : Paths) (from : Place) (kind : Kind) : Type 0 where
   pub two : AreTwo old new from (record { pc = from.pc; a = from.a; learned = Some one })
       (record { pc = from.pc; a = from.a; learned = Some other }) first second
 
--- a return of a word that is settled
+-- a return of a verdict that is settled
 pub record IsReturn (policy : Policy) (old new : Paths) (from : Place) (word : ℕ) (kind : Kind) : Type 0 where
   pub kind_is : kind ≡ Return
   pub same : new ≡ old
   pub agrees : Agrees policy [] [] (known_at old.entries.items from) word
 
--- what is known is true of a record, of which the policy says another word
+-- what is known is true of a record, of which the policy says another verdict
 pub record IsUnlike (policy : Policy) (known : List Lit) (r : List ℕ) (word : ℕ) : Type 0 where
   pub is_record : IsRecord r
   pub all_hold : All (λ l. Holds l r) known

@@ -1,4 +1,4 @@
--- Where what is known at a return settles the word.
+-- Where what is known at a return settles the verdict.
 use Rattle.std.specs.Prelude.{◌≡◌, ℕ, ◌<◌, ◌≤◌, ◌⊎◌, List, [], Contains, length}
 use Rattle.std.specs.List.{All, Any}
 use Rattle.call_tables.specs.declared.arch.Arch.{Arch}
@@ -16,7 +16,7 @@ use Rattle.rule_compile.specs.Shape.{AreSmallNative, IsPlainRule, call}
 abbrev pub IsOfCalls : Lit → Type 0
 IsOfCalls l = IsWhole l × (index_of l < 2)
 
--- the profile says the word of each call that is known to be possible
+-- the profile says the verdict of each call that is known to be possible
 abbrev pub SaysThere : Policy → List Lit → ℕ → Type 0
 SaysThere policy known v = (t u : ℕ) → IsPoint known 1 t → IsPoint known 0 u → Says policy (call t u) v
 
@@ -32,7 +32,7 @@ LieIn lo hi all = Any (λ numbers. (numbers.first ≤ lo) × (hi ≤ numbers.las
 abbrev pub BeginsWithin : ℕ → ℕ → Numbers → Type 0
 BeginsWithin lo hi numbers = (lo < numbers.first) × IsWithin hi numbers
 
--- it is one machine's, and one number, or the default word, or foreign
+-- it is one machine's, and one number, or the default verdict, or foreign
 pub record IsOfOne (policy : Policy) (known : List Lit) (v lo hi : ℕ) : Type 0 where
   pub arch : Arch
   pub listed : Contains policy.machines arch

@@ -25,13 +25,13 @@ pub record IsOnWay (policy : Policy) (p : List Insn) (s : Store) (place : Place)
   pub fits : IsPlace s p place
   pub answers : IsMeant policy p → AnswersThere policy p place.pc place.held (known_at s place)
 
--- a return of the word stands there
+-- a return of the verdict stands there
 pub record IsReturnOf (p : List Insn) (place : Place) (v : ℕ) : Type 0 where
   pub insn : Insn
   pub inside : slice_get p place.pc ≡ Some insn
   pub ends : move_at (operation_of insn.code) insn.k place.held ≡ Some (Ends v)
 
--- a path stands at a return, and the profile says its word of each call that is possible
+-- a path stands at a return, and the profile says its verdict of each call that is possible
 pub record IsAtReturn (policy : Policy) (p : List Insn) (s : Store) (place : Place) (v : ℕ) : Type 0 where
   pub store : IsStore s
   pub fits : IsPlace s p place

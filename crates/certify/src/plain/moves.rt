@@ -17,7 +17,7 @@ pub(crate) enum Comparison {
 /// What an instruction does: a filter of calls knows no other.
 #[derive(Clone, Copy)]
 pub(crate) enum Move {
-    /// It ends the run by a word.
+    /// It ends the run by a verdict.
     Ends(u32),
     /// It skips so many, and A holds this word of the record or none.
     Goes(u32, Option<u8>),

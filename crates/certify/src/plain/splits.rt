@@ -1,4 +1,4 @@
-//! A return, at which the calls that lead there are told apart until the profile says one word of them.
+//! A return, at which the calls that lead there are told apart until the profile says one verdict of them.
 ghost use Rattle.std.specs.Prelude.{◌≡◌, ◌≤◌, ◌<◌, ◌+◌, ◌-◌, ◌/◌, [], length, slice_get, Any, IfErr, IfOk, IfSome, IsTrue, ◌↔◌, Contains};
 ghost use Rattle.bpf_insn.specs.Program.{insns};
 ghost use Rattle.cert_check.specs.Agree.{Agrees};
@@ -40,7 +40,7 @@ pub(crate) fn dead(
     store.add(place, Kind::Dead)
 }
 
-// The node of a return whose word the profile says.
+// The node of a return whose verdict the profile says.
 fn ends(
     store: &mut Store,
     profile: &Profile,
@@ -169,7 +169,7 @@ fn machine(
     numbers(store, profile, program, place, word, arch, HALVINGS)
 }
 
-// Whether the word is that of foreign records and the default one too, so that no call has to be told from another.
+// Whether the verdict is that of foreign records and the default one too, so that no call has to be told from another.
 fn is_refusal(profile: &Profile, word: u32) -> bool
     ensures { IsTrue result ↔ ((word ≡ 0) × (profile.now.default_word ≡ word)) }
 {

@@ -1,4 +1,4 @@
-//! Whether a filter is seen to be wrong at a return: the profile says another word of a call that leads there.
+//! Whether a filter is seen to be wrong at a return: the profile says another verdict of a call that leads there.
 ghost use Rattle.std.specs.Prelude.{◌≡◌, ◌≤◌, length, false};
 ghost use Rattle.profile.specs.Policy.{IsClear, Says};
 ghost use Rattle.rule_compile.specs.Shape.{call};
@@ -10,7 +10,7 @@ use crate::plain::store::Store;
 use call_record::Record;
 use profile::Profile;
 
-// Whether the profile says another word of a call.
+// Whether the profile says another verdict of a call.
 fn says_other(profile: &Profile, token: u32, number: u32, word: u32) -> bool
     ensures { IsClear profile.now.rules → Says profile.now (call token number) word → result ≡ false }
 {
@@ -74,8 +74,8 @@ fn is_of_rules(
     false
 }
 
-/// Whether the profile says another word than a return's of a call that is possible there. Looked at are the calls at the
-/// ends of what is known, and those that rules name: at a return that is settled no other call can say another word.
+/// Whether the profile says another verdict than a return's of a call that is possible there. Looked at are the calls at the
+/// ends of what is known, and those that rules name: at a return that is settled no other call can say another verdict.
 pub(crate) fn is_unlike(store: &Store, profile: &Profile, place: Place, word: u32) -> bool
     requires store { IsStore store.now }
     requires chain { place.chain ≤ length store.now.entries.items }

@@ -1,4 +1,4 @@
--- What is written of a record on which a filter gives another word than a profile says.
+-- What is written of a record on which a filter gives another verdict than a profile says.
 use Rattle.std.specs.Prelude.{ℕ, ◌≡◌, ◌<◌, ◌⊎◌, Bool, false, List, length, slice_index, Option, Result, IfOk}
 use Rattle.call_record.specs.Words.{words_of}
 use Rattle.streams.specs.Failures.{Failures}

@@ -1,4 +1,4 @@
--- Entries whose rules give unlike words to one record.
+-- Entries whose rules give unlike verdicts to one record.
 use Rattle.std.proofs.Common.{◌≡◌, ◌≢◌, ℕ, suc, List, map, get_or, Option, Some, None, option_map, ◌+◌, drop, Bool, true, false}
 use Rattle.std.proofs.Common.{Bor, inl, inr, refl, sym, ◌∙◌, ap, subst, arith}
 use Rattle.std.specs.List.{Contains, Any}

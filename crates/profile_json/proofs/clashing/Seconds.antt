@@ -18,7 +18,7 @@ use Rattle.profile_json.proofs.Lists.{contains_flat_back}
 use Rattle.profile_json.proofs.clashing.Clashing.{IsUnder, under_back, must_clash}
 use Rattle.profile_json.proofs.clashing.Places.{IsEntryOf, entry_of_place}
 
--- each rule of an entry has its word
+-- each rule of an entry has its verdict
 pub word_of_entry : (machines : List Arch) (e : EntryParts) (r : RuleParts) → Contains (rules_of_entry machines e) r → r.word ≡ e.word
 word_of_entry machines e r h =
     let n = contains_flat_back (rules_under machines e) e.names r h in

@@ -132,7 +132,7 @@ word_unbroken ak ek d w _ m (not_taken b x y t e) =
     true_false (takes_data m.action) (given_is ek d m.action m.errno x m.errno_is e).0 (ap takes_data same ∙ t)
 word_unbroken ak ek d w _ m (large x e l) = let le = (given_is ek d m.action m.errno x m.errno_is e).1 in omega (arith, le, l)
 
--- ---- one word
+-- ---- one verdict
 
 errno_missing : (k : List ℕ) (d : Data) (a : Action) (n : ℕ) → ErrnoMeans k d a n → member whole k d ≡ missing → n ≡ 1
 errno_missing k d a _ (none e) h = refl

@@ -50,7 +50,7 @@ default_breaks s f h = word_breaks key.default_action key.default_errno_ret s f 
 said : ℕ → List Arch → List EntryParts → Said
 said word archs entries = record { default_word = word; archs = archs; entries = entries }
 
--- what is read after the machines, the refused keys, and the default word
+-- what is read after the machines, the refused keys, and the default verdict
 after_archs : Arch → Data → ℕ → List Arch → Result Said Fault
 after_archs native s word archs = entries_of (family_of native) s >>= (λ entries. Ok (said word archs entries))
 

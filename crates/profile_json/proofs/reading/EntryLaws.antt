@@ -214,7 +214,7 @@ entry_word_breaks d f h = word_breaks key.action key.errno_ret d f h
 parts : List (List ℕ) → ℕ → List CondParts → EntryParts
 parts names word conds = record { names = names; conds = conds; word = word }
 
--- what is read after the word and the names
+-- what is read after the verdict and the names
 after_word : Data → List (List ℕ) → ℕ → Result EntryParts Fault
 after_word d names word = args_of d >>= (λ conds. Ok (parts names word conds))
 

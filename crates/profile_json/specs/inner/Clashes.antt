@@ -23,12 +23,12 @@ pub record OverlapOn (x y : EntryParts) (name : List ℕ) (arch : Arch) : Type 0
   pub second_is : rule_parts second ≡ rule_of y arch nr
   pub both : Overlap first second
 
--- no name of both has such rules with unlike words
+-- no name of both has such rules with unlike verdicts
 abbrev pub NoClash : List Arch → EntryParts → EntryParts → Type 0
 NoClash machines x y = x.word ≢ y.word → (name : List ℕ) → Contains x.names name → Contains y.names name
     → Any (OverlapOn x y name) machines → ⊥
 
--- the rule at this place overlaps an earlier one, with another word
+-- the rule at this place overlaps an earlier one, with another verdict
 pub record HasClash (machines : List Arch) (es : List EntryParts) (place : ℕ) : Type 0 where
   pub order : InOrder machines
   pub said : List Rule

@@ -16,11 +16,11 @@ use Rattle.rule_compile.specs.inner.Left.{AreHeld, IsQuestion}
 abbrev pub argument_at : ℕ → List ℕ → ℕ
 argument_at low r = word r (low / 4) + 2 ^ 32 * word r (low / 4 + 1)
 
--- the question is one of a rule with this word
+-- the question is one of a rule with this verdict
 abbrev pub IsOf : ℕ → Open → Type 0
 IsOf word o = (o.answer ≡ word) × IsQuestion o.question
 
--- the questions of a rule with this word: just the first of them begins it
+-- the questions of a rule with this verdict: just the first of them begins it
 abbrev pub AreOf : ℕ → List Open → Type 0
 AreOf word [] = ⊤
 AreOf word (o ∷ os) = (o.begins ≡ true) × All (λ p. p.begins ≡ false) os × All (IsOf word) (o ∷ os)
@@ -35,7 +35,7 @@ last_of q = drop q.start q.asked.items
 abbrev pub before_of : Questions → List Open
 before_of q = take q.start q.asked.items
 
--- it has this word, and nothing is left of it where it failed
+-- it has this verdict, and nothing is left of it where it failed
 pub record IsLast (word : ℕ) (q : Questions) : Type 0 where
   pub within : q.start ≤ length q.asked.items
   pub nothing : q.failed ≡ true → length q.asked.items ≡ q.start
@@ -45,7 +45,7 @@ pub record IsLast (word : ℕ) (q : Questions) : Type 0 where
 abbrev pub MeetsLast : Questions → List ℕ → Type 0
 MeetsLast q r = (q.failed ≡ false) × IsRuleMet r (last_of q)
 
--- more is asked for the rule with this word: of the records that are looked at, those that meet it have a property
+-- more is asked for the rule with this verdict: of the records that are looked at, those that meet it have a property
 pub record Asks (old new : Questions) (word : ℕ) (looked : List ℕ → Type 0) (property : List ℕ → Type 0) : Type 0 where
   pub start : new.start ≡ old.start
   pub before : before_of new ≡ before_of old
@@ -60,7 +60,7 @@ IsAsked old new asker answer question =
     else old.asked.items
     ++ record { begins = length old.asked.items == old.start; answer = answer; question = question; asker = asker } ∷ [])
 
--- a rule was added, or passed over where it has the default word; or it holds of each record
+-- a rule was added, or passed over where it has the default verdict; or it holds of each record
 abbrev pub IsAdded : Questions → Questions → Placed → ℕ → Bool → Type 0
 IsAdded old new placed default true = (r : List ℕ) → IsRecord r → AreHeld placed r
 IsAdded old new placed default false =

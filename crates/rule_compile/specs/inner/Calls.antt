@@ -13,7 +13,7 @@ use Rattle.rule_compile.specs.inner.Goes.{cost, deep, goes}
 use Rattle.rule_compile.specs.inner.Numbers.{IsListed, said_of}
 use Rattle.rule_compile.specs.inner.Ranges.{IsAtFront}
 
--- from the target on, each call of the machine gets its word
+-- from the target on, each call of the machine gets its verdict
 pub record AnswersMachine (policy : Policy) (token : ℕ) (old new : List Insn) (to : Target) : Type 0 where
   pub answers : (held : Option ℕ) (u : ℕ) → u < 2 ^ 32 → goes new to held (call token u) ≡ Some (said_of policy token u)
   pub short : length new ≤ length old + 1543
@@ -33,7 +33,7 @@ abbrev pub IsOneOf : List Arch → ℕ → Type 0
 IsOneOf [] token = ⊥
 IsOneOf (arch ∷ archs) token = (token_of arch ≡ token) ⊎ IsOneOf archs token
 
--- from the target on, each call of one of the machines gets its word, and any other that of a foreign record
+-- from the target on, each call of one of the machines gets its verdict, and any other that of a foreign record
 pub record AnswersThese (policy : Policy) (machines : List Arch) (old new : List Insn) (to : Target) : Type 0 where
   pub listed : (token u : ℕ) → u < 2 ^ 32 → IsOneOf machines token → goes new to (Some 1) (call token u) ≡ Some (said_of policy token u)
   pub foreign : (token u : ℕ) → (IsOneOf machines token → ⊥) → goes new to (Some 1) (call token u) ≡ Some 0

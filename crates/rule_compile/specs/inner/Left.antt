@@ -30,7 +30,7 @@ pub record IsQuestion (q : Question) : Type 0 where
   pub high : (low : ℕ) → q.low ≡ Some low → (4 ≤ q.subject.word) × (q.subject.mask ≡ 0xffffffff) × (low < 2 ^ 32)
   pub masked : (q.subject.mask ≡ 0xffffffff) ⊎ (q.number ≤ q.subject.mask)
 
--- the questions of one rule have one word
+-- the questions of one rule have one verdict
 abbrev pub IsRule : List Open → Type 0
 IsRule rule = All (λ o. (o.answer ≡ word_of rule) × IsQuestion o.question) rule
 
@@ -131,11 +131,11 @@ abbrev pub AreHeld : Placed → List ℕ → Type 0
 AreHeld placed r =
     All (λ c. Meets c (compared (is_narrow_rule placed.rule.now) (argument r c.index))) placed.rule.now.conds.items
 
--- some rule that holds has this word
+-- some rule that holds has this verdict
 abbrev pub SomeHeld : List Placed → List ℕ → ℕ → Type 0
 SomeHeld rules r w = Any (λ placed. AreHeld placed r × (placed.rule.now.word ≡ w)) rules
 
--- the questions say of the record which of the rules hold, but for those with the default word
+-- the questions say of the record which of the rules hold, but for those with the default verdict
 abbrev pub SaysHeld : List Placed → ℕ → List ℕ → Rest → Type 0
 SaysHeld rules default r (rest.Met place w) = SomeHeld rules r w
 SaysHeld rules default r (rest.Open os) = (w : ℕ) → SomeMet os.items r w ↔ (SomeHeld rules r w × (w ≢ default))
@@ -147,7 +147,7 @@ AreLeft (rest.Open os) = AreRules os.items
 
 -- ---- the same, whoever asks it
 
--- both ask the same, for the same word
+-- both ask the same, for the same verdict
 pub record IsSame (these others : Open) : Type 0 where
   pub begins : these.begins ≡ others.begins
   pub answer : these.answer ≡ others.answer

@@ -30,7 +30,7 @@ AreUnconditional rules = All (λ rule. rule.conds.items ≡ []) rules
 abbrev pub AreBelow : ℕ → List Rule → Type 0
 AreBelow above rules = All (λ rule. rule.nr < above) rules
 
--- what decides a number: the word of a rule for it, or the default word where there is none
+-- what decides a number: the verdict of a rule for it, or the default verdict where there is none
 pub data LeafFor (rules : List Rule) (token nr default : ℕ) (leaf : Leaf) : Type 0 where
   ruled : (rule : Rule) → Contains rules rule → IsFor token nr rule → leaf ≡ Word rule.word → LeafFor rules token nr default leaf
   unruled : NoneFor token nr rules → leaf ≡ Word default → LeafFor rules token nr default leaf
@@ -64,11 +64,11 @@ abbrev pub Tiles : ℕ → List Range → ℕ → Type 0
 Tiles from [] end = from ≡ end
 Tiles from (x ∷ xs) end = (x.first ≡ from) × (from ≤ x.last) × Tiles (x.last + 1) xs end
 
--- each number of the range has its word
+-- each number of the range has its verdict
 abbrev pub IsWorded : (ℕ → ℕ) → Range → Type 0
 IsWorded word_of range = (word : ℕ) × (range.leaf ≡ Word word) × ((u : ℕ) → IsWithin range u → word_of u ≡ word)
 
--- the word of a call of the machine with this token
+-- the verdict of a call of the machine with this token
 abbrev pub said_of : Policy → ℕ → ℕ → ℕ
 said_of policy token nr = said policy (call token nr)
 

@@ -22,7 +22,7 @@ use Rattle.rule_compile.specs.inner.Left.{IsOffset}
 abbrev pub holding : ℕ → Registers
 holding a = record start { a = a }
 
--- the word that code gives from a position on, where A holds a number
+-- the verdict that code gives from a position on, where A holds a number
 abbrev pub gives_from : List Insn → ℕ → ℕ → List ℕ → Option ℕ
 gives_from code pc a r = option_map (λ (end : ℕ × ℕ). end.0) (ending code pc (holding a) r)
 
@@ -80,7 +80,7 @@ pub record PicksOut (blocks : List Block) (code : List Insn) (loaded : Option �
   pub led : AreLed blocks code loaded ranges to
   pub others : LeadsElse blocks code loaded ranges to rest.leaf
 
--- a word, or one of the first so many blocks
+-- a verdict, or one of the first so many blocks
 abbrev pub IsBefore : ℕ → Leaf → Type 0
 IsBefore count (leaf.Word w) = ⊤
 IsBefore count (leaf.Block place) = place < count

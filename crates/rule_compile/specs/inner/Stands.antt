@@ -89,13 +89,14 @@ pub record AreRanged (blocks : List Block) (os : List Open) (other : Leaf) (s : 
 
 -- ---- calls
 
--- the rules of one call decide each record, of which those that hold have one word: that word, or the default where none holds
+-- the rules of one call decide each record, of which those that hold have one verdict: that verdict, or the default where none
+-- holds
 abbrev pub DecidesRules : List Block → List Placed → ℕ → Leaf → Type 0
 DecidesRules blocks rules default leaf =
     (r : List ℕ) → IsRecord r → ((v w : ℕ) → SomeHeld rules r v → SomeHeld rules r w → v ≡ w) → (v : ℕ)
     → SomeHeld rules r v ⊎ (((w : ℕ) → SomeHeld rules r w → ⊥) × (v ≡ default)) → Decides blocks r v leaf
 
--- each call of the machine with the token whose number is in the range gets the word that the profile says
+-- each call of the machine with the token whose number is in the range gets the verdict that the profile says
 abbrev pub DecidesCalls : Policy → ℕ → List Block → Range → Type 0
 DecidesCalls policy token blocks range =
     (r : List ℕ) → IsRecord r → slice_index r 1 ≡ token → IsWithin range (slice_index r 0) → Decides blocks r (said policy r) range.leaf
@@ -105,23 +106,23 @@ abbrev pub TellsCalls : Policy → ℕ → List Insn → Target → Type 0
 TellsCalls policy token code to =
     (a : ℕ) (r : List ℕ) → IsRecord r → slice_index r 1 ≡ token → runs code to a r ≡ Some (said policy r)
 
--- from the target on, where A holds the token, each call of one of the machines gets its word, and any other that of a foreign
--- record
+-- from the target on, where A holds the token, each call of one of the machines gets its verdict, and any other that of a
+-- foreign record
 pub record TellsThese (policy : Policy) (machines : List Arch) (code : List Insn) (to : Target) : Type 0 where
   pub listed : (r : List ℕ) → IsRecord r → IsOneOf machines (slice_index r 1) → runs code to (slice_index r 1) r ≡ Some (said policy r)
   pub foreign : (r : List ℕ) → IsRecord r → (IsOneOf machines (slice_index r 1) → ⊥) → runs code to (slice_index r 1) r ≡ Some 0
 
--- the rules that match the record have one word
+-- the rules that match the record have one verdict
 abbrev pub IsClearOn : List Rule → List ℕ → Type 0
 IsClearOn rules r = (a b : Rule) → Contains rules a → Contains rules b → Matches a r → Matches b r → a.word ≡ b.word
 
--- the word of a rule that matches, or the default where none does
+-- the verdict of a rule that matches, or the default where none does
 abbrev pub IsSaidBy : List Rule → ℕ → List ℕ → ℕ → Type 0
 IsSaidBy rules default r word =
     ((rule : Rule) × Contains rules rule × Matches rule r × (rule.word ≡ word)) ⊎ (All (λ x. Matches x r → ⊥) rules × (word ≡ default))
 
--- of a record of a number of the machine with the token this word is said, whatever it asks for: each rule that it matches has it, and
--- it is the default word unless one does
+-- of a record of a number of the machine with the token this verdict is said, whatever it asks for: each rule that it matches
+-- has it, and it is the default verdict unless one does
 abbrev pub SaysNumber : List Rule → ℕ → ℕ → ℕ → ℕ → Type 0
 SaysNumber rules token number default word =
     (r : List ℕ) → IsRecord r → slice_index r 1 ≡ token → slice_index r 0 ≡ number → IsClearOn rules r → IsSaidBy rules default r word

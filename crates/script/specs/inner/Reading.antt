@@ -39,7 +39,7 @@ numbered family digits arch = if same_family (family_of arch) family then option
 abbrev pub called : Family → List ℕ × List ℕ → Option (Arch × ℕ)
 called family parts = machine_called parts.0 >>= numbered family parts.1
 
--- a call by its machine's word, a colon and its number
+-- a call by its machine's name, a colon and its number
 unfoldable pub foreign_at : Family → List ℕ → Option (Arch × ℕ)
 foreign_at family text = split_at colon text >>= called family
 

@@ -1,4 +1,4 @@
--- Each record so far is one of which the profiles say unlike words.
+-- Each record so far is one of which the profiles say unlike verdicts.
 use Rattle.std.specs.List.{All}
 use Rattle.compare.specs.Difference.{IsDifference}
 use Rattle.compare.proofs.search.differences.Given as goal

@@ -5,7 +5,7 @@ use Rattle.profile_json.proofs.Lists.{now_at, now_none}
 use Rattle.profile_json.proofs.clashing.Clashing.{clash_under, passed_step}
 use Rattle.profile_json.proofs.overlaps.clash_of.Goals as goal
 
--- that the words are unlike
+-- that the verdicts are unlike
 words : (a b : ℕ) → eqb a b ≡ false → a ≢ b
 words a b h = grind (arith, nat_tests)
 

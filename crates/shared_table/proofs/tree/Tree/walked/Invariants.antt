@@ -1,4 +1,4 @@
--- The strictest word so far counts for the filters that were met.
+-- The strictest verdict so far counts for the filters that were met.
 use Rattle.std.proofs.Common.{◌≡◌, ◌∷◌, []}
 use Rattle.call_record.specs.Verdict.{strictest_of}
 use Rattle.shared_table.specs.Tree.{way_below, way_from, ways_from}
