@@ -10,7 +10,7 @@ from itertools import product
 
 X86_64, X32 = 0xC000003E, 0x40000000
 KILL_THREAD, ALLOW = 0, 0x7FFF0000
-WORDS = {"KILL": KILL_THREAD, "ERRNO": 0x50000, "ALLOW": ALLOW}
+VERDICTS = {"KILL": KILL_THREAD, "ERRNO": 0x50000, "ALLOW": ALLOW}
 CALLS = {"ioctl": 16, "socket": 41, "clone": 56, "fcntl": 72, "prctl": 157}
 WHOLE = 0xFFFFFFFF
 LD, AND, JA, RET, JEQ, JGT, JGE, JSET = 0x20, 0x54, 0x05, 0x06, 0x15, 0x25, 0x35, 0x45
@@ -31,18 +31,18 @@ OPERATORS = {
 }
 
 
-def action_word(action, data):
-    """The word of an action by its name: of these ERRNO alone has data, which is 1 (EPERM) where none is given."""
+def verdict_of(action, data):
+    """The verdict of an action by its name: of these ERRNO alone has data, which is 1 (EPERM) where none is given."""
     name = action.removeprefix("SCMP_ACT_")
-    return WORDS[name] | ((1 if data is None else data) if name == "ERRNO" else 0)
+    return VERDICTS[name] | ((1 if data is None else data) if name == "ERRNO" else 0)
 
 
 class Bundle:
-    """What `linux.seccomp` says: the default word, and of each call the rules, a word and conditions each."""
+    """What `linux.seccomp` says: the default verdict, and of each call the rules, a verdict and conditions each."""
 
     def __init__(self, bundle):
         said = bundle["linux"]["seccomp"]
-        self.default = action_word(said["defaultAction"], said.get("defaultErrnoRet"))
+        self.default = verdict_of(said["defaultAction"], said.get("defaultErrnoRet"))
         self.rules = {}
         for entry in said["syscalls"]:
             conditions = [
@@ -50,26 +50,26 @@ class Bundle:
                 for arg in entry.get("args", [])
             ]
             for name in entry["names"]:
-                rule = action_word(entry["action"], entry.get("errnoRet")), conditions
+                rule = verdict_of(entry["action"], entry.get("errnoRet")), conditions
                 self.rules.setdefault(CALLS[name], []).append(rule)
 
     def conditions(self):
         """All conditions of all rules."""
         return [condition for rules in self.rules.values() for _, conditions in rules for condition in conditions]
 
-    def word(self, number, machine, holds):
-        """The word of a call, where `holds` tells which conditions hold of it."""
+    def said(self, number, machine, holds):
+        """The verdict of a call, where `holds` tells which conditions hold of it."""
         if machine != X86_64 or number >= X32:
             return KILL_THREAD
-        for word, conditions in self.rules.get(number, []):
+        for verdict, conditions in self.rules.get(number, []):
             if all(holds(condition) for condition in conditions):
-                return word
+                return verdict
         return self.default
 
     def decide(self, record):
-        """The word of a call record of 64 bytes."""
+        """The verdict of a call record of 64 bytes."""
         number, machine, _, *arguments = struct.unpack("<IIQ6Q", record)
-        return self.word(number, machine, lambda c: c[1](arguments[c[0]], c[2], c[3]))
+        return self.said(number, machine, lambda c: c[1](arguments[c[0]], c[2], c[3]))
 
 
 def instructions(filter_bytes):
@@ -78,7 +78,7 @@ def instructions(filter_bytes):
 
 
 def answer(filter_bytes, record):
-    """The word that a filter answers to a call record: seccomp(2), and the kernel's page on socket filters."""
+    """The verdict that a filter answers to a call record: seccomp(2), and the kernel's page on socket filters."""
     program, words = instructions(filter_bytes), struct.unpack("<16I", record)
     a = at = 0
     while True:
@@ -173,7 +173,7 @@ class Search:
         self.numbers = tuple(numbers(comparisons) for comparisons in of_word)
 
     def paths(self):
-        """Each word that the filter answers, with the numbers of each word of the record for which it does."""
+        """Each verdict that the filter answers, with the numbers of each word of the record for which it does."""
         seen, left = set(), [(0, (0, 0), self.numbers)]
         while left:
             state = at, a, those = left.pop()
@@ -204,13 +204,13 @@ class Search:
             yield list(ways.values())
 
     def differences(self):
-        """A call record of each kind of difference: the filter's word, the bundle's, the record."""
+        """A call record of each kind of difference: the filter's verdict, the bundle's, the record."""
         told = set()
         for given, those in self.paths():
             for number, machine in product(those[0], those[1]):
                 for chosen in product(*self.arguments(those)):
                     held = [condition for _, _, conditions in chosen for condition in conditions]
-                    said = self.bundle.word(number, machine, lambda condition: condition in held)
+                    said = self.bundle.said(number, machine, lambda condition: condition in held)
                     if said != given and (given, said) not in told:
                         told.add((given, said))
                         values = [0] * 6

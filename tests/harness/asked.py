@@ -12,16 +12,16 @@ RULE = re.compile(r"Rule \{ arch: (\w+), nr: (\d+), conds: \[(.*)\], word: Word\
 COND = re.compile(r"Cond \{ index: (\d+), op: (\w+), value: (\d+), datum: (\d+) \}")
 
 
-def machine(word):
+def machine(name):
     """A machine by its name."""
-    if word not in TOKENS:
-        raise Fault(f"no machine {word}")
-    return word
+    if name not in TOKENS:
+        raise Fault(f"no machine {name}")
+    return name
 
 
-def token(word):
+def token(text):
     """A machine's token, by its name or as a number."""
-    return TOKENS[word] if word in TOKENS else number(word)
+    return TOKENS[text] if text in TOKENS else number(text)
 
 
 def record(nr, arch, args=(), pointer=0):
@@ -36,17 +36,17 @@ def record_of(text, pointer="0"):
 
 
 def rule(text):
-    """The rule `MACHINE NUMBER WORD CONDITIONS`, where conditions are `INDEX OP VALUE DATUM` with commas between."""
-    arch, nr, word, *rest = text.split(" ", 3)
+    """The rule `MACHINE NUMBER VERDICT CONDITIONS`, where conditions are `INDEX OP VALUE DATUM` with commas between."""
+    arch, nr, verdict, *rest = text.split(" ", 3)
     conds = [part.split() for part in "".join(rest).split(",") if part.strip()]
-    told = [machine(arch), number(nr), number(word), len(conds)]
+    told = [machine(arch), number(nr), number(verdict), len(conds)]
     for index, op, value, *datum in conds:
         told += [number(index), PLACES[op], number(value), number(datum[0]) if datum else 0]
     return " ".join(map(str, told))
 
 
 def build(text):
-    """What makes the profile `NATIVE MACHINE,.. WORD; RULE; ..`."""
+    """What makes the profile `NATIVE MACHINE,.. VERDICT; RULE; ..`."""
     head, *rules = [part.strip() for part in text.split(";")]
     native, names, default = head.split()
     archs, rules = names.split(","), [rule(part) for part in rules if part]
@@ -70,9 +70,9 @@ def parts_of(answer):
 
 def rule_told(text):
     """A rule as rows have it."""
-    arch, nr, conds, word = RULE.fullmatch(text).groups()
+    arch, nr, conds, verdict = RULE.fullmatch(text).groups()
     told = [cond_told(*cond) for cond in COND.findall(conds)]
-    return f"{MACHINES[arch]} {nr} {int(word):#010x}{','.join(told)}"
+    return f"{MACHINES[arch]} {nr} {int(verdict):#010x}{','.join(told)}"
 
 
 def cond_told(index, op, value, datum):
@@ -87,7 +87,7 @@ def optional(text, told):
 
 
 def effect_told(ends, errno, is_carried_out):
-    """What becomes of a call with a word."""
+    """What becomes of a call with a verdict."""
     said = {"Nothing": "", "Task": ", the task ends", "Group": ", the group ends"}[ends]
     answered = optional(errno, str)
     if answered is not None:
@@ -99,8 +99,8 @@ def effect_told(ends, errno, is_carried_out):
 REFUSALS = ("IdTaken", "NoContainer", "NotCreated", "NotAlive", "NotStopped", "BadSignal", "StartDenied", "BadId")
 
 
-def word_in(text):
-    """The word in the text of a value that ends in it."""
+def verdict_in(text):
+    """The verdict in the text of a value that ends in it."""
     return f"{int(re.search(r'Word[(]([0-9]+)[)]', text)[1]):#010x}"
 
 
@@ -108,7 +108,7 @@ def outcome_told(text):
     """What became of a call."""
     kind, _, value = text.partition("(")
     if kind == "Denied":
-        return f"denied {word_in(text)}"
+        return f"denied {verdict_in(text)}"
     return {"Done": f"done {value[:-1]}", "Failed": f"failed {value[:-1]}", "Absent": "absent", "NoTask": "no task"}[kind]
 
 
@@ -120,7 +120,7 @@ def reply_told(text):
         return outcome_told(value)
     if kind == "Refused":
         name = value.partition("(")[0]
-        denied = f" {word_in(value)}" if name == "StartDenied" else ""
+        denied = f" {verdict_in(value)}" if name == "StartDenied" else ""
         return f"refused {REFUSALS.index(name) + 1} {name}{denied}"
     return {"Accepted": "ok"}.get(kind) or value.lower()
 

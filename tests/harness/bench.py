@@ -5,7 +5,7 @@ from harness import calls, library
 from harness.ask import ask_all
 from harness.blocks import ask_blocks, whole_bundle
 from harness.pace import pace
-from harness.program import Program, is_input, words_of
+from harness.program import Program, arguments_of, is_input
 from harness.rows import Fault
 from harness.shelf import Shelf, assembled, split_in
 from harness.streams import Streams
@@ -30,69 +30,69 @@ class Bench:
 
     def carry_out(self, row, inputs):
         """Carries out a row with the rows of standard input under it. What it asks the library is asked later."""
-        word, _, rest = row.text.partition(" ")
-        if word == "file":
+        kind, _, rest = row.text.partition(" ")
+        if kind == "file":
             self.shelf.put(rest)
-        elif word == "more":
+        elif kind == "more":
             self.shelf.add(rest)
-        elif word == "frame":
+        elif kind == "frame":
             name, text = split_in(rest, 2)
             self.frames[name] = text
-        elif word == "$":
-            self.program.session(row, words_of(rest), inputs)
-        elif word == "own":
+        elif kind == "$":
+            self.program.session(row, arguments_of(rest), inputs)
+        elif kind == "own":
             self.program.own(row, rest)
-        elif word == "certify":
+        elif kind == "certify":
             self.program.certify(row, rest)
-        elif word == "pace":
+        elif kind == "pace":
             row.tell(pace(self.shelf, rest))
-        elif word in Streams.WORDS:
-            row.tell(self.streams.answer(word, rest))
-        elif calls.is_on_calls(word):
-            row.tell(*calls.answer(word, rest))
-        elif word in library.ON_LISTINGS:
-            row.tell(*library.ON_LISTINGS[word](written_out(rest)))
-        elif word not in ("", "#"):
-            self.askers.append(told(row, self.question(word, rest)))
+        elif kind in Streams.KINDS:
+            row.tell(self.streams.answer(kind, rest))
+        elif calls.is_on_calls(kind):
+            row.tell(*calls.answer(kind, rest))
+        elif kind in library.ON_LISTINGS:
+            row.tell(*library.ON_LISTINGS[kind](written_out(rest)))
+        elif kind not in ("", "#"):
+            self.askers.append(told(row, self.question(kind, rest)))
 
-    def question(self, word, rest):
+    def question(self, kind, rest):
         """What asks the library."""
-        if word == "bundle":
+        if kind == "bundle":
             self.made["profile"] = f"profile bundle {self.bundle(rest)}"
             return library.profile(self.made["profile"])
-        if word == "profile":
+        if kind == "profile":
             native, members = split_in(rest, 2)
             self.made["profile"] = f"profile bundle {native} {whole_bundle(written_out(members))}"
             return library.taken(self.made["profile"])
-        if word in ON_FRAMES:
-            return ON_FRAMES[word](f"profile bundle {self.bundle(rest)}")
-        if word in ON_SEEDS:
-            return ON_SEEDS[word](*map(number, rest.split()))
-        if word in library.ON_FILES:
-            return library.ON_FILES[word](*map(self.shelf.bytes_of, rest.split()))
-        if word in library.CHECKS:
+        if kind in ON_FRAMES:
+            return ON_FRAMES[kind](f"profile bundle {self.bundle(rest)}")
+        if kind in ON_SEEDS:
+            return ON_SEEDS[kind](*map(number, rest.split()))
+        if kind in library.ON_FILES:
+            return library.ON_FILES[kind](*map(self.shelf.bytes_of, rest.split()))
+        if kind in library.CHECKS:
             native, bundle, *others = rest.split()
             text = self.shelf.bytes_of(bundle).decode().replace("\n", " ")
-            return library.checks_of(word, f"profile bundle {native} {text}", *map(self.shelf.bytes_of, others))
-        if word in library.ON_TEXTS:
-            return library.ON_TEXTS[word](written_out(rest))
-        return self.question_on_made(word, written_out(rest))
+            return library.checks_of(kind, f"profile bundle {native} {text}", *map(self.shelf.bytes_of, others))
+        if kind in library.ON_TEXTS:
+            return library.ON_TEXTS[kind](written_out(rest))
+        return self.question_on_made(kind, written_out(rest))
 
-    def question_on_made(self, word, rest):
+    def question_on_made(self, kind, rest):
         """The same, of questions on the profile or the filter of an earlier row."""
-        if word == "compiled":
+        if kind == "compiled":
             return library.is_certified(self.made["profile"])
-        if word == "followed":
+        if kind == "followed":
             return library.is_certified(self.made["profile"], "follow")
-        if word == "filter":
+        if kind == "filter":
             return library.is_filter(self.made["profile"], rest)
-        if word == "program":
+        if kind == "program":
             self.made["filter"] = library.bytes_line(rest)
             return library.accepted(self.made["filter"])
-        if word in library.ON_MADE:
-            made, asker = library.ON_MADE[word]
+        if kind in library.ON_MADE:
+            made, asker = library.ON_MADE[kind]
             return asker(self.made[made], rest)
-        raise Fault(f"no word of rows: {word}")
+        raise Fault(f"no word of rows: {kind}")
 
     def bundle(self, rest):
         """The machine and the text of a bundle that is told by its frame."""

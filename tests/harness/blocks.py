@@ -44,13 +44,13 @@ def whole_bundle(members):
 
 def lines_for(text):
     """The lines that a row of a block stands for."""
-    word, _, rest = text.partition(" ")
-    if word == "#" or word in WAYS or word == "every-call":
+    kind, _, rest = text.partition(" ")
+    if kind == "#" or kind in WAYS or kind == "every-call":
         return []
-    if word == "bundle":
+    if kind == "bundle":
         name, _, members = rest.partition(" ")
         return [f"bundle {name} {whole_bundle(members)}"]
-    if word == "repeat":
+    if kind == "repeat":
         count, _, part = expanded(rest).partition(" ")
         return [line for i in range(int(count)) for line in part.replace("@", str(i)).split("\n")]
     return expanded(text).split("\n")
@@ -70,15 +70,15 @@ def called(text, native):
 
 def asked_of(line, native, places):
     """A line of a block as it is asked, where bundles have places."""
-    word, _, rest = line.partition(" ")
-    if word == "call":
+    kind, _, rest = line.partition(" ")
+    if kind == "call":
         return f"call {called(rest, native)}"
     name, _, last = rest.partition(" ")
-    if word in ("admit", "create"):
-        return f"{word} {'' if name == EMPTY else name} {places[last]}"
-    if word == "id":
+    if kind in ("admit", "create"):
+        return f"{kind} {'' if name == EMPTY else name} {places[last]}"
+    if kind == "id":
         return f"id - {name}"
-    return f"{word} {'' if name == EMPTY else name} {last}".rstrip(" ")
+    return f"{kind} {'' if name == EMPTY else name} {last}".rstrip(" ")
 
 
 def bundles_in(block):
@@ -103,8 +103,8 @@ def by_kernels(native, bundles, lines):
 
 def beside(line, answer):
     """What a call of the kernel is answered, and the other kernel's answer where it is another."""
-    word, _, _ = line.partition(" ")
-    told = {"call": outcome_told, "task": task_told, "live": {"true": "yes", "false": "no"}.get}.get(word, str)
+    kind, _, _ = line.partition(" ")
+    told = {"call": outcome_told, "task": task_told, "live": {"true": "yes", "false": "no"}.get}.get(kind, str)
     one, other = [told(it) for it in answer] or ["ok", "ok"]
     return [one] if one == other else [one, f"over a tree: {other}"]
 
@@ -128,8 +128,8 @@ def by_program(native, bundles, lines, room):
             file.write(text)
     places = {name: f"b{place}" for place, name in enumerate(bundles, 1)}
     script = "".join(f"{named(line, places)}\n" for line in lines)
-    words = [CCELL, "run", native, *places.values()]
-    ran = subprocess.run(words, input=script.encode(), cwd=room, capture_output=True, timeout=ENDLESS, check=False)
+    command = [CCELL, "run", native, *places.values()]
+    ran = subprocess.run(command, input=script.encode(), cwd=room, capture_output=True, timeout=ENDLESS, check=False)
     replies = ran.stdout.decode().split("\n")[:-1]
     if ran.returncode != 0 or len(replies) != len(lines):
         raise Fault(f"ccell run: status {ran.returncode}, {len(replies)} replies to {len(lines)} lines")
@@ -176,8 +176,8 @@ def ask_every_call(block):
 
 def of_script(line, place):
     """A line of one of many scripts, whose containers have names of their own."""
-    word, name, *rest = line.split(" ")
-    return " ".join([word, f"{name}-{place}", *rest])
+    kind, name, *rest = line.split(" ")
+    return " ".join([kind, f"{name}-{place}", *rest])
 
 
 def ask_scripts(block, room):

@@ -15,7 +15,7 @@ from harness.places import CCELL
 from harness.rows import Fault
 from harness.texts import number
 
-# The machines of a family, by what stands before a row's word.
+# The machines of a family, by what stands before a row's kind.
 MACHINES = {"": ("x86-64", "aarch64"), "linux-": ("linux-x86-64", "linux-x86", "linux-x32", "linux-aarch64", "linux-arm")}
 # The token of each machine in a record (seccomp(2), AUDIT_ARCH_X86_64, AUDIT_ARCH_AARCH64, AUDIT_ARCH_I386 and AUDIT_ARCH_ARM). x32's
 # is that of x86-64.
@@ -50,18 +50,18 @@ LOAD, EQUALS, RETURN = 0x20, 0x15, 0x06
 ALLOW = 0x7FFF0000
 
 
-def program(*words):
+def program(*arguments):
     """What the program writes, and its status."""
-    ran = subprocess.run([CCELL, *words], capture_output=True, timeout=120, check=False)
+    ran = subprocess.run([CCELL, *arguments], capture_output=True, timeout=120, check=False)
     return ran.stdout, ran.returncode
 
 
-def of_bytes(data, *words):
-    """The lines that the program writes on words and a file of these bytes behind them."""
+def of_bytes(data, *arguments):
+    """The lines that the program writes on arguments and a file of these bytes behind them."""
     with tempfile.NamedTemporaryFile() as file:
         file.write(data)
         file.flush()
-        return program(*words, file.name)[0].decode().splitlines()
+        return program(*arguments, file.name)[0].decode().splitlines()
 
 
 def bundle(**members):
@@ -70,7 +70,7 @@ def bundle(**members):
 
 
 def family_of(machine):
-    """What stands before the words of a machine's family."""
+    """What stands before the names of a machine's family, and before the kinds of rows on it."""
     return "linux-" if machine.startswith("linux-") else ""
 
 
@@ -211,14 +211,14 @@ def in_parts(names):
     return [names[at : at + 100] for at in range(0, len(names), 100)]
 
 
-WORDS = {"machines": machines, "counts": counts, "call": call, "number": names, "calls": calls}
+KINDS = {"machines": machines, "counts": counts, "call": call, "number": names, "calls": calls}
 
 
-def is_on_calls(word):
-    """Whether a row's word asks for the tables of calls."""
-    return word.removeprefix("linux-") in WORDS
+def is_on_calls(kind):
+    """Whether a row of this kind asks for the tables of calls."""
+    return kind.removeprefix("linux-") in KINDS
 
 
-def answer(word, rest):
+def answer(kind, rest):
     """The answer to a question on the tables of calls, of the machines of a family."""
-    return WORDS[word.removeprefix("linux-")](family_of(word), rest)
+    return KINDS[kind.removeprefix("linux-")](family_of(kind), rest)

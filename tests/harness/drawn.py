@@ -9,7 +9,7 @@ LEAST_X32 = 0x40000000
 # The machines of which the lower half of an argument is compared.
 NARROW = ("linux-x86", "linux-arm")
 
-WORDS = (KILL_THREAD, KILL_THREAD, KILL_THREAD, ALLOW, ALLOW, 0x50001, 0x50002, 0x80000000)
+VERDICTS = (KILL_THREAD, KILL_THREAD, KILL_THREAD, ALLOW, ALLOW, 0x50001, 0x50002, 0x80000000)
 NUMBERS = (0, 1, 1, 2, 3, 5, 7, 435)
 # Operators of conditions, each with one that is mostly its opposite.
 PAIRS = (("NE", "EQ"), ("LT", "GE"), ("LE", "GT"), ("EQ", "NE"), ("EQ", "NE"), ("GE", "LT"), ("GT", "LE"), ("MASKED_EQ", "NE"))
@@ -48,7 +48,7 @@ def can_meet(conditions, high):
 
 
 def overlap(rule, other):
-    """Whether one record matches both rules `(MACHINE, NUMBER, WORD, CONDITIONS)`, each condition an argument's place and so on."""
+    """Whether one record matches both rules `(MACHINE, NUMBER, VERDICT, CONDITIONS)`, each condition an argument's place and so on."""
     if rule[:2] != other[:2]:
         return False
     conditions, high = rule[3] + other[3], 2**32 - 1 if rule[0] in NARROW else ALL
@@ -65,36 +65,36 @@ def draw_value(dice):
 
 
 def draw_entry(dice, machine, most):
-    """One rule, or two of one word with opposite conditions."""
-    number, word = dice.pick(NUMBERS) | (LEAST_X32 if machine == "linux-x32" else 0), dice.pick(WORDS)
+    """One rule, or two of one verdict with opposite conditions."""
+    number, verdict = dice.pick(NUMBERS) | (LEAST_X32 if machine == "linux-x32" else 0), dice.pick(VERDICTS)
     if dice.below(2) == 0:
         place, value = dice.below(2), draw_value(dice)
         pair = dice.pick(PAIRS)
-        return [(machine, number, word, [(place, op, value, 0)]) for op in pair]
+        return [(machine, number, verdict, [(place, op, value, 0)]) for op in pair]
     conditions = []
     for place in range(min(dice.pick((0, 0, 0, 1, 1, 2, 3, 6)), most)):
         op, value = dice.pick(PAIRS)[0], draw_value(dice)
         bits = value & draw_value(dice)
         conditions.append((place, op, value, bits if op == "MASKED_EQ" else 0))
-    return [(machine, number, word, conditions)]
+    return [(machine, number, verdict, conditions)]
 
 
 def draw_profile(dice, machines, entries, most):
-    """The rules of a profile of some machines, or of one twice, and its default word: of so many entries with so many conditions
+    """The rules of a profile of some machines, or of one twice, and its default verdict: of so many entries with so many conditions
     at most. Rules that clash with earlier ones are left out. Of some calls each record meets one of two rules."""
     rules = []
     for _ in range(entries):
         for rule in draw_entry(dice, dice.pick(machines), most):
             if not any(rule[2] != other[2] and overlap(rule, other) for other in rules):
                 rules.append(rule)
-    return rules, dice.pick(WORDS)
+    return rules, dice.pick(VERDICTS)
 
 
 def text_of(machines, rules, default):
     """A profile's text in the question `build`."""
     parts = [f"{machines[0]} {','.join(machines)} {default}"]
-    for machine, number, word, conditions in rules:
-        parts.append(f" {machine} {number} {word} {','.join(' '.join(map(str, cond)) for cond in conditions)}")
+    for machine, number, verdict, conditions in rules:
+        parts.append(f" {machine} {number} {verdict} {','.join(' '.join(map(str, cond)) for cond in conditions)}")
     return ";".join(parts)
 
 
@@ -104,15 +104,15 @@ def filter_of(*insns):
 
 
 def number_filter(rule, default):
-    """The filter that answers a rule's word to its call, whatever the arguments are."""
-    machine, number, word, _ = rule
+    """The filter that answers a rule's verdict to its call, whatever the arguments are."""
+    machine, number, verdict, _ = rule
     return filter_of(
         (0x20, 0, 0, 4),
         (0x15, 0, 5, TOKENS[machine]),
         (0x20, 0, 0, 0),
         (0x35, 3, 0, 0x40000000),
         (0x15, 0, 1, number),
-        (0x06, 0, 0, word),
+        (0x06, 0, 0, verdict),
         (0x06, 0, 0, default),
         (0x06, 0, 0, KILL_THREAD),
     )
@@ -124,7 +124,7 @@ OTHERS = (0x20, 0x20, 0x20, 0x54, 0x02, 0x60, 0x00, 0x04)
 
 
 def random_filter(dice, default):
-    """A random filter of up to eight instructions, which mostly answers this word."""
+    """A random filter of up to eight instructions, which mostly answers this verdict."""
     insns = []
     for left in reversed(range(dice.below(8))):
         is_jump = dice.below(3) == 0

@@ -51,11 +51,11 @@ def steps(insns, words):
 
 def figures(digits, calls):
     """The lines that tell how many instructions a filter has, how many its longest path, and how many are run on a call, as the mean
-    over these calls `(NUMBER, TOKEN)`; and which word has two returns, where one has."""
+    over these calls `(NUMBER, TOKEN)`; and which verdict has two returns, where one has."""
     insns = insns_of(digits)
     mean = sum(steps(insns, {0: number, 1: token}) for number, token in calls) * 100 // max(len(calls), 1)
-    words = [number for code, _, _, number in insns if code == RETURN]
-    twice = [word for at, word in enumerate(words) if word in words[:at]]
+    verdicts = [number for code, _, _, number in insns if code == RETURN]
+    twice = [verdict for at, verdict in enumerate(verdicts) if verdict in verdicts[:at]]
     yield f"{len(insns)} instructions, longest path {longest_path(insns)}, mean path {mean // 100}.{mean % 100:02}"
     if twice:
         yield f"two returns of {twice[0]:#010x}"

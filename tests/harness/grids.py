@@ -1,4 +1,4 @@
-"""Records on which a filter's words are compared with its profile's, as grids: numbers of calls, and arguments."""
+"""Records on which a filter's verdicts are compared with its profile's, as grids: numbers of calls, and arguments."""
 from itertools import product
 
 from harness.drawn import ALL
@@ -32,13 +32,13 @@ def rules_in(told):
         yield int(nr), [*conditions_in(conditions[0].split())] if conditions else []
 
 
-def conditions_in(words):
-    """The conditions in a rule's words."""
-    while words:
-        place, op, *_ = words
+def conditions_in(fields):
+    """The conditions in a rule's fields."""
+    while fields:
+        place, op, *_ = fields
         count = 4 if op == "MASKED_EQ" else 3
-        yield int(place), op, *map(number, words[2:count])
-        words = words[count:]
+        yield int(place), op, *map(number, fields[2:count])
+        fields = fields[count:]
 
 
 def meeting(op, *numbers):

@@ -44,7 +44,7 @@ def decide(line, rest):
 
 
 def of_rules(*conditions):
-    """What makes a profile of a rule for each of these conditions, with words that no two have in common."""
+    """What makes a profile of a rule for each of these conditions, with verdicts that no two have in common."""
     return asked.build("; ".join(["x86-64 x86-64 0x7ff00000", *(f"x86-64 135 {0x50001 + i} {it}" for i, it in enumerate(conditions))]))
 
 
@@ -63,28 +63,28 @@ def overlap(rest):
 
 
 def strictest(text):
-    """The strictest of words."""
-    words = [number(word) for word in text.split()]
-    (answer,) = yield [f"word strictest {len(words)} {' '.join(map(str, words))}"]
+    """The strictest of verdicts."""
+    verdicts = [number(verdict) for verdict in text.split()]
+    (answer,) = yield [f"verdict strictest {len(verdicts)} {' '.join(map(str, verdicts))}"]
     return answer
 
 
 def effect(text):
-    """What becomes of a call with a word."""
-    (answer,) = yield [f"word effect {number(text)}"]
+    """What becomes of a call with a verdict."""
+    (answer,) = yield [f"verdict effect {number(text)}"]
     return [effect_told(*answer)]
 
 
 def least(text):
     """The least number of so many bits, at least another, with such bits under a mask."""
-    ((answer,),) = yield [f"word least {' '.join(str(number(word)) for word in text.split())}"]
+    ((answer,),) = yield [f"verdict least {' '.join(str(number(part)) for part in text.split())}"]
     return [optional(answer, lambda told: f"{int(told):#x}") or "none"]
 
 
 def record(text):
     """The bytes of the record `POINTER CALL`, and the words that they spell."""
     pointer, _, call = text.partition(" ")
-    ((data, *words),) = yield [f"word record {record_of(call, pointer)}"]
+    ((data, *words),) = yield [f"verdict record {record_of(call, pointer)}"]
     return [grouped(bytes.fromhex(data)), " ".join(["words", *(f"{int(word):#x}" for word in words)])]
 
 
@@ -264,13 +264,13 @@ def checks(line, filters, certs):
 CHECKS = ("check-beginnings", "check-flipped-filter", "check-flipped-certificate")
 
 
-def checks_of(word, line, data, cert):
+def checks_of(kind, line, data, cert):
     """The answers to each beginning of a certificate, or to a filter or a certificate with each of its bits flipped."""
-    if word == "check-beginnings":
+    if kind == "check-beginnings":
         certs = [cert[:count] for count in range(len(cert))]
     else:
-        certs = [*flips(cert)] if word == "check-flipped-certificate" else [cert] * (8 * len(data))
-    filters = flips(data) if word == "check-flipped-filter" else [data] * len(certs)
+        certs = [*flips(cert)] if kind == "check-flipped-certificate" else [cert] * (8 * len(data))
+    filters = flips(data) if kind == "check-flipped-filter" else [data] * len(certs)
     return (yield from checks(line, filters, certs))
 
 
@@ -281,7 +281,7 @@ def codes(_rest):
     return [" ".join(f"{code:02x}" for code, said in enumerate(told[1::2]) if not said[0].startswith("1 Code"))]
 
 
-# Questions whose words are files, and others on what stands in the row alone.
+# Questions on files, and others on what stands in the row alone.
 ON_FILES = {"nodes": nodes, "nodes-flipped": nodes_flipped}
 ON_TEXTS = {
     "build": build,

@@ -20,12 +20,12 @@ MOST = 5
 LEAST_ROUNDS, ROUNDS = 3, 6
 
 
-def seconds(shelf, words, lines, last):
+def seconds(shelf, arguments, lines, last):
     """The seconds of processor that the program takes on these lines, of which the last has this reply."""
     with tempfile.TemporaryFile(dir=shelf.folder) as given, tempfile.TemporaryFile(dir=shelf.folder) as out:
         given.write("".join(f"{line}\n" for line in lines).encode())
         given.seek(0)
-        ran = subprocess.Popen([CCELL, *words], cwd=shelf.folder, stdin=given, stdout=out)
+        ran = subprocess.Popen([CCELL, *arguments], cwd=shelf.folder, stdin=given, stdout=out)
         _, status, used = os.wait4(ran.pid, 0)
         ran.returncode = os.waitstatus_to_exitcode(status)
         out.seek(0)

@@ -8,12 +8,12 @@ from harness.rows import Fault
 from harness.texts import expanded, grouped, lines_of
 
 
-def words_of(line):
-    """The words after the program's name in `ccell WORD ..`, where two quotes are an empty word."""
-    name, *words = line.split()
+def arguments_of(line):
+    """The arguments after the program's name in `ccell ARGUMENT ..`, where two quotes are an empty one."""
+    name, *arguments = line.split()
     if name != "ccell":
         raise Fault(f"no program: {name}")
-    return ["" if word == "''" else word for word in words]
+    return ["" if argument == "''" else argument for argument in arguments]
 
 
 def is_input(text):
@@ -33,19 +33,19 @@ class Program:
     def __init__(self, shelf, shim):
         self.shelf, self.shim = shelf, shim
 
-    def environment(self, words):
-        """Where a word names a file for which there is no memory: what refuses all growths while that file is open."""
-        large = [word for word in words if word in self.shelf.large]
+    def environment(self, arguments):
+        """Where an argument names a file for which there is no memory: what refuses all growths while that file is open."""
+        large = [argument for argument in arguments if argument in self.shelf.large]
         return {"PATH": os.environ["PATH"], **({"LD_PRELOAD": self.shim, "REFUSE_FILE": large[0]} if large else {})}
 
-    def run(self, words, given=b""):
-        """Runs it on words and standard input."""
-        how = {"cwd": self.shelf.folder, "env": self.environment(words), "timeout": ENDLESS, "check": False}
-        return subprocess.run([CCELL, *words], input=given, capture_output=True, **how)
+    def run(self, arguments, given=b""):
+        """Runs it on arguments and standard input."""
+        how = {"cwd": self.shelf.folder, "env": self.environment(arguments), "timeout": ENDLESS, "check": False}
+        return subprocess.run([CCELL, *arguments], input=given, capture_output=True, **how)
 
-    def session(self, row, words, inputs):
+    def session(self, row, arguments, inputs):
         """Tells under a row what the program writes and its status, and under each row of its standard input the reply."""
-        ran = self.run(words, "".join(line_of(it.text) for it in inputs).encode())
+        ran = self.run(arguments, "".join(line_of(it.text) for it in inputs).encode())
         last = inputs[-1] if inputs else row
         if ran.stdout.startswith(b"CCRT"):
             last.tell(grouped(ran.stdout))

@@ -10,11 +10,11 @@ from harness.texts import bytes_of, expanded, is_digits, number
 
 
 def split_in(text, count):
-    """The words of a text, up to so many, and the rest as the last."""
-    words = text.split(" ", count - 1)
-    if len(words) < count:
+    """The fields of a text, up to so many, and the rest as the last."""
+    fields = text.split(" ", count - 1)
+    if len(fields) < count:
         raise Fault(f"{count} words are wanted: {text}")
-    return words
+    return fields
 
 
 def assembled(rows):
@@ -31,8 +31,8 @@ def assembled(rows):
 
 def listing_of(text):
     """The listing of `file NAME program LISTING`, if a row is that."""
-    words = text.split(" ", 3)
-    return words[3] if words[0] == "file" and words[2:3] == ["program"] and len(words) == 4 else None
+    fields = text.split(" ", 3)
+    return fields[3] if fields[0] == "file" and fields[2:3] == ["program"] and len(fields) == 4 else None
 
 
 class Shelf:

@@ -10,7 +10,7 @@ from dataclasses import dataclass
 
 from harness.limits import ENDLESS
 from harness.places import CCELL
-from harness.program import words_of
+from harness.program import arguments_of
 
 # What an output does that has no room left: it fails from then on; it fails once and has room again; it takes no byte.
 FULL = ("from", "alone", "none")
@@ -39,15 +39,15 @@ def first_lines(text, count):
 
 
 class Case:
-    """What the program is run on: the words after its name, and its input."""
+    """What the program is run on: the arguments after its name, and its input."""
 
     def __init__(self, shelf, shim, line):
         line, _, name = line.partition(" < ")
-        self.shelf, self.shim, self.words = shelf, shim, words_of(line)
+        self.shelf, self.shim, self.arguments = shelf, shim, arguments_of(line)
         self.text = shelf.bytes_of(name) if name else b""
 
     def run(self, text=None, **refused):
-        """Runs it, with an input and an output that give out as is said by the words of tests/refuse.c."""
+        """Runs it, with an input and an output that give out as is said by the variables of tests/refuse.c."""
         env = {"PATH": os.environ["PATH"]}
         if refused:
             env["LD_PRELOAD"] = self.shim
@@ -63,7 +63,7 @@ class Case:
         with os.fdopen(behind, "rb", buffering=0) as told:
             with os.fdopen(before, "wb", buffering=0) as err:
                 how = {"stdin": given, "stdout": subprocess.PIPE, "stderr": err, "timeout": ENDLESS, "check": False}
-                ran = subprocess.run([CCELL, *self.words], cwd=self.shelf.folder, env=env, **how)
+                ran = subprocess.run([CCELL, *self.arguments], cwd=self.shelf.folder, env=env, **how)
             packets = list(iter(lambda: told.read(65536), b""))
         return Ended(ran.returncode, ran.stdout, packets, os.lseek(given.fileno(), 0, os.SEEK_CUR))
 
@@ -71,16 +71,16 @@ class Case:
 class Streams:
     """Questions on streams that give out."""
 
-    WORDS = ("outputs", "inputs", "ends", "names")
+    KINDS = ("outputs", "inputs", "ends", "names")
 
     def __init__(self, shelf, shim):
         self.shelf, self.shim = shelf, shim
 
-    def answer(self, word, rest):
+    def answer(self, kind, rest):
         """The answer to a question."""
-        if word == "names":
+        if kind == "names":
             return names(Case(self.shelf, self.shim, f"ccell verdict {'x' * int(rest)} y"))
-        return {"outputs": outputs, "inputs": inputs, "ends": ends}[word](Case(self.shelf, self.shim, rest))
+        return {"outputs": outputs, "inputs": inputs, "ends": ends}[kind](Case(self.shelf, self.shim, rest))
 
 
 def first_wrong(is_right, ways):

@@ -42,13 +42,13 @@ def read(path):
         return file.read()
 
 
-def told(*words, **files):
-    """What the program writes on these words, with these files."""
+def told(*arguments, **files):
+    """What the program writes on these arguments, with these files."""
     with tempfile.TemporaryDirectory() as room:
         for name, data in files.items():
             with open(f"{room}/{name}", "wb") as file:
                 file.write(data)
-        return subprocess.run([CCELL, *words], cwd=room, capture_output=True, timeout=ENDLESS, check=False).stdout
+        return subprocess.run([CCELL, *arguments], cwd=room, capture_output=True, timeout=ENDLESS, check=False).stdout
 
 
 def tables(text):

@@ -5,9 +5,9 @@ from itertools import groupby
 RUN = re.compile(r"<([0-9]+) ([^<>]*)>")
 
 
-def number(word):
+def number(text):
     """A number in decimal, or in hexadecimal after `0x`."""
-    return int(word, 16) if word.startswith("0x") else int(word)
+    return int(text, 16) if text.startswith("0x") else int(text)
 
 
 def written_out(text):
@@ -21,10 +21,10 @@ def expanded(text):
 
 
 def bytes_of(text):
-    """The bytes of words of hexadecimal digits, where `N*DIGITS` stands for so many times these."""
+    """The bytes of hexadecimal digits in parts, where `N*DIGITS` stands for so many times these."""
     data = bytearray()
-    for word in text.split():
-        count, star, digits = word.rpartition("*")
+    for part in text.split():
+        count, star, digits = part.rpartition("*")
         data += bytes.fromhex(digits) * (number(count) if star else 1)
     return bytes(data)
 
@@ -35,14 +35,14 @@ def is_digits(text):
 
 
 def grouped(data):
-    """Bytes as words of digits, in groups of eight bytes, where `N*GROUP` stands for so many times one."""
+    """Bytes as digits, in groups of eight bytes, where `N*GROUP` stands for so many times one."""
     groups = (data[i : i + 8] for i in range(0, len(data), 8))
     runs = ((group, len(list(alike))) for group, alike in groupby(groups))
     return " ".join(group.hex() if count == 1 else f"{count}*{group.hex()}" for group, count in runs)
 
 
 def lines_of(text):
-    """The lines of a text, and a word behind a last one that has no line feed."""
+    """The lines of a text, and behind a last one without a line feed one that says so."""
     lines = text.split("\n")
     last = lines.pop()
     return lines + [last, "(without a line feed)"] if last else lines

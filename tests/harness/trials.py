@@ -24,7 +24,7 @@ MADE = 8
 CHANGES = (0, 1, 1, 1, 1, 1, 2, 2)
 # Why a certificate whose bytes are read is refused.
 REFUSALS = ("no 4 Root", "no 5 Edge", "no 6 Entail", "no 7 Return", "no 8 Split")
-# What is counted where the checker says yes to a filter that answers a record another word than the profile.
+# What is counted where the checker says yes to a filter that answers a record another verdict than the profile.
 WRONG = "a yes that is wrong"
 
 
@@ -138,8 +138,8 @@ def draw_line(dice):
     """A random line of a script: a command of a container, or a call of one of its tasks."""
     name = dice.pick(IDS)
     if dice.below(6) == 0:
-        word, rest = dice.pick(COMMANDS)
-        return f"{word} {name}{rest}"
+        command, rest = dice.pick(COMMANDS)
+        return f"{command} {name}{rest}"
     task, way = dice.below(7) + 1, dice.below(12)
     if way == 0:
         return f"call {name} {task} {dice.pick(ENDS)}"

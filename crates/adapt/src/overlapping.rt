@@ -23,11 +23,11 @@ fn rule_of<'a>(all: &'a EntryRules, entry: usize, name: &str) -> Option<&'a Rule
 
 // Adds conditions.
 fn put_conditions(text: &mut Text, conds: &[Cond]) {
-    let mut word = "if";
+    let mut joined_by = "if";
     for cond in conds {
         let condition = ConditionText(cond);
-        text.put(format_args!(" {word} {condition}"));
-        word = "and";
+        text.put(format_args!(" {joined_by} {condition}"));
+        joined_by = "and";
     }
 }
 

@@ -6,7 +6,7 @@ use cert_form::CertView;
 
 /// Answers a question on certificates.
 pub fn answer(out: &mut Answers, mut question: Question<'_>) {
-    let bytes = out.bytes(question.word());
+    let bytes = out.bytes(question.part());
     match CertView::read(out.alloc, &bytes) {
         Ok(view) => out.tell(view.len()),
         Err(e) => out.tell(e),

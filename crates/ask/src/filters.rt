@@ -12,8 +12,8 @@ use kernel_check::{Accepted, accept};
 impl Desk {
     /// Answers a question on filters.
     pub fn on_filter(&mut self, mut question: Question<'_>) {
-        if question.word() == "bytes" {
-            self.filter = self.out.bytes(question.word());
+        if question.part() == "bytes" {
+            self.filter = self.out.bytes(question.part());
             return;
         }
         tell_run(&mut self.out, &self.filter, &question.record());

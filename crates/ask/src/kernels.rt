@@ -28,16 +28,16 @@ impl Kernels {
 
     /// Answers a question on containers.
     pub fn answer(&mut self, desk: &mut Desk, mut question: Question<'_>) {
-        let word = question.word();
-        if word == "anew" {
+        let kind = question.part();
+        if kind == "anew" {
             *self = Kernels::new(desk.out.alloc);
             return desk.kept.clear();
         }
-        let Some(id) = Id::read(question.word()) else {
+        let Some(id) = Id::read(question.part()) else {
             return desk.out.fail();
         };
-        carry_out(&mut self.lists, desk, word, &id, question);
-        carry_out(&mut self.tree, desk, word, &id, question);
+        carry_out(&mut self.lists, desk, kind, &id, question);
+        carry_out(&mut self.tree, desk, kind, &id, question);
     }
 }
 
@@ -45,11 +45,11 @@ impl Kernels {
 fn carry_out<K: Kernel>(
     kernel: &mut K,
     desk: &mut Desk,
-    word: &str,
+    kind: &str,
     id: &Id,
     mut question: Question<'_>,
 ) {
-    match word {
+    match kind {
         "admit" => admit(kernel, desk, id, question.place()),
         "call" => present(kernel, &mut desk.out, id, question),
         "signal" => signal(kernel, &mut desk.out, id, question.number()),
@@ -78,7 +78,7 @@ fn admit<K: Kernel>(kernel: &mut K, desk: &mut Desk, id: &Id, place: usize) {
 fn present<K: Kernel>(kernel: &mut K, out: &mut Answers, id: &Id, mut question: Question<'_>) {
     let task = question.number();
     let call = question.record();
-    let program = out.bytes(question.word());
+    let program = out.bytes(question.part());
     let attached = if program.is_empty() {
         None
     } else {

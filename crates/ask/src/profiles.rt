@@ -22,12 +22,12 @@ use std::mem;
 impl Desk {
     /// Answers a question on profiles.
     pub fn on_profile(&mut self, mut question: Question<'_>) {
-        match question.word() {
+        match question.part() {
             "bundle" => self.read(question),
             "build" => self.build(question),
             "grid" => self.draw(question),
             "keep" => self.keep(),
-            word => self.on_made(word, question),
+            kind => self.on_made(kind, question),
         }
     }
 
@@ -87,11 +87,11 @@ impl Desk {
     }
 
     // Answers a question on the profile, if there is one.
-    fn on_made(&mut self, word: &str, mut question: Question<'_>) {
+    fn on_made(&mut self, kind: &str, mut question: Question<'_>) {
         let Some(profile) = &self.profile else {
             return self.out.fail();
         };
-        match word {
+        match kind {
             "decide" => self.out.tell(profile.decide(&question.record())),
             "compile" => {
                 let made = compile(self.out.alloc, profile);
@@ -99,7 +99,7 @@ impl Desk {
             }
             "certify" => self.cert = certified(&mut self.out, profile, &self.filter),
             "follow" => self.cert = followed(&mut self.out, profile, &self.filter),
-            "check" => tell_check(&mut self.out, profile, &self.filter, question.word()),
+            "check" => tell_check(&mut self.out, profile, &self.filter, question.part()),
             _ => tell_agreement(&mut self.out, profile, &self.filter, &self.grid),
         }
     }

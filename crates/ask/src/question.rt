@@ -16,25 +16,25 @@ impl<'a> Question<'a> {
     }
 
     /// The next part, empty where none is left.
-    pub fn word(&mut self) -> &'a str {
-        let (word, rest) = self.rest.split_once(' ').unwrap_or((self.rest, ""));
+    pub fn part(&mut self) -> &'a str {
+        let (part, rest) = self.rest.split_once(' ').unwrap_or((self.rest, ""));
         self.rest = rest;
-        word
+        part
     }
 
     /// The next number.
     pub fn number(&mut self) -> u64 {
-        self.word().parse::<u64>().unwrap_or(0)
+        self.part().parse::<u64>().unwrap_or(0)
     }
 
     /// The next number of 32 bits.
     pub fn narrow(&mut self) -> u32 {
-        self.word().parse::<u32>().unwrap_or(0)
+        self.part().parse::<u32>().unwrap_or(0)
     }
 
     /// The next number, as a place of a list.
     pub fn place(&mut self) -> usize {
-        self.word().parse::<usize>().unwrap_or(0)
+        self.part().parse::<usize>().unwrap_or(0)
     }
 
     /// The next verdict.
@@ -44,7 +44,7 @@ impl<'a> Question<'a> {
 
     /// The next machine.
     pub fn machine(&mut self) -> Arch {
-        Arch::called(self.word()).unwrap_or(Arch::X86_64)
+        Arch::called(self.part()).unwrap_or(Arch::X86_64)
     }
 
     /// The next six arguments.

@@ -24,9 +24,9 @@ fn answer_one<'a>(
     out: &mut Answers,
     mut question: Question<'_>,
 ) {
-    let word = question.word();
-    let id = question.word();
-    match word {
+    let kind = question.part();
+    let id = question.part();
+    match kind {
         "create" => create(runtime, kept, out, id, question.place()),
         "start" => carry_out(runtime, out, Command::Start(id)),
         "kill" => carry_out(runtime, out, Command::Kill(id, question.number())),
@@ -90,7 +90,7 @@ fn call(
 ) {
     let task = question.number();
     let record = question.record();
-    let program = out.bytes(question.word());
+    let program = out.bytes(question.part());
     carry_out(runtime, out, call_of(id, task, record, program.as_slice()));
 }
 

@@ -7,7 +7,7 @@ use call_record::{Record, least_below, lets_through, strictest};
 
 /// Answers a question on verdicts and records.
 pub fn answer(out: &mut Answers, mut question: Question<'_>) {
-    match question.word() {
+    match question.part() {
         "strictest" => tell_strictest(out, question),
         "effect" => tell_effect(out, question),
         "record" => tell_record(out, &question.record()),

@@ -21,9 +21,9 @@ use Rattle.bpf_asm.specs.declared.fault.LineFault.{LineFault}
 use Rattle.bpf_asm.specs.declared.fault.LineFault.TheVariants.{UnknownWord, BadNumber, TooLong, BadLine}
 use Rattle.bpf_asm.specs.declared.arguments.Arguments.{Arguments}
 use Rattle.bpf_asm.specs.declared.arguments.Arguments.TheVariants.{Nothing}
-use Rattle.bpf_asm.specs.Faults.{HasBadNumber, HasDigits, HasFault, IsNeedlesslyRaw, IsShaped, IsShapeless, IsUnknown, first_word}
+use Rattle.bpf_asm.specs.Faults.{HasBadNumber, HasDigits, HasFault, IsNeedlesslyRaw, IsShaped, IsShapeless, IsUnknown, first_field}
 use Rattle.bpf_asm.specs.Forms.{Code, Digits, Field, Form, Jf, Jt, K, Notation, Number, Piece, RegisterA, RegisterX, line_text}
-use Rattle.bpf_asm.specs.Forms.{notation_in, number_at, pieces_of, word_of}
+use Rattle.bpf_asm.specs.Forms.{notation_in, number_at, pieces_of, mnemonic_text}
 use Rattle.bpf_asm.specs.Listing.{digits_of, form_of, has_own_form, is_told, line_of}
 use Rattle.bpf_asm.specs.inner.Mnemonics.{form_with, is_raw, mnemonic_at, mnemonic_of, text_of}
 use Rattle.bpf_asm.specs.inner.Reading.{arguments_at, checked, fields_at, fields_of, first_part, insn_of, insn_with, judged}
@@ -57,22 +57,22 @@ before_first-split c (b ∷ text) = by_test (b == c) (split_at c text) (before_f
 no_space : (w : Mnemonic) → Lacks 32 (text_of w)
 no_space w = lacks-text_of 32 refl w
 
-first_word-text_of : (w : Mnemonic) → first_word (text_of w) ≡ text_of w
-first_word-text_of w = before_first-split 32 (text_of w) ∙ ap (first_part (text_of w)) (split_at_none 32 (text_of w) (no_space w))
+first_field-text_of : (w : Mnemonic) → first_field (text_of w) ≡ text_of w
+first_field-text_of w = before_first-split 32 (text_of w) ∙ ap (first_part (text_of w)) (split_at_none 32 (text_of w) (no_space w))
 
-first_word-rest : (w : Mnemonic) (rest : List ℕ) → first_word (text_of w ++ 32 ∷ rest) ≡ text_of w
-first_word-rest w rest =
+first_field-rest : (w : Mnemonic) (rest : List ℕ) → first_field (text_of w ++ 32 ∷ rest) ≡ text_of w
+first_field-rest w rest =
     before_first-split 32 (text_of w ++ 32 ∷ rest)
     ∙ ap (first_part (text_of w ++ 32 ∷ rest)) (split_at_first 32 (text_of w) rest (no_space w))
 
-first_word-whole : (w : Mnemonic) (ps : List Written) → first_word (whole w ps) ≡ text_of w
-first_word-whole w [] = ap first_word (append-nil (text_of w)) ∙ first_word-text_of w
-first_word-whole w (p ∷ []) = first_word-rest w _
-first_word-whole w (p ∷ q ∷ ps) = first_word-rest w _
+first_field-whole : (w : Mnemonic) (ps : List Written) → first_field (whole w ps) ≡ text_of w
+first_field-whole w [] = ap first_field (append-nil (text_of w)) ∙ first_field-text_of w
+first_field-whole w (p ∷ []) = first_field-rest w _
+first_field-whole w (p ∷ q ∷ ps) = first_field-rest w _
 
-first_word-shaped : (line : List ℕ) (form : Form) (d : Digits) → IsShaped line form d → first_word line ≡ word_of form
-first_word-shaped line form d shaped =
-    ap first_word (shaped.text ∙ line_whole form d) ∙ first_word-whole (mnemonic_of form) (map (with_digits d) (pieces_of form))
+first_field-shaped : (line : List ℕ) (form : Form) (d : Digits) → IsShaped line form d → first_field line ≡ mnemonic_text form
+first_field-shaped line form d shaped =
+    ap first_field (shaped.text ∙ line_whole form d) ∙ first_field-whole (mnemonic_of form) (map (with_digits d) (pieces_of form))
     ∙ text_of-mnemonic_of form
 
 -- What is read of a mnemonic and pieces.
@@ -215,7 +215,7 @@ judged_read line w ps f text each read =
     })
 
 -- a line from which no fields are read has no shape
-judged_unread : (line : List ℕ) (w : Mnemonic) → first_word line ≡ text_of w → fields_at line ≡ Some (w, None) → LineJudged line
+judged_unread : (line : List ℕ) (w : Mnemonic) → first_field line ≡ text_of w → fields_at line ≡ Some (w, None) → LineJudged line
 judged_unread line w begins unread =
     Shapeless (record {
       form = form_with w;
@@ -232,7 +232,7 @@ judged_unread line w begins unread =
 judged_rest : (line : List ℕ) (w : Mnemonic) (rest : List ℕ) → line ≡ text_of w ++ 32 ∷ rest
     → (o : Option Arguments) → arguments_at rest ≡ o → (g : Option Fields) → option_and_then (fields_of w) o ≡ g → LineJudged line
 judged_rest line w rest e o read None none =
-    judged_unread line w (ap first_word e ∙ first_word-rest w rest)
+    judged_unread line w (ap first_field e ∙ first_field-rest w rest)
     (ap fields_at e ∙ fields_at-rest w rest ∙ ap (λ x. Some (w, option_and_then (fields_of w) x)) read ∙ ap (λ x. Some (w, x)) none)
 judged_rest line w rest e None read (Some f) made = absurd (cc)
 judged_rest line w rest e (Some arguments) read (Some f) made = by_pieces (arguments_at_sound rest arguments read) where
@@ -247,7 +247,7 @@ judged_rest line w rest e (Some arguments) read (Some f) made = by_pieces (argum
 
 judged_bare : (line : List ℕ) (w : Mnemonic) → line ≡ text_of w → (g : Option Fields) → fields_of w Nothing ≡ g → LineJudged line
 judged_bare line w e None none =
-    judged_unread line w (ap first_word e ∙ first_word-text_of w) (ap fields_at e ∙ fields_at-bare w ∙ ap (λ x. Some (w, x)) none)
+    judged_unread line w (ap first_field e ∙ first_field-text_of w) (ap fields_at e ∙ fields_at-bare w ∙ ap (λ x. Some (w, x)) none)
 judged_bare line w e (Some f) made = judged_read line w [] f (e ∙ sym (append-nil (text_of w))) tt made
 
 unknown : (line : List ℕ) → mnemonic_at (first_part line (split_at 32 line)) ≡ None → LineJudged line
@@ -259,16 +259,16 @@ unknown line none =
     (ap (λ o. judged (with_fields o (read_rest (split_at 32 line)))) none)
 
 pub line_judged : (line : List ℕ) → LineJudged line
-line_judged line = by_word (mnemonic_at (first_part line (split_at 32 line))) refl where
+line_judged line = by_mnemonic (mnemonic_at (first_part line (split_at 32 line))) refl where
   by_cut : (w : Mnemonic) (o : Option (List ℕ × List ℕ)) → split_at 32 line ≡ o → first_part line o ≡ text_of w → LineJudged line
   by_cut w None cut word = judged_bare line w word (fields_of w Nothing) refl
   by_cut w (Some parts) cut word =
       judged_rest line w parts.1 ((split_at_sound 32 line parts cut).0 ∙ ap (λ x. x ++ 32 ∷ parts.1) word) (arguments_at parts.1) refl
       (option_and_then (fields_of w) (arguments_at parts.1)) refl
 
-  by_word : (o : Option Mnemonic) → mnemonic_at (first_part line (split_at 32 line)) ≡ o → LineJudged line
-  by_word None none = unknown line none
-  by_word (Some w) is = by_cut w (split_at 32 line) refl (mnemonic_at_sound (first_part line (split_at 32 line)) w is)
+  by_mnemonic : (o : Option Mnemonic) → mnemonic_at (first_part line (split_at 32 line)) ≡ o → LineJudged line
+  by_mnemonic None none = unknown line none
+  by_mnemonic (Some w) is = by_cut w (split_at 32 line) refl (mnemonic_at_sound (first_part line (split_at 32 line)) w is)
 
 -- Each instruction's line, read.
 
@@ -377,7 +377,7 @@ shaped_insn line i fits text =
 unknown_told : (line : List ℕ) → IsUnknown line → line_at line ≡ Err UnknownWord
 unknown_told line h = by_case (line_judged line) where
   shaped_not : (form : Form) (d : Digits) → IsShaped line form d → ⊥
-  shaped_not form d shaped = h form (first_word-shaped line form d shaped)
+  shaped_not form d shaped = h form (first_field-shaped line form d shaped)
 
   by_case : LineJudged line → line_at line ≡ Err UnknownWord
   by_case (Unknown fault e) = e

@@ -11,7 +11,7 @@ use Rattle.bpf_insn.specs.declared.code.Operation.{Operation}
 use Rattle.bpf_insn.specs.declared.code.Operation.TheVariants as operations
 use Rattle.bpf_asm.specs.declared.mnemonic.Mnemonic.{Mnemonic}
 use Rattle.bpf_asm.specs.declared.mnemonic.Mnemonic.TheVariants.{Ld, Ldx, St, Stx, Ret, Ja, Branch, Compute, Lsh, Rsh, Neg, Tax, Txa, Raw}
-use Rattle.bpf_asm.specs.Forms.{Form, word_of}
+use Rattle.bpf_asm.specs.Forms.{Form, mnemonic_text}
 use Rattle.bpf_asm.specs.inner.Mnemonics.{is_raw, mnemonic_at, mnemonic_of, mnemonics, text_of}
 use Rattle.texts.proofs.Splits.{Lacks}
 use Rattle.bpf_asm.proofs.Pieces.{lacks_digits}
@@ -85,7 +85,7 @@ pub mnemonic_at_none : (text : List ℕ) → mnemonic_at text ≡ None → (w : 
 mnemonic_at_none text h w e = let read = ap mnemonic_at e ∙ mnemonic_at-text_of w in absurd (cc)
 
 -- the mnemonic of a form is what its lines begin with
-pub text_of-mnemonic_of : (form : Form) → text_of (mnemonic_of form) ≡ word_of form
+pub text_of-mnemonic_of : (form : Form) → text_of (mnemonic_of form) ≡ mnemonic_text form
 text_of-mnemonic_of (Some operations.LoadWord) = refl
 text_of-mnemonic_of (Some operations.LoadScratch) = refl
 text_of-mnemonic_of (Some operations.LoadScratchX) = refl

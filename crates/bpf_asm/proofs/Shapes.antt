@@ -12,7 +12,7 @@ use Rattle.bpf_asm.specs.declared.mnemonic.Mnemonic.TheVariants.{Ld, Ldx, St, St
 use Rattle.bpf_asm.specs.Faults.{HasDigits}
 use Rattle.bpf_asm.specs.Forms.{Address, Code, Constant, Decimal, Digits, Field, Form, Hexadecimal, Jf, Jt, K, Notation, Number}
 use Rattle.bpf_asm.specs.Forms.{Piece, RegisterA, RegisterX, Scratch, line_text, notation_in, number_text, piece_text, pieces_of}
-use Rattle.bpf_asm.specs.Forms.{rest_text, word_of}
+use Rattle.bpf_asm.specs.Forms.{rest_text, mnemonic_text}
 use Rattle.bpf_asm.specs.inner.Mnemonics.{mnemonic_of, text_of}
 use Rattle.bpf_asm.specs.inner.Reading.{fields_of}
 use Rattle.bpf_asm.specs.inner.Written.{IsWritten, OfA, OfNumber, OfX, Written, arguments_of, fields_with, part_of, with_digits}
@@ -100,7 +100,7 @@ pub same_line : (form : Form) (d e : Digits)
     → line_text form d ≡ line_text form e
 same_line form d e same = λ x. line_with form (same_pieces form d e same x) where
   line_with : Form → List (List ℕ) → List ℕ
-  line_with f ts = word_of f ++ rest_text ts
+  line_with f ts = mnemonic_text f ++ rest_text ts
 
 -- what is read of a form with digits
 pub reads_form : (form : Form) (d : Digits)

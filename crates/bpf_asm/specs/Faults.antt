@@ -11,7 +11,7 @@ use Rattle.bpf_asm.specs.declared.fault.AsmError.TheVariants.{Line, OutOfMemory}
 use Rattle.bpf_asm.specs.declared.fault.LineFault.{LineFault}
 use Rattle.bpf_asm.specs.declared.fault.LineFault.TheVariants.{UnknownWord, BadNumber, TooLong, BadLine}
 use Rattle.bpf_asm.specs.Forms.{Digits, Field, Form, Notation, Number, Piece, RegisterA, RegisterX, base_of, is_digit_of, line_text}
-use Rattle.bpf_asm.specs.Forms.{notation_in, pieces_of, width_of, word_of}
+use Rattle.bpf_asm.specs.Forms.{notation_in, pieces_of, width_of, mnemonic_text}
 use Rattle.bpf_asm.specs.Listing.{digits_of, form_of, line_of, listing}
 
 -- a number is digits, one of them at least
@@ -26,17 +26,17 @@ pub record IsShaped (line : List ℕ) (form : Form) (digits : Digits) : Type 0 w
   pub text : line ≡ line_text form digits
 
 -- what stands before the first space
-abbrev pub first_word : List ℕ → List ℕ
-first_word line = before_first (λ b. b == space) line
+abbrev pub first_field : List ℕ → List ℕ
+first_field line = before_first (λ b. b == space) line
 
 -- the line begins with the mnemonic of no form
 abbrev pub IsUnknown : List ℕ → Type 0
-IsUnknown line = (form : Form) → first_word line ≢ word_of form
+IsUnknown line = (form : Form) → first_field line ≢ mnemonic_text form
 
 -- it begins with a form's mnemonic, and has the shape of none
 pub record IsShapeless (line : List ℕ) : Type 0 where
   pub form : Form
-  pub begins : first_word line ≡ word_of form
+  pub begins : first_field line ≡ mnemonic_text form
   pub none : (other : Form) (digits : Digits) → IsShaped line other digits → ⊥
 
 -- a number that is not written as its field asks: with a leading zero, or too large for the field's bits

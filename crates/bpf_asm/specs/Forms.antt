@@ -77,39 +77,39 @@ pub data Piece : Type 0 where
 abbrev pub Form : Type 0
 Form = Option Operation
 
-abbrev pub word_of_test : Test → List ℕ
-word_of_test Equal = codes "jeq"
-word_of_test Greater = codes "jgt"
-word_of_test AtLeast = codes "jge"
-word_of_test AnyBit = codes "jset"
+abbrev pub mnemonic_text_of_test : Test → List ℕ
+mnemonic_text_of_test Equal = codes "jeq"
+mnemonic_text_of_test Greater = codes "jgt"
+mnemonic_text_of_test AtLeast = codes "jge"
+mnemonic_text_of_test AnyBit = codes "jset"
 
-abbrev pub word_of_arithmetic : Arithmetic → List ℕ
-word_of_arithmetic Add = codes "add"
-word_of_arithmetic Sub = codes "sub"
-word_of_arithmetic Or = codes "or"
-word_of_arithmetic And = codes "and"
-word_of_arithmetic Xor = codes "xor"
+abbrev pub mnemonic_text_of_arithmetic : Arithmetic → List ℕ
+mnemonic_text_of_arithmetic Add = codes "add"
+mnemonic_text_of_arithmetic Sub = codes "sub"
+mnemonic_text_of_arithmetic Or = codes "or"
+mnemonic_text_of_arithmetic And = codes "and"
+mnemonic_text_of_arithmetic Xor = codes "xor"
 
 -- the mnemonic that a line of the form begins with
-abbrev pub word_of : Form → List ℕ
-word_of (Some LoadWord) = codes "ld"
-word_of (Some LoadScratch) = codes "ld"
-word_of (Some LoadScratchX) = codes "ldx"
-word_of (Some Store) = codes "st"
-word_of (Some StoreX) = codes "stx"
-word_of (Some SetA) = codes "ld"
-word_of (Some SetX) = codes "ldx"
-word_of (Some ReturnK) = codes "ret"
-word_of (Some ReturnA) = codes "ret"
-word_of (Some Jump) = codes "ja"
-word_of (Some (Branch test operand)) = word_of_test test
-word_of (Some (Compute arithmetic operand)) = word_of_arithmetic arithmetic
-word_of (Some ShiftLeft) = codes "lsh"
-word_of (Some ShiftRight) = codes "rsh"
-word_of (Some Negate) = codes "neg"
-word_of (Some CopyToX) = codes "tax"
-word_of (Some CopyToA) = codes "txa"
-word_of None = codes "raw"
+abbrev pub mnemonic_text : Form → List ℕ
+mnemonic_text (Some LoadWord) = codes "ld"
+mnemonic_text (Some LoadScratch) = codes "ld"
+mnemonic_text (Some LoadScratchX) = codes "ldx"
+mnemonic_text (Some Store) = codes "st"
+mnemonic_text (Some StoreX) = codes "stx"
+mnemonic_text (Some SetA) = codes "ld"
+mnemonic_text (Some SetX) = codes "ldx"
+mnemonic_text (Some ReturnK) = codes "ret"
+mnemonic_text (Some ReturnA) = codes "ret"
+mnemonic_text (Some Jump) = codes "ja"
+mnemonic_text (Some (Branch test operand)) = mnemonic_text_of_test test
+mnemonic_text (Some (Compute arithmetic operand)) = mnemonic_text_of_arithmetic arithmetic
+mnemonic_text (Some ShiftLeft) = codes "lsh"
+mnemonic_text (Some ShiftRight) = codes "rsh"
+mnemonic_text (Some Negate) = codes "neg"
+mnemonic_text (Some CopyToX) = codes "tax"
+mnemonic_text (Some CopyToA) = codes "txa"
+mnemonic_text None = codes "raw"
 
 -- the pieces after it
 abbrev pub pieces_of : Form → List Piece
@@ -166,4 +166,4 @@ rest_text (piece ∷ pieces) = space ∷ join_with_byte comma (piece ∷ pieces)
 
 -- a line of the form with these digits, without its line feed
 abbrev pub line_text : Form → Digits → List ℕ
-line_text form digits = word_of form ++ rest_text (map (piece_text digits) (pieces_of form))
+line_text form digits = mnemonic_text form ++ rest_text (map (piece_text digits) (pieces_of form))

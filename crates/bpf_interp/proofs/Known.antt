@@ -13,7 +13,7 @@ use Rattle.bpf_insn.specs.Code.{operation_of}
 use Rattle.bpf_insn.specs.Machine.{Registers, Ends, Stuck, Ending, ending, loaded, perform_if, start, step, verdict_of}
 use Rattle.bpf_insn.proofs.RunLaws.{counted, ending_ends, ending_stuck, ending-more}
 use Rattle.call_record.specs.Words.{halves}
-use Rattle.bpf_interp.specs.Fixed.{FixedIsTheWord}
+use Rattle.bpf_interp.specs.Fixed.{FixedIsTheVerdict}
 use Rattle.bpf_interp.specs.inner.Known.{loads_further}
 use Rattle.bpf_interp.specs.inner.Moment.{IsMoment}
 
@@ -115,5 +115,5 @@ more_words : (p : List Insn) (r more : List ℕ) (word : ℕ) (e : Ending) → e
 more_words p r more word None is h = cc
 more_words p r more word (Some end) is h = ap (option_map (λ (end : ℕ × ℕ). end.0)) (ending-more p 0 start r more end is) ∙ h
 
-pub fixed_stays : FixedIsTheWord
+pub fixed_stays : FixedIsTheVerdict
 fixed_stays p r word h = more_words p (r.nr ∷ r.arch ∷ []) (halves (r.ip ∷ r.args)) word (ending p 0 start (r.nr ∷ r.arch ∷ [])) refl h

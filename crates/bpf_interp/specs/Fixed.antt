@@ -9,8 +9,8 @@ use Rattle.call_record.specs.Record.{words}
 use Rattle.call_record.specs.Verdict.{action, allow}
 
 -- the verdict in which the run ends where no other word of the record is known: a load of another one is stuck
-abbrev pub fixed_word : List Insn → ℕ → ℕ → Option ℕ
-fixed_word p arch nr = verdict_of p (nr ∷ arch ∷ [])
+abbrev pub fixed_verdict : List Insn → ℕ → ℕ → Option ℕ
+fixed_verdict p arch nr = verdict_of p (nr ∷ arch ∷ [])
 
 -- there is a verdict, and it allows the call
 abbrev pub is_allow : Option ℕ → Bool
@@ -19,8 +19,8 @@ is_allow (Some word) = action word == allow
 
 -- the program allows each call with this number and this token by these two words
 abbrev pub is_fixed_allow : List Insn → ℕ → ℕ → Bool
-is_fixed_allow p arch nr = is_allow (fixed_word p arch nr)
+is_fixed_allow p arch nr = is_allow (fixed_verdict p arch nr)
 
 -- a verdict that is fixed so is the verdict on each record with these two words
-abbrev pub FixedIsTheWord : Type 0
-FixedIsTheWord = (p : List Insn) (r : Record) (word : ℕ) → fixed_word p r.arch r.nr ≡ Some word → verdict_of p (words r) ≡ Some word
+abbrev pub FixedIsTheVerdict : Type 0
+FixedIsTheVerdict = (p : List Insn) (r : Record) (word : ℕ) → fixed_verdict p r.arch r.nr ≡ Some word → verdict_of p (words r) ≡ Some word

@@ -3,7 +3,7 @@ ghost use Rattle.std.specs.Prelude.{◌≡◌, ◌∷◌, [], ◌↔◌, IsTrue,
 ghost use Rattle.bpf_insn.specs.declared.code.Operation.TheVariants.{LoadWord};
 ghost use Rattle.bpf_insn.specs.Code.{operation_of};
 ghost use Rattle.kernel_check.specs.Lent.{accepted_insns};
-ghost use Rattle.bpf_interp.specs.Fixed.{FixedIsTheWord, fixed_word, is_fixed_allow};
+ghost use Rattle.bpf_interp.specs.Fixed.{FixedIsTheVerdict, fixed_verdict, is_fixed_allow};
 ghost use Rattle.bpf_interp.specs.inner.Known.{loads_further};
 
 use crate::step::{Next, Registers, advance};
@@ -16,7 +16,7 @@ use kernel_check::Accepted;
 pub fn fixed_allow(accepted: &Accepted<'_>, arch: u32, nr: u32) -> bool
     ensures { result ≡ is_fixed_allow (accepted_insns accepted.now) arch nr }
 {
-    match fixed_word(accepted, arch, nr) {
+    match fixed_verdict(accepted, arch, nr) {
         None => false,
         Some(word) => word.action() == Word::ALLOW,
     }
@@ -24,8 +24,8 @@ pub fn fixed_allow(accepted: &Accepted<'_>, arch: u32, nr: u32) -> bool
 
 /// A verdict that is fixed by the number and the machine of a call is the filter's verdict on each record
 /// with these two.
-pub fn fixed_is_the_word()
-    ensures { FixedIsTheWord }
+pub fn fixed_is_the_verdict()
+    ensures { FixedIsTheVerdict }
 {}
 
 // Whether an instruction loads a word of the record after the first two.
@@ -39,8 +39,8 @@ fn loads_further(insn: &Insn) -> bool
 }
 
 // The verdict in which the run ends, if no other word of the record is loaded.
-fn fixed_word(accepted: &Accepted<'_>, arch: u32, nr: u32) -> Option<Word>
-    ensures { result ≡ fixed_word (accepted_insns accepted.now) arch nr }
+fn fixed_verdict(accepted: &Accepted<'_>, arch: u32, nr: u32) -> Option<Word>
+    ensures { result ≡ fixed_verdict (accepted_insns accepted.now) arch nr }
 {
     let program = accepted.program();
     let call = Record {

@@ -9,5 +9,5 @@ mod fixed;
 mod run;
 mod step;
 
-pub use fixed::{fixed_allow, fixed_is_the_word};
+pub use fixed::{fixed_allow, fixed_is_the_verdict};
 pub use run::{verdict, verdict_counted};

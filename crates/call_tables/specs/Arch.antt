@@ -37,31 +37,31 @@ table_of LinuxAarch64 = machines.linux_aarch64_table
 table_of LinuxArm = machines.linux_arm_table
 
 -- the name by which a user of the program calls a machine
-abbrev pub word_of : Arch → List ℕ
-word_of X86_64 = codes "x86-64"
-word_of Aarch64 = codes "aarch64"
-word_of LinuxX86_64 = codes "linux-x86-64"
-word_of LinuxX86 = codes "linux-x86"
-word_of LinuxX32 = codes "linux-x32"
-word_of LinuxAarch64 = codes "linux-aarch64"
-word_of LinuxArm = codes "linux-arm"
+abbrev pub machine_name : Arch → List ℕ
+machine_name X86_64 = codes "x86-64"
+machine_name Aarch64 = codes "aarch64"
+machine_name LinuxX86_64 = codes "linux-x86-64"
+machine_name LinuxX86 = codes "linux-x86"
+machine_name LinuxX32 = codes "linux-x32"
+machine_name LinuxAarch64 = codes "linux-aarch64"
+machine_name LinuxArm = codes "linux-arm"
 
 -- the machine with this name, of those that a container may be for
 unfoldable pub native_called : List ℕ → Option Arch
-native_called word =
-    if bytes_eq word (word_of X86_64) then Some X86_64
-    else if bytes_eq word (word_of Aarch64) then Some Aarch64
-    else if bytes_eq word (word_of LinuxX86_64) then Some LinuxX86_64
-    else if bytes_eq word (word_of LinuxAarch64) then Some LinuxAarch64
+native_called name =
+    if bytes_eq name (machine_name X86_64) then Some X86_64
+    else if bytes_eq name (machine_name Aarch64) then Some Aarch64
+    else if bytes_eq name (machine_name LinuxX86_64) then Some LinuxX86_64
+    else if bytes_eq name (machine_name LinuxAarch64) then Some LinuxAarch64
     else None
 
 -- the machine with this name
 unfoldable pub machine_called : List ℕ → Option Arch
-machine_called word =
-    if bytes_eq word (word_of LinuxX86) then Some LinuxX86
-    else if bytes_eq word (word_of LinuxX32) then Some LinuxX32
-    else if bytes_eq word (word_of LinuxArm) then Some LinuxArm
-    else native_called word
+machine_called name =
+    if bytes_eq name (machine_name LinuxX86) then Some LinuxX86
+    else if bytes_eq name (machine_name LinuxX32) then Some LinuxX32
+    else if bytes_eq name (machine_name LinuxArm) then Some LinuxArm
+    else native_called name
 
 -- a machine's place among all
 abbrev pub place_of : Arch → ℕ

@@ -60,7 +60,7 @@ impl Default for Arch {
 
 impl Arch {
     ghost use Rattle.std.specs.Prelude.{◌↔◌, IsTrue};
-    ghost use Rattle.call_tables.specs.Arch.{table_of, token_of, scmp_of, word_of, machine_called, native_called, family_of};
+    ghost use Rattle.call_tables.specs.Arch.{table_of, token_of, scmp_of, machine_name, machine_called, native_called, family_of};
     ghost use Rattle.call_tables.specs.Numbers.{own_numbers, other_numbers, IsOwn};
 
     /// All machines, family by family, in the order in which lists of machines name them.
@@ -153,8 +153,8 @@ impl Arch {
     }
 
     /// The name by which a user of the program calls the machine.
-    pub fn word(self) -> &'static str
-        ensures { result.now ≡ word_of self }
+    pub fn machine_name(self) -> &'static str
+        ensures { result.now ≡ machine_name self }
     {
         match self {
             Arch::X86_64 => "x86-64",
@@ -170,19 +170,19 @@ impl Arch {
     /// The machine with this name, of those that a container may be for: a kernel of x86-64 runs the calls of x86
     /// and x32, and one of AArch64 those of ARM.
     #[tactic(auto, unfolding(crate::specs::Arch::native_called))]
-    pub fn native_called(word: &str) -> Option<Arch>
-        ensures { result ≡ native_called word.now }
+    pub fn native_called(name: &str) -> Option<Arch>
+        ensures { result ≡ native_called name.now }
     {
-        if word == "x86-64" {
+        if name == "x86-64" {
             return Some(Arch::X86_64);
         }
-        if word == "aarch64" {
+        if name == "aarch64" {
             return Some(Arch::Aarch64);
         }
-        if word == "linux-x86-64" {
+        if name == "linux-x86-64" {
             return Some(Arch::LinuxX86_64);
         }
-        if word == "linux-aarch64" {
+        if name == "linux-aarch64" {
             return Some(Arch::LinuxAarch64);
         }
         None
@@ -190,19 +190,19 @@ impl Arch {
 
     /// The machine with this name.
     #[tactic(auto, unfolding(crate::specs::Arch::machine_called))]
-    pub fn called(word: &str) -> Option<Arch>
-        ensures { result ≡ machine_called word.now }
+    pub fn called(name: &str) -> Option<Arch>
+        ensures { result ≡ machine_called name.now }
     {
-        if word == "linux-x86" {
+        if name == "linux-x86" {
             return Some(Arch::LinuxX86);
         }
-        if word == "linux-x32" {
+        if name == "linux-x32" {
             return Some(Arch::LinuxX32);
         }
-        if word == "linux-arm" {
+        if name == "linux-arm" {
             return Some(Arch::LinuxArm);
         }
-        Arch::native_called(word)
+        Arch::native_called(name)
     }
 
     /// The number of the call of that name, or `None` where the machine has no such call.

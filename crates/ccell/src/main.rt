@@ -1,33 +1,33 @@
 //! `ccell` on the arguments, files and streams of its process.
 #![tactic(auto)]
 
+mod arguments;
 mod disk;
-mod words;
 
+use crate::arguments::arguments_of;
 use crate::disk::Disk;
-use crate::words::words_of;
 use cli::{Stop, dispatch, report};
 use std::alloc::{AllocError, Global};
 use std::io::BufReader;
 use std::process::ExitCode;
 use streams::{FromRead, ToWrite};
 
-fn texts_of(alloc: Global, words: &[String]) -> Result<Vec<&str>, AllocError> {
+fn texts_of(alloc: Global, arguments: &[String]) -> Result<Vec<&str>, AllocError> {
     let mut texts = Vec::new(alloc);
-    for word in words {
-        texts.push(word.as_str())?;
+    for argument in arguments {
+        texts.push(argument.as_str())?;
     }
     Ok(texts)
 }
 
 // Runs the program on these arguments, and gives the exit status.
-fn run(rt: &HostRuntime, words: &[&str]) -> Result<u8, Stop<'static>> {
+fn run(rt: &HostRuntime, arguments: &[&str]) -> Result<u8, Stop<'static>> {
     let Ok(input) = BufReader::new(rt.alloc(), rt.stdin()) else {
         return Err(Stop::OutOfMemory);
     };
     Ok(dispatch(
         rt.alloc(),
-        words,
+        arguments,
         &mut Disk(rt),
         &mut FromRead::new(input),
         &mut ToWrite::new(rt.stdout()),
@@ -36,8 +36,8 @@ fn run(rt: &HostRuntime, words: &[&str]) -> Result<u8, Stop<'static>> {
 }
 
 fn status_of(rt: &HostRuntime) -> Result<u8, Stop<'static>> {
-    let words = words_of(rt, rt.alloc())?;
-    let Ok(texts) = texts_of(rt.alloc(), &words) else {
+    let arguments = arguments_of(rt, rt.alloc())?;
+    let Ok(texts) = texts_of(rt.alloc(), &arguments) else {
         return Err(Stop::OutOfMemory);
     };
     run(rt, &texts)

@@ -7,8 +7,8 @@ use Rattle.bpf_insn.specs.Bytes.{insns_of, view_fault}
 use Rattle.kernel_check.specs.Accepted.{IsAccepted}
 use Rattle.kernel_check.proofs.RunLaws.{runs}
 use Rattle.profile.specs.Policy.{Policy, IsClear}
-use Rattle.profile.specs.Said.{said as word_of}
-use Rattle.profile.proofs.SaidLaws.{each_record_is_said_one_word}
+use Rattle.profile.specs.Said.{said as said_of}
+use Rattle.profile.proofs.SaidLaws.{each_record_is_said_one_verdict}
 use Rattle.bpf_insn.specs.declared.instruction.Insn.{Insn}
 use Rattle.bpf_insn.specs.Machine.{verdict_of}
 use Rattle.cert_form.specs.declared.fault.FormError.{FormError}
@@ -88,15 +88,15 @@ no_memory policy p ns (Return i) found same = cc
 
 -- what is right gives no other verdict
 pub only_the_profiles : (policy : Policy) (p : List Insn) → IsClear policy.rules → IsRight policy p → GivesOnly policy p
-only_the_profiles policy p clear right r rec v given = (each_record_is_said_one_word policy r v clear rec).0 ((right r rec v).0 given)
+only_the_profiles policy p clear right r rec v given = (each_record_is_said_one_verdict policy r v clear rec).0 ((right r rec v).0 given)
 
 -- and an accepted program that gives no other verdict is right
 pub right_of : (policy : Policy) (p : List Insn) → IsClear policy.rules → IsAccepted p → GivesOnly policy p → IsRight policy p
 right_of policy p clear accepted only r rec v =
-    let one = each_record_is_said_one_word policy r v clear rec in
+    let one = each_record_is_said_one_verdict policy r v clear rec in
     let word = runs p r accepted rec.length_is in
     let found : verdict_of p r ≡ Some word.0 = ap (λ (o : Option (ℕ × ℕ)). option_map (λ (end : ℕ × ℕ). end.0) o) word.2 in
-    let is : word.0 ≡ word_of policy r = only r rec word.0 found in (
+    let is : word.0 ≡ said_of policy r = only r rec word.0 found in (
       λ gives. one.1 (only r rec v gives),
       λ says. found ∙ ap Some (is ∙ sym (one.0 says)),
     )

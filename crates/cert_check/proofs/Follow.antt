@@ -46,7 +46,7 @@ use Rattle.cert_form.specs.Nodes.{PlainNode}
 use Rattle.cert_check.specs.Agree.{Agrees, IsRefuted, IsYes}
 use Rattle.cert_check.proofs.Agreement.{AreOut, AreMet, refuted_rule, yes_condition}
 use Rattle.cert_check.specs.Rules.{no_node, Edge, one_edge, step_edges, edges_by, fact_at, Leads, Covers, CoversSharply, SplitRule, Allows}
-use Rattle.cert_check.specs.Rules.{IsOutOn, IsMetBy, Carries, known_on, value_word, word_by, Keeps, IsValid}
+use Rattle.cert_check.specs.Rules.{IsOutOn, IsMetBy, Carries, known_on, value_verdict, verdict_by, Keeps, IsValid}
 
 -- what gives a verdict after one instruction gives it before
 after_one_gives : (e : Ending) (v n : ℕ) → after_one e ≡ Some (v, n) → (m : ℕ) × (e ≡ Some (v, m))
@@ -70,19 +70,19 @@ guarded_goes false n s word e = cc
 
 -- a run ends by the verdict that a return is known to give
 ends_by : (op : Option Operation) (r : List ℕ) (i : Insn) (s : Registers) (regs : Regs) (word w : ℕ) → HasValue regs.a r s.a
-    → perform_if op r i s ≡ Ends word → word_by op regs i ≡ Some w → word ≡ w
+    → perform_if op r i s ≡ Ends word → verdict_by op regs i ≡ Some w → word ≡ w
 ends_by None r i s regs word w has e known = absurd (none-some w known)
 ends_by (Some ReturnK) r i s regs word w has e known =
     let same : i.k ≡ word = cc in sym same ∙ same_Some i.k w known
 ends_by (Some ReturnA) r i s regs word w has e known = by_value regs.a has known where
-  by_value : (v : AVal) → HasValue v r s.a → value_word v ≡ Some w → word ≡ w
+  by_value : (v : AVal) → HasValue v r s.a → value_verdict v ≡ Some w → word ≡ w
   by_value (Const c) h k = let same : s.a ≡ word = cc in sym same ∙ (h ∙ same_Some c w k)
   by_value Unknown h k = absurd (none-some w k)
   by_value (Masked v m) h k = absurd (none-some w k)
 ends_by (Some _) r i s regs word w has e known = absurd (none-some w known)
 
 -- the run does not go on from a return, and is not stuck there
-returns : (op : Option Operation) (r : List ℕ) (i : Insn) (s : Registers) (regs : Regs) (w : ℕ) → word_by op regs i ≡ Some w
+returns : (op : Option Operation) (r : List ℕ) (i : Insn) (s : Registers) (regs : Regs) (w : ℕ) → verdict_by op regs i ≡ Some w
     → (word : ℕ) × (perform_if op r i s ≡ Ends word)
 returns None r i s regs w known = absurd (none-some w known)
 returns (Some ReturnK) r i s regs w known = (i.k, refl)

@@ -5,7 +5,7 @@ use Rattle.std.proofs.lemmas.Option.{same_Some}
 use Rattle.bpf_insn.specs.Machine.{verdict_of}
 use Rattle.kernel_check.proofs.RunLaws.{runs}
 use Rattle.profile.specs.Policy.{Says}
-use Rattle.profile.proofs.SaidLaws.{each_record_is_said_one_word}
+use Rattle.profile.proofs.SaidLaws.{each_record_is_said_one_verdict}
 use Rattle.cert_check.specs.Right.{ValidIsRight}
 use Rattle.cert_check.proofs.Agreement.{agrees_sound}
 use Rattle.cert_check.proofs.Follow.{only_right}
@@ -15,8 +15,8 @@ right policy p ns clear accepted valid r rec v =
     let run = runs p r accepted rec.length_is in
     let says = only_right r rec p accepted policy ns (λ out met known w agrees so told. agrees_sound r rec known so policy out met w clear agrees told.0 told.1) valid in
     let gives : verdict_of p r ≡ Some run.0 = ap (λ e. option_map (λ (end : ℕ × ℕ). end.0) e) run.2 in
-    let one = each_record_is_said_one_word policy r v clear rec in
-    let its = each_record_is_said_one_word policy r run.0 clear rec in
+    let one = each_record_is_said_one_verdict policy r v clear rec in
+    let its = each_record_is_said_one_verdict policy r run.0 clear rec in
     let said = says run.0 run.1 run.2 in (
       λ given. subst (Says policy r) (same_Some run.0 v (sym gives ∙ given)) said,
       λ told. gives ∙ ap Some (its.0 said ∙ sym (one.0 told)),

@@ -1,5 +1,5 @@
 -- Claims that are new on the way to a node, and those that its chain shares with the node before.
-use Rattle.std.proofs.Common.{◌≡◌, ℕ, true, List, [], ◌∷◌, ◌<◌, ◌++◌, refl, sym, subst, inl, inr, ◌⊎◌, arith, ap}
+use Rattle.std.proofs.Common.{◌≡◌, ℕ, true, List, [], ◌∷◌, ◌<◌, ◌++◌, refl, sym, ◌∙◌, subst, inl, inr, ◌⊎◌, arith, ap}
 use Rattle.std.specs.Prelude.{All, Contains, Option, length, option_to_list, slice_get}
 use Rattle.std.proofs.lemmas.List.Elements.{All-nil, All-cons, All-head, All-tail, All-weaker, All-contains}
 use Rattle.std.proofs.lemmas.List.Elements.{Contains-append_left, Contains-append_right}
@@ -11,8 +11,8 @@ use Rattle.cert_form.specs.declared.node.Claim.{Claim}
 use Rattle.cert_form.specs.declared.node.Claim.TheVariants.{Knows, Out, Met}
 use Rattle.cert_form.specs.Nodes.{PlainNode, literals_in, mets_in, outs_in}
 use Rattle.cert_form.specs.declared.lent.NodeView.{NodeView}
-use Rattle.cert_form.specs.Reading.{claims_in, claims_left}
-use Rattle.cert_form.specs.Views.{AreLast, certificate_of, claims_from, claims_of, says}
+use Rattle.cert_form.specs.Reading.{claims_in, claims_left, has_entries}
+use Rattle.cert_form.specs.Views.{AreLast, certificate_of, claims_from, claims_of, is_chained, says}
 use Rattle.cert_form.proofs.NumberLaws.{stated_by_some}
 use Rattle.cert_form.proofs.ReadLaws.{known_claimed, mets_claimed, outs_claimed}
 use Rattle.cert_check.specs.Rules.{Edge, IsMetBy, IsOutOn, known_on}
@@ -94,8 +94,8 @@ record States (claims : List Claim) (n : PlainNode) : Type 0 where
   out : outs_in claims ≡ n.out
   met : mets_in claims ≡ n.met
 
-states : (node : NodeView) → (says node).sharp ≡ true → States (claims_of node) (says node)
-states node sharp = record { known = known_claimed node sharp; out = outs_claimed node; met = mets_claimed node }
+states : (node : NodeView) → is_chained node ≡ true → States (claims_of node) (says node)
+states node chained = record { known = known_claimed node chained; out = outs_claimed node; met = mets_claimed node }
 
 module _ (policy : Policy) (n : PlainNode) (e : Edge) where
   abbrev Follows : Claim → Type 0
@@ -184,16 +184,16 @@ module _ (policy : Policy) (n : PlainNode) (e : Edge) where
 
 -- the same of nodes of one certificate, by the places where the new claims begin and where the shared ones do
 pub new_follow : (policy : Policy) (node there : NodeView) (e : Edge) (from shared : ℕ) → certificate_of node ≡ certificate_of there
-    → (says node).sharp ≡ true → (says there).sharp ≡ true → AreLast (claims_from node shared) (claims_of node)
+    → is_chained node ≡ true → AreLast (claims_from node shared) (claims_of node)
     → All (IsPlaced policy) (claims_in (certificate_of node))
     → AreBut (IsFact e.fact) (claims_from there from) (claims_of there)
     → AreBut (IsShown policy (known_on (says node) e)) (claims_from there shared) (claims_from there from)
     → AllFollow policy (says node) e (says there)
-new_follow policy node there e from shared same sharp sharp_there last placed facts shows =
+new_follow policy node there e from shared same chained last placed facts shows =
     let alike : claims_from node shared ≡ claims_from there shared = ap (λ bytes. claims_left bytes shared) same in
     let its : All (IsPlaced policy) (claims_from node shared) = each_of (IsPlaced policy) (claims_from node shared) (λ claim has.
     All-contains (IsPlaced policy) (claims_in (certificate_of node)) claim placed (stated_by_some node claim
     (subst (λ cs. Contains cs claim) last.1 (Contains-append_right last.0 (claims_from node shared) claim has)))) in
     follow policy (says node) e (says there) (claims_of node) (claims_of there) (claims_from there from) (claims_from there shared)
-    (states node sharp) (states there sharp_there) (subst (λ cs. AreLast cs (claims_of node)) alike last)
+    (states node chained) (states there (ap has_entries (sym same) ∙ chained)) (subst (λ cs. AreLast cs (claims_of node)) alike last)
     (subst (All (IsPlaced policy)) alike its) facts shows

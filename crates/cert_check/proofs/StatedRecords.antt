@@ -28,19 +28,19 @@ use Rattle.cert_check.proofs.StatedPoints.{between_follows, word_follows, anothe
 use Rattle.cert_check.proofs.StatedRules.{match_is_yes, mismatch_is_no, none_said}
 
 -- the verdict of the first rule that passes, or of none, by the rule's place
-abbrev first_word : (Rule → Bool) → ℕ → List Rule → ℕ
-first_word test default rules = unwrap_or (option_map (λ rule. rule.word) (find test rules)) default
+abbrev first_verdict : (Rule → Bool) → ℕ → List Rule → ℕ
+first_verdict test default rules = unwrap_or (option_map (λ rule. rule.word) (find test rules)) default
 
 record IsFirst (test : Rule → Bool) (default : ℕ) (rules : List Rule) : Type 0 where
   place : ℕ
   rule : Rule
   stands : slice_get rules place ≡ Some rule
   passes : test rule ≡ true
-  word_is : rule.word ≡ first_word test default rules
+  verdict_is : rule.word ≡ first_verdict test default rules
 
 record IsNone (test : Rule → Bool) (default : ℕ) (rules : List Rule) : Type 0 where
   fails : (place : ℕ) (rule : Rule) → slice_get rules place ≡ Some rule → test rule ≡ false
-  default_is : default ≡ first_word test default rules
+  default_is : default ≡ first_verdict test default rules
 
 fails_first : (test : Rule → Bool) (x : Rule) (xs : List Rule) → test x ≡ false
     → ((place : ℕ) (rule : Rule) → slice_get xs place ≡ Some rule → test rule ≡ false)
@@ -50,17 +50,17 @@ fails_first test x xs miss rest zero rule at =
 fails_first test x xs miss rest (suc place) rule at = rest place rule at
 
 find_past : (test : Rule → Bool) (default : ℕ) (x : Rule) (xs : List Rule) → test x ≡ false
-    → first_word test default xs ≡ first_word test default (x ∷ xs)
+    → first_verdict test default xs ≡ first_verdict test default (x ∷ xs)
 find_past test default x xs miss = rw miss refl
 
-find_here : (test : Rule → Bool) (default : ℕ) (x : Rule) (xs : List Rule) → test x ≡ true → x.word ≡ first_word test default (x ∷ xs)
+find_here : (test : Rule → Bool) (default : ℕ) (x : Rule) (xs : List Rule) → test x ≡ true → x.word ≡ first_verdict test default (x ∷ xs)
 find_here test default x xs hit = rw hit refl
 
 first_or_none : (test : Rule → Bool) (default : ℕ) (rules : List Rule) → IsFirst test default rules ⊎ IsNone test default rules
 first_or_none test default [] =
     inr (record { fails = λ place rule at. absurd (let e : None ≡ Some rule = at in cc); default_is = refl })
 first_or_none test default (x ∷ xs) = elim (cases_Bool (test x)) [
-  | inl hit ↦ inl (record { place = 0; rule = x; stands = refl; passes = hit; word_is = find_here test default x xs hit })
+  | inl hit ↦ inl (record { place = 0; rule = x; stands = refl; passes = hit; verdict_is = find_here test default x xs hit })
   | inr miss ↦
       let past = find_past test default x xs miss in
       elim (first_or_none test default xs) [
@@ -69,7 +69,7 @@ first_or_none test default (x ∷ xs) = elim (cases_Bool (test x)) [
           rule = one.rule;
           stands = one.stands;
           passes = one.passes;
-          word_is = one.word_is ∙ past;
+          verdict_is = one.verdict_is ∙ past;
         })
         | inr none ↦ inr (record { fails = fails_first test x xs miss none.fails; default_is = none.default_is ∙ past })
       ]
@@ -80,7 +80,7 @@ said_foreign : (policy : Policy) (r : List ℕ) → is_native policy r ≡ false
 said_foreign policy r foreign = rw foreign refl
 
 said_native : (policy : Policy) (r : List ℕ) → is_native policy r ≡ true
-    → said policy r ≡ first_word (λ rule. matches rule r) policy.default_word policy.rules
+    → said policy r ≡ first_verdict (λ rule. matches rule r) policy.default_word policy.rules
 said_native policy r native = rw native refl
 
 module _ (policy : Policy) (known : List Lit) (r : List ℕ) (ordered : InOrder policy.machines) (rec : IsRecord r)
@@ -100,7 +100,7 @@ module _ (policy : Policy) (known : List Lit) (r : List ℕ) (ordered : InOrder 
                 left = record { not_out = none_said one.place; is_for = sym m.machine ∙ machine };
               };
               is_yes = match_is_yes r rec known so stated one.place one.rule m;
-              word = one.word_is ∙ sym v;
+              word = one.verdict_is ∙ sym v;
             })
         | inr none ↦
             let no = λ (place : ℕ) (rule : Rule) (of : IsRuleOf policy [] arch place rule).

@@ -149,22 +149,22 @@ pub record EntailRule (policy : Policy) (p : List Insn) (ns : List PlainNode) (n
   pub dead : n.kind ≡ Dead → IsDead n.known
 
 -- the verdict that a return gives, where it is known
-abbrev pub value_word : AVal → Option ℕ
-value_word (Const c) = Some c
-value_word Unknown = None
-value_word (Masked w m) = None
+abbrev pub value_verdict : AVal → Option ℕ
+value_verdict (Const c) = Some c
+value_verdict Unknown = None
+value_verdict (Masked w m) = None
 
-abbrev pub word_by : Option Operation → Regs → Insn → Option ℕ
-word_by (Some ReturnK) regs i = Some i.k
-word_by (Some ReturnA) regs i = value_word regs.a
-word_by _ regs i = None
+abbrev pub verdict_by : Option Operation → Regs → Insn → Option ℕ
+verdict_by (Some ReturnK) regs i = Some i.k
+verdict_by (Some ReturnA) regs i = value_verdict regs.a
+verdict_by _ regs i = None
 
 -- Return: the node stands at a return whose verdict is known, and that is the profile's on all that is known
 pub record ReturnRule (policy : Policy) (p : List Insn) (n : PlainNode) : Type 0 where
   pub insn : Insn
   pub inside : slice_get p n.pc ≡ Some insn
   pub word : ℕ
-  pub known : word_by (operation_of insn.code) n.regs insn ≡ Some word
+  pub known : verdict_by (operation_of insn.code) n.regs insn ≡ Some word
   pub agrees : Agrees policy n.out n.met n.known word
 
 -- node i keeps each rule

@@ -268,7 +268,8 @@ impl<S: State> Agreement<'_, S> {
         }
         let rules = self.profile.rules();
         for place in 0..rules.len() {
-            if self.says_at(place, &rules[place], arch, least) {
+            let rule = &rules[place];
+            if rule.nr == least && self.says_at(place, rule, arch, least) {
                 return true;
             }
         }

@@ -4,7 +4,7 @@ ghost use Rattle.bpf_insn.specs.Code.{operation_of};
 ghost use Rattle.cert_form.specs.declared.node.Kind.TheVariants as kind;
 ghost use Rattle.cert_form.specs.Views.{says};
 ghost use Rattle.cert_check.specs.Agree.{Agrees};
-ghost use Rattle.cert_check.specs.Rules.{word_by};
+ghost use Rattle.cert_check.specs.Rules.{verdict_by};
 ghost use Rattle.cert_check.specs.inner.Broken.{ReturnsAt};
 ghost use Rattle.cert_check.specs.inner.Claimed.{mets_of, outs_of};
 ghost use Rattle.cert_check.specs.inner.Marked.{IsClear};
@@ -18,8 +18,8 @@ use cert_state::{AVal, Facts, Regs, State};
 use profile::{MAX_RULES, Profile};
 
 // The verdict that a return gives, where it is known.
-fn word_of(insn: &Insn, regs: &Regs) -> Option<u32>
-    ensures { result ≡ word_by (operation_of insn.now.code) regs.now insn.now }
+fn returned_by(insn: &Insn, regs: &Regs) -> Option<u32>
+    ensures { result ≡ verdict_by (operation_of insn.now.code) regs.now insn.now }
 {
     match insn.operation() {
         Some(Operation::ReturnK) => Some(insn.k),
@@ -117,7 +117,7 @@ fn agrees_by_outs(profile: &Profile, node: &NodeView<'_>, word: Word) -> bool
 fn returns(profile: &Profile, insn: &Insn, node: &NodeView<'_>) -> bool
     ensures { IsTrue result ↔ ReturnsAt profile.now insn.now (says node.now) }
 {
-    let Some(word) = word_of(insn, &node.regs()) else {
+    let Some(word) = returned_by(insn, &node.regs()) else {
         return false;
     };
     if has_none(node) {

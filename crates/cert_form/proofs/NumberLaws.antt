@@ -189,71 +189,71 @@ pub shared_are : (es : List (ℕ × Claim)) (one other first second : ℕ) → o
 shared_are es one other first second e so n =
     (λ has. (so n).0 (has, subst (λ k. Contains (numbers_on es k) n) e has), λ h. ((so n).1 h).0)
 
--- ---- in form 4
+-- ---- in all forms but form 1
 
-pub numbers_are : (bytes : List ℕ) (place : ℕ) → version_of bytes ≡ 4 → numbers_left bytes place ≡ numbers_on (entries_of bytes) place
+pub numbers_are : (bytes : List ℕ) (place : ℕ) → version_of bytes ≢ 1 → numbers_left bytes place ≡ numbers_on (entries_of bytes) place
 unfolding numbers_left
-numbers_are bytes place form = rw form refl
+numbers_are bytes place form = rw (ne_eqb (version_of bytes) 1 form) refl
 
-pub no_numbers : (bytes : List ℕ) (place : ℕ) → version_of bytes ≢ 4 → numbers_left bytes place ≡ []
+pub no_numbers : (bytes : List ℕ) (place : ℕ) → version_of bytes ≡ 1 → numbers_left bytes place ≡ []
 unfolding numbers_left
-no_numbers bytes place form = rw (ne_eqb (version_of bytes) 4 form) refl
+no_numbers bytes place form = rw form refl
 
-pub shared_left : (bytes theirs : List ℕ) (result first second : ℕ) (mine its : List ℕ) → version_of bytes ≡ 4 → bytes ≡ theirs
+pub shared_left : (bytes theirs : List ℕ) (result first second : ℕ) (mine its : List ℕ) → version_of bytes ≢ 1 → bytes ≡ theirs
     → numbers_left bytes first ≡ mine → numbers_left theirs second ≡ its
     → ((n : ℕ) → Contains (numbers_on (entries_of bytes) result) n
     ↔ (Contains (numbers_on (entries_of bytes) first) n × Contains (numbers_on (entries_of bytes) second) n))
     → (n : ℕ) → Contains (numbers_left bytes result) n ↔ (Contains mine n × Contains its n)
-shared_left bytes theirs result first second mine its four same m i so n =
+shared_left bytes theirs result first second mine its form same m i so n =
     let In : List ℕ → Type 0 = λ ks. Contains ks n in
-    let a = numbers_are bytes result four in
-    let b = sym (numbers_are bytes first four) ∙ m in
-    let d = sym (numbers_are bytes second four) ∙ (ap (λ all. numbers_left all second) same ∙ i) in (
+    let a = numbers_are bytes result form in
+    let b = sym (numbers_are bytes first form) ∙ m in
+    let d = sym (numbers_are bytes second form) ∙ (ap (λ all. numbers_left all second) same ∙ i) in (
       λ has. let both = (so n).0 (subst In a has) in (subst In b both.0, subst In d both.1),
       λ h. subst In (sym a) ((so n).1 (subst In (sym b) h.0, subst In (sym d) h.1)),
     )
 
-pub none_shared : (bytes : List ℕ) (result place : ℕ) (its : List ℕ) → version_of bytes ≢ 4
+pub none_shared : (bytes : List ℕ) (result place : ℕ) (its : List ℕ) → version_of bytes ≡ 1
     → (n : ℕ) → Contains (numbers_left bytes result) n ↔ (Contains (numbers_left bytes place) n × Contains its n)
-none_shared bytes result place its other n = (
-  λ has. absurd (nothing_in (numbers_left bytes result) n (no_numbers bytes result other) has),
-  λ h. absurd (nothing_in (numbers_left bytes place) n (no_numbers bytes place other) h.0),
+none_shared bytes result place its one n = (
+  λ has. absurd (nothing_in (numbers_left bytes result) n (no_numbers bytes result one) has),
+  λ h. absurd (nothing_in (numbers_left bytes place) n (no_numbers bytes place one) h.0),
 )
 
 -- ---- what all entries state
 
-pub no_entries : (bytes : List ℕ) → version_of bytes ≢ 4 → claims_in bytes ≡ []
+pub no_entries : (bytes : List ℕ) → version_of bytes ≡ 1 → claims_in bytes ≡ []
 unfolding claims_in
-no_entries bytes form = rw (ne_eqb (version_of bytes) 4 form) refl
+no_entries bytes form = rw form refl
 
-entries_are : (bytes : List ℕ) → version_of bytes ≡ 4 → claims_in bytes ≡ map (claim_of bytes) (range_with_len 0 (chain_count bytes))
+entries_are : (bytes : List ℕ) → version_of bytes ≢ 1 → claims_in bytes ≡ map (claim_of bytes) (range_with_len 0 (chain_count bytes))
 unfolding claims_in
-entries_are bytes form = rw form refl
+entries_are bytes form = rw (ne_eqb (version_of bytes) 1 form) refl
 
-pub length-claims_in : (bytes : List ℕ) → version_of bytes ≡ 4 → length (claims_in bytes) ≡ chain_count bytes
+pub length-claims_in : (bytes : List ℕ) → version_of bytes ≢ 1 → length (claims_in bytes) ≡ chain_count bytes
 length-claims_in bytes form = ap length (entries_are bytes form) ∙ length-map-range_with_len (claim_of bytes) 0 (chain_count bytes)
 
-pub claim_at_number : (bytes : List ℕ) (j : ℕ) → version_of bytes ≡ 4 → j < chain_count bytes
+pub claim_at_number : (bytes : List ℕ) (j : ℕ) → version_of bytes ≢ 1 → j < chain_count bytes
     → slice_get (claims_in bytes) j ≡ Some (claim_of bytes j)
 claim_at_number bytes j form h =
     slice_get-get_or (claims_in bytes) j (claim_of bytes j) (omega (arith, h, length-claims_in bytes form))
     ∙ ap Some (ap (λ cs. get_or cs j (claim_of bytes j)) (entries_are bytes form)
     ∙ get_or-map-range_with_len (claim_of bytes) 0 (chain_count bytes) j j (claim_of bytes j) h (omega arith))
 
-pub counted : (bytes : List ℕ) (j : ℕ) → j < length (claims_in bytes) → (version_of bytes ≡ 4) × (j < chain_count bytes)
-counted bytes j h = elim (cases_eq (version_of bytes) 4) [
-  | inl four ↦ (four, omega (arith, h, length-claims_in bytes four))
-  | inr other ↦ absurd (omega (arith, h, ap length (no_entries bytes other)))
+pub counted : (bytes : List ℕ) (j : ℕ) → j < length (claims_in bytes) → (version_of bytes ≢ 1) × (j < chain_count bytes)
+counted bytes j h = elim (cases_eq (version_of bytes) 1) [
+  | inl one ↦ absurd (omega (arith, h, ap length (no_entries bytes one)))
+  | inr other ↦ (other, omega (arith, h, length-claims_in bytes other))
 ]
 
 -- what a node claims some entry of its certificate states
 pub stated_by_some : (node : NodeView) (x : Claim) → Contains (claims_of node) x → Contains (claims_in (certificate_of node)) x
 unfolding claims_of certificate_of
-stated_by_some node x has = elim (cases_eq (version_of node.bytes.now) 4) [
-  | inl four ↦
+stated_by_some node x has = elim (cases_eq (version_of node.bytes.now) 1) [
+  | inl one ↦ absurd (omega (arith, (subst (λ cs. Contains cs x) (no_claims node.bytes.now _ one) has).1))
+  | inr other ↦
       let bytes = node.bytes.now in
-      let got = some_entry bytes (chain_count bytes) _ x (subst (λ cs. Contains cs x) (claims_are bytes _ four) has) in
-      let at = claim_at_number bytes got.0 four got.1 ∙ ap Some got.2 in
+      let got = some_entry bytes (chain_count bytes) _ x (subst (λ cs. Contains cs x) (claims_are bytes _ other) has) in
+      let at = claim_at_number bytes got.0 other got.1 ∙ ap Some got.2 in
       (got.0, slice_get_within (claims_in bytes) got.0 x at, get_or_from_slice_get (claims_in bytes) got.0 x x at)
-  | inr other ↦ absurd (omega (arith, (subst (λ cs. Contains cs x) (no_claims node.bytes.now _ other) has).1))
 ]

@@ -15,9 +15,9 @@ use Rattle.cert_form.specs.declared.node.Claim.TheVariants.{Knows, Out, Met}
 use Rattle.cert_form.specs.Nodes.{literals_in, outs_in, mets_in, on_chain_back, on_chain, said, PlainNode}
 use Rattle.cert_form.specs.Reading.{short_at, place_of, nodes_in, version_of, node_count, chain_count, chain_place, own_count, own_end}
 use Rattle.cert_form.specs.Reading.{literals_to, parent_at, ones, entries_before, entries_of, claim_at, value_at, node_at, scratch_from}
-use Rattle.cert_form.specs.Reading.{long_at, listed_node, chain_node_at, literals_left, outs_left, mets_left, claims_left}
+use Rattle.cert_form.specs.Reading.{long_at, listed_node, chain_node_at, literals_left, outs_left, mets_left, claims_left, has_entries}
 use Rattle.cert_form.specs.declared.lent.NodeView.{NodeView}
-use Rattle.cert_form.specs.Views.{AreLast, claims_of, says}
+use Rattle.cert_form.specs.Views.{AreLast, certificate_of, claims_of, is_chained, says}
 use Rattle.cert_form.proofs.ChainLaws.{none_at_zero, none_past, count, chain_goes_on, last_first}
 use Rattle.cert_form.proofs.ClaimLaws.{in_other_form}
 use Rattle.std.specs.List.{AllByRecursion}
@@ -182,53 +182,52 @@ pub no_mets : (bytes : List ℕ) (place : ℕ) → version_of bytes ≢ 4 → me
 unfolding mets_left
 no_mets bytes place form = rw (ne_eqb (version_of bytes) 4 form) refl
 
--- ---- what a chain states, in form 4
+-- ---- what a chain states
 
 pub last_of : (some more all : List Claim) → AreLast some more → AreLast more all → AreLast some all
 last_of some more all a b = (b.0 ++ a.0, append_assoc b.0 a.0 some ∙ (ap (λ cs. b.0 ++ cs) a.1 ∙ b.1))
 
-pub claims_are : (bytes : List ℕ) (place : ℕ) → version_of bytes ≡ 4 → claims_left bytes place ≡ on_chain (entries_of bytes) place
+pub claims_are : (bytes : List ℕ) (place : ℕ) → version_of bytes ≢ 1 → claims_left bytes place ≡ on_chain (entries_of bytes) place
 unfolding claims_left
-claims_are bytes place form = rw form refl
+claims_are bytes place form = rw (ne_eqb (version_of bytes) 1 form) refl
 
-pub no_claims : (bytes : List ℕ) (place : ℕ) → version_of bytes ≢ 4 → claims_left bytes place ≡ []
+pub no_claims : (bytes : List ℕ) (place : ℕ) → version_of bytes ≡ 1 → claims_left bytes place ≡ []
 unfolding claims_left
-no_claims bytes place form = rw (ne_eqb (version_of bytes) 4 form) refl
+no_claims bytes place form = rw form refl
 
-pub known_is : (bytes : List ℕ) (at : ℕ) → version_of bytes ≡ 4
-    → (node_at bytes at).known ≡ literals_in (on_chain (entries_of bytes) (long_at bytes (chain_place bytes at)))
+-- what a node with a chain says is what the chain states, and one of form 1 says nothing of rules
+chained_is : (bytes : List ℕ) (at : ℕ) → version_of bytes ≢ 1
+    → node_at bytes at ≡ said (version_of bytes) (entries_of bytes) (chain_node_at bytes at)
 unfolding node_at
-known_is bytes at form = rw form refl
+chained_is bytes at form = rw (ne_eqb (version_of bytes) 1 form) refl
 
-pub sharp_is : (bytes : List ℕ) (at : ℕ) → version_of bytes ≢ 4 → (node_at bytes at).sharp ≡ false
+listed_is : (bytes : List ℕ) (at : ℕ) → version_of bytes ≡ 1 → node_at bytes at ≡ listed_node bytes at
 unfolding node_at
-sharp_is bytes at form = by_form (eqb (version_of bytes) 1) where
-  by_form : (b : Bool)
-      → (cond b (listed_node bytes at) (said (version_of bytes) (entries_of bytes) (chain_node_at bytes at))).sharp ≡ false
-  by_form true = refl
-  by_form false = ne_eqb (version_of bytes) 4 form
+listed_is bytes at form = rw form refl
 
--- what a node's chain states is what the node says: of its literals in form 4 alone
-form_4_or_not : (bytes : List ℕ) → (version_of bytes ≡ 4) ⊎ (version_of bytes ≢ 4)
-form_4_or_not bytes = cases_eq (version_of bytes) 4
+has_entries_is : (bytes : List ℕ) → version_of bytes ≡ 1 → has_entries bytes ≡ false
+unfolding has_entries
+has_entries_is bytes form = rw form refl
 
-pub known_claimed : (node : NodeView) → (says node).sharp ≡ true → literals_in (claims_of node) ≡ (says node).known
-unfolding says claims_of
-known_claimed node sharp = elim (form_4_or_not node.bytes.now) [
-  | inl four ↦ ap literals_in (claims_are node.bytes.now _ four) ∙ sym (known_is node.bytes.now node.at four)
-  | inr other ↦ absurd (let e : true ≡ false = sym sharp ∙ sharp_is node.bytes.now node.at other in cc)
+pub known_claimed : (node : NodeView) → is_chained node ≡ true → literals_in (claims_of node) ≡ (says node).known
+unfolding says claims_of certificate_of
+known_claimed node chained = elim (cases_eq (version_of node.bytes.now) 1) [
+  | inl one ↦ absurd (let e : true ≡ false = sym chained ∙ has_entries_is node.bytes.now one in cc)
+  | inr other ↦ ap literals_in (claims_are node.bytes.now _ other) ∙ sym (ap (λ (n : PlainNode). n.known) (chained_is node.bytes.now node.at other))
 ]
 
 pub outs_claimed : (node : NodeView) → outs_in (claims_of node) ≡ (says node).out
 unfolding says claims_of
-outs_claimed node = elim (form_4_or_not node.bytes.now) [
-  | inl four ↦ ap outs_in (claims_are node.bytes.now _ four) ∙ sym (outs_of node.bytes.now node.at four)
-  | inr other ↦ ap outs_in (no_claims node.bytes.now _ other) ∙ sym (none_out node.bytes.now node.at other)
+outs_claimed node = elim (cases_eq (version_of node.bytes.now) 1) [
+  | inl one ↦
+      ap outs_in (no_claims node.bytes.now _ one) ∙ sym (ap (λ (n : PlainNode). n.out) (listed_is node.bytes.now node.at one))
+  | inr other ↦ ap outs_in (claims_are node.bytes.now _ other) ∙ sym (ap (λ (n : PlainNode). n.out) (chained_is node.bytes.now node.at other))
 ]
 
 pub mets_claimed : (node : NodeView) → mets_in (claims_of node) ≡ (says node).met
 unfolding says claims_of
-mets_claimed node = elim (form_4_or_not node.bytes.now) [
-  | inl four ↦ ap mets_in (claims_are node.bytes.now _ four) ∙ sym (mets_of node.bytes.now node.at four)
-  | inr other ↦ ap mets_in (no_claims node.bytes.now _ other) ∙ sym (none_met node.bytes.now node.at other)
+mets_claimed node = elim (cases_eq (version_of node.bytes.now) 1) [
+  | inl one ↦
+      ap mets_in (no_claims node.bytes.now _ one) ∙ sym (ap (λ (n : PlainNode). n.met) (listed_is node.bytes.now node.at one))
+  | inr other ↦ ap mets_in (claims_are node.bytes.now _ other) ∙ sym (ap (λ (n : PlainNode). n.met) (chained_is node.bytes.now node.at other))
 ]

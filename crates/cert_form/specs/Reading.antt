@@ -1,6 +1,6 @@
 -- What stands at a place of a file: the reading of each part. A part that no certificate has there is
 -- read as something all the same.
-use Rattle.std.specs.Prelude.{ℕ, zero, suc, ◌+◌, ◌-◌, ◌*◌, ◌/◌, ◌%◌, ◌==◌, nat_le, false, if◌then◌else◌}
+use Rattle.std.specs.Prelude.{ℕ, zero, suc, ◌+◌, ◌-◌, ◌*◌, ◌/◌, ◌%◌, ◌==◌, nat_le, Bool, true, false, if◌then◌else◌}
 use Rattle.std.specs.Prelude.{List, [], ◌∷◌, ◌++◌, drop, slice_index}
 use Rattle.std.specs.Prelude.{map}
 use Rattle.std.specs.List.{range_with_len}
@@ -170,17 +170,20 @@ outs_left bytes place = if version_of bytes == 4 then outs_in (on_chain (entries
 unfoldable pub mets_left : List ℕ → ℕ → List (ℕ × ℕ)
 mets_left bytes place = if version_of bytes == 4 then mets_in (on_chain (entries_of bytes) place) else []
 
--- what a chain states from the entry of a place on, and the numbers of these entries, in form 4; of the other forms
--- nothing is asked so
+-- whether the file has entries: all forms have but form 1
+unfoldable pub has_entries : List ℕ → Bool
+has_entries bytes = if version_of bytes == 1 then false else true
+
+-- what a chain states from the entry of a place on, and the numbers of these entries
 unfoldable pub claims_left : List ℕ → ℕ → List Claim
-claims_left bytes place = if version_of bytes == 4 then on_chain (entries_of bytes) place else []
+claims_left bytes place = if version_of bytes == 1 then [] else on_chain (entries_of bytes) place
 
 unfoldable pub numbers_left : List ℕ → ℕ → List ℕ
-numbers_left bytes place = if version_of bytes == 4 then numbers_on (entries_of bytes) place else []
+numbers_left bytes place = if version_of bytes == 1 then [] else numbers_on (entries_of bytes) place
 
--- what all entries state, in form 4
+-- what all entries state
 abbrev pub claim_of : List ℕ → ℕ → Claim
 claim_of bytes j = claim_at bytes (16 + 14 * j + 4)
 
 unfoldable pub claims_in : List ℕ → List Claim
-claims_in bytes = if version_of bytes == 4 then map (claim_of bytes) (range_with_len 0 (chain_count bytes)) else []
+claims_in bytes = if version_of bytes == 1 then [] else map (claim_of bytes) (range_with_len 0 (chain_count bytes))

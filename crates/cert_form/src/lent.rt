@@ -17,11 +17,11 @@ pub struct NodeView<'a> {
     ghost there: { IsNodeThere bytes.now at },
 }
 
-#[tactic(auto, unfolding(crate::specs::Views::says, crate::specs::Views::outs_from, crate::specs::Views::mets_from, crate::specs::Reading::node_at, crate::specs::Reading::outs_left, crate::specs::Reading::mets_left, crate::specs::Reading::claims_left, crate::specs::Views::certificate_of))]
+#[tactic(auto, unfolding(crate::specs::Views::says, crate::specs::Views::outs_from, crate::specs::Views::mets_from, crate::specs::Reading::node_at, crate::specs::Reading::outs_left, crate::specs::Reading::mets_left, crate::specs::Reading::claims_left, crate::specs::Reading::has_entries, crate::specs::Views::certificate_of))]
 impl<'a> NodeView<'a> {
     ghost use Rattle.std.specs.Prelude.{◌≡◌, ◌↔◌, ◌∷◌, [], ℕ, Contains, IsTrue, MatchOption};
     ghost use Rattle.cert_form.specs.Nodes.{literals_in, mets_in, outs_in};
-    ghost use Rattle.cert_form.specs.Views.{AreLast, certificate_of, claims_from, claims_of, mets_from, numbers_from, numbers_of, outs_from, says};
+    ghost use Rattle.cert_form.specs.Views.{AreLast, certificate_of, claims_from, claims_of, is_chained, mets_from, numbers_from, numbers_of, outs_from, says};
 
     /// What the node does.
     pub fn kind(&self) -> Kind
@@ -51,6 +51,13 @@ impl<'a> NodeView<'a> {
         ensures { result ≡ (says self.now).sharp }
     {
         read_long(self.bytes, 4) == 4
+    }
+
+    /// Whether what it states stands on a chain of entries, as in all forms but form 1.
+    pub fn is_chained(&self) -> bool
+        ensures { result ≡ is_chained self.now }
+    {
+        read_long(self.bytes, 4) != 1
     }
 
     /// The place of its chain from which all rules are left that it says to be out.
@@ -93,15 +100,15 @@ impl<'a> NodeView<'a> {
         next_met(self.bytes, at)
     }
 
-    /// The place of its chain from which all is left that it states. By it the forms before form 4 state nothing.
+    /// The place of its chain from which all is left that it states. By it form 1 states nothing.
     pub fn chain(&self) -> usize
         ensures claims { claims_from self.now result ≡ claims_of self.now }
         ensures numbers { numbers_from self.now result ≡ numbers_of self.now }
-        ensures known { IsTrue (says self.now).sharp → literals_in (claims_of self.now) ≡ (says self.now).known }
+        ensures known { IsTrue (is_chained self.now) → literals_in (claims_of self.now) ≡ (says self.now).known }
         ensures out { outs_in (claims_of self.now) ≡ (says self.now).out }
         ensures met { mets_in (claims_of self.now) ≡ (says self.now).met }
     {
-        if read_long(self.bytes, 4) != 4 {
+        if read_long(self.bytes, 4) == 1 {
             return 0;
         }
         let place = chain_place_of(self.bytes, self.at);
@@ -112,7 +119,7 @@ impl<'a> NodeView<'a> {
     pub fn next_claim(&self, at: usize) -> Option<(Claim, usize)>
         ensures { MatchOption result (claims_from self.now at ≡ []) (λ p. claims_from self.now at ≡ p.0 ∷ claims_from self.now p.1) }
     {
-        if read_long(self.bytes, 4) != 4 {
+        if read_long(self.bytes, 4) == 1 {
             return None;
         }
         next_claim(self.bytes, at)
@@ -126,7 +133,7 @@ impl<'a> NodeView<'a> {
         ensures shared { certificate_of self.now ≡ certificate_of other.now → (n : ℕ) → Contains (numbers_from self.now result) n
             ↔ (Contains (numbers_of self.now) n × Contains (numbers_of other.now) n) }
     {
-        if read_long(self.bytes, 4) != 4 {
+        if read_long(self.bytes, 4) == 1 {
             return 0;
         }
         meeting(self.bytes, self.chain(), other.chain())

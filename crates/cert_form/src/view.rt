@@ -61,11 +61,11 @@ impl<'a> CertView<'a> {
         read_long(self.bytes, 8) as usize
     }
 
-    /// How many entries its chains have. They are counted in form 4 alone, the other forms have none here.
+    /// How many entries its chains have. Form 1 has none.
     pub fn claim_count(&self) -> usize
         ensures { result ≡ length (all_claims self.now) }
     {
-        if read_long(self.bytes, 4) != 4 {
+        if read_long(self.bytes, 4) == 1 {
             return 0;
         }
         read_long(self.bytes, 12) as usize
@@ -124,7 +124,7 @@ fn judge_head(bytes: &[u8]) -> Result<(), FormError>
 // What the entry of a number states, counted from 0.
 fn entry(bytes: &[u8], i: usize) -> Claim
     requires head { IsHeadThere bytes.now }
-    requires form { version_of bytes.now ≡ 4 }
+    requires form { version_of bytes.now ≢ 1 }
     requires within { i < chain_count bytes.now }
     ensures { result ≡ claim_of bytes.now i }
 {

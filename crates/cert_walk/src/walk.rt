@@ -232,7 +232,7 @@ impl<'a> Walk<'a> {
             // The work is counted where the question is asked again of either half.
             Err(cut) => self.wait(place, Some(cut)),
             Ok(true) => {
-                self.spare_words(word, asked)?;
+                self.spare_verdicts(word, asked)?;
                 self.make_return(place.pc, regs)
             }
             Ok(false) => {
@@ -243,7 +243,7 @@ impl<'a> Walk<'a> {
     }
 
     // Leaves the words of the record out without which the question is settled as well.
-    fn spare_words(&mut self, word: Word, asked: usize) -> Result<(), AllocError> {
+    fn spare_verdicts(&mut self, word: Word, asked: usize) -> Result<(), AllocError> {
         for spared in SPARED {
             if self.known.of(spared).is_empty() {
                 continue;

@@ -3,12 +3,12 @@ use Rattle.std.proofs.Common.{◌∙◌, ap, sym}
 use Rattle.std.specs.Prelude.{Some}
 use Rattle.std.proofs.lemmas.Option.{same_Some}
 use Rattle.profile.specs.Said.{said}
-use Rattle.profile.proofs.SaidLaws.{each_record_is_said_one_word}
+use Rattle.profile.proofs.SaidLaws.{each_record_is_said_one_verdict}
 use Rattle.certify.specs.Right.{CompiledIsRight}
 
 pub compiled : CompiledIsRight
 compiled policy p clear right r is_r v =
-    let each = each_record_is_said_one_word policy r v clear is_r in (
+    let each = each_record_is_said_one_verdict policy r v clear is_r in (
       (λ gives. each.1 (same_Some v (said policy r) (sym gives ∙ right.gives r is_r))),
       (λ says. right.gives r is_r ∙ ap Some (sym (each.0 says))),
     )

@@ -131,8 +131,8 @@ module _ (policy : Policy) (known : List Lit) (v lo hi from to : ℕ) (order : I
       first_is_not first rest none not r (suc i, lt, is) m = none r (i, omega arith, is) m
 
   -- where no listed machine is possible the verdict is 0
-  foreign_word : IsForeign policy known → v ≡ 0
-  foreign_word none =
+  foreign_verdict : IsForeign policy known → v ≡ 0
+  foreign_verdict none =
       (says from lo tokens.least numbers.least).foreign
       (λ native. none native.1 (native.0, native.2, native.3) (subst (IsPoint known 1) (sym native.4.0) tokens.least))
 
@@ -152,24 +152,24 @@ module _ (policy : Policy) (known : List Lit) (v lo hi from to : ℕ) (order : I
     foreign : (u : ℕ) → IsForeignNumber policy.machines arch u → IsNative policy (call (token_of arch) u) → ⊥
     foreign u other native = apart policy.machines order low_native arch listed u native other
 
-    matched_word : (rule : Rule) (u : ℕ) → Contains policy.rules rule → token_of rule.arch ≡ token_of arch → rule.nr ≡ u → IsPoint known 0 u
+    matched_verdict : (rule : Rule) (u : ℕ) → Contains policy.rules rule → token_of rule.arch ≡ token_of arch → rule.nr ≡ u → IsPoint known 0 u
         → IsNative policy (call (token_of arch) u)
         → rule.word ≡ v
-    matched_word rule u has a e at own =
+    matched_verdict rule u has a e at own =
         sym ((says (token_of arch) u token at).matched own rule has (matches_call rule (token_of arch) u has (sym a) (sym e)))
 
     rule_is_small : (rule : Rule) → Contains policy.rules rule → rule.nr < 512
     rule_is_small rule has = (All-contains IsPlainRule policy.rules rule plain has).1
 
     -- a rule that does not say the verdict is known to be of another number
-    none_or_word : (place : ℕ) (rule : Rule) → IsRuleOf policy [] arch place rule → (IsYesRule [] known place rule → ⊥)
+    none_or_verdict : (place : ℕ) (rule : Rule) → IsRuleOf policy [] arch place rule → (IsYesRule [] known place rule → ⊥)
         → IsNoRule [] known place rule ⊎ (rule.word ≡ v)
-    none_or_word place rule is not_yes =
+    none_or_verdict place rule is not_yes =
         let has = contains_at policy.rules place rule is.stands in
         let small = rule_is_small rule has in
         ⊎_elim
         (λ (at : IsPoint known 0 rule.nr). inr
-        (matched_word rule rule.nr has is.left.is_for refl at (low_is_native policy.machines order low_native arch listed rule.nr (omega (arith, small)))))
+        (matched_verdict rule rule.nr has is.left.is_for refl at (low_is_native policy.machines order low_native arch listed rule.nr (omega (arith, small)))))
         (λ (other : Entails known (NotBits 0 all_bits rule.nr)). inl (inl other, not_yes))
         (point_or_not known 0 lo hi numbers rule.nr (omega (arith, small)))
 
@@ -180,7 +180,7 @@ module _ (policy : Policy) (known : List Lit) (v lo hi from to : ℕ) (order : I
         let p = number_is rule.nr lo yes.0 numbers.least in
         let q = number_is rule.nr hi yes.0 numbers.greatest in
         omega (arith, less, p, q) in
-        inr (record { none_yes = none; default = default; each = λ place rule is. none_or_word place rule is (none place rule is) })
+        inr (record { none_yes = none; default = default; each = λ place rule is. none_or_verdict place rule is (none place rule is) })
 
     -- one number of the machine's own
     one : lo ≡ hi → IsNative policy (call (token_of arch) lo) → RulesAgree policy [] [] known v arch
@@ -196,7 +196,7 @@ module _ (policy : Policy) (known : List Lit) (v lo hi from to : ℕ) (order : I
           rule = found.0;
           is_of = of.1;
           is_yes = yes_rule of.0 found.0 found.1 knows;
-          word = matched_word found.0 lo found.1 found.2.0 found.2.1 numbers.least own;
+          word = matched_verdict found.0 lo found.1 found.2.0 found.2.1 numbers.least own;
         }))
         (λ (none : (rule : Rule) → Contains policy.rules rule → IsNumberOf arch lo rule → ⊥).
         let not_yes : (place : ℕ) (rule : Rule) → IsRuleOf policy [] arch place rule → IsYesRule [] known place rule → ⊥ =
@@ -206,7 +206,7 @@ module _ (policy : Policy) (known : List Lit) (v lo hi from to : ℕ) (order : I
         sym ((says (token_of arch) lo token numbers.least).unmatched own
         (each_of (λ rule. ¬ Matches rule (call (token_of arch) lo)) policy.rules
         (λ rule has m. none rule has (sym m.machine, sym m.number)))) in
-        inr (record { none_yes = not_yes; default = default; each = λ place rule is. none_or_word place rule is (not_yes place rule is) }))
+        inr (record { none_yes = not_yes; default = default; each = λ place rule is. none_or_verdict place rule is (not_yes place rule is) }))
         (rule_or_none arch lo policy.rules)
 
     -- where the verdict is not the default one, a number of the machine's own has a rule
@@ -243,20 +243,20 @@ module _ (policy : Policy) (known : List Lit) (v lo hi from to : ℕ) (order : I
         (cases_eq lo hi)
 
     -- where a foreign number is possible the verdict is 0
-    other_word : (u : ℕ) → IsPoint known 0 u → IsForeignNumber policy.machines arch u → v ≡ 0
-    other_word u at other = (says (token_of arch) u token at).foreign (foreign u other)
+    other_verdict : (u : ℕ) → IsPoint known 0 u → IsForeignNumber policy.machines arch u → v ≡ 0
+    other_verdict u at other = (says (token_of arch) u token at).foreign (foreign u other)
 
     -- where the greatest number is behind the foreign ones, the least is too, or one of the foreign ones is possible
-    behind_word : (last : ℕ) → IsStretch policy.machines arch last → last < hi → (v ≡ 0) ⊎ IsAmong known (own_numbers arch)
-    behind_word last s high =
+    behind_verdict : (last : ℕ) → IsStretch policy.machines arch last → last < hi → (v ≡ 0) ⊎ IsAmong known (own_numbers arch)
+    behind_verdict last s high =
         let top = numbers.greatest.0 in
         ⊎_elim
         (λ (low : lo < 0x40000000).
         let at = point_between known lo hi 0x40000000 numbers (omega (arith, low)) (omega (arith, short, high, s.least)) in
-        inl (other_word at.0 at.3 (within_stretch policy.machines order low_native arch listed last at.0 s at.1 (omega
+        inl (other_verdict at.0 at.3 (within_stretch policy.machines order low_native arch listed last at.0 s at.1 (omega
         (arith, at.2, short, s.least)))))
         (λ (from : 0x40000000 ≤ lo). ⊎_elim
-        (λ (upto : lo < hi). inl (other_word lo numbers.least
+        (λ (upto : lo < hi). inl (other_verdict lo numbers.least
         (within_stretch policy.machines order low_native arch listed last lo s from (omega (arith, upto, top, s.least)))))
         (λ (same : hi ≤ lo). ⊎_elim
         (λ (whole : last ≡ 0xffffffff). absurd (omega (arith, whole, high, top)))
@@ -281,8 +281,8 @@ module _ (policy : Policy) (known : List Lit) (v lo hi from to : ℕ) (order : I
         (subst (IsAmong known) (sym some.1.own)
         (0, from_to 0 0x3fffffff, omega arith, refl, bounded known 0 lo hi numbers 0 0x3fffffff (omega arith) (omega (arith, low)))))
         (λ (from : 0x40000000 ≤ hi). ⊎_elim
-        (λ (behind : some.0 < hi). behind_word some.0 some.1 behind)
-        (λ (upto : hi ≤ some.0). inl (other_word hi numbers.greatest
+        (λ (behind : some.0 < hi). behind_verdict some.0 some.1 behind)
+        (λ (upto : hi ≤ some.0). inl (other_verdict hi numbers.greatest
         (within_stretch policy.machines order low_native arch listed some.0 hi some.1 from upto)))
         (cases_lt some.0 hi))
         (cases_lt hi 0x40000000)))
@@ -316,7 +316,7 @@ module _ (policy : Policy) (known : List Lit) (v lo hi from to : ℕ) (order : I
 pub leaf_agrees : LeafAgrees
 leaf_agrees policy known v lo hi from to order short plain low_native of says numbers tokens h = ⊎_elim
     (λ (none : IsForeign policy known). record {
-      foreign = inr (foreign_word policy known v lo hi from to order short plain low_native of says numbers tokens none);
+      foreign = inr (foreign_verdict policy known v lo hi from to order short plain low_native of says numbers tokens none);
       machines = all_foreign policy known v lo hi from to order short plain low_native of says numbers tokens none;
     })
     (λ (o : IsOfOne policy known v lo hi). record {

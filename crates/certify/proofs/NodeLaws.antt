@@ -20,7 +20,7 @@ use Rattle.cert_form.specs.declared.node.Kind.TheVariants.{Step, Split, Return, 
 use Rattle.cert_form.specs.Nodes.{PlainNode}
 use Rattle.cert_check.specs.Agree.{Agrees}
 use Rattle.cert_check.specs.Rules.{Edge, Covers, Keeps}
-use Rattle.cert_check.specs.Rules.{ReturnRule, SplitRule, edges, no_node, step_edges, word_by}
+use Rattle.cert_check.specs.Rules.{ReturnRule, SplitRule, edges, no_node, step_edges, verdict_by}
 use Rattle.cert_paths.proofs.ArriveLaws.{Arrives, all_two, carries, edge_kept, entail_kept}
 use Rattle.rule_compile.specs.Moves.{Move}
 use Rattle.rule_compile.specs.Moves.{Ends, Goes, Forks}
@@ -181,7 +181,7 @@ module _ (policy : Policy) (p : List Insn) (ns : List PlainNode) (i : ℕ) (insn
         insn = insn;
         inside = inside;
         word = v;
-        known = ap (λ o. word_by o (regs_of held) insn) ends.0 ∙ ap Some (sym ends.1);
+        known = ap (λ o. verdict_by o (regs_of held) insn) ends.0 ∙ ap Some (sym ends.1);
         agrees = agrees;
       })
 

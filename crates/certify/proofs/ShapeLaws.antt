@@ -23,7 +23,7 @@ use Rattle.profile.specs.Condition.{Meets}
 use Rattle.profile.specs.Rule.{argument_of, Matches}
 use Rattle.profile.specs.Policy.{IsNative, Policy, Says}
 use Rattle.profile.specs.Said.{said}
-use Rattle.profile.proofs.SaidLaws.{each_record_is_said_one_word}
+use Rattle.profile.proofs.SaidLaws.{each_record_is_said_one_verdict}
 use Rattle.rule_compile.specs.Moves.{Goes, move_at}
 use Rattle.rule_compile.specs.Shape.{IsPlain, IsPlainRule, answer, answer_by, call}
 use Rattle.certify.specs.Right.{ShapeIsRight}
@@ -143,9 +143,9 @@ right policy p plain shape r rec v =
     let gives_it : verdict_of p r ≡ Some (said policy q) =
     gives p 0 None r q start (said policy q) like tt (shape.answers t u (rec.words 1) (rec.words 0)) in
     let says_it : Says policy r (said policy q) =
-    says_like policy r q (said policy q) plain refl refl ((each_record_is_said_one_word policy q (said policy q) plain.clear small).1 refl) in
-    let one = each_record_is_said_one_word policy r v plain.clear rec in
-    let its = each_record_is_said_one_word policy r (said policy q) plain.clear rec in (
+    says_like policy r q (said policy q) plain refl refl ((each_record_is_said_one_verdict policy q (said policy q) plain.clear small).1 refl) in
+    let one = each_record_is_said_one_verdict policy r v plain.clear rec in
+    let its = each_record_is_said_one_verdict policy r (said policy q) plain.clear rec in (
       λ is. subst (Says policy r) (same_Some (said policy q) v (sym gives_it ∙ is)) says_it,
       λ told. gives_it ∙ ap Some (its.0 says_it ∙ sym (one.0 told)),
     )

@@ -23,7 +23,7 @@ use Rattle.certify.specs.inner.Store.{IsForked, IsMadeAt, IsPlace, IsStore, know
 use Rattle.certify.specs.inner.Ways.{IsAtReturn, IsOfMachine, IsOnWay, AreOutBefore}
 use Rattle.bpf_insn.specs.declared.code.Test.{Test}
 use Rattle.bpf_insn.specs.Code.{operation_of}
-use Rattle.profile.proofs.SaidLaws.{each_record_is_said_one_word}
+use Rattle.profile.proofs.SaidLaws.{each_record_is_said_one_verdict}
 use Rattle.cert_state.specs.declared.literal.Lit.TheVariants.{Bits, NotBits}
 use Rattle.cert_state.specs.Literals.{all_bits}
 use Rattle.cert_state.proofs.BitLaws.{and_all}
@@ -233,7 +233,7 @@ module _ (policy : Policy) (p : List Insn) (s : Store) (place : Place) (way : Is
     fits = way.fits;
     stands = record { insn = i; inside = found; ends = e };
     says = λ meant t u at_t at_u.
-        (each_record_is_said_one_word policy (call t u) v meant.plain.clear (call_is_record t u at_t.0 at_u.0)).1
+        (each_record_is_said_one_verdict policy (call t u) v meant.plain.clear (call_is_record t u at_t.0 at_u.0)).1
         (sym (lead meant (Some (Ends v)) e t u at_t at_u));
   }
 

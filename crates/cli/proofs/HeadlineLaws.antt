@@ -11,7 +11,7 @@ use Rattle.call_tables.specs.declared.arch.Arch.{Arch}
 use Rattle.kernel_check.specs.Accepted.{IsAccepted}
 use Rattle.profile.specs.Policy.{Policy}
 use Rattle.profile.specs.Said.{said}
-use Rattle.profile.proofs.SaidLaws.{each_record_is_said_one_word}
+use Rattle.profile.proofs.SaidLaws.{each_record_is_said_one_verdict}
 use Rattle.cert_check.specs.declared.checked.Checked.{Checked}
 use Rattle.cert_check.specs.Checked.{profile_of, program_of}
 use Rattle.cert_check.specs.Right.{IsRight}
@@ -42,7 +42,7 @@ right_for : (native : Arch) (bundle : List ℕ) (policy : Policy) (p : List Insn
 right_for native bundle policy p means accepted right = record {
   means = means;
   accepted = accepted;
-  verdict = λ r is. (right r is (said policy r)).1 ((each_record_is_said_one_word policy r (said policy r) means.2.calls.clear is).1 refl);
+  verdict = λ r is. (right r is (said policy r)).1 ((each_record_is_said_one_verdict policy r (said policy r) means.2.calls.clear is).1 refl);
 }
 
 -- ---- the filter of a name

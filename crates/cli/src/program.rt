@@ -10,7 +10,7 @@ use crate::files::{Files, read, read_certificate, read_each, read_filter, read_r
 use crate::run::run_bundles;
 use crate::stops::{Stop, report};
 use call_tables::Arch;
-use command_line::{Command, Form, read_words};
+use command_line::{Command, Form, read_arguments};
 use describe::{annotated, drawn};
 use explain::Told;
 use pipeline::{certify_bundle, check_line, export_bundle, verdict_line};
@@ -257,21 +257,21 @@ fn obey<'a, F: Files, I: Source, O: Sink, E: Sink>(
 // Carries out the command that the arguments are.
 fn carry_out<'a, F: Files, I: Source, O: Sink, E: Sink>(
     alloc: Global,
-    words: &'a [&'a str],
+    arguments: &'a [&'a str],
     files: &mut F,
     input: &mut I,
     out: &mut O,
     err: &mut E,
 ) -> Result<bool, Stop<'a>>
-    ensures does { (command : Given) → IsCommandLine words.entry.now command
+    ensures does { (command : Given) → IsCommandLine arguments.entry.now command
         → Does I.left I.failures O.held O.failures (F.folder files.old) input.old input.new out.old out.new command result }
     ensures stopped { OnErr result (err.new ≡ err.old) }
-    ensures quiet { (command : Given) → IsCommandLine words.entry.now command → result ≡ Ok true → TellsChanges command ⊎ (err.new ≡ err.old) }
-    ensures usage { NoCommandLine words.entry.now → result ≡ Err Usage }
-    ensures unread { NoCommandLine words.entry.now → input.new ≡ input.old }
-    ensures unwritten { NoCommandLine words.entry.now → out.new ≡ out.old }
+    ensures quiet { (command : Given) → IsCommandLine arguments.entry.now command → result ≡ Ok true → TellsChanges command ⊎ (err.new ≡ err.old) }
+    ensures usage { NoCommandLine arguments.entry.now → result ≡ Err Usage }
+    ensures unread { NoCommandLine arguments.entry.now → input.new ≡ input.old }
+    ensures unwritten { NoCommandLine arguments.entry.now → out.new ≡ out.old }
 {
-    match read_words(words) {
+    match read_arguments(arguments) {
         Some(command) => obey(alloc, command, files, input, out, err),
         None => Err(Stop::Usage),
     }
@@ -281,7 +281,7 @@ fn carry_out<'a, F: Files, I: Source, O: Sink, E: Sink>(
 /// command line, 3 a file, a stream or memory that failed.
 pub fn dispatch<F: Files, I: Source, O: Sink, E: Sink>(
     alloc: Global,
-    words: &[&str],
+    arguments: &[&str],
     files: &mut F,
     input: &mut I,
     out: &mut O,
@@ -289,17 +289,17 @@ pub fn dispatch<F: Files, I: Source, O: Sink, E: Sink>(
 ) -> u8
     ensures status { result ≤ 3 }
     // Arguments that are a command are carried out, on the bytes of the files that they name.
-    ensures answers { (command : Given) → IsCommandLine words.entry.now command
+    ensures answers { (command : Given) → IsCommandLine arguments.entry.now command
         → Answers I.left I.failures O.held O.failures E.held E.failures (F.folder files.old) input.old input.new out.old out.new
         err.old err.new command result }
     // Arguments that are no command are a fault of the command line: no input is read, no output is written, and standard
     // error says so.
-    ensures usage { NoCommandLine words.entry.now → result ≡ 2 }
-    ensures unread { NoCommandLine words.entry.now → input.new ≡ input.old }
-    ensures unwritten { NoCommandLine words.entry.now → out.new ≡ out.old }
-    ensures told { NoCommandLine words.entry.now → Reports E.held E.failures err.old err.new (line_of Usage) }
+    ensures usage { NoCommandLine arguments.entry.now → result ≡ 2 }
+    ensures unread { NoCommandLine arguments.entry.now → input.new ≡ input.old }
+    ensures unwritten { NoCommandLine arguments.entry.now → out.new ≡ out.old }
+    ensures told { NoCommandLine arguments.entry.now → Reports E.held E.failures err.old err.new (line_of Usage) }
 {
-    match carry_out(alloc, words, files, input, out, err) {
+    match carry_out(alloc, arguments, files, input, out, err) {
         Ok(true) => 0,
         Ok(false) => 1,
         Err(stop) => report(&stop, err),

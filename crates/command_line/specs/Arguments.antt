@@ -124,8 +124,8 @@ compare _ = None
 -- the argument `widen` may stand behind the file
 abbrev pub adapt : List (List ℕ) → Option Given
 adapt (machine ∷ config ∷ []) = option_map (λ native. Adapt native config false) (native_called machine)
-adapt (machine ∷ config ∷ word ∷ []) =
-    if bytes_eq word (codes "widen") then option_map (λ native. Adapt native config true) (native_called machine) else None
+adapt (machine ∷ config ∷ last ∷ []) =
+    if bytes_eq last (codes "widen") then option_map (λ native. Adapt native config true) (native_called machine) else None
 adapt _ = None
 
 abbrev pub manual : List (List ℕ) → Option Given

@@ -198,8 +198,8 @@ pub(crate) fn adapt<'a>(parts: &'a [&'a str]) -> Option<Command<'a>>
 {
     match parts {
         [machine, config] => adapt_for(machine, config, false),
-        [machine, config, word] => {
-            if *word == "widen" {
+        [machine, config, last] => {
+            if *last == "widen" {
                 adapt_for(machine, config, true)
             } else {
                 None

@@ -171,14 +171,14 @@ fn command_named<'a>(name: &str, parts: &'a [&'a str]) -> Option<Command<'a>>
 
 /// The command that arguments are: its name first, and its parts behind it, each an argument. One that begins with `-` is
 /// never part of a command.
-pub fn read_words<'a>(words: &'a [&'a str]) -> Option<Command<'a>>
-    ensures command { (g : Given) → IsCommandLine words.entry.now g → option_map given result ≡ Some g }
-    ensures none { NoCommandLine words.entry.now → result ≡ None }
+pub fn read_arguments<'a>(arguments: &'a [&'a str]) -> Option<Command<'a>>
+    ensures command { (g : Given) → IsCommandLine arguments.entry.now g → option_map given result ≡ Some g }
+    ensures none { NoCommandLine arguments.entry.now → result ≡ None }
 {
-    if has_dashed(words) {
+    if has_dashed(arguments) {
         return None;
     }
-    match words {
+    match arguments {
         [name, parts @ ..] => command_named(name, parts),
         [] => None,
     }

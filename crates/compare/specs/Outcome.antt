@@ -6,9 +6,9 @@ use Rattle.hex.specs.Hex.{encode_lower}
 use Rattle.texts.specs.Lines.{line_feed}
 use Rattle.call_record.specs.Verdict.{is_stricter}
 use Rattle.call_tables.specs.declared.arch.Arch.{Arch}
-use Rattle.call_tables.specs.Arch.{table_of, word_of}
+use Rattle.call_tables.specs.Arch.{table_of, machine_name}
 use Rattle.call_tables.specs.Table.{name_in}
-use Rattle.explain.specs.Words.{action_text}
+use Rattle.explain.specs.Phrases.{action_text}
 use Rattle.profile.specs.Policy.{Policy}
 use Rattle.compare.specs.Difference.{IsDifference, SayTheSame}
 use Rattle.compare.specs.declared.difference.Difference.{Difference}
@@ -27,16 +27,16 @@ named (Some name) nr = name
 named None nr = decimal nr
 
 abbrev pub call_text : Arch → ℕ → List ℕ
-call_text arch nr = named (name_in (table_of arch) nr) nr ++ codes " of " ++ word_of arch
+call_text arch nr = named (name_in (table_of arch) nr) nr ++ codes " of " ++ machine_name arch
 
 -- both verdicts and the digits of a record
-abbrev pub words_text : ℕ → ℕ → List ℕ → List ℕ
-words_text first second digits =
+abbrev pub verdicts_text : ℕ → ℕ → List ℕ → List ℕ
+verdicts_text first second digits =
     codes ": " ++ action_text first ++ codes ", " ++ action_text second ++ codes ", record " ++ digits ++ line_feed ∷ []
 
 -- the call, both verdicts, and two hexadecimal digits for each byte of the record
 abbrev pub line_of : Difference → List ℕ
-line_of d = call_text d.arch d.nr ++ words_text d.first d.second (encode_lower d.bytes)
+line_of d = call_text d.arch d.nr ++ verdicts_text d.first d.second (encode_lower d.bytes)
 
 -- the second profile is stricter, or looser, than the first in each of the differences
 abbrev pub are_stricter : List Difference → Bool

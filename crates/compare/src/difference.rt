@@ -73,7 +73,7 @@ fn record_of(arch: Arch, nr: u32, args: [u64; 6]) -> Record
 }
 
 /// What two profiles say of a call with these arguments, where it is not the same.
-pub(crate) fn unlike_words(
+pub(crate) fn unlike_verdicts(
     first: &Profile,
     second: &Profile,
     arch: Arch,

@@ -111,13 +111,18 @@ fn put_call(text: &mut String, arch: Arch, nr: u32) -> Result<(), AllocError>
     ensures { IfOk result (λ _. string_bytes text.new ≡ string_bytes text.old ++ spec.call_text arch nr) }
 {
     put_name(text, arch, nr)?;
-    let machine = arch.word();
+    let machine = arch.machine_name();
     write!(text, " of {machine}")
 }
 
 // Adds what is said of a record, and the record by its digits.
-fn put_words(text: &mut String, first: Word, second: Word, digits: &str) -> Result<(), AllocError>
-    ensures { IfOk result (λ _. string_bytes text.new ≡ string_bytes text.old ++ spec.words_text first second digits.now) }
+fn put_verdicts(
+    text: &mut String,
+    first: Word,
+    second: Word,
+    digits: &str,
+) -> Result<(), AllocError>
+    ensures { IfOk result (λ _. string_bytes text.new ≡ string_bytes text.old ++ spec.verdicts_text first second digits.now) }
 {
     let first = ActionText(first);
     let second = ActionText(second);
@@ -135,7 +140,7 @@ fn put_difference(
     let bytes: &[u8] = &difference.bytes;
     let digits = hex::encode(alloc, bytes)?;
     put_call(text, difference.arch, difference.nr)?;
-    put_words(text, difference.first, difference.second, digits.as_str())
+    put_verdicts(text, difference.first, difference.second, digits.as_str())
 }
 
 // Adds the lines of differences.

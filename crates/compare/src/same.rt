@@ -5,7 +5,7 @@ ghost use Rattle.cert_check.specs.Right.{IsRight};
 ghost use Rattle.cert_check.specs.Valid.{IsValidCertificate};
 ghost use Rattle.compare.specs.Difference.{IsDifference, SayTheSame};
 
-use crate::difference::{Difference, unlike_words};
+use crate::difference::{Difference, unlike_verdicts};
 use call_tables::Family;
 use cert_check::valid_is_right;
 use certify::{CertifyError, certify_accepted, convict};
@@ -64,5 +64,5 @@ pub(crate) fn hunted(
 {
     let call = convict(alloc, second, program).ok()??.call;
     let arch = machine_with(family, call.arch, call.nr)?;
-    unlike_words(first, second, arch, call.nr, call.args)
+    unlike_verdicts(first, second, arch, call.nr, call.args)
 }

@@ -4,7 +4,7 @@ ghost use Rattle.profile.specs.Policy.{Policy};
 ghost use Rattle.compare.specs.Difference.{IsDifference};
 
 use crate::calls::calls;
-use crate::difference::{Difference, unlike_words};
+use crate::difference::{Difference, unlike_verdicts};
 use crate::records::records;
 use call_tables::{Arch, Family};
 use profile::Profile;
@@ -22,7 +22,7 @@ fn first_difference(
     ensures { IfSome result (IsDifference first.now second.now) }
 {
     for args in tried {
-        if let Some(found) = unlike_words(first, second, call.0, call.1, *args) {
+        if let Some(found) = unlike_verdicts(first, second, call.0, call.1, *args) {
             if found.is_told_beside(beside) {
                 return Some(found);
             }

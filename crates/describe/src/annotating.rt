@@ -48,7 +48,10 @@ fn put_compared(
     match offset {
         0 => text.push_str(call_name(machine.unwrap_or(native), number)),
         4 => {
-            let machine = machine_of(native.family(), number).map_or("another machine", Arch::word);
+            let machine = machine_of(native.family(), number).map_or(
+                "another machine",
+                Arch::machine_name,
+            );
             text.push_str(machine)
         }
         _ => put_word_name(text, offset),

@@ -9,7 +9,7 @@ use std::fmt::Write;
 fn put_machines(text: &mut String, profile: &Profile) -> Result<(), AllocError> {
     text.push_str("machines")?;
     for arch in profile.machines() {
-        let machine = arch.word();
+        let machine = arch.machine_name();
         write!(text, " {machine}")?;
     }
     text.push_str("\n")
@@ -30,11 +30,11 @@ fn put_names(text: &mut String, rules: &[Rule]) -> Result<(), AllocError> {
 
 // Adds the conditions of an entry.
 fn put_conditions(text: &mut String, conds: &[Cond]) -> Result<(), AllocError> {
-    let mut word = "if";
+    let mut joined_by = "if";
     for cond in conds {
         let condition = ConditionText(cond);
-        write!(text, " {word} {condition}")?;
-        word = "and";
+        write!(text, " {joined_by} {condition}")?;
+        joined_by = "and";
     }
     Ok(())
 }

@@ -18,7 +18,7 @@ abbrev pub line_of : List (Bor (List ℕ)) → List ℕ
 line_of given = codes "call c 1" ++ flat_map (λ w. space ∷ w.now) given
 
 abbrev pub has_space : List ℕ → Bool
-has_space word = list_any (λ b. b == space) word
+has_space argument = list_any (λ b. b == space) argument
 
 -- a call of a machine by its number, with its arguments, made at address 0
 pub record IsRecordOf (arch : Arch) (nr : ℕ) (args : List ℕ) (r : Record) : Type 0 where

@@ -20,7 +20,7 @@ use Rattle.profile_json.specs.ByEntry.{AreRulesOf}
 use Rattle.explain.specs.declared.reason.Reason.{Reason}
 use Rattle.explain.specs.declared.reason.Reason.TheVariants.{Foreign, Entry, Default}
 use Rattle.explain.specs.Reason.{entry_at, reason_of}
-use Rattle.explain.specs.Words.{action_text, call_lines, condition_text, verdict_line}
+use Rattle.explain.specs.Phrases.{action_text, call_lines, condition_text, verdict_line}
 
 abbrev pub reason_line : Reason → List ℕ
 reason_line Foreign = codes "why foreign" ++ line_feed ∷ []

@@ -10,35 +10,35 @@ use hex::FromHex;
 use script::{Request, read_line};
 use std::alloc::{AllocError, Global};
 
-fn has_space(word: &str) -> bool
-    ensures { result ≡ spec.has_space word.now }
+fn has_space(argument: &str) -> bool
+    ensures { result ≡ spec.has_space argument.now }
 {
-    word.bytes().any(|b| b == b' ')
+    argument.bytes().any(|b| b == b' ')
 }
 
-fn any_has_space(words: &[&str]) -> bool
-    ensures { result ≡ list_any (λ w. spec.has_space w.now) words.now }
+fn any_has_space(arguments: &[&str]) -> bool
+    ensures { result ≡ list_any (λ w. spec.has_space w.now) arguments.now }
 {
-    words.iter().any(|word| has_space(word))
+    arguments.iter().any(|argument| has_space(argument))
 }
 
 // Adds arguments of the command line, each behind a space.
-fn put_words(text: &mut String, words: &[&str]) -> Result<(), AllocError>
-    ensures { IfOk result (λ _. string_bytes text.new ≡ string_bytes text.old ++ flat_map (λ w. space ∷ w.now) words.now) }
+fn put_arguments(text: &mut String, arguments: &[&str]) -> Result<(), AllocError>
+    ensures { IfOk result (λ _. string_bytes text.new ≡ string_bytes text.old ++ flat_map (λ w. space ∷ w.now) arguments.now) }
 {
-    for word in words {
+    for argument in arguments {
         text.push_str(" ")?;
-        text.push_str(word)?;
+        text.push_str(argument)?;
     }
     Ok(())
 }
 
 // The line of a script that the command line arguments make.
-fn line_of(alloc: Global, words: &[&str]) -> Result<String, AllocError>
-    ensures { IfOk result (λ text. string_bytes text ≡ spec.line_of words.now) }
+fn line_of(alloc: Global, arguments: &[&str]) -> Result<String, AllocError>
+    ensures { IfOk result (λ text. string_bytes text ≡ spec.line_of arguments.now) }
 {
     let mut text = String::from_str(alloc, "call c 1")?;
-    put_words(&mut text, words)?;
+    put_arguments(&mut text, arguments)?;
     Ok(text)
 }
 
@@ -76,14 +76,14 @@ fn call_on(native: Arch, line: &str) -> Option<Record>
 pub(crate) fn asked(
     alloc: Global,
     native: Arch,
-    words: &[&str],
+    arguments: &[&str],
 ) -> Result<Option<Record>, AllocError>
-    ensures { IfOk result (λ found. IfSome found (spec.IsAsked native words.now)) }
+    ensures { IfOk result (λ found. IfSome found (spec.IsAsked native arguments.now)) }
 {
-    if any_has_space(words) {
+    if any_has_space(arguments) {
         return Ok(None);
     }
-    let line = line_of(alloc, words)?;
+    let line = line_of(alloc, arguments)?;
     Ok(call_on(native, line.as_str()))
 }
 
@@ -101,14 +101,14 @@ fn spelled(digits: &str) -> Option<Record>
 pub(crate) fn call_in(
     alloc: Global,
     native: Arch,
-    words: &[&str],
+    arguments: &[&str],
 ) -> Result<Option<Record>, AllocError>
-    ensures { IfOk result (λ found. IfSome found (spec.IsCall native words.now)) }
+    ensures { IfOk result (λ found. IfSome found (spec.IsCall native arguments.now)) }
 {
-    if let [mark, digits] = words {
+    if let [mark, digits] = arguments {
         if *mark == "record" {
             return Ok(spelled(digits));
         }
     }
-    asked(alloc, native, words)
+    asked(alloc, native, arguments)
 }

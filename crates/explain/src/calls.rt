@@ -1,7 +1,7 @@
 //! A call told as text.
 ghost use Rattle.std.specs.Prelude.{◌≡◌, ◌++◌, IfOk, string_bytes};
 ghost use Rattle.call_tables.specs.Numbers.{has_call};
-ghost use Rattle.explain.specs.Words as spec;
+ghost use Rattle.explain.specs.Phrases as spec;
 
 use call_record::Record;
 use call_tables::{Arch, Family};
@@ -54,7 +54,7 @@ pub fn machine_with(family: Family, token: u32, nr: u32) -> Option<Arch>
 fn put_named(text: &mut String, name: &str, arch: Arch, nr: u32) -> Result<(), AllocError>
     ensures { IfOk result (λ _. string_bytes text.new ≡ string_bytes text.old ++ spec.named_call (Some name.now) arch nr) }
 {
-    let machine = arch.word();
+    let machine = arch.machine_name();
     writeln!(text, "call {name}, number {nr} of {machine}")
 }
 
@@ -62,7 +62,7 @@ fn put_named(text: &mut String, name: &str, arch: Arch, nr: u32) -> Result<(), A
 fn put_unnamed(text: &mut String, arch: Arch, nr: u32) -> Result<(), AllocError>
     ensures { IfOk result (λ _. string_bytes text.new ≡ string_bytes text.old ++ spec.named_call None arch nr) }
 {
-    let machine = arch.word();
+    let machine = arch.machine_name();
     writeln!(text, "call {nr} of {machine}")
 }
 

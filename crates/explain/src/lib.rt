@@ -3,14 +3,14 @@
 
 mod asked;
 mod calls;
+mod phrases;
 mod reason;
 mod rules;
 mod telling;
 mod told;
-mod words;
 
 pub use calls::{machine_of, machine_with};
+pub use phrases::{ActionText, ConditionText};
 pub use reason::Reason;
 pub use telling::explanation;
 pub use told::{Told, assembled, explain, record, refused_profile, version};
-pub use words::{ActionText, ConditionText};

@@ -5,8 +5,8 @@ ghost use Rattle.call_tables.specs.Width as width;
 ghost use Rattle.profile.specs.Said.{meets};
 ghost use Rattle.explain.specs.Explanation as spec;
 
+use crate::phrases::{ActionText, ConditionText};
 use crate::reason::{entry_at, is_match};
-use crate::words::{ActionText, ConditionText};
 use call_record::Record;
 use call_tables::compared;
 use profile::{Cond, Rule};

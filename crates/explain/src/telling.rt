@@ -5,12 +5,12 @@ ghost use Rattle.call_tables.specs.Arch.{family_of};
 ghost use Rattle.profile.specs.Policy.{Says};
 ghost use Rattle.explain.specs.Explanation as spec;
 ghost use Rattle.explain.specs.Reason.{reason_of};
-ghost use Rattle.explain.specs.Words.{verdict_line};
+ghost use Rattle.explain.specs.Phrases.{verdict_line};
 
 use crate::calls::put_record;
+use crate::phrases::ActionText;
 use crate::reason::{Reason, reason_of};
 use crate::rules::put_rules;
-use crate::words::ActionText;
 use call_record::{Record, Word};
 use call_tables::{Arch, Family};
 use profile::Profile;
@@ -19,7 +19,7 @@ use std::alloc::{AllocError, Global};
 use std::fmt::Write;
 
 // Adds the line of a verdict.
-fn put_word(text: &mut String, word: Word) -> Result<(), AllocError>
+fn put_verdict(text: &mut String, word: Word) -> Result<(), AllocError>
     ensures { IfOk result (λ _. string_bytes text.new ≡ string_bytes text.old ++ verdict_line word) }
 {
     let action = ActionText(word);
@@ -50,7 +50,7 @@ fn put_explanation(
         ++ spec.told_by family word reason all.now.rules.items all.now.ends.items call.now) }
 {
     put_record(text, family, call)?;
-    put_word(text, word)?;
+    put_verdict(text, word)?;
     put_reason(text, reason)?;
     put_rules(text, all, call)
 }

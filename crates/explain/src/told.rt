@@ -64,11 +64,11 @@ pub fn explain(
     alloc: Global,
     native: Arch,
     bundle: &[u8],
-    words: &[&str],
+    arguments: &[&str],
 ) -> Result<Told, AllocError>
-    ensures { IfOk result (spec.IsExplained native bundle.now words.now) }
+    ensures { IfOk result (spec.IsExplained native bundle.now arguments.now) }
 {
-    let Some(call) = call_in(alloc, native, words)? else {
+    let Some(call) = call_in(alloc, native, arguments)? else {
         return refused(alloc, "call");
     };
     match explanation(alloc, native, bundle, &call) {
@@ -90,10 +90,10 @@ fn recorded(alloc: Global, call: &Record) -> Result<Told, AllocError>
 }
 
 /// The 64 bytes of the call record that command line arguments ask for.
-pub fn record(alloc: Global, native: Arch, words: &[&str]) -> Result<Told, AllocError>
-    ensures { IfOk result (spec.IsRecorded native words.now) }
+pub fn record(alloc: Global, native: Arch, arguments: &[&str]) -> Result<Told, AllocError>
+    ensures { IfOk result (spec.IsRecorded native arguments.now) }
 {
-    let Some(call) = asked(alloc, native, words)? else {
+    let Some(call) = asked(alloc, native, arguments)? else {
         return refused(alloc, "call");
     };
     let told = recorded(alloc, &call)?;

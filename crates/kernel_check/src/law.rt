@@ -8,6 +8,6 @@ pub fn one_refusal()
 
 /// An accepted program gives a verdict on each record of sixteen words, and runs at most as many
 /// instructions as it has.
-pub fn accepted_programs_give_words()
+pub fn accepted_programs_give_verdicts()
     ensures { AcceptedGive }
 {}

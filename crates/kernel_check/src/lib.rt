@@ -15,6 +15,6 @@ mod scratch;
 
 pub use check::accept;
 pub use fault::{Cause, Refused};
-pub use law::{accepted_programs_give_words, one_refusal};
+pub use law::{accepted_programs_give_verdicts, one_refusal};
 pub use lent::Accepted;
 pub use owned::AcceptedBuf;

@@ -78,21 +78,21 @@ first_filter_is_oldest F os id c there = each_all (IsOldest c.first) c.processes
 
 -- ---- what is refused
 
-word_last : (r : Record) (newer : List Filter) (f : Filter)
-    → map (λ g. g.judge.word r) (newer ++ f ∷ []) ≡ map (λ g. g.judge.word r) newer ++ f.judge.word r ∷ []
-word_last r [] f = refl
-word_last r (g ∷ newer) f = ap (λ (ws : List ℕ). g.judge.word r ∷ ws) (word_last r newer f)
+verdict_last : (r : Record) (newer : List Filter) (f : Filter)
+    → map (λ g. g.judge.verdict r) (newer ++ f ∷ []) ≡ map (λ g. g.judge.verdict r) newer ++ f.judge.verdict r ∷ []
+verdict_last r [] f = refl
+verdict_last r (g ∷ newer) f = ap (λ (ws : List ℕ). g.judge.verdict r ∷ ws) (verdict_last r newer f)
 
 -- where the oldest filter refuses, the verdict lets nothing through
 refused : (first : Judge) (t : Process) (r : Record) → KeepsBehind (only first) t
-    → IsRefusal (first.word r) → is_through (verdict_on r t) ≡ false
+    → IsRefusal (first.verdict r) → is_through (verdict_on r t) ≡ false
 refused first t r behind refusal =
     let own : Filter = record { load = 0; judge = first } in
-    let ws : map (λ f. f.judge.word r) t.filters ≡ map (λ f. f.judge.word r) behind.0 ++ first.word r ∷ [] =
-    ap (map (λ f. f.judge.word r)) behind.1 ∙ word_last r behind.0 own in
-    let among : Contains (map (λ f. f.judge.word r) t.filters) (first.word r) =
-    subst (λ vs. Contains vs (first.word r)) (sym ws) (Contains-push (map (λ f. f.judge.word r) behind.0) (first.word r)) in
-    never (is_through (verdict_on r t)) (λ through. absurd (refusal_stands (map (λ f. f.judge.word r) t.filters) (first.word r) among refusal through))
+    let ws : map (λ f. f.judge.verdict r) t.filters ≡ map (λ f. f.judge.verdict r) behind.0 ++ first.verdict r ∷ [] =
+    ap (map (λ f. f.judge.verdict r)) behind.1 ∙ verdict_last r behind.0 own in
+    let among : Contains (map (λ f. f.judge.verdict r) t.filters) (first.verdict r) =
+    subst (λ vs. Contains vs (first.verdict r)) (sym ws) (Contains-push (map (λ f. f.judge.verdict r) behind.0) (first.verdict r)) in
+    never (is_through (verdict_on r t)) (λ through. absurd (refusal_stands (map (λ f. f.judge.verdict r) t.filters) (first.verdict r) among refusal through))
 
 denied : (t : Process) (r : Record) (a : Attached) (ps : Processes) → is_through (verdict_on r t) ≡ false
     → (judged (verdict_on r t) t r a ps).0 ≡ Denied (verdict_on r t)
@@ -104,7 +104,7 @@ denied t r a ps h = by (verdict_on r t) (is_through (verdict_on r t)) refl h
 
 event_refused : (first : Judge) (n : ℕ) (r : Record) (a : Attached) (ps : Processes) (o : Option Process)
     → live_task n ps.tasks ≡ o → Each (KeepsBehind (only first)) ps.tasks
-    → IsRefusal (first.word r) → ((v : ℕ) × ((presented_by o r a ps).0 ≡ Denied v)) ⊎ ((presented_by o r a ps).0 ≡ NoTask)
+    → IsRefusal (first.verdict r) → ((v : ℕ) × ((presented_by o r a ps).0 ≡ Denied v)) ⊎ ((presented_by o r a ps).0 ≡ NoTask)
 event_refused first n r a ps None e s refusal = inr refl
 event_refused first n r a ps (Some t) e s refusal =
     let behind = found (KeepsBehind (only first)) (λ u. is_task n u && is_live u) ps.tasks s t e in
@@ -115,7 +115,7 @@ shown_by o (inl p) = inl (p.0, ap Presented p.1)
 shown_by o (inr p) = inr (ap Presented p)
 
 call_refused : (s : Status) (c : Container) (task : ℕ) (r : Record) (a : Attached) → Sound c
-    → IsRefusal (c.first.word r) → NotCarriedOut (call task r a s c).0
+    → IsRefusal (c.first.verdict r) → NotCarriedOut (call task r a s c).0
 call_refused Created c task r a s refusal = inr refl
 call_refused Stopped c task r a s refusal = inr refl
 call_refused Running c task r a s refusal =
@@ -144,7 +144,7 @@ call_step : (os : List Command) (id : List ℕ) (given : Checked) → MadeBy by_
     → IsRefusal (said (profile_of given) (words r)) → NotCarriedOut (step by_profile (Call id task r a) (world_after by_profile os)).0
 call_step os id given m task r a refusal =
     let c = there_by by_profile os id given m in
-    let word : IsRefusal (c.0.first.word r) = subst (λ (j : Judge). IsRefusal (j.word r)) (sym c.2.0) refusal in
+    let word : IsRefusal (c.0.first.verdict r) = subst (λ (j : Judge). IsRefusal (j.verdict r)) (sym c.2.0) refusal in
     subst NotCarriedOut (sym (ap (λ o. (acted by_profile (Call id task r a) o).0) c.1))
     (call_refused c.0.status c.0 task r a (sound_after by_profile os id c.0 c.1) word)
 
@@ -159,7 +159,7 @@ start_step os id given m c there created refusal =
     let same : execve_of (profile_of given).native ≡ call = ap execve_of (sym made.1) in
     let here : IsRefusal (said (profile_of given) (words call)) = subst (λ (r : Record). IsRefusal (said (profile_of given) (words r)))
     same refusal in
-    let word : IsRefusal (c.first.word call) = subst (λ (j : Judge). IsRefusal (j.word call)) (sym made.0) here in
+    let word : IsRefusal (c.first.verdict call) = subst (λ (j : Judge). IsRefusal (j.verdict call)) (sym made.0) here in
     subst IsDeniedStart (sym (ap (λ o. (acted by_profile (Start id) o).0) there ∙ ap (λ s. (start s c).0) created))
     (start_refused c.processes.native c.first word)
 

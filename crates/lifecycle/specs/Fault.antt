@@ -1,7 +1,7 @@
 -- How a refusal is told: by its number and its name, and by the verdict that denied the start.
 use Rattle.std.specs.Prelude.{ℕ, List, [], ◌++◌, codes}
 use Rattle.std.specs.Fmt.{decimal}
-use Rattle.call_record.specs.Text as word
+use Rattle.call_record.specs.Text as verdict
 use Rattle.lifecycle.specs.declared.fault.Refusal.{Refusal}
 use Rattle.lifecycle.specs.declared.fault.Refusal.TheVariants.{IdTaken, NoContainer, NotCreated, NotAlive, NotStopped, BadSignal}
 use Rattle.lifecycle.specs.declared.fault.Refusal.TheVariants.{StartDenied, BadId}
@@ -17,16 +17,16 @@ label_of (StartDenied v) = (7, codes "StartDenied")
 label_of BadId = (8, codes "BadId")
 
 -- the verdict, after a space
-abbrev pub word_of : Refusal → List ℕ
-word_of IdTaken = []
-word_of NoContainer = []
-word_of NotCreated = []
-word_of NotAlive = []
-word_of NotStopped = []
-word_of BadSignal = []
-word_of (StartDenied v) = codes " " ++ word.text_of v
-word_of BadId = []
+abbrev pub verdict_text : Refusal → List ℕ
+verdict_text IdTaken = []
+verdict_text NoContainer = []
+verdict_text NotCreated = []
+verdict_text NotAlive = []
+verdict_text NotStopped = []
+verdict_text BadSignal = []
+verdict_text (StartDenied v) = codes " " ++ verdict.text_of v
+verdict_text BadId = []
 
 -- the text that says it
 abbrev pub text_of : Refusal → List ℕ
-text_of refusal = decimal (label_of refusal).0 ++ codes " " ++ (label_of refusal).1 ++ word_of refusal
+text_of refusal = decimal (label_of refusal).0 ++ codes " " ++ (label_of refusal).1 ++ verdict_text refusal

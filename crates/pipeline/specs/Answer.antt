@@ -2,7 +2,7 @@
 -- the kernel's documentation), and the verdict that the filter answers.
 use Rattle.std.specs.Prelude.{ℕ, ◌≡◌, ◌≢◌, Bool, true, false, List, [], ◌∷◌, ◌++◌, length, Option, Some, None, Result, IfOk, codes}
 use Rattle.texts.specs.Lines.{line_feed}
-use Rattle.call_record.specs.Text as word
+use Rattle.call_record.specs.Text as verdict
 use Rattle.call_record.specs.Words.{words_of}
 use Rattle.bpf_insn.specs.Bytes.{insns_of, view_fault}
 use Rattle.bpf_insn.specs.Machine.{verdict_of}
@@ -34,7 +34,7 @@ is_verdict other = false
 
 -- the line that says it
 abbrev pub line_of : Answer → List ℕ
-line_of (Verdict v) = word.text_of v ++ line_feed ∷ []
+line_of (Verdict v) = verdict.text_of v ++ line_feed ∷ []
 line_of NoRecord = codes "refused record" ++ line_feed ∷ []
 line_of (NoProgram e) = codes "refused view " ++ view.text_of e ++ line_feed ∷ []
 line_of (Refusal e) = codes "refused kernel " ++ kernel.text_of e ++ line_feed ∷ []
@@ -45,4 +45,4 @@ pub record WritesAnswer {S : Type 0} (held : S → Option (List ℕ)) (failures 
   pub answer : Answer
   pub stands : IsAnswer filter rec answer
   pub written : Writes held failures old new (line_of answer) result
-  pub told : IfOk result (λ is_word. is_word ≡ is_verdict answer)
+  pub told : IfOk result (λ told. told ≡ is_verdict answer)

@@ -4,7 +4,7 @@ use Rattle.std.specs.Prelude.{ℕ, ◌≡◌, ◌≢◌, ◌<◌, ◌⊎◌, Boo
 use Rattle.std.specs.Prelude.{Option, None, Result, IfOk, codes}
 use Rattle.hex.specs.Hex.{encode_lower}
 use Rattle.call_tables.specs.declared.arch.Arch.{Arch}
-use Rattle.call_record.specs.Text as word
+use Rattle.call_record.specs.Text as verdict
 use Rattle.call_record.specs.Words.{IsRecord, words_of}
 use Rattle.bpf_insn.specs.Bytes.{insns_of, view_fault}
 use Rattle.kernel_check.specs.Accepted.{IsAccepted}
@@ -49,7 +49,7 @@ pub record IsConvicted (native : Arch) (bundle filter rec : List ℕ) (given sai
 -- the line that says it: two hexadecimal digits for each byte of the record, and both verdicts
 abbrev pub digits_line : List ℕ → ℕ → ℕ → List ℕ
 digits_line digits given said =
-    codes "no record " ++ digits ++ codes " filter " ++ word.text_of given ++ codes " profile " ++ word.text_of said ++ line_feed ∷ []
+    codes "no record " ++ digits ++ codes " filter " ++ verdict.text_of given ++ codes " profile " ++ verdict.text_of said ++ line_feed ∷ []
 
 abbrev pub conviction_line : List ℕ → ℕ → ℕ → List ℕ
 conviction_line rec given said = digits_line (encode_lower rec) given said

@@ -22,19 +22,19 @@ few (f ∷ fs) =
     let e : total_size (f ∷ fs) ≡ length f.program + 4 + total_size fs = sum_by-cons (λ (g : Loaded). length g.program + 4) f fs in omega arith
 
 -- the verdicts taken one after the other, from the oldest filter on
-pub fold_words : (word : Loaded → ℕ) (fs : List Loaded) → fold (λ older f. strictest_of (word f ∷ older ∷ [])) allow (reverse fs)
+pub fold_verdicts : (word : Loaded → ℕ) (fs : List Loaded) → fold (λ older f. strictest_of (word f ∷ older ∷ [])) allow (reverse fs)
     ≡ strictest_of (map word fs)
 unfolding strictest_of
-fold_words word [] = refl
-fold_words word (f ∷ fs) =
+fold_verdicts word [] = refl
+fold_verdicts word (f ∷ fs) =
     ap (fold (λ older g. strictest_of (word g ∷ older ∷ [])) allow) (reverse_onto fs f [])
     ∙ (fold-append (λ older g. strictest_of (word g ∷ older ∷ [])) allow (reverse fs) (f ∷ [])
-    ∙ (ap (λ older. strictest_of (word f ∷ older ∷ [])) (fold_words word fs)
+    ∙ (ap (λ older. strictest_of (word f ∷ older ∷ [])) (fold_verdicts word fs)
     ∙ sym (strictest_of-cons (word f) (map word fs))))
 
-pub words_seen : (r : Record) (fs : List Loaded) → map (λ f. (filter_of f).judge.word r) fs ≡ map (λ f. f.judge.word r) (filters_of fs)
-words_seen r [] = refl
-words_seen r (f ∷ fs) = ap (λ ws. (filter_of f).judge.word r ∷ ws) (words_seen r fs)
+pub verdicts_seen : (r : Record) (fs : List Loaded) → map (λ f. (filter_of f).judge.verdict r) fs ≡ map (λ f. f.judge.verdict r) (filters_of fs)
+verdicts_seen r [] = refl
+verdicts_seen r (f ∷ fs) = ap (λ ws. (filter_of f).judge.verdict r ∷ ws) (verdicts_seen r fs)
 
 drop_loads : (k : ℕ) (fs : List Loaded) → loads_of (drop k fs) ≡ drop k (loads_of fs)
 drop_loads zero fs = refl

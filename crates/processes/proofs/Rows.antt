@@ -60,10 +60,10 @@ call machine name a b =
 
 -- these verdicts for the calls with these names, a verdict for calls of another machine, and ALLOW else
 abbrev pub judging : Arch → Table → ℕ → ℕ → Judge
-judging machine words foreign count = record {
-  word = λ r.
+judging machine verdicts foreign count = record {
+  verdict = λ r.
       if r.arch == token_of machine
-      then unwrap_or (number_in words (unwrap_or (name_in (table_of machine) r.nr) [])) 0x7fff0000
+      then unwrap_or (number_in verdicts (unwrap_or (name_in (table_of machine) r.nr) [])) 0x7fff0000
       else foreign;
   count = count;
 }
@@ -71,7 +71,7 @@ judging machine words foreign count = record {
 -- these names, and error 1 else
 abbrev pub allowing : List (List ℕ) → Judge
 allowing names = record {
-  word = λ r.
+  verdict = λ r.
       if not (r.arch == token_of X86_64) then 0
       else if list_any (bytes_eq (unwrap_or (name_in (table_of X86_64) r.nr) [])) names then 0x7fff0000
       else 0x00050001;

@@ -173,7 +173,7 @@ carried_out Missing t r a ps = (Absent, ps)
 
 -- the strictest verdict of a task's filters
 abbrev pub verdict_on : Record → Process → ℕ
-verdict_on r t = strictest_of (map (λ f. f.judge.word r) t.filters)
+verdict_on r t = strictest_of (map (λ f. f.judge.verdict r) t.filters)
 
 -- what a verdict ends, by signal 31 (SIGSYS)
 abbrev pub ended_by_verdict : Ends → Process → Processes → Processes

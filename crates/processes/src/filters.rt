@@ -37,8 +37,8 @@ impl Loaded {
     }
 
     // The verdict that the filter gives.
-    fn word(&self, rec: &Record) -> Word
-        ensures { result ≡ (filter_of self.now).judge.word rec.now }
+    fn verdict(&self, rec: &Record) -> Word
+        ensures { result ≡ (filter_of self.now).judge.verdict rec.now }
     {
         verdict(&self.program.as_accepted(), rec)
     }
@@ -143,10 +143,10 @@ impl Filters {
 
     /// The strictest verdict that the filters give.
     pub(crate) fn verdict(&self, rec: &Record) -> Word
-        ensures { result ≡ strictest_of (map (λ f. f.judge.word rec.now) (filters_of self.now)) }
+        ensures { result ≡ strictest_of (map (λ f. f.judge.verdict rec.now) (filters_of self.now)) }
     {
         self.list.iter().rev().fold(Word::ALLOW, |older, filter| {
-            stricter(filter.word(rec), older)
+            stricter(filter.verdict(rec), older)
         })
     }
 

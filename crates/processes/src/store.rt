@@ -71,7 +71,7 @@ pub trait Store: Drop {
 
     /// The strictest verdict that a handle's filters give.
     fn verdict(&self, handle: &Self::Handle, rec: &Record) -> Word
-        ensures { result ≡ strictest_of (map (λ f. f.judge.word rec.now) (filters_of self.now handle.now)) };
+        ensures { result ≡ strictest_of (map (λ f. f.judge.verdict rec.now) (filters_of self.now handle.now)) };
 
     /// Whether a handle's filters are what is left of another's after their newest are dropped, by
     /// their load numbers.

@@ -16,8 +16,8 @@ use Rattle.profile.specs.Build.{ClashAt, IsFirstClash}
 pub clear_none : IsClear []
 clear_none r is_r a b in-a in-b ma mb = absurd (omega (arith, in-a.1))
 
-same_word : (a b : Rule) (r : List ℕ) → IsRecord r → Matches a r → Matches b r → ¬ Clash a b → a.word ≡ b.word
-same_word a b r is_r ma mb none =
+same_verdict : (a b : Rule) (r : List ℕ) → IsRecord r → Matches a r → Matches b r → ¬ Clash a b → a.word ≡ b.word
+same_verdict a b r is_r ma mb none =
     elim (cases_eq a.word b.word) [
       | inl same ↦ same
       | inr unlike ↦ absurd (none (unlike, (r, is_r, ma, mb)))
@@ -28,11 +28,11 @@ clear_more xs x clear none r is_r a b in-a in-b ma mb =
     elim (Contains-push_cases xs x a in-a) [
       | inl a-before ↦ elim (Contains-push_cases xs x b in-b) [
         | inl b-before ↦ clear r is_r a b a-before b-before ma mb
-        | inr b-last ↦ same_word a b r is_r ma mb
+        | inr b-last ↦ same_verdict a b r is_r ma mb
             (subst (λ (y : Rule). ¬ Clash a y) b-last (All-contains (λ y. ¬ Clash y x) xs a none a-before))
       ]
       | inr a-last ↦ elim (Contains-push_cases xs x b in-b) [
-        | inl b-before ↦ sym (same_word b a r is_r mb ma
+        | inl b-before ↦ sym (same_verdict b a r is_r mb ma
             (subst (λ (y : Rule). ¬ Clash b y) a-last (All-contains (λ y. ¬ Clash y x) xs b none b-before)))
         | inr b-last ↦ ap (λ (y : Rule). y.word) (sym a-last ∙ b-last)
       ]

@@ -133,5 +133,5 @@ function_says p r clear is_r =
       ]
     ]
 
-pub each_record_is_said_one_word : spec.EachRecordIsSaidOneWord
-each_record_is_said_one_word p r v clear is_r = (says_one p r v, λ e. subst (Says p r) (sym e) (function_says p r clear is_r))
+pub each_record_is_said_one_verdict : spec.EachRecordIsSaidOneVerdict
+each_record_is_said_one_verdict p r v clear is_r = (says_one p r v, λ e. subst (Says p r) (sym e) (function_says p r clear is_r))

@@ -35,5 +35,5 @@ abbrev pub said : Policy → List ℕ → ℕ
 said p r = if is_native p r then unwrap_or (option_map (λ rule. rule.word) (find (λ rule. matches rule r) p.rules)) p.default_word else 0
 
 -- where the rules are clear, one verdict is said of a record, and it is that of the function
-abbrev pub EachRecordIsSaidOneWord : Type 0
-EachRecordIsSaidOneWord = (p : Policy) (r : List ℕ) (v : ℕ) → IsClear p.rules → IsRecord r → (Says p r v ↔ (v ≡ said p r))
+abbrev pub EachRecordIsSaidOneVerdict : Type 0
+EachRecordIsSaidOneVerdict = (p : Policy) (r : List ℕ) (v : ℕ) → IsClear p.rules → IsRecord r → (Says p r v ↔ (v ≡ said p r))

@@ -23,5 +23,5 @@ pub use distinct::MAX_RULES;
 pub use fault::BuildError;
 pub use machines::{MACHINES, are_for, foreign_numbers, in_order};
 pub use overlaps::overlap;
-pub use policy::{Profile, building_is_one, each_record_is_said_one_word};
+pub use policy::{Profile, building_is_one, each_record_is_said_one_verdict};
 pub use rules::{Rule, has_index};

@@ -1,6 +1,6 @@
 //! Profiles, and what they say of a record.
 ghost use Rattle.std.specs.Prelude.{◌≡◌, ◌↔◌, IsTrue};
-ghost use Rattle.profile.specs.Said.{EachRecordIsSaidOneWord};
+ghost use Rattle.profile.specs.Said.{EachRecordIsSaidOneVerdict};
 ghost use Rattle.profile.specs.Build.{BuildingIsOne};
 
 use crate::clashes::first_clash;
@@ -152,8 +152,8 @@ impl Profile {
 }
 
 /// A clear profile says exactly one verdict of each record: that of the first rule that matches.
-pub fn each_record_is_said_one_word()
-    ensures { EachRecordIsSaidOneWord }
+pub fn each_record_is_said_one_verdict()
+    ensures { EachRecordIsSaidOneVerdict }
 {}
 
 /// What is built of the same parts is the same profile.

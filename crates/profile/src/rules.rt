@@ -35,7 +35,7 @@ impl Rule {
         ensures arch_is { IfSome result (λ rule. rule.arch ≡ arch) }
         ensures nr_is { IfSome result (λ rule. rule.nr ≡ nr) }
         ensures conds_are { IfSome result (λ rule. rule.conds ≡ conds) }
-        ensures word_is { IfSome result (λ rule. rule.word ≡ word) }
+        ensures verdict_is { IfSome result (λ rule. rule.word ≡ word) }
     {
         if are_apart(conds.as_slice()) {
             Some(Rule {

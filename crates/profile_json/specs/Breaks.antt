@@ -46,12 +46,12 @@ pub data ActionBreaks (k : List ℕ) (d : Data) : Fault → Type 0 where
   action_unknown : (name : List ℕ) → member text k d ≡ holds name → action_named name ≡ None → ActionBreaks k d unknown_action
 
 -- the verdict of the action under one key, with the data under another
-pub data WordBreaks (action_key errno_key : List ℕ) (d : Data) : Fault → Type 0 where
-  action : (f : Fault) → ActionBreaks action_key d f → WordBreaks action_key errno_key d f
-  errno_other : member whole errno_key d ≡ other_type → WordBreaks action_key errno_key d wrong_type
+pub data VerdictBreaks (action_key errno_key : List ℕ) (d : Data) : Fault → Type 0 where
+  action : (f : Fault) → ActionBreaks action_key d f → VerdictBreaks action_key errno_key d f
+  errno_other : member whole errno_key d ≡ other_type → VerdictBreaks action_key errno_key d wrong_type
   not_taken : (a : Action) (n : ℕ) → NamesAction action_key d a → takes_data a ≡ false → member whole errno_key d ≡ holds n
-      → WordBreaks action_key errno_key d errno_not_taken
-  large : (n : ℕ) → member whole errno_key d ≡ holds n → 4095 < n → WordBreaks action_key errno_key d errno_range
+      → VerdictBreaks action_key errno_key d errno_not_taken
+  large : (n : ℕ) → member whole errno_key d ≡ holds n → 4095 < n → VerdictBreaks action_key errno_key d errno_range
 
 -- a key whose member may be missing or empty alone
 pub data EmptyBreaks {A : Type 0} (m : Member (List A)) : Fault → Type 0 where
@@ -104,7 +104,7 @@ pub data NamesBreak (family : Family) (d : Data) : Fault → Type 0 where
 pub data EntryBreaks (family : Family) (d : Data) : Fault → Type 0 where
   no_object : object d ≡ None → EntryBreaks family d wrong_type
   names : (f : Fault) → IsSome (object d) → NamesBreak family d f → EntryBreaks family d f
-  word : (f : Fault) → IsSome (object d) → WordBreaks key.action key.errno_ret d f → EntryBreaks family d f
+  word : (f : Fault) → IsSome (object d) → VerdictBreaks key.action key.errno_ret d f → EntryBreaks family d f
   args : (f : Fault) → IsSome (object d) → ArgsBreak d f → EntryBreaks family d f
 
 -- Under this name both entries have rules with unlike verdicts, and one record matches both.
@@ -134,7 +134,7 @@ pub data EntriesBreak (s : Data) (native : Arch) : Fault → Type 0 where
 
 -- the rules that the object under linux.seccomp breaks
 pub data SeccompBreaks (s : Data) (native : Arch) : Fault → Type 0 where
-  default_word : (f : Fault) → WordBreaks key.default_action key.default_errno_ret s f → SeccompBreaks s native f
+  default_word : (f : Fault) → VerdictBreaks key.default_action key.default_errno_ret s f → SeccompBreaks s native f
   keys : (f : Fault) → KeysBreak s f → SeccompBreaks s native f
   archs : (f : Fault) → ArchsBreak s native f → SeccompBreaks s native f
   entries : (f : Fault) → EntriesBreak s native f → SeccompBreaks s native f

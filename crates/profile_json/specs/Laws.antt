@@ -7,7 +7,7 @@ use Rattle.profile_json.specs.declared.action.Action.{Action}
 use Rattle.profile_json.specs.Keys as key
 use Rattle.profile_json.specs.Fault.{Fault}
 use Rattle.profile_json.specs.Lookup.{missing, holds, member, object, text, whole}
-use Rattle.profile_json.specs.Names.{word_of}
+use Rattle.profile_json.specs.Names.{verdict_of}
 use Rattle.profile_json.specs.Meaning.{IsText, IsSeccomp, NamesAction, CallsMean, Means}
 use Rattle.profile_json.specs.Breaks.{Breaks}
 
@@ -29,7 +29,7 @@ pub record MeantBefore (t : Data) (native : Arch) (p : Policy) : Type 0 where
   pub no_errno : member whole key.default_errno_ret seccomp ≡ missing
   pub action : Action
   pub action_is : NamesAction key.default_action seccomp action
-  pub default_is : p.default_word ≡ word_of action 1
+  pub default_is : p.default_word ≡ verdict_of action 1
   pub calls : CallsMean seccomp native p
 
 -- what a bundle meant then it means now

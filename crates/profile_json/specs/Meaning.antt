@@ -15,7 +15,8 @@ use Rattle.profile_json.specs.declared.action.Action.{Action}
 use Rattle.profile_json.specs.Keys as key
 use Rattle.profile_json.specs.Parts.{CondParts, EntryParts, rule_parts}
 use Rattle.profile_json.specs.Lookup.{missing, holds, member, or_default, object, text, whole, list}
-use Rattle.profile_json.specs.Names.{editions, action_named, takes_data, word_of, op_named, arch_named, is_known, most_entries, most_names}
+use Rattle.profile_json.specs.Names.{editions, action_named, takes_data, verdict_of, op_named, arch_named, is_known}
+use Rattle.profile_json.specs.Names.{most_entries, most_names}
 use Rattle.profile.specs.Machines.{in_order}
 use Rattle.profile_json.specs.Rules.{or_native, rules_of}
 
@@ -45,12 +46,12 @@ pub data ErrnoMeans (k : List ℕ) (d : Data) (a : Action) : ℕ → Type 0 wher
   given : (n : ℕ) → member whole k d ≡ holds n → takes_data a ≡ true → n ≤ 4095 → ErrnoMeans k d a n
 
 -- the verdict of the action under one key, with the data under another
-pub record WordMeans (action_key errno_key : List ℕ) (d : Data) (word : ℕ) : Type 0 where
+pub record VerdictMeans (action_key errno_key : List ℕ) (d : Data) (word : ℕ) : Type 0 where
   pub action : Action
   pub action_is : NamesAction action_key d action
   pub errno : ℕ
   pub errno_is : ErrnoMeans errno_key d action errno
-  pub word_is : word ≡ word_of action errno
+  pub verdict_is : word ≡ verdict_of action errno
 
 -- no key is used that is refused
 pub record KeysMean (s : Data) : Type 0 where
@@ -102,7 +103,7 @@ pub record NamesMean (family : Family) (d : Data) (names : List (List ℕ)) : Ty
 pub record EntryMeans (family : Family) (d : Data) (e : EntryParts) : Type 0 where
   pub is_object : IsSome (object d)
   pub names : NamesMean family d e.names
-  pub word_is : WordMeans key.action key.errno_ret d e.word
+  pub verdict_is : VerdictMeans key.action key.errno_ret d e.word
   pub args : ArgsMean d e.conds
 
 -- the entries, at most 256, in whole tables 1,024
@@ -135,5 +136,5 @@ pub record CallsMean (s : Data) (native : Arch) (p : Policy) : Type 0 where
 pub record Means (t : Data) (native : Arch) (p : Policy) : Type 0 where
   pub seccomp : Data
   pub root : RootMeans t seccomp
-  pub default_is : WordMeans key.default_action key.default_errno_ret seccomp p.default_word
+  pub default_is : VerdictMeans key.default_action key.default_errno_ret seccomp p.default_word
   pub calls : CallsMean seccomp native p

@@ -53,8 +53,8 @@ takes_data action.Log = false
 takes_data action.Allow = false
 
 -- the verdict of an action, with the data that ERRNO and TRACE take
-abbrev pub word_of : Action → ℕ → ℕ
-word_of a errno = if takes_data a then action_bits a + errno else action_bits a
+abbrev pub verdict_of : Action → ℕ → ℕ
+verdict_of a errno = if takes_data a then action_bits a + errno else action_bits a
 
 unfoldable pub op_named : List ℕ → Option Op
 op_named = named (

@@ -43,7 +43,7 @@ pub(crate) fn action_named(name: &str) -> Option<Action>
 
 impl Action {
     ghost use Rattle.std.specs.Prelude.{◌≡◌, ◌≤◌};
-    ghost use Rattle.profile_json.specs.Names.{takes_data, word_of};
+    ghost use Rattle.profile_json.specs.Names.{takes_data, verdict_of};
 
     /// Whether the text may give data.
     fn takes_data(self) -> bool
@@ -56,9 +56,9 @@ impl Action {
     }
 
     /// The verdict, with these data where the action takes them.
-    fn word(self, errno: u16) -> Word
+    fn verdict(self, errno: u16) -> Word
         requires { errno ≤ 4095 }
-        ensures { result ≡ word_of self errno }
+        ensures { result ≡ verdict_of self errno }
     {
         match self {
             Action::KillThread => Word::KILL_THREAD,
@@ -94,13 +94,13 @@ fn errno_at(value: &Value, key: &str, action: Action) -> Result<u16, ProfileErro
 }
 
 /// The verdict of the action under one key, with the data under another.
-#[tactic(auto, unfolding(crate::specs::inner::Reading::word_at))]
-fn word_at(value: &Value, action_key: &str, errno_key: &str) -> Result<Word, ProfileError>
-    ensures { Gives (λ w. w) result (read.word_at action_key.now errno_key.now (view value.now)) }
+#[tactic(auto, unfolding(crate::specs::inner::Reading::verdict_at))]
+fn verdict_at(value: &Value, action_key: &str, errno_key: &str) -> Result<Word, ProfileError>
+    ensures { Gives (λ w. w) result (read.verdict_at action_key.now errno_key.now (view value.now)) }
 {
     let action = action_at(value, action_key)?;
     let errno = errno_at(value, errno_key, action)?;
-    Ok(action.word(errno))
+    Ok(action.verdict(errno))
 }
 
 /// The verdict of calls that no rule matches.
@@ -108,13 +108,13 @@ fn word_at(value: &Value, action_key: &str, errno_key: &str) -> Result<Word, Pro
 pub(crate) fn default_of(seccomp: &Value) -> Result<Word, ProfileError>
     ensures { Gives (λ w. w) result (read.default_of (view seccomp.now)) }
 {
-    word_at(seccomp, DEFAULT_ACTION, DEFAULT_ERRNO_RET)
+    verdict_at(seccomp, DEFAULT_ACTION, DEFAULT_ERRNO_RET)
 }
 
 /// The verdict of an entry.
-#[tactic(auto, unfolding(crate::specs::inner::Reading::entry_word))]
-pub(crate) fn word_of(entry: &Value) -> Result<Word, ProfileError>
-    ensures { Gives (λ w. w) result (read.entry_word (view entry.now)) }
+#[tactic(auto, unfolding(crate::specs::inner::Reading::entry_verdict))]
+pub(crate) fn verdict_of(entry: &Value) -> Result<Word, ProfileError>
+    ensures { Gives (λ w. w) result (read.entry_verdict (view entry.now)) }
 {
-    word_at(entry, ACTION, ERRNO_RET)
+    verdict_at(entry, ACTION, ERRNO_RET)
 }

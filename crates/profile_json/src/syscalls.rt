@@ -6,7 +6,7 @@ ghost use Rattle.profile_json.specs.inner.Outcome.{Gives, GivesWithMemory};
 ghost use Rattle.profile_json.specs.inner.Reading as spec;
 ghost use Rattle.profile_json.specs.Names as names;
 
-use crate::action::word_of;
+use crate::action::verdict_of;
 use crate::argument::args_of;
 use crate::entry::Entry;
 use crate::fault::ProfileError;
@@ -88,7 +88,7 @@ fn entry_of<'a>(alloc: Global, value: &'a Value, family: Family) -> Result<Entry
 {
     let entry = object_of(value)?;
     let names = names_of(alloc, entry, family)?;
-    let word = word_of(entry)?;
+    let word = verdict_of(entry)?;
     let conds = args_of(entry)?;
     Ok(Entry { names, conds, word })
 }

@@ -18,9 +18,9 @@ use Rattle.rule_compile.specs.declared.question.Subject.{Subject}
 use Rattle.rule_compile.specs.declared.ranges.Leaf.{Leaf}
 use Rattle.rule_compile.specs.declared.ranges.Leaf.TheVariants as leaf
 use Rattle.rule_compile.specs.declared.ranges.Range.{Range}
-use Rattle.rule_compile.specs.Decides.{Comes, Decides, IsWithin, StandsFor, by_block, by_word}
+use Rattle.rule_compile.specs.Decides.{Comes, Decides, IsWithin, StandsFor, by_block, by_verdict}
 use Rattle.rule_compile.specs.Questions.{bits}
-use Rattle.rule_compile.specs.Rules.{IsClearAt, SomeMet, begins_here, put_first, rules_of, word_of}
+use Rattle.rule_compile.specs.Rules.{IsClearAt, SomeMet, begins_here, put_first, rules_of, answer_of}
 use Rattle.rule_compile.specs.inner.Built.{IsFoundAt, IsKept, IsReached}
 use Rattle.rule_compile.specs.inner.Left.{AreAlikeAt, AreRules, AreStarts, AsksFor, IsOffset, IsQuestion, IsRule, weight, weight_of}
 use Rattle.rule_compile.specs.inner.Numbers.{IsExtended, Tiles, more, nothing, wider}
@@ -367,7 +367,7 @@ asked_offset os subject rules asks =
     let P : Open → Type 0 = λ o. IsQuestion o.question in
     let all : All P os = all_asked P os
     (All-weaker IsRule (All P)
-    (λ rule is. All-weaker (λ o. (o.answer ≡ word_of rule) × IsQuestion o.question) P (λ o both. both.1) rule is) (rules_of os) rules.1) in
+    (λ rule is. All-weaker (λ o. (o.answer ≡ answer_of rule) × IsQuestion o.question) P (λ o both. both.1) rule is) (rules_of os) rules.1) in
     let one : P asks.1 = subst P asks.3 (all asks.0 asks.1 asks.2) in
     subst (λ (s : Subject). IsOffset s.word) asks.4 one.offset
 
@@ -375,13 +375,13 @@ asked_offset os subject rules asks =
 
 module _ (blocks : List Block) (os : List Open) (other : Leaf) (subject : Subject) (number : ℕ) where
   pub found_met : (word : ℕ) → ((r : List ℕ) → AreAlikeAt os subject number (bits subject r) → SomeMet os r word)
-      → IsFoundAt blocks os other subject number (leaf.Word word)
+      → IsFoundAt blocks os other subject number (leaf.Verdict word)
   found_met word says = record {
     before = tt;
     come = λ r rec clear alike v come.
         let met : SomeMet os r word = says r alike in
         let is : v ≡ word = elim come [ inl some ↦ clear v word some met | inr none ↦ absurd (none.0 word met) ] in
-        subst (λ w. Decides blocks r v (leaf.Word w)) is by_word;
+        subst (λ w. Decides blocks r v (leaf.Verdict w)) is by_verdict;
   }
 
   pub found_open : (others : List Open) (to : Leaf)

@@ -22,7 +22,7 @@ use Rattle.rule_compile.specs.declared.label.Label.{Label}
 use Rattle.rule_compile.specs.declared.label.Target.{Target}
 use Rattle.rule_compile.specs.declared.label.Target.TheVariants.{Place, Return}
 use Rattle.rule_compile.specs.declared.label.Exits.{Exits}
-use Rattle.rule_compile.specs.declared.ranges.Leaf.TheVariants.{Word}
+use Rattle.rule_compile.specs.declared.ranges.Leaf.TheVariants.{Verdict}
 use Rattle.rule_compile.specs.declared.ranges.Range.{Range}
 use Rattle.rule_compile.specs.Moves.{move_at}
 use Rattle.rule_compile.specs.Shape.{IsCallFilter, IsPlain, answer, answer_by, call, depth, depth_by, has_token, tokens, weight, weight_by}
@@ -30,8 +30,8 @@ use Rattle.rule_compile.specs.inner.Calls.{AnswersMachine, AnswersThese, Apart, 
 use Rattle.rule_compile.specs.inner.Code.{Grows, IsStart, IsTarget, insn_of, position}
 use Rattle.rule_compile.specs.inner.Emitted.{AreFine, loads}
 use Rattle.rule_compile.specs.inner.Goes.{Branches, Reaches, cost, deep, goes}
-use Rattle.rule_compile.specs.inner.Numbers.{IsListed, IsWorded, Tiles, said_of}
-use Rattle.rule_compile.specs.inner.Ranges.{AreOfWords, Found, IsAtFront, Searched, loads as loads_word, returns}
+use Rattle.rule_compile.specs.inner.Numbers.{IsListed, HasVerdict, Tiles, said_of}
+use Rattle.rule_compile.specs.inner.Ranges.{AreOfVerdicts, Found, IsAtFront, Searched, loads as loads_word, returns}
 use Rattle.rule_compile.proofs.AcceptLaws.{fine_is_accepted}
 use Rattle.rule_compile.proofs.FindLaws.{branch_cost, branch_deep, branch_goes}
 use Rattle.rule_compile.proofs.GoesLaws.{cost_kept, deep_kept, goes_kept, grows_on, grows_written, target_kept}
@@ -66,21 +66,21 @@ start_first code place start = omega (arith, start.1)
 
 module _ (p : Policy) (t : ℕ) (old mid : List Insn) (ranges : List Range) (to : Target) (found : Found old mid ranges 32 to)
     (tiles : Tiles 0 ranges (2 ^ 32))
-    (few : length ranges ≤ 515) (worded : All (IsWorded (said_of p t)) ranges) where
-  of_words : AreOfWords ranges
-  of_words k d within = let own = worded k d within in (own.0, own.1)
+    (few : length ranges ≤ 515) (has_verdicts : All (HasVerdict (said_of p t)) ranges) where
+  of_verdicts : AreOfVerdicts ranges
+  of_verdicts k d within = let own = has_verdicts k d within in (own.0, own.1)
 
   number_found : (u : ℕ) → u < 2 ^ 32 → goes mid to (Some 0) (call t u) ≡ Some (said_of p t u)
   number_found u small =
       let at = tiles_cover ranges 0 (2 ^ 32) u tiles (omega arith) small in
-      let none : Range = record { first = 0; last = 0; leaf = Word 0 } in
-      let own = worded at.0 none at.1 in
-      found.finds of_words (tiles_in_order ranges 0 (2 ^ 32) tiles) at.0 none at.1 own.0 (call t u) own.1 (at.2 none)
+      let none : Range = record { first = 0; last = 0; leaf = Verdict 0 } in
+      let own = has_verdicts at.0 none at.1 in
+      found.finds of_verdicts (tiles_in_order ranges 0 (2 ^ 32) tiles) at.0 none at.1 own.0 (call t u) own.1 (at.2 none)
       ∙ ap Some (sym (own.2 u (at.2 none)))
 
   pub calls_return : (word : ℕ) → to ≡ Return word → AnswersMachine p t old mid (Return word)
   calls_return word is =
-      let c = found.costs of_words in
+      let c = found.costs of_verdicts in
       let f = c.frugal in
       record {
         answers = λ held u small. ap (λ q. goes mid q (Some 0) (call t u)) (sym is) ∙ number_found u small;
@@ -94,7 +94,7 @@ module _ (p : Policy) (t : ℕ) (old mid : List Insn) (ranges : List Range) (to 
   pub calls_load : (first place : Label) (new : List Insn) → to ≡ Place first → new ≡ insn_of LoadWord 0 ∷ mid → IsStart new place
       → AnswersMachine p t old new (Place place)
   calls_load first place new is written start =
-      let c = found.costs of_words in
+      let c = found.costs of_verdicts in
       let f = c.frugal in
       let front : IsStart mid first = subst (IsAtFront old mid) is f.front in
       let light : cost mid (Place first) ≤ 8 * c.comparisons + 6 = subst (λ q. cost mid q ≤ 8 * c.comparisons + 6) is f.light in
@@ -119,16 +119,16 @@ module _ (p : Policy) (t : ℕ) (old mid : List Insn) (ranges : List Range) (to 
 
 pub calls_searched : (p : Policy) (t : ℕ) (old mid new : List Insn) (ranges : List Range) (target : Target)
     → Searched mid new ranges 0 target → mid ≡ old
-    → Tiles 0 ranges (2 ^ 32) → length ranges ≤ 515 → All (IsWorded (said_of p t)) ranges → AnswersMachine p t old new target
-calls_searched p t old mid new ranges target (returns word found is) same tiles few worded =
+    → Tiles 0 ranges (2 ^ 32) → length ranges ≤ 515 → All (HasVerdict (said_of p t)) ranges → AnswersMachine p t old new target
+calls_searched p t old mid new ranges target (returns word found is) same tiles few has_verdicts =
     subst (λ code. AnswersMachine p t code new target) same
-    (subst (AnswersMachine p t mid new) (sym is) (calls_return p t mid new ranges (Return word) found tiles few worded word refl))
-calls_searched p t old mid new ranges target (loads_word code begun first place found grown begins written start is) same tiles few worded =
-    let front : IsStart code first = (found.costs (of_words p t mid code ranges (Place first) found tiles few worded)).frugal.front in
+    (subst (AnswersMachine p t mid new) (sym is) (calls_return p t mid new ranges (Return word) found tiles few has_verdicts word refl))
+calls_searched p t old mid new ranges target (loads_word code begun first place found grown begins written start is) same tiles few has_verdicts =
+    let front : IsStart code first = (found.costs (of_verdicts p t mid code ranges (Place first) found tiles few has_verdicts)).frugal.front in
     let loaded : new ≡ insn_of LoadWord 0 ∷ code = written ∙ ap (λ code. insn_of LoadWord 0 ∷ code) (begins front) in
     subst (λ code. AnswersMachine p t code new target) same
     (subst (AnswersMachine p t mid new) (sym is)
-    (calls_load p t mid code ranges (Place first) found tiles few worded first place new refl loaded start))
+    (calls_load p t mid code ranges (Place first) found tiles few has_verdicts first place new refl loaded start))
 
 pub searched_grows : (old new : List Insn) (ranges : List Range) (word : ℕ) (target : Target) → Searched old new ranges word target
     → Grows old new

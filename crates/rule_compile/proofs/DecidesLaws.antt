@@ -8,7 +8,7 @@ use Rattle.rule_compile.specs.declared.outline.Block.{Block}
 use Rattle.rule_compile.specs.declared.ranges.Leaf.{Leaf}
 use Rattle.rule_compile.specs.declared.ranges.Leaf.TheVariants as leaf
 use Rattle.rule_compile.specs.declared.ranges.Range.{Range}
-use Rattle.rule_compile.specs.Decides.{Decides, by_block, by_word}
+use Rattle.rule_compile.specs.Decides.{Decides, by_block, by_verdict}
 use Rattle.rule_compile.specs.inner.Runs.{IsBefore}
 use Rattle.rule_compile.specs.inner.Stands.{AreBlocks, HasMore}
 
@@ -34,23 +34,23 @@ module _ (old new : List Block) (g : HasMore old new) where
 
   -- what is decided stays so
   pub decides_more : {r : List ℕ} {v : ℕ} {l : Leaf} → Decides old r v l → Decides new r v l
-  decides_more by_word = by_word
+  decides_more by_verdict = by_verdict
   decides_more (by_block place block range at has inside d) =
       by_block place block range (get_more place block at) has inside (decides_more d)
 
   pub before_more : (l : Leaf) → IsBefore (length old) l → IsBefore (length new) l
-  before_more (leaf.Word w) is = tt
+  before_more (leaf.Verdict w) is = tt
   before_more (leaf.Block place) is = omega (arith, is, more_length g)
 
 -- an early place among the first of more
 pub before_le : (count most : ℕ) → count ≤ most → (l : Leaf) → IsBefore count l → IsBefore most l
-before_le count most le (leaf.Word w) is = tt
+before_le count most le (leaf.Verdict w) is = tt
 before_le count most le (leaf.Block place) is = omega (arith, is, le)
 
 -- blocks go on at blocks before them, so what is behind makes no difference
 pub decides_less : (old new : List Block) → HasMore old new → AreBlocks new → {r : List ℕ} {v : ℕ} {l : Leaf} → IsBefore (length old) l
     → Decides new r v l → Decides old r v l
-decides_less old new g blocks before by_word = by_word
+decides_less old new g blocks before by_verdict = by_verdict
 decides_less old new g blocks before (by_block place block range at has inside d) =
     let own : IsBefore place range.leaf =
     All-contains (λ (x : Range). IsBefore place x.leaf) block.ranges.items range (blocks place block at).before has in

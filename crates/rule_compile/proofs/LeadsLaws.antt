@@ -22,7 +22,7 @@ use Rattle.rule_compile.specs.declared.outline.Block.{Block}
 use Rattle.rule_compile.specs.declared.question.Subject.{Subject}
 use Rattle.rule_compile.specs.declared.ranges.Leaf.TheVariants as leaf
 use Rattle.rule_compile.specs.declared.ranges.Range.{Range}
-use Rattle.rule_compile.specs.Decides.{Decides, IsWithin, by_block, by_word}
+use Rattle.rule_compile.specs.Decides.{Decides, IsWithin, by_block, by_verdict}
 use Rattle.rule_compile.specs.Questions.{bits}
 use Rattle.rule_compile.specs.inner.Code.{Grows, IsStart, IsTarget, insn_of, position}
 use Rattle.rule_compile.specs.inner.Goes.{Branches}
@@ -33,8 +33,8 @@ use Rattle.rule_compile.proofs.FindLaws.{after_all, first_is_least, in_order_par
 use Rattle.rule_compile.proofs.RunsLaws.{load_runs, mask_runs, runs_kept}
 
 -- a verdict decides just that verdict
-pub word_decided : {blocks : List Block} {r : List ℕ} {v w : ℕ} → Decides blocks r v (leaf.Word w) → w ≡ v
-word_decided by_word = refl
+pub verdict_decided : {blocks : List Block} {r : List ℕ} {v w : ℕ} → Decides blocks r v (leaf.Verdict w) → w ≡ v
+verdict_decided by_verdict = refl
 
 pub record ByBlock (blocks : List Block) (r : List ℕ) (v place : ℕ) : Type 0 where
   pub block : Block
@@ -48,8 +48,8 @@ pub block_decided : {blocks : List Block} {r : List ℕ} {v place : ℕ} → Dec
 block_decided (by_block place block range at has inside d) =
     record { block = block; range = range; at = at; has = has; inside = inside; decides = d }
 
-pub leads_word : (blocks : List Block) (code : List Insn) (loaded : Option ℕ) (w : ℕ) → Leads blocks code loaded (Return w) (leaf.Word w)
-leads_word blocks code loaded w a r v is_r l d = ap Some (word_decided d)
+pub leads_verdict : (blocks : List Block) (code : List Insn) (loaded : Option ℕ) (w : ℕ) → Leads blocks code loaded (Return w) (leaf.Verdict w)
+leads_verdict blocks code loaded w a r v is_r l d = ap Some (verdict_decided d)
 
 -- ---- where the code begins
 
@@ -140,9 +140,9 @@ led_one blocks code loaded x to leads =
 
 -- ---- a load in front
 
-pub word_return : (blocks : List Block) (code : List Insn) (offset w : ℕ) (ranges : List Range) → AreLed blocks code (Some offset) ranges (Return w)
+pub verdict_return : (blocks : List Block) (code : List Insn) (offset w : ℕ) (ranges : List Range) → AreLed blocks code (Some offset) ranges (Return w)
     → LeadsByWord blocks code offset ranges (Return w)
-word_return blocks code offset w ranges led k d inside a r v is_r within decided = led k d inside (slice_index r (offset / 4)) r v is_r refl within decided
+verdict_return blocks code offset w ranges led k d inside a r v is_r within decided = led k d inside (slice_index r (offset / 4)) r v is_r refl within decided
 
 pub word_load : (blocks : List Block) (mid begun new : List Insn) (offset : ℕ) (ranges : List Range) (first place : Label) → IsOffset offset
     → AreLed blocks mid (Some offset) ranges (Place first)

@@ -14,7 +14,7 @@ use Rattle.rule_compile.specs.declared.question.Question.{Question}
 use Rattle.rule_compile.specs.declared.question.Subject.{Subject}
 use Rattle.rule_compile.specs.declared.question.Reply.TheVariants as reply
 use Rattle.rule_compile.specs.Questions.{IsMet, bits}
-use Rattle.rule_compile.specs.Rules.{IsRuleMet, SomeMet, begins_here, rules_of, word_of}
+use Rattle.rule_compile.specs.Rules.{IsRuleMet, SomeMet, begins_here, rules_of, answer_of}
 use Rattle.rule_compile.specs.inner.Asked.{AreOf, Asks, IsAsked, IsLast, IsOf}
 use Rattle.rule_compile.specs.inner.Left.{AreAlikeAt, AreRules, AsksFor, IsAddedLeft, IsAlikeAt, IsQuestion, IsRule, Weighs, WeighsLess, weight, weight_of}
 use Rattle.rule_compile.proofs.AskedLaws.{added_met, added_rules, added_sure, asks_like, asks_nothing, asks_then, begun_last}
@@ -193,7 +193,7 @@ pub record IsPart (rules coming asked : List Open) (subject : Subject) (number :
   pub less : AsksFor rules subject → AsksFor coming subject ⊎ (weight asked + weight coming < weight rules)
 
 none_met : (r : List ℕ) (w : ℕ) → SomeMet [] r w → ⊥
-none_met r w h = any_nil (λ rule. IsRuleMet r rule × (word_of rule ≡ w)) h
+none_met r w h = any_nil (λ rule. IsRuleMet r rule × (answer_of rule ≡ w)) h
 
 no_rules : AreRules []
 no_rules = (refl, All-nil IsRule)

@@ -29,7 +29,7 @@ use Rattle.rule_compile.specs.inner.Stands.{AreAmong, AreBlocks, AreThose, Decid
 use Rattle.rule_compile.proofs.BlocksLaws.{stands_more}
 use Rattle.rule_compile.proofs.DecidesLaws.{before_more, decides_more}
 use Rattle.rule_compile.proofs.HeldLaws.{held_of_record}
-use Rattle.rule_compile.proofs.LeadsLaws.{word_decided}
+use Rattle.rule_compile.proofs.LeadsLaws.{verdict_decided}
 use Rattle.rule_compile.proofs.SaysLaws.{clear_on, native_own, said_is}
 use Rattle.rule_compile.proofs.ThoseLaws.{by_those, held_matches}
 use Rattle.rule_compile.proofs.TurnLaws.{in_turn}
@@ -101,7 +101,7 @@ module _ (p : Policy) (clear : IsClear p.rules) (m : Arch) (number : ℕ) (is_ow
             },
       )
   call_asks are_blocks decides (InParts parts) (os, are, says) =
-      let default = leaf.Word p.default_word in
+      let default = leaf.Verdict p.default_word in
       let clear : (r : List ℕ) → IsOfCall call r → All (λ (part : Part). IsClearAt part.rules.items r) parts.items = λ r of_call.
       parts_all (λ part. IsClearAt part.rules.items r) blocks os default parts.items call.leaf
       (λ part among v w met_v met_w.
@@ -111,12 +111,12 @@ module _ (p : Policy) (clear : IsClear p.rules) (m : Arch) (number : ℕ) (is_ow
         clear = clear;
         come = λ r of_call.
             in_turn blocks are_blocks r of_call.is_record os default parts.items call.leaf (λ w. w ≡ p.default_word) (said p r) tt
-            (λ w d. sym (word_decided d)) (clear r of_call) are (call_decides decides r of_call);
+            (λ w d. sym (verdict_decided d)) (clear r of_call) are (call_decides decides r of_call);
       }
 
   call_before : (asked : Asked) → AsksOf blocks own p.default_word call.leaf asked → AreEarly (length blocks) asked
   call_before (Nothing place) asks = tt
-  call_before (InParts parts) asks = parts_before blocks asks.0 (leaf.Word p.default_word) parts.items call.leaf asks.1
+  call_before (InParts parts) asks = parts_before blocks asks.0 (leaf.Verdict p.default_word) parts.items call.leaf asks.1
 
   pub call_known : AreBlocks blocks → DecidesRules blocks own p.default_word call.leaf → AsksOf blocks own p.default_word call.leaf call.asked
       → IsKnownCall p blocks call
@@ -140,7 +140,7 @@ module _ (p : Policy) (old new : List Block) (g : HasMore old new) (blocks : Are
   asked_more : (call : Call) (asked : Asked) → AreEarly (length old) asked → IsAskedOf p old call asked → IsAskedOf p new call asked
   asked_more call (Nothing place) before is = is
   asked_more call (InParts parts) before is = record {
-    stand = turn_more (leaf.Word p.default_word) parts.items call.leaf tt before is.stand;
+    stand = turn_more (leaf.Verdict p.default_word) parts.items call.leaf tt before is.stand;
     clear = is.clear;
     come = is.come;
   }

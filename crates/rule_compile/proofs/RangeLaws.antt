@@ -19,12 +19,12 @@ use Rattle.profile.specs.declared.conditions.Cond.{Cond}
 use Rattle.profile.specs.Condition.{Meets}
 use Rattle.profile.specs.Rule.{Matches, argument_of}
 use Rattle.profile.specs.Policy.{IsNative, Policy, Says}
-use Rattle.profile.proofs.SaidLaws.{each_record_is_said_one_word}
+use Rattle.profile.proofs.SaidLaws.{each_record_is_said_one_verdict}
 use Rattle.rule_compile.specs.declared.ranges.Leaf.{Leaf}
-use Rattle.rule_compile.specs.declared.ranges.Leaf.TheVariants.{Word}
+use Rattle.rule_compile.specs.declared.ranges.Leaf.TheVariants.{Verdict}
 use Rattle.rule_compile.specs.declared.ranges.Range.{Range}
 use Rattle.rule_compile.specs.Shape.{IsPlain, IsPlainRule, call}
-use Rattle.rule_compile.specs.inner.Numbers.{AreFew, AreOwn, AreUnconditional, Between, IsExtended, IsFor, IsListed, IsNext, IsWorded}
+use Rattle.rule_compile.specs.inner.Numbers.{AreFew, AreOwn, AreUnconditional, Between, IsExtended, IsFor, IsListed, IsNext, HasVerdict}
 use Rattle.rule_compile.specs.inner.Numbers.{LeafFor, NoneFor, Reached, Tiles, more, nothing, ruled, said_of, unruled, wider}
 use Rattle.rule_compile.specs.Decides.{IsWithin}
 use Rattle.rule_compile.specs.inner.Ranges.{AreInOrder}
@@ -66,20 +66,20 @@ module _ (old new : List Range) (from end : ℕ) (leaf : Leaf) where
       subst (λ xs. Tiles 0 xs (max from end)) (sym is)
       (tiles_push front 0 x.first (max from end) y back.0 refl (omega (arith, lt, back.1, back.2)) (omega (arith, lt)))
 
-  pub worded_extended : (f : ℕ → ℕ) (w : ℕ) → Tiles 0 old from → All (IsWorded f) old → IsExtended old from end leaf new → leaf ≡ Word w
-      → ((u : ℕ) → from ≤ u → u < end → f u ≡ w) → All (IsWorded f) new
-  worded_extended f w t all (nothing le is) leaf_is told = subst (All (IsWorded f)) (sym is) all
-  worded_extended f w t all (more lt is) leaf_is told =
+  pub has_verdicts_extended : (f : ℕ → ℕ) (w : ℕ) → Tiles 0 old from → All (HasVerdict f) old → IsExtended old from end leaf new → leaf ≡ Verdict w
+      → ((u : ℕ) → from ≤ u → u < end → f u ≡ w) → All (HasVerdict f) new
+  has_verdicts_extended f w t all (nothing le is) leaf_is told = subst (All (HasVerdict f)) (sym is) all
+  has_verdicts_extended f w t all (more lt is) leaf_is told =
       let x : Range = record { first = from; last = end - 1; leaf = leaf } in
-      let one : IsWorded f x = (w, leaf_is, λ u within. told u within.0 (omega (arith, lt, within.1))) in
-      subst (All (IsWorded f)) (sym is) (All-append (IsWorded f) old (x ∷ []) all (All-cons (IsWorded f) x [] one (All-nil (IsWorded f))))
-  worded_extended f w t all (wider lt front x was alike is) leaf_is told =
+      let one : HasVerdict f x = (w, leaf_is, λ u within. told u within.0 (omega (arith, lt, within.1))) in
+      subst (All (HasVerdict f)) (sym is) (All-append (HasVerdict f) old (x ∷ []) all (All-cons (HasVerdict f) x [] one (All-nil (HasVerdict f))))
+  has_verdicts_extended f w t all (wider lt front x was alike is) leaf_is told =
       let y : Range = record { first = x.first; last = end - 1; leaf = leaf } in
       let back = tiles_back front 0 from x (subst (λ xs. Tiles 0 xs from) was t) in
-      let parts : All (IsWorded f) (front ++ x ∷ []) = subst (All (IsWorded f)) was all in
-      let own : IsWorded f x = All-head (IsWorded f) x [] (all_right (IsWorded f) front (x ∷ []) parts) in
-      let same : own.0 ≡ w = let e : Word own.0 ≡ Word w = sym own.1 ∙ alike ∙ leaf_is in cc in
-      let one : IsWorded f y = (
+      let parts : All (HasVerdict f) (front ++ x ∷ []) = subst (All (HasVerdict f)) was all in
+      let own : HasVerdict f x = All-head (HasVerdict f) x [] (all_right (HasVerdict f) front (x ∷ []) parts) in
+      let same : own.0 ≡ w = let e : Verdict own.0 ≡ Verdict w = sym own.1 ∙ alike ∙ leaf_is in cc in
+      let one : HasVerdict f y = (
         w,
         leaf_is,
         λ u within. elim (cases_lt u from) [
@@ -87,9 +87,9 @@ module _ (old new : List Range) (from end : ℕ) (leaf : Leaf) where
           | inr after ↦ told u after (omega (arith, lt, within.1))
         ],
       ) in
-      subst (All (IsWorded f)) (sym is)
-      (All-append (IsWorded f) front (y ∷ []) (all_left (IsWorded f) front (x ∷ []) parts) (All-cons (IsWorded f) y [] one (All-nil
-      (IsWorded f))))
+      subst (All (HasVerdict f)) (sym is)
+      (All-append (HasVerdict f) front (y ∷ []) (all_left (HasVerdict f) front (x ∷ []) parts) (All-cons (HasVerdict f) y [] one (All-nil
+      (HasVerdict f))))
 
   pub count_extended : IsExtended old from end leaf new → length new ≤ length old + 1
   count_extended (nothing le is) = omega (arith, ap length is)
@@ -153,8 +153,8 @@ pub call_is_record : (t u : ℕ) → t < 2 ^ 32 → u < 2 ^ 32 → IsRecord (cal
 call_is_record t u small_t small_u = record { length_is = refl; words = call_small t u small_t small_u }
 
 module _ (p : Policy) (plain : IsPlain p) (t u : ℕ) (small_t : t < 2 ^ 32) (small_u : u < 2 ^ 32) where
-  one_word : (v : ℕ) → Says p (call t u) v → said_of p t u ≡ v
-  one_word v says = sym ((each_record_is_said_one_word p (call t u) v plain.clear (call_is_record t u small_t small_u)).0 says)
+  one_verdict : (v : ℕ) → Says p (call t u) v → said_of p t u ≡ v
+  one_verdict v says = sym ((each_record_is_said_one_verdict p (call t u) v plain.clear (call_is_record t u small_t small_u)).0 says)
 
   matches_for : (rule : Rule) → Contains p.rules rule → IsFor t u rule → Matches rule (call t u)
   matches_for rule has is = record {
@@ -166,7 +166,7 @@ module _ (p : Policy) (plain : IsPlain p) (t u : ℕ) (small_t : t < 2 ^ 32) (sm
   }
 
   pub said_rule : IsNative p (call t u) → (rule : Rule) → Contains p.rules rule → IsFor t u rule → said_of p t u ≡ rule.word
-  said_rule native rule has is = one_word rule.word (record {
+  said_rule native rule has is = one_verdict rule.word (record {
     foreign = λ not. absurd (not native);
     matched = λ _ other there m.
         plain.clear (call t u) (call_is_record t u small_t small_u) rule other has there (matches_for rule has is) m;
@@ -174,14 +174,14 @@ module _ (p : Policy) (plain : IsPlain p) (t u : ℕ) (small_t : t < 2 ^ 32) (sm
   })
 
   pub said_default : IsNative p (call t u) → NoneFor t u p.rules → said_of p t u ≡ p.default_word
-  said_default native none = one_word p.default_word (record {
+  said_default native none = one_verdict p.default_word (record {
     foreign = λ not. absurd (not native);
     matched = λ _ other there m. absurd (All-contains (λ rule. IsFor t u rule → ⊥) p.rules other none there (sym m.machine, sym m.number));
     unmatched = λ _ _. refl;
   })
 
   pub said_foreign : (IsNative p (call t u) → ⊥) → said_of p t u ≡ 0
-  said_foreign not = one_word 0 (record {
+  said_foreign not = one_verdict 0 (record {
     foreign = λ _. refl;
     matched = λ native. absurd (not native);
     unmatched = λ native. absurd (not native);
@@ -196,14 +196,14 @@ foreign_other p m u listed foreign native = native_not_foreign p.machines m u li
 
 module _ (p : Policy) (m : Arch) (most from end next : ℕ) (old mid : List Range) (before : from < end) (small_end : end ≤ 2 ^ 32)
     (own : AreOwn p m from end) (many : 513 ≤ most) (reached : Reached p m most end from old)
-    (is_next : IsNext p.rules (token_of m) from end next) (first : IsExtended old from next (Word p.default_word) mid) where
+    (is_next : IsNext p.rules (token_of m) from end next) (first : IsExtended old from next (Verdict p.default_word) mid) where
   mid_tiles : Tiles 0 mid (max from next)
-  mid_tiles = tiles_extended old mid from next (Word p.default_word) reached.tiles first
+  mid_tiles = tiles_extended old mid from next (Verdict p.default_word) reached.tiles first
 
-  mid_worded : IsPlain p → IsListed p m → All (IsWorded (said_of p (token_of m))) mid
-  mid_worded plain listed =
-      worded_extended old mid from next (Word p.default_word) (said_of p (token_of m)) p.default_word reached.tiles
-      (reached.worded plain listed) first refl
+  mid_has_verdicts : IsPlain p → IsListed p m → All (HasVerdict (said_of p (token_of m))) mid
+  mid_has_verdicts plain listed =
+      has_verdicts_extended old mid from next (Verdict p.default_word) (said_of p (token_of m)) p.default_word reached.tiles
+      (reached.has_verdicts plain listed) first refl
       (λ u low high.
       let within : u < end = omega (arith, high, is_next.most) in
       said_default p plain (token_of m) u (token_of-fits m) (omega (arith, within, small_end))
@@ -212,10 +212,10 @@ module _ (p : Policy) (m : Arch) (most from end next : ℕ) (old mid : List Rang
   pub reached_end : next ≡ end → Reached p m most end (max from next) mid
   reached_end last =
       let at : max from next ≡ end = omega (arith, last, before) in
-      let more = count_extended old mid from next (Word p.default_word) first in
+      let more = count_extended old mid from next (Verdict p.default_word) first in
       record {
         tiles = mid_tiles;
-        worded = mid_worded;
+        has_verdicts = mid_has_verdicts;
         few = λ plain. elim (reached.few plain) [
           | inl few ↦ inr (inr (at, omega (arith, few.0, few.1, more, many)))
           | inr behind ↦ elim behind [
@@ -231,8 +231,8 @@ module _ (p : Policy) (m : Arch) (most from end next : ℕ) (old mid : List Rang
     unconditional : IsPlain p → AreUnconditional p.rules
     unconditional plain k d within = (plain.rules k d within).0
 
-    leaf_word : IsPlain p → IsListed p m → (w : ℕ) × (leaf ≡ Word w) × (said_of p (token_of m) next ≡ w)
-    leaf_word plain listed =
+    leaf_verdict : IsPlain p → IsListed p m → (w : ℕ) × (leaf ≡ Verdict w) × (said_of p (token_of m) next ≡ w)
+    leaf_verdict plain listed =
         let small : next < 2 ^ 32 = omega (arith, inside, small_end) in
         let native = own next is_next.least inside listed in
         elim (decided (unconditional plain)) [
@@ -252,13 +252,13 @@ module _ (p : Policy) (m : Arch) (most from end next : ℕ) (old mid : List Rang
     few_next plain =
         let small : next < 512 = elim (is_next.small 512 (λ k d within.
         (plain.rules k d within).1)) [ inl less ↦ less | inr last ↦ absurd (omega (arith, last, inside)) ] in
-        let a = count_extended old mid from next (Word p.default_word) first in
+        let a = count_extended old mid from next (Verdict p.default_word) first in
         let b = count_extended mid new (max from next) (next + 1) leaf one in
         elim (reached.few plain) [
           | inl few ↦ elim (cases_lt from next) [
             | inl less ↦ inl (omega (arith, small, less), omega (arith, few.1, less, a, b))
             | inr same ↦
-                let c = count_same old mid from next (Word p.default_word) same first in
+                let c = count_same old mid from next (Verdict p.default_word) same first in
                 inl (omega (arith, small, same, is_next.least), omega (arith, few.1, same, is_next.least, b, c))
           ]
           | inr behind ↦ elim behind [
@@ -270,10 +270,10 @@ module _ (p : Policy) (m : Arch) (most from end next : ℕ) (old mid : List Rang
     pub reached_next : Reached p m most end (max (max from next) (next + 1)) new
     reached_next = record {
       tiles = tiles_extended mid new (max from next) (next + 1) leaf mid_tiles one;
-      worded = λ plain listed.
-          let word = leaf_word plain listed in
-          worded_extended mid new (max from next) (next + 1) leaf (said_of p (token_of m)) word.0 mid_tiles
-          (mid_worded plain listed) one word.1
+      has_verdicts = λ plain listed.
+          let word = leaf_verdict plain listed in
+          has_verdicts_extended mid new (max from next) (next + 1) leaf (said_of p (token_of m)) word.0 mid_tiles
+          (mid_has_verdicts plain listed) one word.1
           (λ u low high. let e : u ≡ next = omega (arith, low, high, is_next.least) in ap (said_of p (token_of m)) e ∙ word.2);
       few = few_next;
     }
@@ -294,7 +294,7 @@ tiles_none (x ∷ xs) a b t same =
 pub between_none : (p : Policy) (m : Arch) → Between p m 0 0 []
 between_none p m = record {
   tiles = refl;
-  worded = λ plain listed. All-nil (IsWorded (said_of p (token_of m)));
+  has_verdicts = λ plain listed. All-nil (HasVerdict (said_of p (token_of m)));
   few = λ plain. inl (omega arith);
   place = refl;
 }
@@ -332,7 +332,7 @@ module _ (p : Policy) (m : Arch) (k upto : ℕ) (foreign : Numbers) (old : List 
   pub own_reached : Reached p m 513 foreign.first upto old
   own_reached = record {
     tiles = between.tiles;
-    worded = between.worded;
+    has_verdicts = between.has_verdicts;
     few = λ plain. elim this.before [
       | inl first ↦
           let none = tiles_none old 0 upto between.tiles (sym (between.place ∙ first)) in
@@ -345,10 +345,10 @@ module _ (p : Policy) (m : Arch) (k upto : ℕ) (foreign : Numbers) (old : List 
   }
 
   module _ (mid new : List Range) (reached : Reached p m 513 foreign.first foreign.first mid)
-      (last : IsExtended mid foreign.first (foreign.last + 1) (Word 0) new) where
+      (last : IsExtended mid foreign.first (foreign.last + 1) (Verdict 0) new) where
     few_next_to : IsPlain p → (length new ≤ 1) ⊎ ((k + 1 ≡ length (foreign_numbers p.machines m)) × (length new ≤ 514))
     few_next_to plain =
-        let more = count_extended mid new foreign.first (foreign.last + 1) (Word 0) last in
+        let more = count_extended mid new foreign.first (foreign.last + 1) (Verdict 0) last in
         elim this.further [
           | inl first ↦
               let none = tiles_none mid 0 foreign.first reached.tiles (sym first) in
@@ -364,10 +364,10 @@ module _ (p : Policy) (m : Arch) (k upto : ℕ) (foreign : Numbers) (old : List 
 
     pub between_next : Between p m (k + 1) (max foreign.first (foreign.last + 1)) new
     between_next = record {
-      tiles = tiles_extended mid new foreign.first (foreign.last + 1) (Word 0) reached.tiles last;
-      worded = λ plain listed.
-          worded_extended mid new foreign.first (foreign.last + 1) (Word 0) (said_of p (token_of m)) 0 reached.tiles
-          (reached.worded plain listed) last refl
+      tiles = tiles_extended mid new foreign.first (foreign.last + 1) (Verdict 0) reached.tiles last;
+      has_verdicts = λ plain listed.
+          has_verdicts_extended mid new foreign.first (foreign.last + 1) (Verdict 0) (said_of p (token_of m)) 0 reached.tiles
+          (reached.has_verdicts plain listed) last refl
           (λ u low high.
           said_foreign p plain (token_of m) u (token_of-fits m) (omega (arith, high, this.small))
           (foreign_other p m u listed (others_between u low (omega (arith, high)))));
@@ -400,7 +400,7 @@ module _ (p : Policy) (m : Arch) (k upto : ℕ) (old : List Range) (between : Be
   pub last_reached : Reached p m 515 (2 ^ 32) upto old
   last_reached = record {
     tiles = between.tiles;
-    worded = between.worded;
+    has_verdicts = between.has_verdicts;
     few = λ plain. elim ends.far [
       | inl first ↦
           let none = tiles_none old 0 upto between.tiles (sym first) in

@@ -6,7 +6,7 @@ use Rattle.std.specs.List.{All, AllZip, Any}
 use Rattle.std.proofs.lemmas.List.Elements.{All-append, All-cons, All-head, All-nil, All-tail}
 use Rattle.rule_compile.specs.declared.asked.Open.{Open}
 use Rattle.rule_compile.specs.Questions.{IsMet}
-use Rattle.rule_compile.specs.Rules.{IsClearAt, IsRuleMet, SomeMet, begins_here, put_first, rules_of, word_of}
+use Rattle.rule_compile.specs.Rules.{IsClearAt, IsRuleMet, SomeMet, begins_here, put_first, rules_of, answer_of}
 use Rattle.rule_compile.specs.inner.Left.{AreRules, AreSame, IsQuestion, IsRule, IsSame, weight, weight_of}
 
 -- ---- some element of a list
@@ -106,18 +106,18 @@ rules_append (o ∷ os) more begins = rules_more o os more begins (rules_append 
 
 pub met_left : (os more : List Open) (r : List ℕ) (w : ℕ) → begins_here more ≡ true → SomeMet os r w → SomeMet (os ++ more) r w
 met_left os more r w begins h =
-    let P : List Open → Type 0 = λ rule. IsRuleMet r rule × (word_of rule ≡ w) in
+    let P : List Open → Type 0 = λ rule. IsRuleMet r rule × (answer_of rule ≡ w) in
     subst (Any P) (sym (rules_append os more begins)) (any_left P (rules_of os) (rules_of more) h)
 
 pub met_right : (os more : List Open) (r : List ℕ) (w : ℕ) → begins_here more ≡ true → SomeMet more r w → SomeMet (os ++ more) r w
 met_right os more r w begins h =
-    let P : List Open → Type 0 = λ rule. IsRuleMet r rule × (word_of rule ≡ w) in
+    let P : List Open → Type 0 = λ rule. IsRuleMet r rule × (answer_of rule ≡ w) in
     subst (Any P) (sym (rules_append os more begins)) (any_right P (rules_of os) (rules_of more) h)
 
 pub met_either : (os more : List Open) (r : List ℕ) (w : ℕ) → begins_here more ≡ true → SomeMet (os ++ more) r w
     → SomeMet os r w ⊎ SomeMet more r w
 met_either os more r w begins h =
-    let P : List Open → Type 0 = λ rule. IsRuleMet r rule × (word_of rule ≡ w) in
+    let P : List Open → Type 0 = λ rule. IsRuleMet r rule × (answer_of rule ≡ w) in
     any_either P (rules_of os) (rules_of more) (subst (Any P) (rules_append os more begins) h)
 
 pub begins_append : (os more : List Open) → begins_here os ≡ true → begins_here more ≡ true → begins_here (os ++ more) ≡ true
@@ -149,7 +149,7 @@ rules_one o (p ∷ os) h = one_more o (p ∷ os) (All-head GoesOn p os h) (rules
 pub met_one : (o : Open) (os : List Open) (r : List ℕ) (w : ℕ) → All GoesOn os
     → SomeMet (o ∷ os) r w ↔ (IsRuleMet r (o ∷ os) × (o.answer ≡ w))
 met_one o os r w h =
-    let P : List Open → Type 0 = λ rule. IsRuleMet r rule × (word_of rule ≡ w) in
+    let P : List Open → Type 0 = λ rule. IsRuleMet r rule × (answer_of rule ≡ w) in
     let one = rules_one o os h in (
       λ met. elim (any_cases P (o ∷ os) [] (subst (Any P) one met)) [
         | inl here ↦ here
@@ -187,11 +187,11 @@ same_begins [] (p ∷ ps) same = absurd same
 same_begins (o ∷ os) [] same = absurd same
 same_begins (o ∷ os) (p ∷ ps) same = let first = same.0 in first.begins
 
-same_word : (os ps : List Open) → AreSame os ps → word_of os ≡ word_of ps
-same_word [] [] same = refl
-same_word [] (p ∷ ps) same = absurd same
-same_word (o ∷ os) [] same = absurd same
-same_word (o ∷ os) (p ∷ ps) same = let first = same.0 in first.answer
+same_verdict : (os ps : List Open) → AreSame os ps → answer_of os ≡ answer_of ps
+same_verdict [] [] same = refl
+same_verdict [] (p ∷ ps) same = absurd same
+same_verdict (o ∷ os) [] same = absurd same
+same_verdict (o ∷ os) (p ∷ ps) same = let first = same.0 in first.answer
 
 same_put : (t : Bool) (o p : Open) (xs ys : List (List Open)) → IsSame o p → AllZip AreSame xs ys
     → AllZip AreSame (put_first t o xs) (put_first t p ys)
@@ -223,8 +223,8 @@ rule_met_same r os ps same h = all_same (λ o. IsMet o.question r) (λ o p s met
 
 pub met_same : (os ps : List Open) (r : List ℕ) (w : ℕ) → AreSame os ps → SomeMet os r w → SomeMet ps r w
 met_same os ps r w same h =
-    let P : List Open → Type 0 = λ rule. IsRuleMet r rule × (word_of rule ≡ w) in
-    any_zip AreSame P P (λ x y s met. (rule_met_same r x y s met.0, sym (same_word x y s) ∙ met.1)) (rules_of os) (rules_of ps)
+    let P : List Open → Type 0 = λ rule. IsRuleMet r rule × (answer_of rule ≡ w) in
+    any_zip AreSame P P (λ x y s met. (rule_met_same r x y s met.0, sym (same_verdict x y s) ∙ met.1)) (rules_of os) (rules_of ps)
     (same_rules os ps same) h
 
 pub clear_same : (os ps : List Open) (r : List ℕ) → AreSame os ps → IsClearAt os r → IsClearAt ps r
@@ -234,8 +234,8 @@ clear_same os ps r same clear v w first next =
 
 rule_same : (os ps : List Open) → AreSame os ps → IsRule os → IsRule ps
 rule_same os ps same h =
-    let P : Open → Type 0 = λ o. (o.answer ≡ word_of ps) × IsQuestion o.question in
-    let here : All P os = subst (λ w. All (λ o. (o.answer ≡ w) × IsQuestion o.question) os) (same_word os ps same) h in
+    let P : Open → Type 0 = λ o. (o.answer ≡ answer_of ps) × IsQuestion o.question in
+    let here : All P os = subst (λ w. All (λ o. (o.answer ≡ w) × IsQuestion o.question) os) (same_verdict os ps same) h in
     all_same P (λ o p s q. (sym s.answer ∙ q.0, subst IsQuestion s.question q.1)) os ps same here
 
 pub are_rules_same : (os ps : List Open) → AreSame os ps → AreRules os → AreRules ps

@@ -20,24 +20,24 @@ use Rattle.rule_compile.specs.inner.Code.{Grows, IsIn, IsTarget, insn_of, positi
 use Rattle.rule_compile.specs.inner.Left.{IsOffset}
 use Rattle.rule_compile.specs.inner.Runs.{gives_from, holding, runs}
 
-abbrev word_in : ℕ × ℕ → ℕ
-word_in end = end.0
+abbrev verdict_in : ℕ × ℕ → ℕ
+verdict_in end = end.0
 
-after_one_word : (e : Ending) → option_map word_in (after_one e) ≡ option_map word_in e
-after_one_word None = refl
-after_one_word (Some end) = refl
+after_one_verdict : (e : Ending) → option_map verdict_in (after_one e) ≡ option_map verdict_in e
+after_one_verdict None = refl
+after_one_verdict (Some end) = refl
 
 -- from an instruction that ends the run
 pub gives_ends : (code : List Insn) (pc : ℕ) (i : Insn) (a : ℕ) (r : List ℕ) (word : ℕ) → slice_get code pc ≡ Some i
     → step r i (holding a) ≡ Ends word → gives_from code pc a r ≡ Some word
-gives_ends code pc i a r word found e = ap (option_map word_in) (ending_ends code pc i (holding a) r word found e)
+gives_ends code pc i a r word found e = ap (option_map verdict_in) (ending_ends code pc i (holding a) r word found e)
 
 -- from an instruction that goes on
 pub gives_goes : (code : List Insn) (pc : ℕ) (i : Insn) (a : ℕ) (r : List ℕ) (skip b next : ℕ) → slice_get code pc ≡ Some i
     → step r i (holding a) ≡ Goes skip (holding b) → next ≡ pc + 1 + skip → gives_from code pc a r ≡ gives_from code next b r
 gives_goes code pc i a r skip b next found e n =
-    ap (option_map word_in) (ending_goes code pc i (holding a) r skip (holding b) next found e n)
-    ∙ after_one_word (ending code next (holding b) r)
+    ap (option_map verdict_in) (ending_goes code pc i (holding a) r skip (holding b) next found e n)
+    ∙ after_one_verdict (ending code next (holding b) r)
 
 -- ---- as more is written in front
 
@@ -53,7 +53,7 @@ runs_kept old new g (Place l) at a r =
     let there : position new l ≡ length g.more + position old l = omega (arith, ap length g.is, length-append g.more old, at.1) in
     ap (λ n. gives_from new n a r) there
     ∙ ap (λ code. gives_from code (length g.more + position old l) a r) g.is
-    ∙ ap (option_map word_in) (ending_behind g.more old (position old l) (holding a) r)
+    ∙ ap (option_map verdict_in) (ending_behind g.more old (position old l) (holding a) r)
 
 -- ---- a load
 

@@ -15,7 +15,7 @@ use Rattle.profile.specs.Condition.{Meets}
 use Rattle.profile.specs.Policy.{IsClear, IsNative, Policy, Says}
 use Rattle.profile.specs.Rule.{Matches, argument_of}
 use Rattle.profile.specs.Said.{matches, said}
-use Rattle.profile.proofs.SaidLaws.{Decides-matches, each_record_is_said_one_word}
+use Rattle.profile.proofs.SaidLaws.{Decides-matches, each_record_is_said_one_verdict}
 use Rattle.rule_compile.specs.inner.Numbers.{IsFor, IsListed}
 use Rattle.rule_compile.specs.inner.Stands.{IsClearOn, IsSaidBy, SaysNumber}
 use Rattle.rule_compile.proofs.ForeignLaws.{native_not_foreign}
@@ -43,17 +43,17 @@ said_one rules default v w r clear (inr (none, is_v)) (inl (b, has_b, mb, is_w))
 said_one rules default v w r clear (inr (none, is_v)) (inr (none2, is_w)) = is_v ∙ sym is_w
 
 module _ (p : Policy) (r : List ℕ) (clear : IsClear p.rules) (is_r : IsRecord r) where
-  one_word : (v : ℕ) → Says p r v → said p r ≡ v
-  one_word v says = sym ((each_record_is_said_one_word p r v clear is_r).0 says)
+  one_verdict : (v : ℕ) → Says p r v → said p r ≡ v
+  one_verdict v says = sym ((each_record_is_said_one_verdict p r v clear is_r).0 says)
 
   -- of a native record the verdict of a rule that matches, or the default
   pub said_by : IsNative p r → (v : ℕ) → IsSaidBy p.rules p.default_word r v → said p r ≡ v
-  said_by native v (inl (rule, has, m, is)) = one_word v (record {
+  said_by native v (inl (rule, has, m, is)) = one_verdict v (record {
     foreign = λ not. absurd (not native);
     matched = λ _ other there m2. sym is ∙ clear r is_r rule other has there m m2;
     unmatched = λ _ none. absurd (All-contains (λ rule. ¬ Matches rule r) p.rules rule none has m);
   })
-  said_by native v (inr (none, is)) = one_word v (record {
+  said_by native v (inr (none, is)) = one_verdict v (record {
     foreign = λ not. absurd (not native);
     matched = λ _ other there m2. absurd (All-contains (λ rule. Matches rule r → ⊥) p.rules other none there m2);
     unmatched = λ _ _. is;
@@ -67,7 +67,7 @@ module _ (p : Policy) (r : List ℕ) (clear : IsClear p.rules) (is_r : IsRecord 
 
   -- of any other record that of a foreign one
   pub said_foreign : (IsNative p r → ⊥) → said p r ≡ 0
-  said_foreign not = one_word 0 (record {
+  said_foreign not = one_verdict 0 (record {
     foreign = λ _. refl;
     matched = λ native. absurd (not native);
     unmatched = λ native. absurd (not native);

@@ -13,9 +13,9 @@ use Rattle.rule_compile.specs.declared.known.Known.{Known}
 use Rattle.rule_compile.specs.declared.outline.Block.{Block}
 use Rattle.rule_compile.specs.declared.ranges.Leaf.{Leaf}
 use Rattle.rule_compile.specs.declared.ranges.Leaf.TheVariants as leaf
-use Rattle.rule_compile.specs.Decides.{Comes, Decides, by_word}
+use Rattle.rule_compile.specs.Decides.{Comes, Decides, by_verdict}
 use Rattle.rule_compile.specs.Questions.{IsMet, outcome}
-use Rattle.rule_compile.specs.Rules.{IsClearAt, IsRuleMet, SomeMet, begins_here, put_first, rules_of, word_of}
+use Rattle.rule_compile.specs.Rules.{IsClearAt, IsRuleMet, SomeMet, begins_here, put_first, rules_of, answer_of}
 use Rattle.rule_compile.specs.inner.Left.{AreRules, AreSame, IsRule, SomeHeld}
 use Rattle.rule_compile.specs.inner.Runs.{IsBefore}
 use Rattle.rule_compile.specs.inner.Stands.{AreBlocks, AreSound, BlocksStand, DecidesRules, HasMore, IsFound, KnownStands}
@@ -56,9 +56,9 @@ any_or_not P each (x ∷ xs) =
 
 pub met_or_not : (os : List Open) (r : List ℕ) (w : ℕ) → SomeMet os r w ⊎ (SomeMet os r w → ⊥)
 met_or_not os r w =
-    any_or_not (λ rule. IsRuleMet r rule × (word_of rule ≡ w))
+    any_or_not (λ rule. IsRuleMet r rule × (answer_of rule ≡ w))
     (λ rule. elim (all_or_not (λ (o : Open). IsMet o.question r) (λ o. same_or_not (outcome o.question r) o.question.wanted) rule) [
-      | inl met ↦ elim (cases_eq (word_of rule) w) [
+      | inl met ↦ elim (cases_eq (answer_of rule) w) [
         | inl is ↦ inl (met, is)
         | inr other ↦ inr (λ both. other both.1)
       ]
@@ -70,9 +70,9 @@ pub met_some : (os : List Open) (r : List ℕ) → ((w : ℕ) × SomeMet os r w)
 met_some os r =
     elim (any_or_not (IsRuleMet r)
     (all_or_not (λ (o : Open). IsMet o.question r) (λ o. same_or_not (outcome o.question r) o.question.wanted)) (rules_of os)) [
-      | inl any ↦ inl (word_of any.1, (any.0, any.1, any.2, any.3, (any.4, refl)))
+      | inl any ↦ inl (answer_of any.1, (any.0, any.1, any.2, any.3, (any.4, refl)))
       | inr never ↦ inr (λ w met.
-          never (any_weaker (λ rule. IsRuleMet r rule × (word_of rule ≡ w)) (IsRuleMet r) (λ rule both. both.0) (rules_of os) met))
+          never (any_weaker (λ rule. IsRuleMet r rule × (answer_of rule ≡ w)) (IsRuleMet r) (λ rule both. both.0) (rules_of os) met))
     ]
 
 -- ---- questions in two parts
@@ -120,30 +120,30 @@ parts_are_rules os place rules least within begins =
 
 -- ---- rules with the verdict of what is gone on at
 
-also_put : (other : Leaf) (t : Bool) (o : Open) (rules : List (List Open)) → other ≡ leaf.Word o.answer
-    → All (λ rule. other ≡ leaf.Word (word_of rule)) rules → All (λ rule. other ≡ leaf.Word (word_of rule)) (put_first t o rules)
-also_put other true o rules is all = All-cons (λ rule. other ≡ leaf.Word (word_of rule)) (o ∷ []) rules is all
-also_put other false o [] is all = All-cons (λ rule. other ≡ leaf.Word (word_of rule)) (o ∷ []) [] is all
+also_put : (other : Leaf) (t : Bool) (o : Open) (rules : List (List Open)) → other ≡ leaf.Verdict o.answer
+    → All (λ rule. other ≡ leaf.Verdict (answer_of rule)) rules → All (λ rule. other ≡ leaf.Verdict (answer_of rule)) (put_first t o rules)
+also_put other true o rules is all = All-cons (λ rule. other ≡ leaf.Verdict (answer_of rule)) (o ∷ []) rules is all
+also_put other false o [] is all = All-cons (λ rule. other ≡ leaf.Verdict (answer_of rule)) (o ∷ []) [] is all
 also_put other false o (rule ∷ rules) is all =
-    All-cons (λ rule. other ≡ leaf.Word (word_of rule)) (o ∷ rule) rules is (All-tail (λ rule. other ≡ leaf.Word (word_of rule)) rule rules all)
+    All-cons (λ rule. other ≡ leaf.Verdict (answer_of rule)) (o ∷ rule) rules is (All-tail (λ rule. other ≡ leaf.Verdict (answer_of rule)) rule rules all)
 
-also_rules : (other : Leaf) (os : List Open) → All (λ (o : Open). other ≡ leaf.Word o.answer) os
-    → All (λ rule. other ≡ leaf.Word (word_of rule)) (rules_of os)
-also_rules other [] all = All-nil (λ rule. other ≡ leaf.Word (word_of rule))
+also_rules : (other : Leaf) (os : List Open) → All (λ (o : Open). other ≡ leaf.Verdict o.answer) os
+    → All (λ rule. other ≡ leaf.Verdict (answer_of rule)) (rules_of os)
+also_rules other [] all = All-nil (λ rule. other ≡ leaf.Verdict (answer_of rule))
 also_rules other (o ∷ os) all =
-    also_put other (begins_here os) o (rules_of os) (All-head (λ (p : Open). other ≡ leaf.Word p.answer) o os all)
-    (also_rules other os (All-tail (λ (p : Open). other ≡ leaf.Word p.answer) o os all))
+    also_put other (begins_here os) o (rules_of os) (All-head (λ (p : Open). other ≡ leaf.Verdict p.answer) o os all)
+    (also_rules other os (All-tail (λ (p : Open). other ≡ leaf.Verdict p.answer) o os all))
 
 pub also_found : (blocks : List Block) (os : List Open) (other : Leaf) → IsBefore (length blocks) other
-    → All (λ (o : Open). other ≡ leaf.Word o.answer) os → IsFound blocks os other other
+    → All (λ (o : Open). other ≡ leaf.Verdict o.answer) os → IsFound blocks os other other
 also_found blocks os other before all = record {
   before = before;
   stands = λ r rec clear v come. elim come [
     | inl met ↦
-        let same : other ≡ leaf.Word (word_of met.1) =
-        subst (λ rule. other ≡ leaf.Word (word_of rule)) met.3 (also_rules other os all met.0 met.1 met.2) in
-        let is : other ≡ leaf.Word v = same ∙ ap leaf.Word (let both = met.4 in both.1) in
-        subst (Decides blocks r v) (sym is) by_word
+        let same : other ≡ leaf.Verdict (answer_of met.1) =
+        subst (λ rule. other ≡ leaf.Verdict (answer_of rule)) met.3 (also_rules other os all met.0 met.1 met.2) in
+        let is : other ≡ leaf.Verdict v = same ∙ ap leaf.Verdict (let both = met.4 in both.1) in
+        subst (Decides blocks r v) (sym is) by_verdict
     | inr none ↦ none.1
   ];
 }
@@ -170,20 +170,20 @@ known_found blocks known os other stands same alike =
 -- ---- the rules of a call
 
 pub met_decides : (blocks : List Block) (rules : List Placed) (default word : ℕ)
-    → ((r : List ℕ) → IsRecord r → SomeHeld rules r word) → DecidesRules blocks rules default (leaf.Word word)
+    → ((r : List ℕ) → IsRecord r → SomeHeld rules r word) → DecidesRules blocks rules default (leaf.Verdict word)
 met_decides blocks rules default word held r rec clear v said =
     elim said [
-      | inl has ↦ subst (λ n. Decides blocks r v (leaf.Word n)) (clear v word has (held r rec)) by_word
+      | inl has ↦ subst (λ n. Decides blocks r v (leaf.Verdict n)) (clear v word has (held r rec)) by_verdict
       | inr none ↦ absurd (none.0 word (held r rec))
     ]
 
 pub open_decides : (blocks : List Block) (rules : List Placed) (default : ℕ) (os : List Open) (to : Leaf)
     → ((r : List ℕ) → IsRecord r → (w : ℕ) → SomeMet os r w ↔ (SomeHeld rules r w × (w ≢ default)))
-    → IsFound blocks os (leaf.Word default) to → DecidesRules blocks rules default to
+    → IsFound blocks os (leaf.Verdict default) to → DecidesRules blocks rules default to
 open_decides blocks rules default os to says found r rec clear v said =
     let clear_here : IsClearAt os r = λ a b x y. clear a b ((says r rec a).0 x).0 ((says r rec b).0 y).0 in
-    let by_default : v ≡ default → Decides blocks r v (leaf.Word default) =
-    λ e. subst (λ n. Decides blocks r v (leaf.Word n)) e by_word in
+    let by_default : v ≡ default → Decides blocks r v (leaf.Verdict default) =
+    λ e. subst (λ n. Decides blocks r v (leaf.Verdict n)) e by_verdict in
     found.stands r rec clear_here v
     (elim said [
       | inl has ↦ elim (cases_eq v default) [

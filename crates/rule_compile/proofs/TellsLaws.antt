@@ -74,7 +74,7 @@ pub calls_tell : (p : Policy) (t : ℕ) (blocks : List Block) (code : List Insn)
     → All (DecidesCalls p t blocks) ranges → LeadsByWord blocks code 0 ranges to → TellsCalls p t code to
 calls_tell p t blocks code ranges to tiles decides leads a r is_r token =
     let at = tiles_cover ranges 0 (2 ^ 32) (slice_index r 0) tiles (omega arith) (is_r.words 0) in
-    let none : Range = record { first = 0; last = 0; leaf = leaf.Word 0 } in
+    let none : Range = record { first = 0; last = 0; leaf = leaf.Verdict 0 } in
     leads at.0 none at.1 a r (said p r) is_r (at.2 none) (decides at.0 none at.1 r is_r token (at.2 none))
 
 -- ---- several machines

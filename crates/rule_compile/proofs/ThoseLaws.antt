@@ -15,8 +15,8 @@ use Rattle.profile.specs.Rule.{Matches, argument_of}
 use Rattle.rule_compile.specs.declared.asked.Placed.{Placed}
 use Rattle.rule_compile.specs.declared.outline.Block.{Block}
 use Rattle.rule_compile.specs.declared.ranges.Leaf.{Leaf}
-use Rattle.rule_compile.specs.declared.ranges.Leaf.TheVariants.{Word}
-use Rattle.rule_compile.specs.Decides.{Decides, by_word}
+use Rattle.rule_compile.specs.declared.ranges.Leaf.TheVariants.{Verdict}
+use Rattle.rule_compile.specs.Decides.{Decides, by_verdict}
 use Rattle.rule_compile.specs.inner.Left.{SomeHeld}
 use Rattle.rule_compile.specs.inner.Numbers.{IsFor}
 use Rattle.rule_compile.specs.inner.Stands.{AreThose, DecidesNumber, DecidesRules, IsClearOn, IsSaidBy, SaysNumber}
@@ -147,11 +147,11 @@ decides_those rules token nr default own blocks leaf those decides r is_r at num
     by_those rules token nr default own those r at number blocks leaf is_r decides clear v said
 
 -- one verdict decides them all
-pub decides_word : (rules : List Rule) (token nr default word : ℕ) (blocks : List Block) → SaysNumber rules token nr default word
-    → DecidesNumber rules token nr default blocks (Word word)
-decides_word rules token nr default word blocks says r is_r at number clear v said =
+pub decides_verdict : (rules : List Rule) (token nr default word : ℕ) (blocks : List Block) → SaysNumber rules token nr default word
+    → DecidesNumber rules token nr default blocks (Verdict word)
+decides_verdict rules token nr default word blocks says r is_r at number clear v said =
     let e : v ≡ word = said_one rules default v word r clear said (says r is_r at number clear) in
-    subst (λ w. Decides blocks r w (Word word)) (sym e) by_word
+    subst (λ w. Decides blocks r w (Verdict word)) (sym e) by_verdict
 
 pub if_ok : {T E : Type 0} (r : Result T E) (P Q : T → Type 0) → IfOk r P → ((x : T) → P x → Q x) → IfOk r Q
 if_ok (Ok x) P Q is f = f x is

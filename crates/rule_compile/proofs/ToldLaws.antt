@@ -15,9 +15,9 @@ use Rattle.profile.specs.Rule.{Matches}
 use Rattle.profile.specs.Said.{said}
 use Rattle.rule_compile.specs.declared.outline.Block.{Block}
 use Rattle.rule_compile.specs.declared.ranges.Leaf.{Leaf}
-use Rattle.rule_compile.specs.declared.ranges.Leaf.TheVariants.{Word}
+use Rattle.rule_compile.specs.declared.ranges.Leaf.TheVariants.{Verdict}
 use Rattle.rule_compile.specs.declared.ranges.Range.{Range}
-use Rattle.rule_compile.specs.Decides.{Decides, by_word}
+use Rattle.rule_compile.specs.Decides.{Decides, by_verdict}
 use Rattle.rule_compile.specs.inner.Numbers.{AreOwn, IsExtended, IsFor, IsListed, IsNext, NoneFor, Tiles, more, nothing, wider}
 use Rattle.rule_compile.specs.inner.Runs.{IsBefore}
 use Rattle.rule_compile.specs.inner.Stands.{DecidesCalls, DecidesNumber, HasMore}
@@ -95,24 +95,24 @@ next_is p m t from end next rules token is next_one =
 
 module _ (p : Policy) (m : Arch) (blocks : List Block) (clear : IsClear p.rules) (from end next : ℕ) (old mid : List Range) (before : from < end)
     (own : AreOwn p m from end) (told : ToldSoFar p m blocks from old) (is_next : IsNext p.rules (token_of m) from end next)
-    (first : IsExtended old from next (Word p.default_word) mid) where
+    (first : IsExtended old from next (Verdict p.default_word) mid) where
   unruled : (r : List ℕ) → slice_index r 1 ≡ token_of m → NoneFor (token_of m) (slice_index r 0) p.rules → All (λ rule. Matches rule r → ⊥) p.rules
   unruled r token none = All-weaker (λ rule. IsFor (token_of m) (slice_index r 0) rule → ⊥) (λ rule. Matches rule r → ⊥)
       (λ rule not is. not (sym is.machine ∙ token, sym is.number)) p.rules none
 
   default_told : IsListed p m → (r : List ℕ) → IsRecord r → slice_index r 1 ≡ token_of m → from ≤ slice_index r 0 → slice_index r 0 < next
-      → Decides blocks r (said p r) (Word p.default_word)
+      → Decides blocks r (said p r) (Verdict p.default_word)
   default_told listed r is_r token low high =
       let native = native_own p m r token (own (slice_index r 0) low (omega (arith, high, is_next.most)) listed) in
       let none = unruled r token (is_next.none (slice_index r 0) low high) in
-      subst (λ v. Decides blocks r v (Word p.default_word)) (sym (said_by p r clear is_r native p.default_word (inr (none, refl)))) by_word
+      subst (λ v. Decides blocks r v (Verdict p.default_word)) (sym (said_by p r clear is_r native p.default_word (inr (none, refl)))) by_verdict
 
   pub told_first : ToldSoFar p m blocks (max from next) mid
   told_first = record {
-    tiles = tiles_extended old mid from next (Word p.default_word) told.tiles first;
-    before = all_extended old mid from next (Word p.default_word) (λ (x : Range). IsBefore (length blocks) x.leaf) told.before (λ n. tt) first;
+    tiles = tiles_extended old mid from next (Verdict p.default_word) told.tiles first;
+    before = all_extended old mid from next (Verdict p.default_word) (λ (x : Range). IsBefore (length blocks) x.leaf) told.before (λ n. tt) first;
     decides = λ listed.
-        told_extended old mid from next (Word p.default_word) p (token_of m) blocks told.tiles (told.decides listed) first (default_told listed);
+        told_extended old mid from next (Verdict p.default_word) p (token_of m) blocks told.tiles (told.decides listed) first (default_told listed);
   }
 
   module _ (grown : List Block) (more_blocks : HasMore blocks grown) (leaf : Leaf) (new : List Range) (inside : next < end)
@@ -140,14 +140,14 @@ module _ (p : Policy) (m : Arch) (blocks : List Block) (clear : IsClear p.rules)
 -- ---- foreign numbers
 
 pub told_foreign : (p : Policy) (m : Arch) (blocks : List Block) (clear : IsClear p.rules) (from end : ℕ) (old new : List Range)
-    → ((u : ℕ) → from ≤ u → u < end → Any (IsWithin u) (foreign_numbers p.machines m)) → ToldSoFar p m blocks from old → IsExtended old from end (Word 0) new
+    → ((u : ℕ) → from ≤ u → u < end → Any (IsWithin u) (foreign_numbers p.machines m)) → ToldSoFar p m blocks from old → IsExtended old from end (Verdict 0) new
     → ToldSoFar p m blocks (max from end) new
 told_foreign p m blocks clear from end old new others told last = record {
-  tiles = tiles_extended old new from end (Word 0) told.tiles last;
-  before = all_extended old new from end (Word 0) (λ (x : Range). IsBefore (length blocks) x.leaf) told.before (λ n. tt) last;
+  tiles = tiles_extended old new from end (Verdict 0) told.tiles last;
+  before = all_extended old new from end (Verdict 0) (λ (x : Range). IsBefore (length blocks) x.leaf) told.before (λ n. tt) last;
   decides = λ listed.
-      told_extended old new from end (Word 0) p (token_of m) blocks told.tiles (told.decides listed) last
+      told_extended old new from end (Verdict 0) p (token_of m) blocks told.tiles (told.decides listed) last
       (λ r is_r token low high.
-      subst (λ v. Decides blocks r v (Word 0))
-      (sym (said_foreign p r clear is_r (foreign_other p m r listed token (others (slice_index r 0) low high)))) by_word);
+      subst (λ v. Decides blocks r v (Verdict 0))
+      (sym (said_foreign p r clear is_r (foreign_other p m r listed token (others (slice_index r 0) low high)))) by_verdict);
 }

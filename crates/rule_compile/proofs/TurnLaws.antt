@@ -11,7 +11,7 @@ use Rattle.rule_compile.specs.declared.outline.Part.{Part}
 use Rattle.rule_compile.specs.declared.ranges.Leaf.{Leaf}
 use Rattle.rule_compile.specs.declared.ranges.Leaf.TheVariants as leaf
 use Rattle.rule_compile.specs.declared.ranges.Range.{Range}
-use Rattle.rule_compile.specs.Decides.{Decides, IsWithin, by_block, by_word}
+use Rattle.rule_compile.specs.Decides.{Decides, IsWithin, by_block, by_verdict}
 use Rattle.rule_compile.specs.Outline.{ComeInTurn}
 use Rattle.rule_compile.specs.Questions.{bits}
 use Rattle.rule_compile.specs.Rules.{IsClearAt, SomeMet}
@@ -21,7 +21,7 @@ use Rattle.rule_compile.specs.inner.Runs.{IsBefore}
 use Rattle.rule_compile.specs.inner.Stands.{AreBlocks, IsFound}
 use Rattle.rule_compile.proofs.BlocksLaws.{bits_small, range_at}
 use Rattle.rule_compile.proofs.DecidesLaws.{before_le}
-use Rattle.rule_compile.proofs.LeadsLaws.{block_decided, word_decided}
+use Rattle.rule_compile.proofs.LeadsLaws.{block_decided, verdict_decided}
 use Rattle.rule_compile.proofs.RangeLaws.{tiles_in_order}
 use Rattle.rule_compile.proofs.StandsLaws.{met_some}
 
@@ -59,7 +59,7 @@ some_block (b ∷ blocks) (suc place) inside = some_block blocks place (omega (a
 
 module _ (blocks : List Block) (are : AreBlocks blocks) (r : List ℕ) where
   decides_one : (v w : ℕ) (l : Leaf) → Decides blocks r v l → Decides blocks r w l → v ≡ w
-  decides_one v w (leaf.Word x) by_word other = word_decided other
+  decides_one v w (leaf.Verdict x) by_verdict other = verdict_decided other
   decides_one v w (leaf.Block k) (by_block place block range at has within d) other =
       let next = block_decided other in
       let same : next.block ≡ block = same_Some next.block block (sym next.at ∙ at) in
@@ -72,7 +72,7 @@ module _ (blocks : List Block) (are : AreBlocks blocks) (r : List ℕ) where
 
   module _ (is_r : IsRecord r) where
     decides_below : (n : ℕ) → n ≤ length blocks → (l : Leaf) → IsBefore n l → (v : ℕ) × Decides blocks r v l
-    decides_below n within (leaf.Word w) before = (w, by_word)
+    decides_below n within (leaf.Verdict w) before = (w, by_verdict)
     decides_below zero within (leaf.Block place) before = absurd (omega (arith, before))
     decides_below (suc n) within (leaf.Block place) before =
         let found = some_block blocks place (omega (arith, before, within)) in

@@ -16,7 +16,7 @@ IsWithin range u = (range.first ≤ u) × (u ≤ range.last)
 
 -- a verdict is what it says; a block goes on by the range that has its bits of the record
 pub data Decides (blocks : List Block) (r : List ℕ) (v : ℕ) : Leaf → Type 0 where
-  by_word : Decides blocks r v (leaf.Word v)
+  by_verdict : Decides blocks r v (leaf.Verdict v)
   by_block : (place : ℕ) (block : Block) (range : Range) → slice_get blocks place ≡ Some block → Contains block.ranges.items range
       → IsWithin range (bits block.subject r) → Decides blocks r v range.leaf → Decides blocks r v (leaf.Block place)
 

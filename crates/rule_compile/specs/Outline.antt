@@ -39,7 +39,7 @@ ComeInTurn other (part ∷ parts) r v =
 -- The questions of a call are asked in parts, behind which is the default verdict. The rules of a part that a record of the
 -- call meets have one verdict, and the parts come to what the profile says.
 pub record AreAsked (policy : Policy) (blocks : List Block) (call : Call) (parts : List Part) : Type 0 where
-  pub stand : StandInTurn blocks (leaf.Word policy.default_word) parts call.leaf
+  pub stand : StandInTurn blocks (leaf.Verdict policy.default_word) parts call.leaf
   pub clear : (r : List ℕ) → IsOfCall call r → All (λ part. IsClearAt part.rules.items r) parts
   pub come : (r : List ℕ) → IsOfCall call r → ComeInTurn (λ w. w ≡ policy.default_word) parts r (said policy r)
 

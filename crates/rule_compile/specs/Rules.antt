@@ -21,9 +21,9 @@ rules_of [] = []
 rules_of (o ∷ os) = put_first (begins_here os) o (rules_of os)
 
 -- the verdict of a rule
-abbrev pub word_of : List Open → ℕ
-word_of [] = 0
-word_of (o ∷ os) = o.answer
+abbrev pub answer_of : List Open → ℕ
+answer_of [] = 0
+answer_of (o ∷ os) = o.answer
 
 -- the record meets each question of the rule
 abbrev pub IsRuleMet : List ℕ → List Open → Type 0
@@ -31,7 +31,7 @@ IsRuleMet r rule = All (λ o. IsMet o.question r) rule
 
 -- the record meets a rule with this verdict
 abbrev pub SomeMet : List Open → List ℕ → ℕ → Type 0
-SomeMet os r w = Any (λ rule. IsRuleMet r rule × (word_of rule ≡ w)) (rules_of os)
+SomeMet os r w = Any (λ rule. IsRuleMet r rule × (answer_of rule ≡ w)) (rules_of os)
 
 -- the rules that the record meets have one verdict
 abbrev pub IsClearAt : List Open → List ℕ → Type 0

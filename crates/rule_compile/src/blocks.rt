@@ -176,7 +176,7 @@ impl Blocks {
         ensures room { self.old.room ≡ None → OnOk result (self.new.room ≡ None) }
     {
         match left(alloc, rules, subject, start)? {
-            Rest::Met(_, word) => Ok(Some(Leaf::Word(word))),
+            Rest::Met(_, word) => Ok(Some(Leaf::Verdict(word))),
             Rest::Open(open) => self.decide(alloc, &open, other, steps - 1),
         }
     }

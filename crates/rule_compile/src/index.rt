@@ -128,7 +128,7 @@ impl Index {
 /// A key of questions and of where to go on without them. Those that are alike have one key.
 pub(crate) fn key_of(rules: &[Open], other: &Leaf) -> u32 {
     let mut key = match other {
-        Leaf::Word(word) => word.0,
+        Leaf::Verdict(word) => word.0,
         Leaf::Block(block) => mixed(1, (*block % 0x1_0000_0000) as u32),
     };
     for open in rules {

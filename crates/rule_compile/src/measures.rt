@@ -12,11 +12,11 @@ const RANGES: usize = 6;
 
 /// Whether each rule has the verdict of what is gone on at without them.
 pub(crate) fn all_have(rules: &[Open], other: &Leaf) -> bool
-    ensures { IsTrue result → All (λ o. other.now ≡ Leaf.Word o.answer) rules.now }
+    ensures { IsTrue result → All (λ o. other.now ≡ Leaf.Verdict o.answer) rules.now }
 {
     rules
         .iter()
-        .all(|open| other.is_like(&Leaf::Word(open.answer)))
+        .all(|open| other.is_like(&Leaf::Verdict(open.answer)))
 }
 
 /// How much is left to ask.

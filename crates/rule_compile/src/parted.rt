@@ -34,12 +34,12 @@ impl Blocks {
     {
         match questions_of(alloc, rules, default)? {
             Rest::Met(rule, word) => {
-                let leaf = Leaf::Word(word);
+                let leaf = Leaf::Verdict(word);
                 self.add_call(token, number, &leaf, Asked::Nothing(rule))?;
                 Ok(leaf)
             }
             Rest::Open(open) => {
-                let (leaf, parts) = self.asked(alloc, &open, &Leaf::Word(default))?;
+                let (leaf, parts) = self.asked(alloc, &open, &Leaf::Verdict(default))?;
                 self.add_call(token, number, &leaf, Asked::InParts(parts))?;
                 Ok(leaf)
             }

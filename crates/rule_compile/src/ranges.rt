@@ -4,7 +4,7 @@ ghost use Rattle.std.specs.Prelude.{ℕ};
 ghost use Rattle.call_tables.specs.Arch.{token_of};
 ghost use Rattle.profile.specs.Policy.{IsClear};
 ghost use Rattle.rule_compile.specs.Shape.{IsPlain};
-ghost use Rattle.rule_compile.specs.inner.Numbers.{AreOwn, AreUnconditional, IsExtended, IsFor, IsLastAlike, IsListed, IsNext, IsWorded, LeafFor, Reached, Tiles, said_of};
+ghost use Rattle.rule_compile.specs.inner.Numbers.{AreOwn, AreUnconditional, IsExtended, IsFor, IsLastAlike, IsListed, IsNext, HasVerdict, LeafFor, Reached, Tiles, said_of};
 ghost use Rattle.rule_compile.specs.inner.Noted.{AreCalls, NotesNumber};
 ghost use Rattle.rule_compile.specs.inner.Ranges.{IsLike};
 ghost use Rattle.rule_compile.specs.inner.Runs.{AreBefore, IsBefore};
@@ -23,7 +23,7 @@ use std::alloc::{AllocError, Global};
 #[derive(Clone, Copy, PartialEq, Eq)]
 pub enum Leaf {
     /// It gets this verdict.
-    Word(Word),
+    Verdict(Word),
     /// The block at this place decides, by the arguments.
     Block(usize),
 }
@@ -33,15 +33,15 @@ impl Leaf {
     // rule for it has no conditions, the others that match have its verdict, since no record matches two
     // rules with unlike verdicts.
     fn of(rules: &[Rule], token: u32, number: u32, default: Word) -> Option<Leaf>
-        ensures told { IfSome result (λ leaf. (word : ℕ) × (leaf ≡ Leaf.Word word) × SaysNumber rules.now token number default word) }
+        ensures told { IfSome result (λ leaf. (word : ℕ) × (leaf ≡ Leaf.Verdict word) × SaysNumber rules.now token number default word) }
         ensures some { AreUnconditional rules.now → IsSome result }
-        ensures word { AreUnconditional rules.now → IfSome result (LeafFor rules.now token number default) }
+        ensures verdict { AreUnconditional rules.now → IfSome result (LeafFor rules.now token number default) }
     {
         let mut conditions = false;
         for rule in rules {
             if is_for(rule, token, number) {
                 if rule.conds.is_empty() {
-                    return Some(Leaf::Word(rule.word));
+                    return Some(Leaf::Verdict(rule.word));
                 }
                 if rule.word != default {
                     conditions = true;
@@ -51,15 +51,15 @@ impl Leaf {
         if conditions {
             return None;
         }
-        Some(Leaf::Word(default))
+        Some(Leaf::Verdict(default))
     }
 
     // Whether each call gets the verdict.
-    fn is_word(&self, word: Word) -> bool
-        ensures { IsTrue result ↔ (self.now ≡ Leaf.Word word) }
+    fn is_verdict(&self, word: Word) -> bool
+        ensures { IsTrue result ↔ (self.now ≡ Leaf.Verdict word) }
     {
         match self {
-            Leaf::Word(own) => *own == word,
+            Leaf::Verdict(own) => *own == word,
             Leaf::Block(_) => false,
         }
     }
@@ -69,7 +69,7 @@ impl Leaf {
         ensures { IsTrue result ↔ (self.now ≡ Leaf.Block block) }
     {
         match self {
-            Leaf::Word(_) => false,
+            Leaf::Verdict(_) => false,
             Leaf::Block(own) => *own == block,
         }
     }
@@ -79,7 +79,7 @@ impl Leaf {
         ensures { IsTrue result ↔ (self.now ≡ other.now) }
     {
         match other {
-            Leaf::Word(word) => self.is_word(*word),
+            Leaf::Verdict(word) => self.is_verdict(*word),
             Leaf::Block(block) => self.is_block(*block),
         }
     }
@@ -255,7 +255,7 @@ impl Ranges {
         let default = profile.default_word();
         let rules = profile.rules();
         let next = next_number(rules, token, self.end, end);
-        self.extend(next, Leaf::Word(default))?;
+        self.extend(next, Leaf::Verdict(default))?;
         if next == end {
             return Ok(());
         }
@@ -281,7 +281,7 @@ fn leaf_of(
     ensures before { IfOk result (IsBefore (vec_len blocks.new.blocks)) }
     ensures decides { IfOk result (DecidesNumber rules.now token number default blocks.new.blocks.items) }
     ensures no_block { AreUnconditional rules.now → OnOk result (blocks.new ≡ blocks.old) }
-    ensures word { AreUnconditional rules.now → IfOk result (LeafFor rules.now token number default) }
+    ensures verdict { AreUnconditional rules.now → IfOk result (LeafFor rules.now token number default) }
     ensures notes { OnOk result (NotesNumber blocks.old blocks.new rules.now token number default) }
 {
     match Leaf::of(rules, token, number, default) {
@@ -330,12 +330,15 @@ pub(crate) fn ranges_of(
     ensures tiled { IfOk result (λ ranges. Tiles 0 ranges.items (2 ^ 32)) }
     ensures some { IfOk result (λ ranges. 1 ≤ length ranges.items) }
     ensures few { IsPlain profile.now → IfOk result (λ ranges. length ranges.items ≤ 515) }
-    ensures worded { IsPlain profile.now → IsListed profile.now machine → IfOk result (λ ranges. All (IsWorded (said_of profile.now (token_of machine))) ranges.items) }
+    ensures has_verdicts { IsPlain profile.now → IsListed profile.now machine → IfOk result (λ ranges. All (HasVerdict (said_of profile.now (token_of machine))) ranges.items) }
 {
     let mut ranges = Ranges::new(alloc);
     for foreign in foreign_numbers(profile.machines(), machine) {
         ranges.add_own(alloc, profile, machine, u64::from(foreign.first), blocks)?;
-        ranges.extend(u64::from(foreign.last) + 1, Leaf::Word(Word::KILL_THREAD))?;
+        ranges.extend(
+            u64::from(foreign.last) + 1,
+            Leaf::Verdict(Word::KILL_THREAD),
+        )?;
     }
     ranges.add_own(alloc, profile, machine, NUMBERS, blocks)?;
     Ok(ranges.ranges)

@@ -14,7 +14,7 @@ pub(crate) struct Written {
 /// How many instructions there are at most before the return of what decides.
 pub(crate) fn height_of(written: &[Written], leaf: Leaf) -> usize {
     match leaf {
-        Leaf::Word(_) => 0,
+        Leaf::Verdict(_) => 0,
         Leaf::Block(block) => written.get(block).map_or(0, |block| block.height),
     }
 }

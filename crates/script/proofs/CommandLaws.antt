@@ -17,30 +17,30 @@ use Rattle.script.proofs.WhatLaws.{what_at-is, what_at-some}
 use Rattle.script.proofs.ArgumentLaws.{Given, arguments_at-is, arguments_at-some, length-given-le, length-program-le, program-stops}
 use Rattle.script.proofs.ArgumentLaws.{program_at-is, program_at-some}
 
-same_word : (word text : List ℕ) (more : List (List ℕ)) → bytes_eq word text ≡ true → word ∷ more ≡ text ∷ more
-same_word word text more h = ap (λ w. w ∷ more) ((bytes_eq-Decides word text).0 h)
+same_verb : (verb text : List ℕ) (more : List (List ℕ)) → bytes_eq verb text ≡ true → verb ∷ more ≡ text ∷ more
+same_verb verb text more h = ap (λ w. w ∷ more) ((bytes_eq-Decides verb text).0 h)
 
 -- Two fields.
 
 -- a command that a field chooses, or what else there is
-chosen_word : (native : Arch) (word text : List ℕ) (more : List (List ℕ)) (command o : Command) (rest : Option Command)
-    → (word ∷ more ≡ text ∷ more → AreFieldsOf native (word ∷ more) command) → (rest ≡ Some o → AreFieldsOf native (word ∷ more) o)
-    → cond (bytes_eq word text) (Some command) rest ≡ Some o → AreFieldsOf native (word ∷ more) o
-chosen_word native word text more command o rest here there h =
-    by_side (chosen (bytes_eq word text) (Some command) rest o h) where
-      by_side : ((bytes_eq word text ≡ true) × (Some command ≡ Some o)) ⊎ ((bytes_eq word text ≡ false) × (rest ≡ Some o))
-          → AreFieldsOf native (word ∷ more) o
+chosen_verb : (native : Arch) (verb text : List ℕ) (more : List (List ℕ)) (command o : Command) (rest : Option Command)
+    → (verb ∷ more ≡ text ∷ more → AreFieldsOf native (verb ∷ more) command) → (rest ≡ Some o → AreFieldsOf native (verb ∷ more) o)
+    → cond (bytes_eq verb text) (Some command) rest ≡ Some o → AreFieldsOf native (verb ∷ more) o
+chosen_verb native verb text more command o rest here there h =
+    by_side (chosen (bytes_eq verb text) (Some command) rest o h) where
+      by_side : ((bytes_eq verb text ≡ true) × (Some command ≡ Some o)) ⊎ ((bytes_eq verb text ≡ false) × (rest ≡ Some o))
+          → AreFieldsOf native (verb ∷ more) o
       by_side (inl g) =
-          let P : Command → Type 0 = λ x. AreFieldsOf native (word ∷ more) x in
-          subst P (same_Some command o g.1) (here (same_word word text more g.0))
+          let P : Command → Type 0 = λ x. AreFieldsOf native (verb ∷ more) x in
+          subst P (same_Some command o g.1) (here (same_verb verb text more g.0))
       by_side (inr g) = there g.1
 
-two-some : (native : Arch) (word id : List ℕ) (o : Command) → command_of_two word id ≡ Some o → AreFieldsOf native (word ∷ id ∷ []) o
+two-some : (native : Arch) (verb id : List ℕ) (o : Command) → command_of_two verb id ≡ Some o → AreFieldsOf native (verb ∷ id ∷ []) o
 unfolding command_of_two
-two-some native word id o h =
-    chosen_word native word (codes "start") (id ∷ []) (Start id) o _ (λ e. e)
-    (λ g. chosen_word native word (codes "delete") (id ∷ []) (Delete id) o _ (λ e. e)
-    (λ k. chosen_word native word (codes "state") (id ∷ []) (State id) o None (λ e. e) (λ n. absurd (cc)) k) g) h
+two-some native verb id o h =
+    chosen_verb native verb (codes "start") (id ∷ []) (Start id) o _ (λ e. e)
+    (λ g. chosen_verb native verb (codes "delete") (id ∷ []) (Delete id) o _ (λ e. e)
+    (λ k. chosen_verb native verb (codes "state") (id ∷ []) (State id) o None (λ e. e) (λ n. absurd (cc)) k) g) h
 
 start-read : (id : List ℕ) → command_of_two (codes "start") id ≡ Some (Start id)
 unfolding command_of_two
@@ -56,20 +56,20 @@ state-read id = refl
 
 -- Three fields.
 
-kill-some : (native : Arch) (word id last : List ℕ) (o : Command)
-    → cond {A = Option Command} (bytes_eq word (codes "kill")) (option_map (Kill id) (number_at last)) None ≡ Some o
-    → AreFieldsOf native (word ∷ id ∷ last ∷ []) o
-kill-some native word id last o h =
-    let t = tested (bytes_eq word (codes "kill")) (option_map (Kill id) (number_at last)) o h in
+kill-some : (native : Arch) (verb id last : List ℕ) (o : Command)
+    → cond {A = Option Command} (bytes_eq verb (codes "kill")) (option_map (Kill id) (number_at last)) None ≡ Some o
+    → AreFieldsOf native (verb ∷ id ∷ last ∷ []) o
+kill-some native verb id last o h =
+    let t = tested (bytes_eq verb (codes "kill")) (option_map (Kill id) (number_at last)) o h in
     let m = map_some (number_at last) (Kill id) o t.1 in
-    let P : Command → Type 0 = λ x. AreFieldsOf native (word ∷ id ∷ last ∷ []) x in
-    subst P m.2 (last, same_word word (codes "kill") (id ∷ last ∷ []) t.0, number_at-some last m.0 m.1)
+    let P : Command → Type 0 = λ x. AreFieldsOf native (verb ∷ id ∷ last ∷ []) x in
+    subst P m.2 (last, same_verb verb (codes "kill") (id ∷ last ∷ []) t.0, number_at-some last m.0 m.1)
 
-three-some : (native : Arch) (word id last : List ℕ) (o : Command) → command_of_three word id last ≡ Some o
-    → AreFieldsOf native (word ∷ id ∷ last ∷ []) o
+three-some : (native : Arch) (verb id last : List ℕ) (o : Command) → command_of_three verb id last ≡ Some o
+    → AreFieldsOf native (verb ∷ id ∷ last ∷ []) o
 unfolding command_of_three
-three-some native word id last o h =
-    chosen_word native word (codes "create") (id ∷ last ∷ []) (Create id last) o _ (λ e. e) (kill-some native word id last o) h
+three-some native verb id last o h =
+    chosen_verb native verb (codes "create") (id ∷ last ∷ []) (Create id last) o _ (λ e. e) (kill-some native verb id last o) h
 
 create-read : (id bundle : List ℕ) → command_of_three (codes "create") id bundle ≡ Some (Create id bundle)
 unfolding command_of_three
@@ -137,13 +137,13 @@ call-is native id fields task arch nr args program c =
     (arguments_at-is rest c.end args (program-stops c.end program c.program_is) c.six given)
     ∙ ap (option_and_then (λ p. with_program id task (arch, nr) (args, c.end) p)) (program_at-is c.end program c.program_is)
 
-more-some : (native : Arch) (word id task what : List ℕ) (rest : List (List ℕ)) (o : Command)
-    → command_of_more native word id task what rest ≡ Some o → AreFieldsOf native (word ∷ id ∷ task ∷ what ∷ rest) o
+more-some : (native : Arch) (verb id task what : List ℕ) (rest : List (List ℕ)) (o : Command)
+    → command_of_more native verb id task what rest ≡ Some o → AreFieldsOf native (verb ∷ id ∷ task ∷ what ∷ rest) o
 unfolding command_of_more
-more-some native word id task what rest o h =
-    let t = tested (bytes_eq word (codes "call")) (call_at native id task what rest) o h in
+more-some native verb id task what rest o h =
+    let t = tested (bytes_eq verb (codes "call")) (call_at native id task what rest) o h in
     let P : List (List ℕ) → Type 0 = λ x. AreFieldsOf native x o in
-    subst P (sym (same_word word (codes "call") (id ∷ task ∷ what ∷ rest) t.0)) (call-some native id task what rest o t.1)
+    subst P (sym (same_verb verb (codes "call") (id ∷ task ∷ what ∷ rest) t.0)) (call-some native id task what rest o t.1)
 
 call-read : (native : Arch) (id task what : List ℕ) (rest : List (List ℕ))
     → command_of_more native (codes "call") id task what rest ≡ call_at native id task what rest
@@ -154,10 +154,10 @@ call-read native id task what rest = refl
 
 pub command_from-some : (native : Arch) (fields : List (List ℕ)) (o : Command) → command_from native fields ≡ Some o → AreFieldsOf native fields o
 command_from-some native [] o h = absurd (cc)
-command_from-some native (word ∷ []) o h = absurd (cc)
-command_from-some native (word ∷ id ∷ []) o h = two-some native word id o h
-command_from-some native (word ∷ id ∷ last ∷ []) o h = three-some native word id last o h
-command_from-some native (word ∷ id ∷ task ∷ what ∷ rest) o h = more-some native word id task what rest o h
+command_from-some native (verb ∷ []) o h = absurd (cc)
+command_from-some native (verb ∷ id ∷ []) o h = two-some native verb id o h
+command_from-some native (verb ∷ id ∷ last ∷ []) o h = three-some native verb id last o h
+command_from-some native (verb ∷ id ∷ task ∷ what ∷ rest) o h = more-some native verb id task what rest o h
 
 pub command_from-is : (native : Arch) (fields : List (List ℕ)) (o : Command) → AreFieldsOf native fields o → command_from native fields ≡ Some o
 command_from-is native fields (Create id bundle) h = ap (command_from native) h ∙ create-read id bundle

@@ -9,7 +9,7 @@ use Rattle.texts.proofs.Splits.{behind_sound}
 use Rattle.texts.proofs.NumberLaws.{decimal_at-is, decimal_at-some, hexadecimal_at-is, hexadecimal_at-some, sized, unsized}
 use Rattle.texts.proofs.Options.{bind_some}
 use Rattle.script.specs.Numbers.{IsNumber}
-use Rattle.script.specs.inner.Reading.{marked_number, number_at, word_at}
+use Rattle.script.specs.inner.Reading.{marked_number, number_at, number32_at}
 
 pub number_at-some : (text : List ℕ) (n : ℕ) → number_at text ≡ Some n → IsNumber text n
 unfolding number_at
@@ -37,13 +37,13 @@ unfolding number_at
 number_at-is text n (small, inl w) = ap (λ o. marked_number o text) (no_mark text n w) ∙ decimal_at-is text n small w
 number_at-is text n (small, inr w) = ap number_at w.marked ∙ hexadecimal_at-is w.ds n small w.written
 
-pub word_at-some : (text : List ℕ) (n : ℕ) → word_at text ≡ Some n → IsNumber text n × (n < 2 ^ 32)
-unfolding word_at
-word_at-some text n h =
+pub number32_at-some : (text : List ℕ) (n : ℕ) → number32_at text ≡ Some n → IsNumber text n × (n < 2 ^ 32)
+unfolding number32_at
+number32_at-some text n h =
     let b = bind_some (number_at text) (λ m. cond (nat_lt m (2 ^ 32)) (Some m) None) n h in
     let s = sized (2 ^ 32) b.0 n b.2 in
     (number_at-some text n (b.1 ∙ ap Some s.0), s.1)
 
-pub word_at-is : (text : List ℕ) (n : ℕ) → IsNumber text n → n < 2 ^ 32 → word_at text ≡ Some n
-unfolding word_at
-word_at-is text n is small = rw (number_at-is text n is) (unsized (2 ^ 32) n n refl small)
+pub number32_at-is : (text : List ℕ) (n : ℕ) → IsNumber text n → n < 2 ^ 32 → number32_at text ≡ Some n
+unfolding number32_at
+number32_at-is text n is small = rw (number_at-is text n is) (unsized (2 ^ 32) n n refl small)

@@ -13,14 +13,14 @@ use Rattle.call_tables.specs.declared.arch.Family.{Family}
 use Rattle.call_tables.specs.declared.arch.Family.TheVariants.{Chosen, Whole}
 use Rattle.call_tables.specs.Machines.{first_rows, second_rows, third_rows, fourth_rows, x86_64_table, aarch64_table}
 use Rattle.call_tables.specs.Machines.{linux_x86_64_table, linux_x86_table, linux_x32_table, linux_aarch64_table, linux_arm_table}
-use Rattle.call_tables.specs.Arch.{table_of, word_of, family_of, same_family, machine_called, native_called}
+use Rattle.call_tables.specs.Arch.{table_of, machine_name, family_of, same_family, machine_called, native_called}
 use Rattle.call_tables.specs.Table.{Table, number_in}
 use Rattle.texts.specs.Splits.{split_at}
 use Rattle.texts.proofs.Options.{bind_some, chosen, map_some, tested}
 use Rattle.texts.proofs.Splits.{split_at_sound}
 use Rattle.script.specs.Grammar.{IsForeign, IsWhat, colon, lacks}
-use Rattle.script.specs.inner.Reading.{called, foreign_at, native_or, numbered, what_at, word_at}
-use Rattle.script.proofs.NumberLaws.{word_at-is, word_at-some}
+use Rattle.script.specs.inner.Reading.{called, foreign_at, native_or, numbered, what_at, number32_at}
+use Rattle.script.proofs.NumberLaws.{number32_at-is, number32_at-some}
 
 -- No call's name has a colon.
 
@@ -74,7 +74,7 @@ table-plain LinuxX32 = linux_x32-plain
 table-plain LinuxAarch64 = linux_aarch64-plain
 table-plain LinuxArm = linux_arm-plain
 
-foreign_is_not_plain : (arch : Arch) (ds : List ℕ) → lacks colon (word_of arch ++ colon ∷ ds) ≡ true → ⊥
+foreign_is_not_plain : (arch : Arch) (ds : List ℕ) → lacks colon (machine_name arch ++ colon ∷ ds) ≡ true → ⊥
 foreign_is_not_plain X86_64 ds h = cc
 foreign_is_not_plain Aarch64 ds h = cc
 foreign_is_not_plain LinuxX86_64 ds h = cc
@@ -94,34 +94,34 @@ unnamed native arch text nr f = by_name (number_in (table_of native) text) refl 
 -- A machine and a number.
 
 foreign-some : (family : Family) (arch : Arch) (text ds : List ℕ) (p : Arch × ℕ) → family_of arch ≡ family
-    → text ≡ word_of arch ++ colon ∷ ds
-    → option_map (λ (nr : ℕ). (arch, nr)) (word_at ds) ≡ Some p → IsForeign family text p.0 p.1
+    → text ≡ machine_name arch ++ colon ∷ ds
+    → option_map (λ (nr : ℕ). (arch, nr)) (number32_at ds) ≡ Some p → IsForeign family text p.0 p.1
 foreign-some family arch text ds p of spelled h =
-    let m = map_some (word_at ds) (λ (nr : ℕ). (arch, nr)) p h in
-    let w = word_at-some ds m.0 m.1 in
+    let m = map_some (number32_at ds) (λ (nr : ℕ). (arch, nr)) p h in
+    let w = number32_at-some ds m.0 m.1 in
     let P : Arch × ℕ → Type 0 = λ q. IsForeign family text q.0 q.1 in
     subst P m.2 (record { digits = ds; of_family = of; spelled = spelled; number = w.0; small = w.1 })
 
 -- a machine that a name calls, and that another name calls else
-called_some : (own arch : Arch) (word : List ℕ) (rest : Option Arch) → (rest ≡ Some arch → word ≡ word_of arch)
-    → cond (bytes_eq word (word_of own)) (Some own) rest ≡ Some arch → word ≡ word_of arch
-called_some own arch word rest more h = by_side (chosen (bytes_eq word (word_of own)) (Some own) rest arch h) where
-  by_side : ((bytes_eq word (word_of own) ≡ true) × (Some own ≡ Some arch)) ⊎ ((bytes_eq word (word_of own) ≡ false) × (rest ≡ Some arch))
-      → word ≡ word_of arch
-  by_side (inl g) = (bytes_eq-Decides word (word_of own)).0 g.0 ∙ ap word_of (same_Some own arch g.1)
+called_some : (own arch : Arch) (name : List ℕ) (rest : Option Arch) → (rest ≡ Some arch → name ≡ machine_name arch)
+    → cond (bytes_eq name (machine_name own)) (Some own) rest ≡ Some arch → name ≡ machine_name arch
+called_some own arch name rest more h = by_side (chosen (bytes_eq name (machine_name own)) (Some own) rest arch h) where
+  by_side : ((bytes_eq name (machine_name own) ≡ true) × (Some own ≡ Some arch)) ⊎ ((bytes_eq name (machine_name own) ≡ false) × (rest ≡ Some arch))
+      → name ≡ machine_name arch
+  by_side (inl g) = (bytes_eq-Decides name (machine_name own)).0 g.0 ∙ ap machine_name (same_Some own arch g.1)
   by_side (inr g) = more g.1
 
-native_called-some : (word : List ℕ) (arch : Arch) → native_called word ≡ Some arch → word ≡ word_of arch
+native_called-some : (name : List ℕ) (arch : Arch) → native_called name ≡ Some arch → name ≡ machine_name arch
 unfolding native_called
-native_called-some word arch h =
-    called_some X86_64 arch word _ (called_some Aarch64 arch word _ (called_some LinuxX86_64 arch word _
-    (called_some LinuxAarch64 arch word None (λ e. absurd (cc))))) h
+native_called-some name arch h =
+    called_some X86_64 arch name _ (called_some Aarch64 arch name _ (called_some LinuxX86_64 arch name _
+    (called_some LinuxAarch64 arch name None (λ e. absurd (cc))))) h
 
-machine_called-some : (word : List ℕ) (arch : Arch) → machine_called word ≡ Some arch → word ≡ word_of arch
+machine_called-some : (name : List ℕ) (arch : Arch) → machine_called name ≡ Some arch → name ≡ machine_name arch
 unfolding machine_called
-machine_called-some word arch h =
-    called_some LinuxX86 arch word _ (called_some LinuxX32 arch word _ (called_some LinuxArm arch word (native_called word)
-    (native_called-some word arch))) h
+machine_called-some name arch h =
+    called_some LinuxX86 arch name _ (called_some LinuxX32 arch name _ (called_some LinuxArm arch name (native_called name)
+    (native_called-some name arch))) h
 
 same_family-is : (family other : Family) → same_family family other ≡ true → family ≡ other
 same_family-is Chosen Chosen h = refl
@@ -134,14 +134,14 @@ unfolding foreign_at
 foreign_at-some family text p h =
     let cut = bind_some (split_at colon text) (called family) p h in
     let found = bind_some (machine_called cut.0.0) (numbered family cut.0.1) p cut.2 in
-    let own = tested (same_family (family_of found.0) family) (option_map (λ (nr : ℕ). (found.0, nr)) (word_at cut.0.1)) p found.2 in
-    let word : cut.0.0 ≡ word_of found.0 = machine_called-some cut.0.0 found.0 found.1 in
-    let spelled : text ≡ word_of found.0 ++ colon ∷ cut.0.1 =
-    (split_at_sound colon text cut.0 cut.1).0 ∙ ap (λ w. w ++ colon ∷ cut.0.1) word in
+    let own = tested (same_family (family_of found.0) family) (option_map (λ (nr : ℕ). (found.0, nr)) (number32_at cut.0.1)) p found.2 in
+    let name : cut.0.0 ≡ machine_name found.0 = machine_called-some cut.0.0 found.0 found.1 in
+    let spelled : text ≡ machine_name found.0 ++ colon ∷ cut.0.1 =
+    (split_at_sound colon text cut.0 cut.1).0 ∙ ap (λ w. w ++ colon ∷ cut.0.1) name in
     foreign-some family found.0 text cut.0.1 p (same_family-is (family_of found.0) family own.0) spelled own.1
 
 foreign_at-spelled : (arch : Arch) (ds : List ℕ)
-    → foreign_at (family_of arch) (word_of arch ++ colon ∷ ds) ≡ option_map (λ (nr : ℕ). (arch, nr)) (word_at ds)
+    → foreign_at (family_of arch) (machine_name arch ++ colon ∷ ds) ≡ option_map (λ (nr : ℕ). (arch, nr)) (number32_at ds)
 unfolding foreign_at machine_called native_called
 foreign_at-spelled X86_64 ds = refl
 foreign_at-spelled Aarch64 ds = refl
@@ -155,7 +155,7 @@ foreign_at-is : (family : Family) (text : List ℕ) (arch : Arch) (nr : ℕ) →
     → foreign_at family text ≡ Some (arch, nr)
 foreign_at-is family text arch nr f =
     ap (λ g. foreign_at g text) (sym f.of_family) ∙ ap (foreign_at (family_of arch)) f.spelled ∙ foreign_at-spelled arch f.digits
-    ∙ ap (option_map (λ (n : ℕ). (arch, n))) (word_at-is f.digits nr f.number f.small)
+    ∙ ap (option_map (λ (n : ℕ). (arch, n))) (number32_at-is f.digits nr f.number f.small)
 
 -- A native name, or a machine and a number.
 

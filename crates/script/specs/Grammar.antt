@@ -5,7 +5,7 @@ use Rattle.std.specs.List.{join_with_byte, list_all}
 use Rattle.texts.specs.Lines.{space}
 use Rattle.call_tables.specs.declared.arch.Arch.{Arch}
 use Rattle.call_tables.specs.declared.arch.Family.{Family}
-use Rattle.call_tables.specs.Arch.{table_of, word_of, family_of}
+use Rattle.call_tables.specs.Arch.{table_of, machine_name, family_of}
 use Rattle.call_tables.specs.Table.{number_in}
 use Rattle.script.specs.Commands.{Command, Create, Start, Delete, State, Kill, Call}
 use Rattle.script.specs.Numbers.{IsNumber, AreBytes}
@@ -29,7 +29,7 @@ is_field text = not (length text == 0) && lacks space text
 pub record IsForeign (family : Family) (text : List ℕ) (arch : Arch) (nr : ℕ) : Type 0 where
   pub digits : List ℕ
   pub of_family : family_of arch ≡ family
-  pub spelled : text ≡ word_of arch ++ colon ∷ digits
+  pub spelled : text ≡ machine_name arch ++ colon ∷ digits
   pub number : IsNumber digits nr
   pub small : nr < 2 ^ 32
 

@@ -1,6 +1,6 @@
 //! Numbers of a script.
 ghost use Rattle.std.specs.Prelude.{◌≡◌};
-ghost use Rattle.script.specs.inner.Reading.{number_at, word_at};
+ghost use Rattle.script.specs.inner.Reading.{number_at, number32_at};
 
 use texts::{decimal, hexadecimal};
 
@@ -16,9 +16,9 @@ pub(crate) fn number(text: &str) -> Option<u64>
 }
 
 /// The number that a text is, if 32 bits hold it.
-#[tactic(auto, unfolding(crate::specs::inner::Reading::word_at))]
-pub(crate) fn word(text: &str) -> Option<u32>
-    ensures { result ≡ word_at text.now }
+#[tactic(auto, unfolding(crate::specs::inner::Reading::number32_at))]
+pub(crate) fn number32(text: &str) -> Option<u32>
+    ensures { result ≡ number32_at text.now }
 {
     u32::try_from(number(text)?).ok()
 }

@@ -93,16 +93,16 @@ fn call<'a>(
 
 // What two fields ask for.
 #[tactic(auto, unfolding(crate::specs::inner::Reading::command_of_two))]
-fn of_two<'a>(word: &str, id: &'a str) -> Option<Request<'a>>
-    ensures { option_map command_of result ≡ command_of_two word.now id.now }
+fn of_two<'a>(verb: &str, id: &'a str) -> Option<Request<'a>>
+    ensures { option_map command_of result ≡ command_of_two verb.now id.now }
 {
-    if word == "start" {
+    if verb == "start" {
         return Some(Request::Start { id });
     }
-    if word == "delete" {
+    if verb == "delete" {
         return Some(Request::Delete { id });
     }
-    if word == "state" {
+    if verb == "state" {
         return Some(Request::State { id });
     }
     None
@@ -110,13 +110,13 @@ fn of_two<'a>(word: &str, id: &'a str) -> Option<Request<'a>>
 
 // What three fields ask for.
 #[tactic(auto, unfolding(crate::specs::inner::Reading::command_of_three))]
-fn of_three<'a>(word: &str, id: &'a str, last: &'a str) -> Option<Request<'a>>
-    ensures { option_map command_of result ≡ command_of_three word.now id.now last.now }
+fn of_three<'a>(verb: &str, id: &'a str, last: &'a str) -> Option<Request<'a>>
+    ensures { option_map command_of result ≡ command_of_three verb.now id.now last.now }
 {
-    if word == "create" {
+    if verb == "create" {
         return Some(Request::Create { id, bundle: last });
     }
-    if word == "kill" {
+    if verb == "kill" {
         let signal = number(last)?;
         return Some(Request::Kill { id, signal });
     }
@@ -127,15 +127,15 @@ fn of_three<'a>(word: &str, id: &'a str, last: &'a str) -> Option<Request<'a>>
 #[tactic(auto, unfolding(crate::specs::inner::Reading::command_of_more))]
 fn of_more<'a>(
     native: Arch,
-    word: &str,
+    verb: &str,
     id: &'a str,
     task: &str,
     what: &str,
     rest: &[&'a str],
 ) -> Option<Request<'a>>
-    ensures { option_map command_of result ≡ command_of_more native word.now id.now task.now what.now (map (λ f. f.now) rest.now) }
+    ensures { option_map command_of result ≡ command_of_more native verb.now id.now task.now what.now (map (λ f. f.now) rest.now) }
 {
-    if word == "call" {
+    if verb == "call" {
         return call(native, id, task, what, rest);
     }
     None
@@ -148,9 +148,9 @@ fn request<'a>(native: Arch, fields: &[&'a str]) -> Option<Request<'a>>
     match fields {
         [] => None,
         [_] => None,
-        [word, id] => of_two(word, id),
-        [word, id, last] => of_three(word, id, last),
-        [word, id, task, what, rest @ ..] => of_more(native, word, id, task, what, rest),
+        [verb, id] => of_two(verb, id),
+        [verb, id, last] => of_three(verb, id, last),
+        [verb, id, task, what, rest @ ..] => of_more(native, verb, id, task, what, rest),
     }
 }
 

@@ -3,7 +3,7 @@ ghost use Rattle.std.specs.Prelude.{◌≡◌};
 ghost use Rattle.call_tables.specs.Arch.{family_of, same_family};
 ghost use Rattle.script.specs.inner.Reading.{foreign_at, what_at};
 
-use crate::numbers::word;
+use crate::numbers::number32;
 use call_tables::{Arch, Family};
 use texts::split;
 
@@ -24,7 +24,7 @@ fn foreign(family: Family, text: &str) -> Option<(Arch, u32)>
     if !is_of(arch, family) {
         return None;
     }
-    Some((arch, word(digits)?))
+    Some((arch, number32(digits)?))
 }
 
 /// A native call by its name, or a call of a machine of the same family by its number.

@@ -4,7 +4,7 @@ use Rattle.std.specs.Fmt.{decimal}
 use Rattle.serde_json.specs.Data.{Data, string, object, no_members, member}
 use Rattle.serde_json.specs.Written.{compact_text}
 use Rattle.texts.specs.Lines.{line_feed}
-use Rattle.call_record.specs.Text as word
+use Rattle.call_record.specs.Text as verdict
 use Rattle.processes.specs.declared.outcome.Outcome.{Outcome}
 use Rattle.processes.specs.declared.outcome.Outcome.TheVariants.{Done, Failed, Absent, Denied, NoTask}
 use Rattle.lifecycle.specs.Fault as refusal
@@ -18,7 +18,7 @@ abbrev pub outcome_text : Outcome → List ℕ
 outcome_text (Done n) = codes "done " ++ decimal n
 outcome_text (Failed errno) = codes "failed " ++ decimal errno
 outcome_text Absent = codes "absent"
-outcome_text (Denied v) = codes "denied " ++ word.text_of v
+outcome_text (Denied v) = codes "denied " ++ verdict.text_of v
 outcome_text NoTask = codes "no task"
 
 -- the values of `status` (OCI Runtime Specification, Runtime and Lifecycle, State)

@@ -43,9 +43,9 @@ fn put_outcome(line: &mut Line, outcome: Outcome)
 }
 
 // Adds the verdict by which a start was refused.
-fn put_word(line: &mut Line, refused: &Refusal)
+fn put_verdict(line: &mut Line, refused: &Refusal)
     requires { array_vec_len line.old ≤ 48 }
-    ensures items { line.new.items ≡ line.old.items ++ refusal.word_of refused.now }
+    ensures items { line.new.items ≡ line.old.items ++ refusal.verdict_text refused.now }
     ensures len { array_vec_len line.new ≤ array_vec_len line.old + 11 }
 {
     if let Refusal::StartDenied(word) = refused {
@@ -62,7 +62,7 @@ fn put_refusal(line: &mut Line, refused: &Refusal)
 {
     let (number, name) = refused.label();
     put_label(line, number, name);
-    put_word(line, refused);
+    put_verdict(line, refused);
 }
 
 // The name of a status.

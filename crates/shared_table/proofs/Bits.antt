@@ -71,30 +71,30 @@ packed_bit test first (suc n) (suc b) h =
     let same : first + 1 + b ≡ first + suc b = omega arith in
     ap (λ k. k % 2) down ∙ packed_bit test (first + 1) n b (omega arith) ∙ ap (λ k. bit (test k)) same
 
--- the bit of a number in the word that it belongs to
-word_bit : (test : ℕ → Bool) (first b : ℕ) → b < 64 → (packed test first 64 / 2 ^ b % 2 == 1) ≡ test (first + b)
-word_bit test first b h = ap (λ k. k == 1) (packed_bit test first 64 b h) ∙ bit_tells (test (first + b))
+-- the bit of a number in the part that it belongs to
+part_bit : (test : ℕ → Bool) (first b : ℕ) → b < 64 → (packed test first 64 / 2 ^ b % 2 == 1) ≡ test (first + b)
+part_bit test first b h = ap (λ k. k == 1) (packed_bit test first 64 b h) ∙ bit_tells (test (first + b))
 
-abbrev pub words_of : (ℕ → Bool) → List ℕ
-words_of test =
+abbrev pub parts_of : (ℕ → Bool) → List ℕ
+parts_of test =
     packed test 0 64 ∷ packed test 64 64 ∷ packed test 128 64 ∷ packed test 192 64
     ∷ packed test 256 64 ∷ packed test 320 64 ∷ packed test 384 64 ∷ packed test 448 64 ∷ []
 
-in_word : (test : ℕ → Bool) (j b : ℕ) → j < 8 → b < 64 → (slice_index (words_of test) j / 2 ^ b % 2 == 1) ≡ test (64 * j + b)
-in_word test zero b h l = word_bit test 0 b l
-in_word test (suc zero) b h l = word_bit test 64 b l
-in_word test (suc (suc zero)) b h l = word_bit test 128 b l
-in_word test (suc (suc (suc zero))) b h l = word_bit test 192 b l
-in_word test (suc (suc (suc (suc zero)))) b h l = word_bit test 256 b l
-in_word test (suc (suc (suc (suc (suc zero))))) b h l = word_bit test 320 b l
-in_word test (suc (suc (suc (suc (suc (suc zero)))))) b h l = word_bit test 384 b l
-in_word test (suc (suc (suc (suc (suc (suc (suc zero))))))) b h l = word_bit test 448 b l
-in_word test (suc (suc (suc (suc (suc (suc (suc (suc j)))))))) b h l = absurd (omega arith)
+in_part : (test : ℕ → Bool) (j b : ℕ) → j < 8 → b < 64 → (slice_index (parts_of test) j / 2 ^ b % 2 == 1) ≡ test (64 * j + b)
+in_part test zero b h l = part_bit test 0 b l
+in_part test (suc zero) b h l = part_bit test 64 b l
+in_part test (suc (suc zero)) b h l = part_bit test 128 b l
+in_part test (suc (suc (suc zero))) b h l = part_bit test 192 b l
+in_part test (suc (suc (suc (suc zero)))) b h l = part_bit test 256 b l
+in_part test (suc (suc (suc (suc (suc zero))))) b h l = part_bit test 320 b l
+in_part test (suc (suc (suc (suc (suc (suc zero)))))) b h l = part_bit test 384 b l
+in_part test (suc (suc (suc (suc (suc (suc (suc zero))))))) b h l = part_bit test 448 b l
+in_part test (suc (suc (suc (suc (suc (suc (suc (suc j)))))))) b h l = absurd (omega arith)
 
--- the words hold just the numbers that pass
-pub holds : (test : ℕ → Bool) (nr : ℕ) → nr < 512 → is_in (words_of test) nr ≡ test nr
+-- the parts hold just the numbers that pass
+pub holds : (test : ℕ → Bool) (nr : ℕ) → nr < 512 → is_in (parts_of test) nr ≡ test nr
 holds test nr h =
     let j : nr / 64 < 8 = omega arith in
     let b : nr % 64 < 64 = omega arith in
     let whole : 64 * (nr / 64) + nr % 64 ≡ nr = omega arith in
-    in_word test (nr / 64) (nr % 64) j b ∙ ap test whole
+    in_part test (nr / 64) (nr % 64) j b ∙ ap test whole

@@ -1,3 +1,3 @@
 pub mod Bits
 pub mod Ways
-pub mod Words
+pub mod Verdicts

@@ -48,7 +48,7 @@ pub record IsKept (arch : ℕ) (way : Way) (n : Node) : Type 0 where
   pub depth : n.depth ≡ length way
   pub size : n.size ≡ size_beside (filters_on way)
   pub small : n.size ≤ 32772
-  pub allowed : (nr : ℕ) → nr < 512 → is_in n.allowed.words nr ≡ all_allow arch way nr
+  pub allowed : (nr : ℕ) → nr < 512 → is_in n.allowed.parts nr ≡ all_allow arch way nr
 
 -- a way is what is left of another further down, by their load numbers
 abbrev pub IsLeft : Way → Way → Type 0

@@ -28,8 +28,8 @@ impl Node {
     ghost use Rattle.processes.specs.Tasks.{program_judge};
 
     /// The verdict that the filter gives.
-    pub(crate) fn word(&self, rec: &Record) -> Word
-        ensures { result ≡ (program_judge self.now.program).word rec.now }
+    pub(crate) fn verdict(&self, rec: &Record) -> Word
+        ensures { result ≡ (program_judge self.now.program).verdict rec.now }
     {
         verdict(&self.program.as_accepted(), rec)
     }

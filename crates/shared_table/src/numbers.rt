@@ -10,34 +10,34 @@ use kernel_check::Accepted;
 /// A set of numbers below 512, a bit for each.
 #[derive(Clone, Copy)]
 pub(crate) struct Numbers {
-    words: [u64; 8],
+    parts: [u64; 8],
 }
 
 impl Numbers {
     /// Whether a number is in the set.
     pub(crate) fn has(&self, nr: u32) -> bool
         requires { nr < 512 }
-        ensures { result ≡ is_in self.now.words nr }
+        ensures { result ≡ is_in self.now.parts nr }
     {
-        (self.words[(nr / 64) as usize] >> (nr % 64)) % 2 == 1
+        (self.parts[(nr / 64) as usize] >> (nr % 64)) % 2 == 1
     }
 
     /// The numbers that a filter allows on a machine, whatever else the record holds, of those that
     /// all below it allow.
     pub(crate) fn allowed(program: &Accepted<'_>, arch: u32, below: Option<Numbers>) -> Numbers
-        ensures { (nr : ℕ) → nr < 512 → is_in result.words nr
+        ensures { (nr : ℕ) → nr < 512 → is_in result.parts nr
             ≡ (is_fixed_allow (accepted_insns program.now) arch nr && is_in_all below nr) }
     {
         Numbers {
-            words: [
-                word_from(program, arch, below, 0),
-                word_from(program, arch, below, 64),
-                word_from(program, arch, below, 128),
-                word_from(program, arch, below, 192),
-                word_from(program, arch, below, 256),
-                word_from(program, arch, below, 320),
-                word_from(program, arch, below, 384),
-                word_from(program, arch, below, 448),
+            parts: [
+                part_from(program, arch, below, 0),
+                part_from(program, arch, below, 64),
+                part_from(program, arch, below, 128),
+                part_from(program, arch, below, 192),
+                part_from(program, arch, below, 256),
+                part_from(program, arch, below, 320),
+                part_from(program, arch, below, 384),
+                part_from(program, arch, below, 448),
             ],
         }
     }
@@ -56,17 +56,17 @@ fn is_allowed(program: &Accepted<'_>, arch: u32, below: Option<Numbers>, nr: u32
 }
 
 // The bits of the 64 numbers from one on.
-fn word_from(program: &Accepted<'_>, arch: u32, below: Option<Numbers>, first: u32) -> u64
+fn part_from(program: &Accepted<'_>, arch: u32, below: Option<Numbers>, first: u32) -> u64
     requires { first ≤ 448 }
     ensures { result ≡ packed
         (λ nr. is_fixed_allow (accepted_insns program.now) arch nr && is_in_all below nr) first 64 }
 {
-    let mut word = 0;
+    let mut part = 0;
     let mut left = 64;
     'bits: while left > 0 {
         left -= 1;
         let bit = u64::from(is_allowed(program, arch, below, first + left));
-        word = 2 * word + bit;
+        part = 2 * part + bit;
     }
-    word
+    part
 }

@@ -110,19 +110,19 @@ impl Tree {
 
     // The strictest verdict of the filters on the way down from a place.
     fn walked(&self, place: u32, rec: &Record) -> Word
-        ensures { result ≡ strictest_of (map (λ f. f.judge.word rec.now)
+        ensures { result ≡ strictest_of (map (λ f. f.judge.verdict rec.now)
             (filters_on (way_from self.now.nodes.items place))) }
     {
         let Some(first) = self.node_at(place) else {
             return Word::ALLOW;
         };
-        let mut word = first.word(rec);
+        let mut word = first.verdict(rec);
         let mut next = first.below;
         'down: while let Some(at) = next {
             let Some(node) = self.node_at(at) else {
                 break;
             };
-            word = stricter(word, node.word(rec));
+            word = stricter(word, node.verdict(rec));
             next = node.below;
         }
         stricter(word, Word::ALLOW)

@@ -7,7 +7,7 @@ use Rattle.bpf_insn.specs.declared.code.Arithmetic.TheVariants.{Add, Sub, Or, An
 use Rattle.bpf_insn.specs.declared.code.Operation.TheVariants as operations
 use Rattle.bpf_asm.specs.declared.mnemonic.Mnemonic.{Mnemonic}
 use Rattle.bpf_asm.specs.declared.mnemonic.Mnemonic.TheVariants.{Ld, Ldx, St, Stx, Ret, Ja, Branch, Compute, Lsh, Rsh, Neg, Tax, Txa, Raw}
-use Rattle.bpf_asm.specs.Forms.{Form, word_of}
+use Rattle.bpf_asm.specs.Forms.{Form, mnemonic_text}
 
 -- the mnemonic of a form
 abbrev pub mnemonic_of : Form → Mnemonic
@@ -49,7 +49,7 @@ form_with Raw = None
 
 -- how it is written
 abbrev pub text_of : Mnemonic → List ℕ
-text_of mnemonic = word_of (form_with mnemonic)
+text_of mnemonic = mnemonic_text (form_with mnemonic)
 
 abbrev pub mnemonics : List Mnemonic
 mnemonics =

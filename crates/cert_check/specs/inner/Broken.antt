@@ -10,13 +10,13 @@ use Rattle.cert_check.specs.declared.fault.CheckError.TheVariants.{Edge, Entail,
 use Rattle.cert_form.specs.declared.fault.FormError.{FormError}
 use Rattle.cert_form.specs.declared.fault.FormError.TheVariants as form
 use Rattle.cert_check.specs.Agree.{Agrees}
-use Rattle.cert_check.specs.Rules.{Carries, EdgeRule, EntailRule, Keeps, ReturnRule, RootRule, SplitRule, word_by}
+use Rattle.cert_check.specs.Rules.{Carries, EdgeRule, EntailRule, Keeps, ReturnRule, RootRule, SplitRule, verdict_by}
 use Rattle.cert_check.specs.Rules as rules
 
 -- the instruction gives a verdict, and the profile says it on all that the node knows
 pub record ReturnsAt (policy : Policy) (i : Insn) (n : PlainNode) : Type 0 where
   pub word : ℕ
-  pub known : word_by (operation_of i.code) n.regs i ≡ Some word
+  pub known : verdict_by (operation_of i.code) n.regs i ≡ Some word
   pub agrees : Agrees policy n.out n.met n.known word
 
 -- the node of an edge, if it is there, says no more than the edge carries

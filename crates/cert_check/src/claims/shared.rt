@@ -145,10 +145,7 @@ impl Passage<'_> {
         if !self.placed {
             return false;
         }
-        if !self.node.is_sharp() {
-            return false;
-        }
-        if !self.there.is_sharp() {
+        if !self.node.is_chained() {
             return false;
         }
         let shared = self.node.meeting(self.there);

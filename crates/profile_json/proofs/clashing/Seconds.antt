@@ -19,8 +19,8 @@ use Rattle.profile_json.proofs.clashing.Clashing.{IsUnder, under_back, must_clas
 use Rattle.profile_json.proofs.clashing.Places.{IsEntryOf, entry_of_place}
 
 -- each rule of an entry has its verdict
-pub word_of_entry : (machines : List Arch) (e : EntryParts) (r : RuleParts) → Contains (rules_of_entry machines e) r → r.word ≡ e.word
-word_of_entry machines e r h =
+pub verdict_of_entry : (machines : List Arch) (e : EntryParts) (r : RuleParts) → Contains (rules_of_entry machines e) r → r.word ≡ e.word
+verdict_of_entry machines e r h =
     let n = contains_flat_back (rules_under machines e) e.names r h in
     let is : IsUnder machines e n.0 r = under_back machines e n.0 r n.2 in
     ap (λ (p : RuleParts). p.word) is.is
@@ -54,8 +54,8 @@ second_of machines es place h =
         y = is.entry;
         y_at = is.entry_at;
         must = λ none. elim (is.earlier h.earlier (rule_parts h.first) (let lt = h.before in omega (arith, lt)) before) [
-          | inl same_entry ↦ h.clash.0 (word_of_entry machines is.entry (rule_parts h.first) same_entry
-              ∙ sym (word_of_entry machines is.entry (rule_parts h.second) is.has))
+          | inl same_entry ↦ h.clash.0 (verdict_of_entry machines is.entry (rule_parts h.first) same_entry
+              ∙ sym (verdict_of_entry machines is.entry (rule_parts h.second) is.has))
           | inr lower ↦ must_clash machines lower.1 is.entry h.first h.second h.order lower.4 is.has h.clash (none lower.0 lower.2 lower.1 lower.3)
         ];
       },

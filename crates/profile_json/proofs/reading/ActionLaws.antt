@@ -8,11 +8,11 @@ use Rattle.serde_json.specs.Data.{Data}
 use Rattle.profile_json.specs.declared.action.Action.{Action}
 use Rattle.profile_json.specs.Fault.{Fault, wrong_type, missing_key, unknown_action, errno_not_taken, errno_range}
 use Rattle.profile_json.specs.Lookup.{Member, missing, other_type, holds, member, text, whole}
-use Rattle.profile_json.specs.Names.{action_named, takes_data, word_of}
+use Rattle.profile_json.specs.Names.{action_named, takes_data, verdict_of}
 use Rattle.profile_json.specs.inner.Outcome.{◌>>=◌}
-use Rattle.profile_json.specs.inner.Reading.{needed, action_at, errno_in, word_at}
-use Rattle.profile_json.specs.Meaning.{NamesAction, ErrnoMeans, none, given, WordMeans}
-use Rattle.profile_json.specs.Breaks.{ActionBreaks, action_text, action_unknown, WordBreaks, action, errno_other, not_taken, large}
+use Rattle.profile_json.specs.inner.Reading.{needed, action_at, errno_in, verdict_at}
+use Rattle.profile_json.specs.Meaning.{NamesAction, ErrnoMeans, none, given, VerdictMeans}
+use Rattle.profile_json.specs.Breaks.{ActionBreaks, action_text, action_unknown, VerdictBreaks, action, errno_other, not_taken, large}
 use Rattle.profile_json.proofs.reading.Steps.{bind_ok, bind_err, ok_or_ok, ok_or_err, needed_ok, needed_breaks, needed_unbroken}
 use Rattle.profile_json.proofs.reading.Steps.{holds_same, ok_same, not_ok, true_false}
 
@@ -83,33 +83,33 @@ errno_of_member : (k : List ℕ) (d : Data) (a : Action) (n : ℕ) → Errno a (
 errno_of_member k d a _ (no_member e) = none e
 errno_of_member k d a _ (member_is n e t l) = given n e t l
 
-pub word_means : (ak ek : List ℕ) (d : Data) (w : ℕ) → word_at ak ek d ≡ Ok w → WordMeans ak ek d w
-unfolding word_at
-word_means ak ek d w h =
+pub verdict_means : (ak ek : List ℕ) (d : Data) (w : ℕ) → verdict_at ak ek d ≡ Ok w → VerdictMeans ak ek d w
+unfolding verdict_at
+verdict_means ak ek d w h =
     let m = member whole ek d in
-    let at_a = bind_ok (action_at ak d) (λ a. errno_in a m >>= (λ n. Ok (word_of a n))) w h in
-    let at_n = bind_ok (errno_in at_a.0 m) (λ n. Ok (word_of at_a.0 n)) w at_a.2 in
+    let at_a = bind_ok (action_at ak d) (λ a. errno_in a m >>= (λ n. Ok (verdict_of a n))) w h in
+    let at_n = bind_ok (errno_in at_a.0 m) (λ n. Ok (verdict_of at_a.0 n)) w at_a.2 in
     record {
       action = at_a.0;
       action_is = action_means ak d at_a.0 at_a.1;
       errno = at_n.0;
       errno_is = errno_of_member ek d at_a.0 at_n.0 (errno_ok at_a.0 m at_n.0 at_n.1);
-      word_is = sym (ok_same (word_of at_a.0 at_n.0) w at_n.2);
+      verdict_is = sym (ok_same (verdict_of at_a.0 at_n.0) w at_n.2);
     }
 
-pub word_breaks : (ak ek : List ℕ) (d : Data) (f : Fault) → word_at ak ek d ≡ Err f → WordBreaks ak ek d f
-unfolding word_at
-word_breaks ak ek d f h =
+pub verdict_breaks : (ak ek : List ℕ) (d : Data) (f : Fault) → verdict_at ak ek d ≡ Err f → VerdictBreaks ak ek d f
+unfolding verdict_at
+verdict_breaks ak ek d f h =
     let m = member whole ek d in
-    elim (bind_err (action_at ak d) (λ a. errno_in a m >>= (λ n. Ok (word_of a n))) f h) [
+    elim (bind_err (action_at ak d) (λ a. errno_in a m >>= (λ n. Ok (verdict_of a n))) f h) [
       | inl bad ↦ action f (action_breaks ak d f bad)
-      | inr at_a ↦ elim (bind_err (errno_in at_a.0 m) (λ n. Ok (word_of at_a.0 n)) f at_a.2) [
-        | inr at_n ↦ absurd (not_ok (word_of at_a.0 at_n.0) f at_n.2)
+      | inr at_a ↦ elim (bind_err (errno_in at_a.0 m) (λ n. Ok (verdict_of at_a.0 n)) f at_a.2) [
+        | inr at_n ↦ absurd (not_ok (verdict_of at_a.0 at_n.0) f at_n.2)
         | inl bad ↦ elim (errno_err at_a.0 m f bad) [
-          | inl at ↦ subst (WordBreaks ak ek d) at.1 (errno_other at.0)
+          | inl at ↦ subst (VerdictBreaks ak ek d) at.1 (errno_other at.0)
           | inr at ↦ elim at.2 [
-            | inl without ↦ subst (WordBreaks ak ek d) without.1 (not_taken at_a.0 at.0 (action_means ak d at_a.0 at_a.1) without.0 at.1)
-            | inr big ↦ subst (WordBreaks ak ek d) big.1 (large at.0 at.1 big.0)
+            | inl without ↦ subst (VerdictBreaks ak ek d) without.1 (not_taken at_a.0 at.0 (action_means ak d at_a.0 at_a.1) without.0 at.1)
+            | inr big ↦ subst (VerdictBreaks ak ek d) big.1 (large at.0 at.1 big.0)
           ]
         ]
       ]
@@ -124,13 +124,13 @@ given_is : (k : List ℕ) (d : Data) (a : Action) (n x : ℕ) → ErrnoMeans k d
 given_is k d a _ x (none e) h = let both : ◌≡◌ {A = Member ℕ} missing (holds x) = sym e ∙ h in cc
 given_is k d a _ x (given n e t l) h = let same : n ≡ x = holds_same n x (sym e ∙ h) in (t, subst (λ y. y ≤ 4095) same l, same)
 
-pub word_unbroken : (ak ek : List ℕ) (d : Data) (w : ℕ) (f : Fault) → WordMeans ak ek d w → WordBreaks ak ek d f → ⊥
-word_unbroken ak ek d w f m (action _ bad) = action_unbroken ak d m.action f m.action_is bad
-word_unbroken ak ek d w _ m (errno_other e) = other_no ek d m.action m.errno m.errno_is e
-word_unbroken ak ek d w _ m (not_taken b x y t e) =
+pub verdict_unbroken : (ak ek : List ℕ) (d : Data) (w : ℕ) (f : Fault) → VerdictMeans ak ek d w → VerdictBreaks ak ek d f → ⊥
+verdict_unbroken ak ek d w f m (action _ bad) = action_unbroken ak d m.action f m.action_is bad
+verdict_unbroken ak ek d w _ m (errno_other e) = other_no ek d m.action m.errno m.errno_is e
+verdict_unbroken ak ek d w _ m (not_taken b x y t e) =
     let same : m.action ≡ b = one_action ak d m.action b m.action_is y in
     true_false (takes_data m.action) (given_is ek d m.action m.errno x m.errno_is e).0 (ap takes_data same ∙ t)
-word_unbroken ak ek d w _ m (large x e l) = let le = (given_is ek d m.action m.errno x m.errno_is e).1 in omega (arith, le, l)
+verdict_unbroken ak ek d w _ m (large x e l) = let le = (given_is ek d m.action m.errno x m.errno_is e).1 in omega (arith, le, l)
 
 -- ---- one verdict
 
@@ -142,8 +142,8 @@ one_errno : (k : List ℕ) (d : Data) (a b : Action) (n x : ℕ) → ErrnoMeans 
 one_errno k d a b n _ m (none e) = errno_missing k d a n m e
 one_errno k d a b n _ m (given x e t l) = (given_is k d a n x m e).2
 
-pub one_word : (ak ek : List ℕ) (d : Data) (v w : ℕ) → WordMeans ak ek d v → WordMeans ak ek d w → v ≡ w
-one_word ak ek d v w m n =
+pub one_verdict : (ak ek : List ℕ) (d : Data) (v w : ℕ) → VerdictMeans ak ek d v → VerdictMeans ak ek d w → v ≡ w
+one_verdict ak ek d v w m n =
     let actions : m.action ≡ n.action = one_action ak d m.action n.action m.action_is n.action_is in
     let data_same : m.errno ≡ n.errno = one_errno ek d m.action n.action m.errno n.errno m.errno_is n.errno_is in
-    m.word_is ∙ ap (λ a. word_of a m.errno) actions ∙ ap (word_of n.action) data_same ∙ sym n.word_is
+    m.verdict_is ∙ ap (λ a. verdict_of a m.errno) actions ∙ ap (verdict_of n.action) data_same ∙ sym n.verdict_is

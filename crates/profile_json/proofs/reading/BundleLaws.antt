@@ -20,32 +20,32 @@ use Rattle.profile_json.specs.CallName.{short_name}
 use Rattle.profile_json.specs.Rules.{rules_of}
 use Rattle.profile_json.specs.inner.Outcome.{◌>>=◌}
 use Rattle.profile_json.specs.inner.Reading.{Said, default_of, refused_of, archs_of, entries_of, root_of, said_of}
-use Rattle.profile_json.specs.Meaning.{IsText, RootMeans, WordMeans, KeysMean, ListsArchs, EntryMeans, EntriesMean, Means}
-use Rattle.profile_json.specs.Breaks.{Breaks, WordBreaks, EntriesBreak, SeccompBreaks, ValueBreaks}
+use Rattle.profile_json.specs.Meaning.{IsText, RootMeans, VerdictMeans, KeysMean, ListsArchs, EntryMeans, EntriesMean, Means}
+use Rattle.profile_json.specs.Breaks.{Breaks, VerdictBreaks, EntriesBreak, SeccompBreaks, ValueBreaks}
 use Rattle.profile_json.specs.Breaks as broken
 use Rattle.profile_json.specs.inner.Making.{IsMade, IsNotMade, many, clash}
 use Rattle.profile_json.proofs.reading.Steps.{bind_ok, bind_err, ok_same, not_ok}
 use Rattle.profile_json.proofs.reading.RootLaws.{root_breaks}
-use Rattle.profile_json.proofs.reading.ActionLaws.{word_means, word_breaks}
+use Rattle.profile_json.proofs.reading.ActionLaws.{verdict_means, verdict_breaks}
 use Rattle.profile_json.proofs.reading.KeyLaws.{keys_mean, keys_break}
 use Rattle.profile_json.proofs.reading.ArchLaws.{lists_archs, archs_refused, listed_of_family}
 use Rattle.profile_json.proofs.reading.EntryLaws.{entries_mean, EntriesRefused, is_no_list, are_many, in_one_entry, entries_refused}
 
 -- what is read of the object under linux.seccomp
 pub record SaidMeans (s : Data) (native : Arch) (said : Said) : Type 0 where
-  pub default_is : WordMeans key.default_action key.default_errno_ret s said.default_word
+  pub default_is : VerdictMeans key.default_action key.default_errno_ret s said.default_word
   pub keys : KeysMean s
   pub archs : ListsArchs s native said.archs
   pub native_listed : Contains said.archs native
   pub entries : EntriesMean (family_of native) s said.entries
 
-default_means : (s : Data) (w : ℕ) → default_of s ≡ Ok w → WordMeans key.default_action key.default_errno_ret s w
+default_means : (s : Data) (w : ℕ) → default_of s ≡ Ok w → VerdictMeans key.default_action key.default_errno_ret s w
 unfolding default_of
-default_means s w h = word_means key.default_action key.default_errno_ret s w h
+default_means s w h = verdict_means key.default_action key.default_errno_ret s w h
 
-default_breaks : (s : Data) (f : Fault) → default_of s ≡ Err f → WordBreaks key.default_action key.default_errno_ret s f
+default_breaks : (s : Data) (f : Fault) → default_of s ≡ Err f → VerdictBreaks key.default_action key.default_errno_ret s f
 unfolding default_of
-default_breaks s f h = word_breaks key.default_action key.default_errno_ret s f h
+default_breaks s f h = verdict_breaks key.default_action key.default_errno_ret s f h
 
 said : ℕ → List Arch → List EntryParts → Said
 said word archs entries = record { default_word = word; archs = archs; entries = entries }
@@ -113,7 +113,7 @@ bundle_means t s native x p root said made =
     record {
       seccomp = s;
       root = root;
-      default_is = subst (WordMeans key.default_action key.default_errno_ret s) (sym built.default_is) said.default_is;
+      default_is = subst (VerdictMeans key.default_action key.default_errno_ret s) (sym built.default_is) said.default_is;
       calls = record {
         keys = said.keys;
         archs = x.archs;

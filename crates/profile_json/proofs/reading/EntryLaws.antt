@@ -18,14 +18,14 @@ use Rattle.profile_json.specs.Lookup.{holds, member, or_default, object, text, w
 use Rattle.profile_json.specs.Names.{is_known, most_entries, most_names}
 use Rattle.profile_json.specs.CallName.{short_name}
 use Rattle.profile_json.specs.inner.Outcome.{◌>>=◌}
-use Rattle.profile_json.specs.inner.Reading.{typed, needed, is_empty, each, arg_of, args_after, args_of, name_of, names_of, entry_word}
+use Rattle.profile_json.specs.inner.Reading.{typed, needed, is_empty, each, arg_of, args_after, args_of, name_of, names_of, entry_verdict}
 use Rattle.profile_json.specs.inner.Reading.{entry_of, entries_of}
-use Rattle.profile_json.specs.Meaning.{WordMeans, ArgMeans, ArgsMean, NamesMean, EntryMeans, EntriesMean}
-use Rattle.profile_json.specs.Breaks.{WordBreaks, ArgBreaks, ArgsBreak, NamesBreak, EntryBreaks}
+use Rattle.profile_json.specs.Meaning.{VerdictMeans, ArgMeans, ArgsMean, NamesMean, EntryMeans, EntriesMean}
+use Rattle.profile_json.specs.Breaks.{VerdictBreaks, ArgBreaks, ArgsBreak, NamesBreak, EntryBreaks}
 use Rattle.profile_json.specs.Breaks as broken
 use Rattle.profile_json.proofs.Lists.{contains_head, contains_tail}
 use Rattle.profile_json.proofs.reading.Conditions.{distinct_push}
-use Rattle.profile_json.proofs.reading.ActionLaws.{word_means, word_breaks}
+use Rattle.profile_json.proofs.reading.ActionLaws.{verdict_means, verdict_breaks}
 use Rattle.profile_json.proofs.reading.ArgLaws.{Refused, alone, repeated, arg_ok, arg_err}
 use Rattle.profile_json.proofs.reading.Steps.{bind_ok, bind_err, ok_or_ok, ok_or_err, cond_ok, cond_err, guard_ok, guard_err, needed_ok}
 use Rattle.profile_json.proofs.reading.Steps.{needed_breaks, object_is, object_not, each_ok, each_err, is_nil, ok_same, not_ok}
@@ -203,40 +203,40 @@ names_break family d f h =
 
 -- ---- an entry
 
-entry_word_means : (d : Data) (w : ℕ) → entry_word d ≡ Ok w → WordMeans key.action key.errno_ret d w
-unfolding entry_word
-entry_word_means d w h = word_means key.action key.errno_ret d w h
+entry_verdict_means : (d : Data) (w : ℕ) → entry_verdict d ≡ Ok w → VerdictMeans key.action key.errno_ret d w
+unfolding entry_verdict
+entry_verdict_means d w h = verdict_means key.action key.errno_ret d w h
 
-entry_word_breaks : (d : Data) (f : Fault) → entry_word d ≡ Err f → WordBreaks key.action key.errno_ret d f
-unfolding entry_word
-entry_word_breaks d f h = word_breaks key.action key.errno_ret d f h
+entry_verdict_breaks : (d : Data) (f : Fault) → entry_verdict d ≡ Err f → VerdictBreaks key.action key.errno_ret d f
+unfolding entry_verdict
+entry_verdict_breaks d f h = verdict_breaks key.action key.errno_ret d f h
 
 parts : List (List ℕ) → ℕ → List CondParts → EntryParts
 parts names word conds = record { names = names; conds = conds; word = word }
 
 -- what is read after the verdict and the names
-after_word : Data → List (List ℕ) → ℕ → Result EntryParts Fault
-after_word d names word = args_of d >>= (λ conds. Ok (parts names word conds))
+after_verdict : Data → List (List ℕ) → ℕ → Result EntryParts Fault
+after_verdict d names word = args_of d >>= (λ conds. Ok (parts names word conds))
 
 after_names : Data → List (List ℕ) → Result EntryParts Fault
-after_names d names = entry_word d >>= after_word d names
+after_names d names = entry_verdict d >>= after_verdict d names
 
 entry_ok_in : (family : Family) (d : Data) (e : EntryParts) → IsSome (object d) → (names_of family d >>= after_names d) ≡ Ok e → EntryMeans family d e
-unfolding after_names after_word parts
+unfolding after_names after_verdict parts
 entry_ok_in family d e is_object h =
     let at_n = bind_ok (names_of family d) (after_names d) e h in
-    let at_w = bind_ok (entry_word d) (after_word d at_n.0) e at_n.2 in
+    let at_w = bind_ok (entry_verdict d) (after_verdict d at_n.0) e at_n.2 in
     let at_c = bind_ok (args_of d) (λ conds. Ok (parts at_n.0 at_w.0 conds)) e at_w.2 in
     let means : EntryMeans family d (parts at_n.0 at_w.0 at_c.0) = record {
       is_object = is_object;
       names = names_mean family d at_n.0 at_n.1;
-      word_is = entry_word_means d at_w.0 at_w.1;
+      verdict_is = entry_verdict_means d at_w.0 at_w.1;
       args = args_mean d at_c.0 at_c.1;
     } in
     subst (EntryMeans family d) (ok_same (parts at_n.0 at_w.0 at_c.0) e at_c.2) means
 
 entry_means : (family : Family) (d : Data) (e : EntryParts) → entry_of family d ≡ Ok e → EntryMeans family d e
-unfolding entry_of after_names after_word parts
+unfolding entry_of after_names after_verdict parts
 entry_means family d e h =
     let at = bind_ok (typed (object d)) (λ o. names_of family o >>= after_names o) e h in
     let o = object_is d at.0 at.1 in
@@ -244,12 +244,12 @@ entry_means family d e h =
     subst (λ (x : Data). EntryMeans family x e) (sym o.1) (entry_ok_in family at.0 e some at.2)
 
 entry_err_in : (family : Family) (d : Data) (f : Fault) → IsSome (object d) → (names_of family d >>= after_names d) ≡ Err f → EntryBreaks family d f
-unfolding after_names after_word
+unfolding after_names after_verdict
 entry_err_in family d f is_object h =
     elim (bind_err (names_of family d) (after_names d) f h) [
       | inl bad ↦ broken.names f is_object (names_break family d f bad)
-      | inr at_n ↦ elim (bind_err (entry_word d) (after_word d at_n.0) f at_n.2) [
-        | inl bad ↦ broken.word f is_object (entry_word_breaks d f bad)
+      | inr at_n ↦ elim (bind_err (entry_verdict d) (after_verdict d at_n.0) f at_n.2) [
+        | inl bad ↦ broken.word f is_object (entry_verdict_breaks d f bad)
         | inr at_w ↦ elim (bind_err (args_of d) (λ conds. Ok (parts at_n.0 at_w.0 conds)) f at_w.2) [
           | inl bad ↦ broken.args f is_object (args_break d f bad)
           | inr at_c ↦ absurd (not_ok (parts at_n.0 at_w.0 at_c.0) f at_c.2)
@@ -258,7 +258,7 @@ entry_err_in family d f is_object h =
     ]
 
 entry_breaks : (family : Family) (d : Data) (f : Fault) → entry_of family d ≡ Err f → EntryBreaks family d f
-unfolding entry_of after_names after_word parts
+unfolding entry_of after_names after_verdict parts
 entry_breaks family d f h =
     elim (bind_err (typed (object d)) (λ o. names_of family o >>= after_names o) f h) [
       | inl bad ↦ (let at = object_not d f bad in subst (EntryBreaks family d) at.1 (broken.EntryBreaks.no_object at.0))

@@ -17,7 +17,8 @@ use Rattle.profile_json.specs.Fault.{unknown_call, empty_names, errno_not_taken,
 use Rattle.profile_json.specs.Fault.{stray_datum, unsupported_key, too_many}
 use Rattle.profile_json.specs.Parts.{CondParts, EntryParts}
 use Rattle.profile_json.specs.Lookup.{Member, missing, other_type, holds, member, or_default, object, text, whole, list}
-use Rattle.profile_json.specs.Names.{editions, action_named, takes_data, word_of, op_named, arch_named, is_known, most_entries, most_names}
+use Rattle.profile_json.specs.Names.{editions, action_named, takes_data, verdict_of, op_named, arch_named, is_known}
+use Rattle.profile_json.specs.Names.{most_entries, most_names}
 use Rattle.call_tables.specs.Arch.{same_arch}
 use Rattle.profile_json.specs.Rules.{or_native}
 use Rattle.profile_json.specs.CallName.{short_name}
@@ -81,17 +82,17 @@ errno_in a missing = Ok 1
 errno_in a other_type = Err wrong_type
 errno_in a (holds n) = if takes_data a then (if nat_le n 4095 then Ok n else Err errno_range) else Err errno_not_taken
 
-unfoldable pub word_at : List ℕ → List ℕ → Data → Result ℕ Fault
-word_at action_key errno_key d = do
+unfoldable pub verdict_at : List ℕ → List ℕ → Data → Result ℕ Fault
+verdict_at action_key errno_key d = do
   a ← action_at action_key d
   n ← errno_in a (member whole errno_key d)
-  Ok (word_of a n)
+  Ok (verdict_of a n)
 
 unfoldable pub default_of : Data → Result ℕ Fault
-default_of s = word_at key.default_action key.default_errno_ret s
+default_of s = verdict_at key.default_action key.default_errno_ret s
 
-unfoldable pub entry_word : Data → Result ℕ Fault
-entry_word d = word_at key.action key.errno_ret d
+unfoldable pub entry_verdict : Data → Result ℕ Fault
+entry_verdict d = verdict_at key.action key.errno_ret d
 
 -- ---- keys that are refused
 
@@ -174,7 +175,7 @@ unfoldable pub entry_of : Family → Data → Result EntryParts Fault
 entry_of family d = do
   o ← typed (object d)
   names ← names_of family o
-  word ← entry_word o
+  word ← entry_verdict o
   conds ← args_of o
   Ok (record { names = names; conds = conds; word = word })
 

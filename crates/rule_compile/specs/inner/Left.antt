@@ -15,7 +15,7 @@ use Rattle.rule_compile.specs.declared.question.Question.{Question}
 use Rattle.rule_compile.specs.declared.question.Reply.{Reply}
 use Rattle.rule_compile.specs.declared.question.Reply.TheVariants as reply
 use Rattle.rule_compile.specs.declared.question.Subject.{Subject}
-use Rattle.rule_compile.specs.Rules.{IsRuleMet, SomeMet, begins_here, rules_of, word_of}
+use Rattle.rule_compile.specs.Rules.{IsRuleMet, SomeMet, begins_here, rules_of, answer_of}
 use Rattle.rule_compile.specs.inner.Replies.{AreAlike}
 
 -- ---- well-formed questions
@@ -32,7 +32,7 @@ pub record IsQuestion (q : Question) : Type 0 where
 
 -- the questions of one rule have one verdict
 abbrev pub IsRule : List Open → Type 0
-IsRule rule = All (λ o. (o.answer ≡ word_of rule) × IsQuestion o.question) rule
+IsRule rule = All (λ o. (o.answer ≡ answer_of rule) × IsQuestion o.question) rule
 
 abbrev pub AreRules : List Open → Type 0
 AreRules os = (begins_here os ≡ true) × All IsRule (rules_of os)

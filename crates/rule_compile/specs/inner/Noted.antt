@@ -69,7 +69,7 @@ abbrev pub AsksOf : List Block → List Placed → ℕ → Leaf → Asked → Ty
 AsksOf blocks rules default whole (Nothing place) =
     (placed : Placed) × Contains rules placed × (placed.place ≡ place) × ((r : List ℕ) → IsRecord r → AreHeld placed r)
 AsksOf blocks rules default whole (InParts parts) =
-    (os : List Open) × ArePartsOf blocks os (leaf.Word default) parts.items whole
+    (os : List Open) × ArePartsOf blocks os (leaf.Verdict default) parts.items whole
     × ((r : List ℕ) → IsRecord r → (w : ℕ) → SomeMet os r w → SomeHeld rules r w)
 
 -- a call more

@@ -9,7 +9,7 @@ use Rattle.profile.specs.Policy.{InOrder, Policy}
 use Rattle.profile.specs.Said.{said}
 use Rattle.profile.specs.declared.rules.Rule.{Rule}
 use Rattle.rule_compile.specs.declared.ranges.Leaf.{Leaf}
-use Rattle.rule_compile.specs.declared.ranges.Leaf.TheVariants.{Word}
+use Rattle.rule_compile.specs.declared.ranges.Leaf.TheVariants.{Verdict}
 use Rattle.rule_compile.specs.declared.ranges.Range.{Range}
 use Rattle.rule_compile.specs.Shape.{IsPlain, call}
 use Rattle.rule_compile.specs.Decides.{IsWithin}
@@ -32,8 +32,8 @@ AreBelow above rules = All (λ rule. rule.nr < above) rules
 
 -- what decides a number: the verdict of a rule for it, or the default verdict where there is none
 pub data LeafFor (rules : List Rule) (token nr default : ℕ) (leaf : Leaf) : Type 0 where
-  ruled : (rule : Rule) → Contains rules rule → IsFor token nr rule → leaf ≡ Word rule.word → LeafFor rules token nr default leaf
-  unruled : NoneFor token nr rules → leaf ≡ Word default → LeafFor rules token nr default leaf
+  ruled : (rule : Rule) → Contains rules rule → IsFor token nr rule → leaf ≡ Verdict rule.word → LeafFor rules token nr default leaf
+  unruled : NoneFor token nr rules → leaf ≡ Verdict default → LeafFor rules token nr default leaf
 
 -- the next number that has a rule, or the end
 pub record IsNext (rules : List Rule) (token from end next : ℕ) : Type 0 where
@@ -65,8 +65,8 @@ Tiles from [] end = from ≡ end
 Tiles from (x ∷ xs) end = (x.first ≡ from) × (from ≤ x.last) × Tiles (x.last + 1) xs end
 
 -- each number of the range has its verdict
-abbrev pub IsWorded : (ℕ → ℕ) → Range → Type 0
-IsWorded word_of range = (word : ℕ) × (range.leaf ≡ Word word) × ((u : ℕ) → IsWithin range u → word_of u ≡ word)
+abbrev pub HasVerdict : (ℕ → ℕ) → Range → Type 0
+HasVerdict said range = (word : ℕ) × (range.leaf ≡ Verdict word) × ((u : ℕ) → IsWithin range u → said u ≡ word)
 
 -- the verdict of a call of the machine with this token
 abbrev pub said_of : Policy → ℕ → ℕ → ℕ
@@ -89,7 +89,7 @@ AreFew most end upto count =
 -- the ranges of a machine's numbers so far, of those that go up to an end
 pub record Reached (policy : Policy) (machine : Arch) (most end upto : ℕ) (ranges : List Range) : Type 0 where
   pub tiles : Tiles 0 ranges upto
-  pub worded : IsPlain policy → IsListed policy machine → All (IsWorded (said_of policy (token_of machine))) ranges
+  pub has_verdicts : IsPlain policy → IsListed policy machine → All (HasVerdict (said_of policy (token_of machine))) ranges
   pub few : IsPlain policy → AreFew most end upto (length ranges)
 
 -- the first number behind so many of these stretches
@@ -101,6 +101,6 @@ behind all (suc k) = (slice_index_or all k (from_to 0 0)).last + 1
 -- stretches
 pub record Between (policy : Policy) (machine : Arch) (k upto : ℕ) (ranges : List Range) : Type 0 where
   pub tiles : Tiles 0 ranges upto
-  pub worded : IsPlain policy → IsListed policy machine → All (IsWorded (said_of policy (token_of machine))) ranges
+  pub has_verdicts : IsPlain policy → IsListed policy machine → All (HasVerdict (said_of policy (token_of machine))) ranges
   pub few : IsPlain policy → (length ranges ≤ 1) ⊎ ((k ≡ length (foreign_numbers policy.machines machine)) × (length ranges ≤ 514))
   pub place : upto ≡ behind (foreign_numbers policy.machines machine) k

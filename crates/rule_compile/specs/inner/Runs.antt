@@ -82,7 +82,7 @@ pub record PicksOut (blocks : List Block) (code : List Insn) (loaded : Option �
 
 -- a verdict, or one of the first so many blocks
 abbrev pub IsBefore : ℕ → Leaf → Type 0
-IsBefore count (leaf.Word w) = ⊤
+IsBefore count (leaf.Verdict w) = ⊤
 IsBefore count (leaf.Block place) = place < count
 
 abbrev pub AreBefore : ℕ → List Range → Type 0

@@ -27,14 +27,14 @@ unfoldable pub number_at : List ℕ → Option ℕ
 number_at text = marked_number (behind (codes "0x") text) text
 
 -- a number of 32 bits
-unfoldable pub word_at : List ℕ → Option ℕ
-word_at text = do
+unfoldable pub number32_at : List ℕ → Option ℕ
+number32_at text = do
   n ← number_at text
   if nat_lt n (2 ^ 32) then Some n else None
 
 -- a machine of the family and a number
 abbrev pub numbered : Family → List ℕ → Arch → Option (Arch × ℕ)
-numbered family digits arch = if same_family (family_of arch) family then option_map (λ nr. (arch, nr)) (word_at digits) else None
+numbered family digits arch = if same_family (family_of arch) family then option_map (λ nr. (arch, nr)) (number32_at digits) else None
 
 abbrev pub called : Family → List ℕ × List ℕ → Option (Arch × ℕ)
 called family parts = machine_called parts.0 >>= numbered family parts.1
@@ -88,30 +88,30 @@ call_at native id task what rest = do
 
 -- a command of two fields
 unfoldable pub command_of_two : List ℕ → List ℕ → Option Command
-command_of_two word id =
-    if bytes_eq word (codes "start") then Some (Start id)
-    else if bytes_eq word (codes "delete") then Some (Delete id)
-    else if bytes_eq word (codes "state") then Some (State id)
+command_of_two verb id =
+    if bytes_eq verb (codes "start") then Some (Start id)
+    else if bytes_eq verb (codes "delete") then Some (Delete id)
+    else if bytes_eq verb (codes "state") then Some (State id)
     else None
 
 -- a command of three
 unfoldable pub command_of_three : List ℕ → List ℕ → List ℕ → Option Command
-command_of_three word id last =
-    if bytes_eq word (codes "create") then Some (Create id last)
-    else if bytes_eq word (codes "kill") then option_map (Kill id) (number_at last)
+command_of_three verb id last =
+    if bytes_eq verb (codes "create") then Some (Create id last)
+    else if bytes_eq verb (codes "kill") then option_map (Kill id) (number_at last)
     else None
 
 -- a command of more
 unfoldable pub command_of_more : Arch → List ℕ → List ℕ → List ℕ → List ℕ → List (List ℕ) → Option Command
-command_of_more native word id task what rest = if bytes_eq word (codes "call") then call_at native id task what rest else None
+command_of_more native verb id task what rest = if bytes_eq verb (codes "call") then call_at native id task what rest else None
 
 -- the command of fields
 abbrev pub command_from : Arch → List (List ℕ) → Option Command
 command_from native [] = None
-command_from native (word ∷ []) = None
-command_from native (word ∷ id ∷ []) = command_of_two word id
-command_from native (word ∷ id ∷ last ∷ []) = command_of_three word id last
-command_from native (word ∷ id ∷ task ∷ what ∷ rest) = command_of_more native word id task what rest
+command_from native (verb ∷ []) = None
+command_from native (verb ∷ id ∷ []) = command_of_two verb id
+command_from native (verb ∷ id ∷ last ∷ []) = command_of_three verb id last
+command_from native (verb ∷ id ∷ task ∷ what ∷ rest) = command_of_more native verb id task what rest
 
 -- the most fields of a command: with six arguments and a program
 abbrev pub max_fields : ℕ

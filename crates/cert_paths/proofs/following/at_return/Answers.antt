@@ -4,7 +4,7 @@ use Rattle.std.specs.Prelude.{All, Result, Ok, Err, IfErr}
 use Rattle.call_record.specs.Record.{words}
 use Rattle.profile.specs.Said.{said}
 use Rattle.profile.specs.Policy.{Policy}
-use Rattle.profile.proofs.SaidLaws.{each_record_is_said_one_word}
+use Rattle.profile.proofs.SaidLaws.{each_record_is_said_one_verdict}
 use Rattle.cert_state.specs.declared.literal.Lit.{Lit}
 use Rattle.cert_state.specs.Literals.{IsLit}
 use Rattle.cert_form.specs.declared.node.Kind.{Kind}
@@ -53,7 +53,7 @@ returns-in-Ok-clause-unlike c =
       all_hold = by.all_hold;
       unlike = λ says.
           let is : c.args.word ≡ said policy r =
-          (each_record_is_said_one_word policy r c.args.word c.settles.ensures.is_profile.clear by.is_record).0 says in
+          (each_record_is_said_one_verdict policy r c.args.word c.settles.ensures.is_profile.clear by.is_record).0 says in
           iff_false c.is_settled.ensures c.if-is_settled.false
           (subst (λ ls. Agrees policy [] [] ls c.args.word) (sym c.known-known.ensures)
           (subst (λ v. Agrees policy [] [] known v) (sym is) agrees));

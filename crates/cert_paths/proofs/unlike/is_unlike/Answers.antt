@@ -3,7 +3,7 @@ use Rattle.std.specs.Prelude.{not}
 use Rattle.std.proofs.lemmas.Bool.{eq-eqb}
 use Rattle.call_record.specs.Record.{words}
 use Rattle.profile.specs.Policy.{Says}
-use Rattle.profile.proofs.SaidLaws.{each_record_is_said_one_word}
+use Rattle.profile.proofs.SaidLaws.{each_record_is_said_one_verdict}
 use Rattle.cert_paths.proofs.unlike.is_unlike.Goals as goal
 
 pub returns : goal.returns
@@ -19,8 +19,8 @@ returns c = λ differ.
       all_hold = c.are_true.ensures c.if-not-are_true.false;
       unlike = λ says.
           let same : given ≡ c.args.word =
-          (each_record_is_said_one_word policy r given clear is_record).0 decided
-          ∙ sym ((each_record_is_said_one_word policy r c.args.word clear is_record).0 says) in
+          (each_record_is_said_one_verdict policy r given clear is_record).0 decided
+          ∙ sym ((each_record_is_said_one_verdict policy r c.args.word clear is_record).0 says) in
           let bad : false ≡ true = subst (λ b. not b ≡ true) (eq-eqb given c.args.word same) differ in
           cc;
     }

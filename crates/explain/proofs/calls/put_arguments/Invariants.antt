@@ -1,6 +1,6 @@
 use Rattle.std.proofs.Common.{◌≡◌, ◌++◌, drop}
 use Rattle.std.specs.Prelude.{string_bytes}
-use Rattle.explain.specs.Words.{arguments_text}
+use Rattle.explain.specs.Phrases.{arguments_text}
 use Rattle.explain.proofs.calls.put_arguments.Given as goal
 
 abbrev pub invariant-loop-arg : goal.invariant-loop-arg

@@ -3,5 +3,5 @@ use Rattle.explain.proofs.told.explain.Goals as goal
 
 pub returns-in-Ok : goal.returns-in-Ok
 returns-in-Ok c =
-    let call : IsCall c.args.native c.args.words.now c.in-Some.call = rw c.in-Some.is at c.in_ok-call.ensures in
+    let call : IsCall c.args.native c.args.arguments.now c.in-Some.call = rw c.in-Some.is at c.in_ok-call.ensures in
     λ _. (c.in-Some.call, call, rw c.into_bytes.ensures.value c.in-Ok.ensures)

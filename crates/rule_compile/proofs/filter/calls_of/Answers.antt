@@ -31,7 +31,7 @@ returns-clause-calls c =
       told = λ plain none listed.
           calls_searched p t old mid new ranges target searched (c.in_ok-write_blocks.ensures.none
           (same plain none)) c.in_ok-ranges.ensures.tiled
-          (c.in_ok-ranges.ensures.few plain) (c.in_ok-ranges.ensures.worded plain listed);
+          (c.in_ok-ranges.ensures.few plain) (c.in_ok-ranges.ensures.has_verdicts plain listed);
     }
 
 pub returns-clause-written : goal.returns-clause-written

@@ -4,7 +4,7 @@ use Rattle.rule_compile.specs.inner.Runs.{IsBefore}
 use Rattle.rule_compile.specs.inner.Stands.{DecidesNumber, DecidesRules}
 use Rattle.rule_compile.proofs.DecidesLaws.{more_same}
 use Rattle.rule_compile.proofs.TellsLaws.{on_ok}
-use Rattle.rule_compile.proofs.ThoseLaws.{decides_those, decides_word, if_ok}
+use Rattle.rule_compile.proofs.ThoseLaws.{decides_those, decides_verdict, if_ok}
 use Rattle.rule_compile.proofs.ranges.leaf_of.Goals as goal
 
 pub returns-in-Some-clause-more : goal.returns-in-Some-clause-more
@@ -16,7 +16,7 @@ returns-in-Some-clause-decides c =
     let blocks = c.args.blocks.now.blocks.items in
     let told = c.in-Some.ensures.told in
     subst (DecidesNumber rs c.args.token c.args.number c.args.default blocks) (sym told.1)
-    (decides_word rs c.args.token c.args.number c.args.default told.0 blocks told.2)
+    (decides_verdict rs c.args.token c.args.number c.args.default told.0 blocks told.2)
 
 pub returns-in-Some-clause-before : goal.returns-in-Some-clause-before
 returns-in-Some-clause-before c = subst (IsBefore (vec_len c.args.blocks.now.blocks)) (sym c.in-Some.ensures.told.1) tt

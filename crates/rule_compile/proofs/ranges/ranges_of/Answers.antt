@@ -4,7 +4,7 @@ use Rattle.std.specs.Prelude.{slice_index_or}
 use Rattle.call_tables.specs.declared.numbers.Numbers.{Numbers}
 use Rattle.call_tables.specs.declared.arch.Arch.{Arch}
 use Rattle.call_tables.specs.Numbers.{foreign_numbers, from_to}
-use Rattle.rule_compile.specs.declared.ranges.Leaf.TheVariants.{Word}
+use Rattle.rule_compile.specs.declared.ranges.Leaf.TheVariants.{Verdict}
 use Rattle.rule_compile.specs.declared.ranges.Range.{Range}
 use Rattle.rule_compile.specs.inner.Numbers.{AreOwn, Between, IsExtended, Reached}
 use Rattle.rule_compile.specs.inner.Runs.{IsBefore}
@@ -52,9 +52,9 @@ loop-foreign-preserved c =
     (c.in_ok-add_own.ensures.reached 513 (omega arith)
     (subst (λ n. Reached p m 513 n upto old) (sym first)
     (own_reached p m k upto foreign old between inside at))) in
-    let last : IsExtended mid foreign.first (foreign.last + 1) (Word 0) new =
-    subst (λ n. IsExtended mid foreign.first (n + 1) (Word 0) new) final
-    (subst (λ n. IsExtended mid n (c.from-in-loop-foreign.result + 1) (Word 0) new) (c.in_ok-add_own.ensures.end ∙ first)
+    let last : IsExtended mid foreign.first (foreign.last + 1) (Verdict 0) new =
+    subst (λ n. IsExtended mid foreign.first (n + 1) (Verdict 0) new) final
+    (subst (λ n. IsExtended mid n (c.from-in-loop-foreign.result + 1) (Verdict 0) new) (c.in_ok-add_own.ensures.end ∙ first)
     c.in_ok-extend.ensures.extended) in
     let end : c.extend.new.self.end ≡ max foreign.first (foreign.last + 1) =
     c.in_ok-extend.ensures.end
@@ -154,8 +154,8 @@ returns-clause-few c =
     c.loop-foreign.ranges.ranges.items c.loop-foreign.invariant.between all) in
     whole_few c.args.profile.now c.args.machine c.add_own-2.new.self.ranges.items reached
 
-pub returns-clause-worded : goal.returns-clause-worded
-returns-clause-worded c =
+pub returns-clause-has_verdicts : goal.returns-clause-has_verdicts
+returns-clause-has_verdicts c =
     let all : c.loop-foreign.foreign-index ≡ length (foreign_numbers c.args.profile.now.machines c.args.machine) =
     omega (
       arith,
@@ -168,7 +168,7 @@ returns-clause-worded c =
     c.in_ok-add_own-2.ensures.reached 515 (omega arith)
     (last_reached c.args.profile.now c.args.machine c.loop-foreign.foreign-index c.loop-foreign.ranges.end
     c.loop-foreign.ranges.ranges.items c.loop-foreign.invariant.between all) in
-    reached.worded
+    reached.has_verdicts
 
 pub returns-clause-calls : goal.returns-clause-calls
 returns-clause-calls c listed all = c.in_ok-add_own-2.ensures.calls listed (c.loop-foreign.invariant.calls listed all)

@@ -14,12 +14,12 @@ returns-then-from-shared c = λ _.
     let from = c.after_fact-from.result in
     let shared = c.meeting-shared.result in
     new_follow c.args.self.now.profile.now node there e from shared c.args.self.now.same
-    (sym c.if-not-is_sharp.ensures) (sym c.if-not-is_sharp-2.ensures)
+    (sym c.if-not-is_chained.ensures)
     c.meeting-shared.ensures.here (c.args.self.now.has_rules c.if-not-self.false) c.after_fact-from.ensures
     (all_left (IsShown c.args.self.now.profile.now (known_on (says node) e)) _ _ (ap (claims_from there) (sym c.if-from-shared.true)))
 
 pub returns : goal.returns
 returns c = λ t.
     new_follow c.args.self.now.profile.now c.args.self.now.node.now c.args.self.now.there.now (edge_of c.args.self.now.way.now) c.after_fact-from.result c.meeting-shared.result
-    c.args.self.now.same (sym c.if-not-is_sharp.ensures) (sym c.if-not-is_sharp-2.ensures)
+    c.args.self.now.same (sym c.if-not-is_chained.ensures)
     c.meeting-shared.ensures.here (c.args.self.now.has_rules c.if-not-self.false) c.after_fact-from.ensures (c.are_shown.ensures t)

@@ -5,20 +5,20 @@ use Rattle.cert_form.proofs.NumberLaws.{no_numbers}
 use Rattle.cert_form.proofs.ReadLaws.{known_claimed, mets_claimed, no_claims, outs_claimed}
 use Rattle.cert_form.proofs.lent.NodeView.chain.Goals as goal
 
-pub returns-then-read_long-ne4-clause-claims : goal.returns-then-read_long-ne4-clause-claims
+pub returns-then-read_long-eq1-clause-claims : goal.returns-then-read_long-eq1-clause-claims
 unfolding certificate_of claims_of
-returns-then-read_long-ne4-clause-claims c =
-    let other : version_of c.args.self.now.bytes.now ≡ 4 → ⊥ = λ four. c.if-read_long-ne4.true (omega (arith, c.read_long.ensures, four)) in
-    no_claims c.args.self.now.bytes.now 0 other ∙ sym (no_claims c.args.self.now.bytes.now _ other)
+returns-then-read_long-eq1-clause-claims c =
+    let one : version_of c.args.self.now.bytes.now ≡ 1 = omega (arith, c.read_long.ensures, c.if-read_long-eq1.true) in
+    no_claims c.args.self.now.bytes.now 0 one ∙ sym (no_claims c.args.self.now.bytes.now _ one)
 
-pub returns-then-read_long-ne4-clause-known : goal.returns-then-read_long-ne4-clause-known
-returns-then-read_long-ne4-clause-known c = known_claimed c.args.self.now
+pub returns-then-read_long-eq1-clause-known : goal.returns-then-read_long-eq1-clause-known
+returns-then-read_long-eq1-clause-known c = known_claimed c.args.self.now
 
-pub returns-then-read_long-ne4-clause-out : goal.returns-then-read_long-ne4-clause-out
-returns-then-read_long-ne4-clause-out c = outs_claimed c.args.self.now
+pub returns-then-read_long-eq1-clause-out : goal.returns-then-read_long-eq1-clause-out
+returns-then-read_long-eq1-clause-out c = outs_claimed c.args.self.now
 
-pub returns-then-read_long-ne4-clause-met : goal.returns-then-read_long-ne4-clause-met
-returns-then-read_long-ne4-clause-met c = mets_claimed c.args.self.now
+pub returns-then-read_long-eq1-clause-met : goal.returns-then-read_long-eq1-clause-met
+returns-then-read_long-eq1-clause-met c = mets_claimed c.args.self.now
 
 pub returns-clause-claims : goal.returns-clause-claims
 unfolding certificate_of claims_of
@@ -33,11 +33,11 @@ returns-clause-out c = outs_claimed c.args.self.now
 pub returns-clause-met : goal.returns-clause-met
 returns-clause-met c = mets_claimed c.args.self.now
 
-pub returns-then-read_long-ne4-clause-numbers : goal.returns-then-read_long-ne4-clause-numbers
+pub returns-then-read_long-eq1-clause-numbers : goal.returns-then-read_long-eq1-clause-numbers
 unfolding certificate_of numbers_of
-returns-then-read_long-ne4-clause-numbers c =
-    let other : version_of c.args.self.now.bytes.now ≡ 4 → ⊥ = λ four. c.if-read_long-ne4.true (omega (arith, c.read_long.ensures, four)) in
-    no_numbers c.args.self.now.bytes.now 0 other ∙ sym (no_numbers c.args.self.now.bytes.now _ other)
+returns-then-read_long-eq1-clause-numbers c =
+    let one : version_of c.args.self.now.bytes.now ≡ 1 = omega (arith, c.read_long.ensures, c.if-read_long-eq1.true) in
+    no_numbers c.args.self.now.bytes.now 0 one ∙ sym (no_numbers c.args.self.now.bytes.now _ one)
 
 pub returns-clause-numbers : goal.returns-clause-numbers
 unfolding certificate_of numbers_of

@@ -43,11 +43,11 @@ returns-in_ok-add_call-in-Open-clause-decides c =
     let os = c.in-Open.open.items in
     let says : (r : List ℕ) → IsRecord r → (w : ℕ) → SomeMet os r w ↔ (SomeHeld c.args.rules.now r w × (w ≢ c.args.default)) =
     λ r rec. subst (SaysHeld c.args.rules.now c.args.default r) c.in-Open.is (c.in_ok-rule.ensures.says r rec) in
-    let found : IsFound c.asked.new.self.blocks.items os (leaf.Word c.args.default) c.in_ok-leaf-in-Open.leaf =
-    subst (λ xs. IsFound c.asked.new.self.blocks.items xs (leaf.Word c.args.default) c.in_ok-leaf-in-Open.leaf) c.deref.ensures.value
+    let found : IsFound c.asked.new.self.blocks.items os (leaf.Verdict c.args.default) c.in_ok-leaf-in-Open.leaf =
+    subst (λ xs. IsFound c.asked.new.self.blocks.items xs (leaf.Verdict c.args.default) c.in_ok-leaf-in-Open.leaf) c.deref.ensures.value
     c.in_ok-leaf-in-Open.ensures.found in
     open_decides c.add_call-in-Open.new.self.blocks.items c.args.rules.now c.args.default os c.in_ok-leaf-in-Open.leaf says
-    (subst (λ bs. IsFound bs os (leaf.Word c.args.default) c.in_ok-leaf-in-Open.leaf) (sym c.in_ok-add_call-in-Open.ensures.blocks) found)
+    (subst (λ bs. IsFound bs os (leaf.Verdict c.args.default) c.in_ok-leaf-in-Open.leaf) (sym c.in_ok-add_call-in-Open.ensures.blocks) found)
 
 pub returns-in_ok-add_call-in-Met-clause-notes : goal.returns-in_ok-add_call-in-Met-clause-notes
 returns-in_ok-add_call-in-Met-clause-notes c =
@@ -56,7 +56,7 @@ returns-in_ok-add_call-in-Met-clause-notes c =
     let next = c.in_ok-add_call-in-Met.ensures.calls in
     let word = c.in-Met.word in
     let decides = returns-in_ok-add_call-in-Met-clause-decides c in
-    let asks : AsksOf bs rules c.args.default (leaf.Word word) (Nothing c.in-Met.rule) =
+    let asks : AsksOf bs rules c.args.default (leaf.Verdict word) (Nothing c.in-Met.rule) =
     subst (IsMetAt rules) c.in-Met.is c.in_ok-rule.ensures.met in
     record {
       call = next.call;
@@ -77,14 +77,14 @@ returns-in_ok-add_call-in-Open-clause-notes c =
     let parts = c.in_ok-leaf-in-Open.parts in
     let next = c.in_ok-add_call-in-Open.ensures.calls in
     let decides = returns-in_ok-add_call-in-Open-clause-decides c in
-    let are : ArePartsOf c.asked.new.self.blocks.items os (leaf.Word c.args.default) parts.items to =
-    subst (λ xs. ArePartsOf c.asked.new.self.blocks.items xs (leaf.Word c.args.default) parts.items to) c.deref.ensures.value
+    let are : ArePartsOf c.asked.new.self.blocks.items os (leaf.Verdict c.args.default) parts.items to =
+    subst (λ xs. ArePartsOf c.asked.new.self.blocks.items xs (leaf.Verdict c.args.default) parts.items to) c.deref.ensures.value
     c.in_ok-leaf-in-Open.ensures.parts in
     let says : (r : List ℕ) → IsRecord r → (w : ℕ) → SomeMet os r w ↔ (SomeHeld rules r w × (w ≢ c.args.default)) =
     λ r rec. subst (SaysHeld rules c.args.default r) c.in-Open.is (c.in_ok-rule.ensures.says r rec) in
     let asks : AsksOf bs rules c.args.default to (InParts parts) = (
       os,
-      subst (λ bs. ArePartsOf bs os (leaf.Word c.args.default) parts.items to) (sym c.in_ok-add_call-in-Open.ensures.blocks) are,
+      subst (λ bs. ArePartsOf bs os (leaf.Verdict c.args.default) parts.items to) (sym c.in_ok-add_call-in-Open.ensures.blocks) are,
       λ r rec w met. ((says r rec w).0 met).0,
     ) in
     record {

@@ -1,6 +1,6 @@
 use Rattle.std.proofs.Common.{◌≡◌, ◌+◌, ◌<◌, ◌∙◌, ap, arith, length, max, subst, sym, vec_len}
 use Rattle.call_tables.specs.Arch.{token_of}
-use Rattle.rule_compile.specs.declared.ranges.Leaf.TheVariants.{Word}
+use Rattle.rule_compile.specs.declared.ranges.Leaf.TheVariants.{Verdict}
 use Rattle.rule_compile.specs.inner.Numbers.{AreUnconditional, IsExtended, LeafFor, Reached}
 use Rattle.rule_compile.specs.inner.Stands.{DecidesNumber}
 use Rattle.rule_compile.specs.inner.Noted.{NotesNumber}
@@ -23,8 +23,8 @@ returns-then-next-end-clause-reached c most many reached =
     let mid = c.extend.new.self.ranges.items in
     let is_next = next_is p m t from end next c.rules-rules.result.now c.token-token.ensures c.rules-rules.ensures.rules
     c.next_number-next.ensures in
-    let first : IsExtended old from next (Word p.default_word) mid =
-    subst (λ w. IsExtended old from next (Word w) mid) c.default_word-default.ensures c.in_ok-extend.ensures.extended in
+    let first : IsExtended old from next (Verdict p.default_word) mid =
+    subst (λ w. IsExtended old from next (Verdict w) mid) c.default_word-default.ensures c.in_ok-extend.ensures.extended in
     subst (λ n. Reached p m most end n mid) (sym c.in_ok-extend.ensures.end)
     (reached_end p m most from end next old mid c.requires.before c.requires.small c.requires.own many reached is_next first
     c.if-next-end.true)
@@ -41,13 +41,13 @@ returns-clause-reached c most many reached =
     let mid = c.extend.new.self.ranges.items in
     let is_next = next_is p m t from end next c.rules-rules.result.now c.token-token.ensures c.rules-rules.ensures.rules
     c.next_number-next.ensures in
-    let first : IsExtended old from next (Word p.default_word) mid =
-    subst (λ w. IsExtended old from next (Word w) mid) c.default_word-default.ensures c.in_ok-extend.ensures.extended in
+    let first : IsExtended old from next (Verdict p.default_word) mid =
+    subst (λ w. IsExtended old from next (Verdict w) mid) c.default_word-default.ensures c.in_ok-extend.ensures.extended in
     let new = c.extend-2.new.self.ranges.items in
     let leaf = c.in_ok-leaf.leaf in
     let of_rules : AreUnconditional p.rules → LeafFor p.rules t next c.default_word-default.result leaf =
     subst (λ rs. AreUnconditional rs → LeafFor rs t next c.default_word-default.result leaf) c.rules-rules.ensures.rules
-    c.in_ok-leaf.ensures.word in
+    c.in_ok-leaf.ensures.verdict in
     let decided : AreUnconditional p.rules → LeafFor p.rules (token_of m) next p.default_word leaf =
     subst (λ n. AreUnconditional p.rules → LeafFor p.rules n next p.default_word leaf) c.token-token.ensures
     (subst (λ w. AreUnconditional p.rules → LeafFor p.rules t next w leaf) c.default_word-default.ensures of_rules) in
@@ -73,8 +73,8 @@ returns-then-next-end-clause-told c told =
     let blocks = c.args.blocks.now.blocks.items in
     let is_next = next_is p m t from end next c.rules-rules.result.now c.token-token.ensures c.rules-rules.ensures.rules
     c.next_number-next.ensures in
-    let first : IsExtended old from next (Word p.default_word) mid =
-    subst (λ w. IsExtended old from next (Word w) mid) c.default_word-default.ensures c.in_ok-extend.ensures.extended in
+    let first : IsExtended old from next (Verdict p.default_word) mid =
+    subst (λ w. IsExtended old from next (Verdict w) mid) c.default_word-default.ensures c.in_ok-extend.ensures.extended in
     subst (λ n. ToldSoFar p m blocks n mid) (sym c.in_ok-extend.ensures.end)
     (told_first p m blocks c.rules-rules.ensures.is_profile.clear from end next old mid c.requires.before c.requires.own told is_next first)
 
@@ -94,8 +94,8 @@ returns-clause-told c told =
     let leaf = c.in_ok-leaf.leaf in
     let is_next = next_is p m t from end next c.rules-rules.result.now c.token-token.ensures c.rules-rules.ensures.rules
     c.next_number-next.ensures in
-    let first : IsExtended old from next (Word p.default_word) mid =
-    subst (λ w. IsExtended old from next (Word w) mid) c.default_word-default.ensures c.in_ok-extend.ensures.extended in
+    let first : IsExtended old from next (Verdict p.default_word) mid =
+    subst (λ w. IsExtended old from next (Verdict w) mid) c.default_word-default.ensures c.in_ok-extend.ensures.extended in
     let of_rules : DecidesNumber p.rules t next c.default_word-default.result grown leaf =
     subst (λ rs. DecidesNumber rs t next c.default_word-default.result grown leaf) c.rules-rules.ensures.rules c.in_ok-leaf.ensures.decides in
     let decided : DecidesNumber p.rules (token_of m) next p.default_word grown leaf =

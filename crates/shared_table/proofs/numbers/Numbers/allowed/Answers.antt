@@ -9,12 +9,12 @@ pub returns : goal.returns
 returns c = λ nr h.
     let test : ℕ → Bool = λ n. is_fixed_allow (accepted_insns c.args.program.now) c.args.arch n && is_in_all c.args.below n in
     rw (
-      c.word_from.ensures,
-      c.word_from-2.ensures,
-      c.word_from-3.ensures,
-      c.word_from-4.ensures,
-      c.word_from-5.ensures,
-      c.word_from-6.ensures,
-      c.word_from-7.ensures,
-      c.word_from-8.ensures,
+      c.part_from.ensures,
+      c.part_from-2.ensures,
+      c.part_from-3.ensures,
+      c.part_from-4.ensures,
+      c.part_from-5.ensures,
+      c.part_from-6.ensures,
+      c.part_from-7.ensures,
+      c.part_from-8.ensures,
     ) (holds test nr h)

@@ -4,7 +4,7 @@ use Rattle.call_record.proofs.StrictestLemmas.{strictest_of-front}
 use Rattle.processes.specs.Tasks.{program_judge}
 use Rattle.shared_table.specs.Tree.{Way, way_below, way_from, ways_from}
 use Rattle.shared_table.proofs.Ways.{way_is, way_past}
-use Rattle.shared_table.proofs.Words.{ended, words_on}
+use Rattle.shared_table.proofs.Verdicts.{ended, verdicts_on}
 use Rattle.shared_table.proofs.tree.Tree.walked.Goals as goal
 use Rattle.shared_table.proofs.tree.Tree.walked.Goals.{in-Some-next+in_default-node_at, in_default-next}
 
@@ -18,7 +18,7 @@ returns-in_default c =
 pub down-init : goal.down-init
 down-init c =
     let tree = c.args.self.now in
-    rw (way_is tree.arch tree.nodes.items c.args.place c.in-Some.first.now tree.tree c.in-Some.ensures, c.word-word.ensures) refl
+    rw (way_is tree.arch tree.nodes.items c.args.place c.in-Some.first.now tree.tree c.in-Some.ensures, c.verdict-word.ensures) refl
 
 pub down-preserved : goal.down-preserved
 down-preserved c =
@@ -26,19 +26,19 @@ down-preserved c =
     let nodes = tree.nodes.items in
     let r = c.args.rec.now in
     let m = c.in-Some-node_at.node.now in
-    let word : ℕ = (program_judge m.program).word r in
+    let word : ℕ = (program_judge m.program).verdict r in
     let rest : Way = way_below (ways_from [] nodes) m.below in
-    let there : words_on r (way_below (ways_from [] nodes) c.down.next) ≡ word ∷ words_on r rest =
-    ap (λ o. words_on r (way_below (ways_from [] nodes) o)) c.in-Some-next.is
-    ∙ ap (words_on r) (way_is tree.arch nodes c.in-Some-next.at m tree.tree c.in-Some-node_at.ensures) in
-    rw (c.stricter-word.ensures, c.word.ensures)
-    (strictest_of-front c.down.word word (words_on r rest) ∙ ap (λ ws. strictest_of (c.down.word ∷ ws)) (sym there) ∙ c.down.invariant)
+    let there : verdicts_on r (way_below (ways_from [] nodes) c.down.next) ≡ word ∷ verdicts_on r rest =
+    ap (λ o. verdicts_on r (way_below (ways_from [] nodes) o)) c.in-Some-next.is
+    ∙ ap (verdicts_on r) (way_is tree.arch nodes c.in-Some-next.at m tree.tree c.in-Some-node_at.ensures) in
+    rw (c.stricter-word.ensures, c.verdict.ensures)
+    (strictest_of-front c.down.word word (verdicts_on r rest) ∙ ap (λ ws. strictest_of (c.down.word ∷ ws)) (sym there) ∙ c.down.invariant)
 
 pub returns : goal.returns
 returns c =
     let nodes = c.args.self.now.nodes.items in
     let r = c.args.rec.now in
-    let all : ℕ = strictest_of (words_on r (way_from nodes c.args.place)) in
+    let all : ℕ = strictest_of (verdicts_on r (way_from nodes c.args.place)) in
     let left : Way = way_below (ways_from [] nodes) c.down.next in
     c.stricter.ensures ∙ elim c.match-next.branch [
       | in-Some-next+in_default-node_at w ↦

@@ -3,7 +3,7 @@ use Rattle.std.specs.Prelude.{nat_lt}
 use Rattle.std.proofs.lemmas.Bool.{and_parts}
 use Rattle.shared_table.specs.Store.{way_of}
 use Rattle.shared_table.specs.Tree.{all_allow}
-use Rattle.shared_table.proofs.Words.{allowed_at_once}
+use Rattle.shared_table.proofs.Verdicts.{allowed_at_once}
 use Rattle.shared_table.proofs.tree.TreeStore.verdict.Goals as goal
 
 pub returns-then-allows_at_once : goal.returns-then-allows_at_once

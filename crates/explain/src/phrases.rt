@@ -1,6 +1,6 @@
 //! Verdicts and conditions as texts.
 ghost use Rattle.std.specs.Prelude.{◌≡◌};
-ghost use Rattle.explain.specs.Words as spec;
+ghost use Rattle.explain.specs.Phrases as spec;
 
 use call_record::Word;
 use profile::{Cond, Op};
@@ -29,7 +29,7 @@ pub struct ActionText(pub Word);
 
 impl fmt::Display for ActionText {
     ghost use Rattle.std.specs.Prelude.{Some};
-    ghost use Rattle.explain.specs.Words.{action_text};
+    ghost use Rattle.explain.specs.Phrases.{action_text};
 
     ghost output = { λ told. Some (action_text told.0) };
 
@@ -70,7 +70,7 @@ pub struct ConditionText<'a>(pub &'a Cond);
 
 impl fmt::Display for ConditionText<'_> {
     ghost use Rattle.std.specs.Prelude.{Some};
-    ghost use Rattle.explain.specs.Words.{condition_text};
+    ghost use Rattle.explain.specs.Phrases.{condition_text};
 
     ghost output = { λ told. Some (condition_text told.0.now) };
 

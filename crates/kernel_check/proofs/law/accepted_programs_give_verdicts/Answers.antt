@@ -1,5 +1,5 @@
 use Rattle.kernel_check.proofs.RunLaws.{runs}
-use Rattle.kernel_check.proofs.law.accepted_programs_give_words.Goals as goal
+use Rattle.kernel_check.proofs.law.accepted_programs_give_verdicts.Goals as goal
 
 pub returns : goal.returns
 returns c = runs

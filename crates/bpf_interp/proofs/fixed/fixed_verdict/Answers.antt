@@ -6,7 +6,7 @@ use Rattle.kernel_check.proofs.RunLaws.{plain, reads_written}
 use Rattle.bpf_interp.specs.inner.Step.{state_of}
 use Rattle.bpf_interp.proofs.Known.{far, last_word, near, no_word}
 use Rattle.bpf_interp.proofs.Moments.{at_first, next_one}
-use Rattle.bpf_interp.proofs.fixed.fixed_word.Goals as goal
+use Rattle.bpf_interp.proofs.fixed.fixed_verdict.Goals as goal
 
 pub run-init : goal.run-init
 run-init c =

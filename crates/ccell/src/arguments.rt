@@ -33,10 +33,10 @@ fn stop_of(error: io::Error) -> Stop<'static> {
 }
 
 /// The arguments after the program's name.
-pub fn words_of(rt: &HostRuntime, alloc: Global) -> Result<Vec<String>, Stop<'static>> {
-    let mut words = Vec::new(alloc);
-    for word in env::args(&(Nameless(rt), alloc)).map_err(stop_of)?.skip(1) {
-        words.push(word).map_err(|_| Stop::OutOfMemory)?;
+pub fn arguments_of(rt: &HostRuntime, alloc: Global) -> Result<Vec<String>, Stop<'static>> {
+    let mut arguments = Vec::new(alloc);
+    for argument in env::args(&(Nameless(rt), alloc)).map_err(stop_of)?.skip(1) {
+        arguments.push(argument).map_err(|_| Stop::OutOfMemory)?;
     }
-    Ok(words)
+    Ok(arguments)
 }

@@ -5,12 +5,12 @@ use Rattle.std.specs.List.{flat_map}
 use Rattle.texts.specs.Lines.{line_feed}
 use Rattle.call_tables.specs.declared.arch.Arch.{Arch}
 use Rattle.call_tables.specs.declared.arch.Family.{Family}
-use Rattle.call_tables.specs.Arch.{machines_of, table_of, token_of, word_of}
+use Rattle.call_tables.specs.Arch.{machines_of, table_of, token_of, machine_name}
 use Rattle.call_tables.specs.Numbers.{has_call}
 use Rattle.call_tables.specs.Table.{name_in}
 use Rattle.call_record.specs.declared.layout.Record.{Record}
 use Rattle.call_record.specs.Verdict.{action, datum, kill_process, kill_thread, trap, errno, user_notif, trace, log, allow}
-use Rattle.call_record.specs.Text as word
+use Rattle.call_record.specs.Text as verdict
 use Rattle.profile.specs.declared.conditions.Cond.{Cond}
 use Rattle.profile.specs.declared.conditions.Op.{Op}
 use Rattle.profile.specs.declared.conditions.Op.TheVariants.{Ne, Lt, Le, Eq, Ge, Gt, MaskedEq}
@@ -79,8 +79,9 @@ abbrev pub machine_with : Family → ℕ → ℕ → Option Arch
 machine_with family token nr = or_else (owner_of family token nr) (machine_of family token)
 
 abbrev pub named_call : Option (List ℕ) → Arch → ℕ → List ℕ
-named_call (Some name) arch nr = codes "call " ++ name ++ codes ", number " ++ decimal nr ++ codes " of " ++ word_of arch ++ line_feed ∷ []
-named_call None arch nr = codes "call " ++ decimal nr ++ codes " of " ++ word_of arch ++ line_feed ∷ []
+named_call (Some name) arch nr =
+    codes "call " ++ name ++ codes ", number " ++ decimal nr ++ codes " of " ++ machine_name arch ++ line_feed ∷ []
+named_call None arch nr = codes "call " ++ decimal nr ++ codes " of " ++ machine_name arch ++ line_feed ∷ []
 
 abbrev pub call_on : Option Arch → ℕ → ℕ → List ℕ
 call_on (Some arch) token nr = named_call (name_in (table_of arch) nr) arch nr
@@ -95,4 +96,4 @@ abbrev pub call_lines : Family → Record → List ℕ
 call_lines family r = call_on (machine_with family r.arch r.nr) r.arch r.nr ++ codes "arguments" ++ arguments_text r.args ++ line_feed ∷ []
 
 abbrev pub verdict_line : ℕ → List ℕ
-verdict_line v = codes "verdict " ++ word.text_of v ++ codes " " ++ action_text v ++ line_feed ∷ []
+verdict_line v = codes "verdict " ++ verdict.text_of v ++ codes " " ++ action_text v ++ line_feed ∷ []
