@@ -17,7 +17,6 @@ mod learning;
 mod listing;
 mod maker;
 mod numbers;
-mod sorting;
 mod spot;
 mod stating;
 mod words;

@@ -2,7 +2,6 @@
 
 use crate::fault::OutlineError;
 use crate::maker::{Maker, regs_of};
-use crate::spot::Spot;
 use cert_form::{ChainNode, Kind};
 use cert_parts::{Chains, NOBODY, followers, leading_to};
 use std::alloc::{AllocError, Global};
@@ -124,7 +123,7 @@ impl Listing {
         };
         let is_first = self.nodes.is_empty();
         let before = number_at(&self.before, place);
-        let chain = chain_of(maker, &mut self.chains, spot, before)?;
+        let chain = self.chains.of(maker.alloc, maker.stated(spot)?, before)?;
         let (first, second) = followers(*kind);
         set(&mut self.before, first, chain);
         set(&mut self.before, second, chain);
@@ -138,18 +137,6 @@ impl Listing {
         })?;
         Ok(())
     }
-}
-
-// The chain of what a spot's node states, where a node before it has another.
-fn chain_of(
-    maker: &Maker<'_>,
-    chains: &mut Chains,
-    spot: &Spot,
-    before: u32,
-) -> Result<u32, OutlineError> {
-    let stated = maker.stated(spot)?;
-    let (claims, shared) = stated.sorted(maker.alloc, chains, before)?;
-    Ok(chains.of(&claims, shared)?)
 }
 
 /// The certificate of all spots of a maker, with what they do.

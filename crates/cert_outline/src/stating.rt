@@ -6,26 +6,32 @@ use crate::maker::Maker;
 use crate::spot::{Spot, Which};
 use crate::words::Words;
 use cert_form::Claim;
-use std::alloc::Global;
+use cert_parts::Stated;
+use std::alloc::{AllocError, Global};
 
 /// Claims, one after the other.
 #[derive(Drop)]
-pub(crate) struct Claims {
-    pub(crate) items: Vec<Claim>,
+struct Claims {
+    items: Vec<Claim>,
     is_refused: bool,
 }
 
+// How many claims most nodes make at most of their call and of rules, and of arguments.
+const MANY: usize = 48;
+
+const FEW: usize = 8;
+
 impl Claims {
-    /// No claims.
-    pub(crate) fn new(alloc: Global) -> Claims {
-        Claims {
-            items: Vec::new(alloc),
+    // No claims, with room for so many.
+    fn new(alloc: Global, room: usize) -> Result<Claims, AllocError> {
+        Ok(Claims {
+            items: Vec::with_capacity(alloc, room)?,
             is_refused: false,
-        }
+        })
     }
 
-    /// Adds a claim.
-    pub(crate) fn add(&mut self, claim: Claim) {
+    // Adds a claim.
+    fn add(&mut self, claim: Claim) {
         if self.items.push(claim).is_err() {
             self.is_refused = true;
         }
@@ -53,65 +59,25 @@ impl Claims {
     }
 }
 
-/// What a node states: of its call, which rules are out, and all else.
-#[derive(Drop)]
-pub(crate) struct Stated {
-    pub(crate) call: Claims,
-    /// The places of the rules that may be out, each with whether it is.
-    pub(crate) rules: Vec<(u32, bool)>,
-    pub(crate) others: Claims,
-    is_refused: bool,
-}
-
-impl Stated {
-    /// Nothing.
-    pub(crate) fn new(alloc: Global) -> Stated {
-        Stated {
-            call: Claims::new(alloc),
-            rules: Vec::new(alloc),
-            others: Claims::new(alloc),
-            is_refused: false,
-        }
-    }
-
-    // Makes room for so many rules more.
-    fn expect(&mut self, count: usize) {
-        if self.rules.reserve(count).is_err() {
-            self.is_refused = true;
-        }
-    }
-
-    /// Adds a rule that may be out, with whether it is.
-    pub(crate) fn add_rule(&mut self, rule: u32, is_out: bool) {
-        if self.rules.push((rule, is_out)).is_err() {
-            self.is_refused = true;
-        }
-    }
-
-    /// Whether memory was refused for any of it.
-    pub(crate) fn is_refused(&self) -> bool {
-        self.is_refused || self.call.is_refused || self.others.is_refused
-    }
-}
-
 impl<'a> Maker<'a> {
     // Which rules of a call are out, of those of the parts that were asked and of the one that is asked.
-    fn rules_stated(&self, call: &AskedCall, left: &Left, stated: &mut Stated) {
+    fn rules_stated(&self, call: &AskedCall, left: &Left, stated: &mut Claims) {
         for (place, part) in call.parts.iter().enumerate() {
-            stated.expect(part.len());
             let mut next = 0usize;
             for rule in part {
                 let is_left = place == left.part && left.is_at(next, *rule);
                 if is_left {
                     next = next.saturating_add(1);
                 }
-                stated.add_rule(*rule, place <= left.part && !is_left);
+                if place <= left.part && !is_left {
+                    stated.add(Claim::Out(*rule));
+                }
             }
         }
     }
 
     // What is stated of the rules of a spot's call.
-    fn left_stated(&self, spot: &Spot, stated: &mut Stated) {
+    fn left_stated(&self, spot: &Spot, stated: &mut Claims) {
         let (Which::Asked(call), Some(left)) = (spot.which, self.left.get(spot.left)) else {
             return;
         };
@@ -121,19 +87,23 @@ impl<'a> Maker<'a> {
             self.rules_stated(call, left, stated);
         }
         for own in &left.rules {
-            stated.others.add_met(own);
+            stated.add_met(own);
         }
     }
 
-    /// What the node of a spot states.
+    /// What the node of a spot states: of its call, which rules are out and which conditions are met; and of arguments.
     pub(crate) fn stated(&self, spot: &Spot) -> Result<Stated, OutlineError> {
-        let mut stated = Stated::new(self.alloc);
-        stated.call.add_words(self.words.get(spot.numbers));
-        self.left_stated(spot, &mut stated);
-        stated.others.add_words(self.words.get(spot.arguments));
-        if stated.is_refused() {
+        let mut lasting = Claims::new(self.alloc, MANY)?;
+        lasting.add_words(self.words.get(spot.numbers));
+        self.left_stated(spot, &mut lasting);
+        let mut passing = Claims::new(self.alloc, FEW)?;
+        passing.add_words(self.words.get(spot.arguments));
+        if lasting.is_refused || passing.is_refused {
             return Err(OutlineError::OutOfMemory);
         }
-        Ok(stated)
+        Ok(Stated {
+            lasting: lasting.items,
+            passing: passing.items,
+        })
     }
 }

@@ -1,5 +1,6 @@
 //! The chains of a certificate: lists of claims that share their beginnings.
 
+use crate::marks::Marks;
 use crate::table::{Item, Table, mixed};
 use cert_form::{ChainNode, Claim, FormError, MAX_ENTRIES, MAX_LITERALS, write_claims};
 use cert_state::Lit;
@@ -14,33 +15,26 @@ pub struct Chains {
     entries: Table<(u32, Claim)>,
 }
 
+/// What a node states: of its call and of rules, which nodes behind mostly state too; and of arguments, which changes from
+/// node to node.
+#[derive(Drop)]
+pub struct Stated {
+    pub lasting: Vec<Claim>,
+    pub passing: Vec<Claim>,
+}
+
 /// A claim of a chain, and the chain up to it.
 #[derive(Clone, Copy)]
-pub struct Link {
-    pub claim: Claim,
-    pub chain: u32,
+struct Link {
+    claim: Claim,
+    chain: u32,
 }
 
-/// What a list of claims shares with chains that are there: how many of the first of them, and the chain of these.
-#[derive(Clone, Copy)]
-pub struct Shared {
-    pub chain: u32,
-    pub count: usize,
-}
-
-impl Shared {
-    // What a list of claims shares with one chain.
-    fn with(links: &[Link], claims: &[Claim]) -> Shared {
-        let mut shared = Shared { chain: 0, count: 0 };
-        for (link, claim) in links.iter().zip(claims) {
-            if link.claim != *claim {
-                break;
-            }
-            shared.chain = link.chain;
-            shared.count = shared.count.saturating_add(1);
-        }
-        shared
-    }
+/// A chain that is there, and claims that are to be stated behind it.
+#[derive(Drop)]
+struct Begun {
+    chain: u32,
+    left: Vec<Claim>,
 }
 
 impl Item for Claim {
@@ -61,7 +55,7 @@ impl Item for Claim {
 
 impl Item for (u32, Claim) {
     fn key(&self) -> u32 {
-        mixed(self.0, self.1.key())
+        mixed(mixed(self.0, 0), self.1.key())
     }
 }
 
@@ -82,29 +76,92 @@ impl Chains {
         Ok(place as u32 + 1)
     }
 
-    /// The chain of these claims, of which the first so many stand in this one.
-    pub fn of(&mut self, claims: &[Claim], shared: Shared) -> Result<u32, FormError> {
-        if claims.len() > MAX_LITERALS {
-            return Err(FormError::BadCount);
+    // The chain with those claims more, one after the other, with which it is there. The others are left.
+    fn longest(
+        &self,
+        chain: u32,
+        claims: &[Claim],
+        left: &mut Vec<Claim>,
+    ) -> Result<u32, AllocError> {
+        let mut longest = chain;
+        for claim in claims {
+            match self.entries.find(&(longest, *claim)) {
+                Some(place) => longest = place.min(MAX_ENTRIES) as u32 + 1,
+                None => left.push(*claim)?,
+            }
         }
-        let mut chain = shared.chain;
-        for claim in claims.get(shared.count..).unwrap_or(&[]) {
+        Ok(longest)
+    }
+
+    // The chain that is longer by as many of these claims as are found by going over them until none is.
+    fn begun(&self, alloc: Global, from: u32, claims: Vec<Claim>) -> Result<Begun, AllocError> {
+        let mut begun = Begun {
+            chain: from,
+            left: claims,
+        };
+        for _ in 0..begun.left.len() {
+            let mut left = Vec::with_capacity(alloc, begun.left.len())?;
+            let chain = self.longest(begun.chain, &begun.left, &mut left)?;
+            let is_last = chain == begun.chain || left.is_empty();
+            begun = Begun { chain, left };
+            if is_last {
+                break;
+            }
+        }
+        Ok(begun)
+    }
+
+    // The same behind the beginning of a chain, as far as it states some of the claims; and whether what comes after that
+    // states none of them.
+    fn begun_as(
+        &self,
+        alloc: Global,
+        before: u32,
+        claims: &[Claim],
+    ) -> Result<(Begun, bool), AllocError> {
+        let mut marks = Marks::of(alloc, claims)?;
+        let links = self.links(alloc, before)?;
+        let mut kept = 0usize;
+        let mut chain = 0;
+        for link in &links {
+            if !marks.take(link.claim) {
+                break;
+            }
+            kept = kept.saturating_add(1);
+            chain = link.chain;
+        }
+        let later = links.get(kept..).unwrap_or(&[]);
+        let is_whole = !later.iter().any(|link| marks.has(link.claim));
+        let left = marks.left(alloc, claims)?;
+        Ok((self.begun(alloc, chain, left)?, is_whole))
+    }
+
+    // The chain with all claims that are left.
+    fn with_left(&mut self, begun: &Begun) -> Result<u32, FormError> {
+        let mut chain = begun.chain;
+        for claim in &begun.left {
             chain = self.longer(chain, *claim)?;
         }
         Ok(chain)
     }
 
-    /// What the chain of these claims shares with those that are there. One that it is likely to begin with is looked at first.
-    pub fn shared(&self, claims: &[Claim], likely: &[Link]) -> Shared {
-        let mut shared = Shared::with(likely, claims);
-        for claim in claims.get(shared.count..).unwrap_or(&[]) {
-            let Some(place) = self.entries.find(&(shared.chain, *claim)) else {
-                return shared;
-            };
-            shared.chain = place.min(MAX_ENTRIES) as u32 + 1;
-            shared.count = shared.count.saturating_add(1);
+    /// A chain of what a node states, in whatever order it shares much with those that are there: it begins as that of a node
+    /// before, or else as one that is found claim by claim.
+    pub fn of(&mut self, alloc: Global, stated: Stated, before: u32) -> Result<u32, FormError> {
+        let Stated { lasting, passing } = stated;
+        if lasting.len().saturating_add(passing.len()) > MAX_LITERALS {
+            return Err(FormError::BadCount);
         }
-        shared
+        let (mut begun, is_whole) = self.begun_as(alloc, before, &lasting)?;
+        if !is_whole {
+            let other = self.begun(alloc, 0, lasting)?;
+            if other.left.len() < begun.left.len() {
+                begun = other;
+            }
+        }
+        let chain = self.with_left(&begun)?;
+        let begun = self.begun(alloc, chain, passing)?;
+        self.with_left(&begun)
     }
 
     /// The last claim of a chain, with the chain before it.
@@ -127,8 +184,8 @@ impl Chains {
         Ok(claims)
     }
 
-    /// The links of a chain, the first claim first.
-    pub fn links(&self, alloc: Global, chain: u32) -> Result<Vec<Link>, AllocError> {
+    // The links of a chain, the first claim first.
+    fn links(&self, alloc: Global, chain: u32) -> Result<Vec<Link>, AllocError> {
         let mut links = Vec::with_capacity(alloc, LIKELY)?;
         let mut left = chain;
         for _ in 0..MAX_LITERALS {

@@ -7,10 +7,11 @@
 mod chains;
 mod cuts;
 mod kinds;
+mod marks;
 mod states;
 mod table;
 
-pub use chains::{Chains, Link, Shared};
+pub use chains::{Chains, Stated};
 pub use cuts::{Cut, cut_below, cut_of_bits};
 pub use kinds::{NOBODY, followers, leading_to};
 pub use states::{NO_REGS, listed};

@@ -1,4 +1,4 @@
-pub mod Words
+pub mod Phrases
 pub mod Reason
 pub mod Explanation
 pub mod Asked

@@ -6,7 +6,7 @@ use Rattle.rule_compile.proofs.SaysLaws.{none_by_length, says_default, says_unco
 use Rattle.rule_compile.specs.inner.Numbers.{ruled}
 use Rattle.rule_compile.proofs.ranges.Leaf.of.Goals as goal
 
-pub returns-then-is_empty-clause-verdict : goal.returns-then-is_empty-clause-word
+pub returns-then-is_empty-clause-verdict : goal.returns-then-is_empty-clause-verdict
 returns-then-is_empty-clause-verdict c unconditional =
     ruled c.rule-item.result (c.loop-rule.rule-index, c.loop-rule-test.true, sym c.rule-item.is) (c.if-is_for.ensures.0 refl) refl
 
