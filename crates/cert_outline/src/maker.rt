@@ -256,17 +256,40 @@ fn made(
     maker.certificate()
 }
 
+// A certificate of more bytes is made in both ways: it has some thousand nodes.
+const LARGE: usize = 0x4_0000;
+
+// How many bytes there are, more than any certificate has where there is none.
+fn length(made: &Result<Vec<u8>, OutlineError>) -> usize {
+    match made {
+        Ok(bytes) => bytes.len(),
+        Err(_) => usize::MAX,
+    }
+}
+
 /// The certificate of the filter that the compiler made of a profile, with this outline. Calls that are asked alike are told
-/// apart at the returns; and where it comes out too large so, before their arguments are asked for.
+/// apart at the returns; where it comes out large so, or too large, also before their arguments are asked for, and the shorter
+/// one is taken.
 pub fn outlined(
     alloc: Global,
     profile: &Profile,
     program: &Program<'_>,
     outline: &Outline,
 ) -> Result<Vec<u8>, OutlineError> {
-    match made(alloc, profile, program, outline, false) {
-        Ok(bytes) => Ok(bytes),
-        Err(OutlineError::OutOfMemory) => Err(OutlineError::OutOfMemory),
-        Err(_) => made(alloc, profile, program, outline, true),
+    let first = made(alloc, profile, program, outline, false);
+    if let Err(OutlineError::OutOfMemory) = first {
+        return first;
+    }
+    if length(&first) <= LARGE {
+        return first;
+    }
+    let other = made(alloc, profile, program, outline, true);
+    if let Err(OutlineError::OutOfMemory) = other {
+        return other;
+    }
+    if length(&other) < length(&first) {
+        other
+    } else {
+        first
     }
 }

@@ -121,7 +121,7 @@ call_refused Stopped c task r a s refusal = inr refl
 call_refused Running c task r a s refusal =
     shown_by (presented task r a c.processes).0 (event_refused c.first task r a c.processes (live_task task c.processes.tasks) refl s refusal)
 
-start_refused : (native : Arch) (first : Judge) → IsRefusal (first.word (execve_of native))
+start_refused : (native : Arch) (first : Judge) → IsRefusal (first.verdict (execve_of native))
     → IsDeniedStart (start_reply (first_call native first).0)
 start_refused native first refusal =
     let t = first_task first in

@@ -30,7 +30,7 @@ gives c r =
 
 pub same_first : by_program ≡ by_profile
 same_first =
-    fun_ext (λ c. ap (λ (w : Record → ℕ). record { word = w; count = length (program_of c) })
+    fun_ext (λ c. ap (λ (w : Record → ℕ). record { verdict = w; count = length (program_of c) })
     (fun_ext (λ r. ap (λ (o : Option ℕ). unwrap_or o 0) (gives c r))))
 
 pub same_run : (os : List Command) (w : World) → run by_program os w ≡ run by_profile os w
