@@ -92,7 +92,7 @@ class Bench:
         if kind in library.ON_MADE:
             made, asker = library.ON_MADE[kind]
             return asker(self.made[made], rest)
-        raise Fault(f"no word of rows: {kind}")
+        raise Fault(f"no kind of row: {kind}")
 
     def bundle(self, rest):
         """The machine and the text of a bundle that is told by its frame."""

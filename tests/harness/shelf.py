@@ -13,7 +13,7 @@ def split_in(text, count):
     """The fields of a text, up to so many, and the rest as the last."""
     fields = text.split(" ", count - 1)
     if len(fields) < count:
-        raise Fault(f"{count} words are wanted: {text}")
+        raise Fault(f"{count} fields are wanted: {text}")
     return fields
 
 
