@@ -17,9 +17,10 @@ mod learning;
 mod listing;
 mod maker;
 mod numbers;
+mod outlined;
 mod spot;
 mod stating;
 mod words;
 
 pub use fault::OutlineError;
-pub use maker::outlined;
+pub use outlined::{Outlined, outlined};

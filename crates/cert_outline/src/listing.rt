@@ -2,6 +2,7 @@
 
 use crate::fault::OutlineError;
 use crate::maker::{Maker, regs_of};
+use crate::outlined::Outlined;
 use cert_form::{ChainNode, Kind};
 use cert_parts::{Chains, NOBODY, followers, leading_to};
 use std::alloc::{AllocError, Global};
@@ -139,10 +140,15 @@ impl Listing {
     }
 }
 
+// A certificate of more bytes states much where it has more than three entries a node.
+const LARGE: usize = 0x2_0000;
+
 /// The certificate of all spots of a maker, with what they do.
-pub(crate) fn listed_nodes(maker: &Maker<'_>, ways: &[Kind]) -> Result<Vec<u8>, OutlineError> {
+pub(crate) fn listed_nodes(maker: &Maker<'_>, ways: &[Kind]) -> Result<Outlined, OutlineError> {
     let order = sorted(maker.alloc, ways)?;
     let mut listing = Listing::new(maker.alloc, &order)?;
     listing.add_all(maker, ways, &order)?;
-    Ok(listing.chains.written(maker.alloc, &listing.nodes)?)
+    let bytes = listing.chains.written(maker.alloc, &listing.nodes)?;
+    let states_much = bytes.len() > LARGE && listing.chains.count() / 3 >= listing.nodes.len();
+    Ok(Outlined { bytes, states_much })
 }

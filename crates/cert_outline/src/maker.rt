@@ -3,6 +3,7 @@
 use crate::asked::{AskedCall, Left, asked_calls};
 use crate::fault::OutlineError;
 use crate::listing::listed_nodes;
+use crate::outlined::Outlined;
 use crate::spot::{Spot, Which};
 use crate::words::Words;
 use bpf_insn::{Arithmetic, Insn, Operand, Operation, Program, Test};
@@ -55,7 +56,7 @@ pub(crate) fn regs_of(is_first: bool, a: AVal) -> Regs {
 }
 
 impl<'a> Maker<'a> {
-    fn new(
+    pub(crate) fn new(
         alloc: Global,
         profile: &'a Profile,
         program: Program<'a>,
@@ -237,59 +238,10 @@ impl<'a> Maker<'a> {
         Ok(kinds)
     }
 
-    // The certificate of all spots, one after the other from where the filter begins.
-    fn certificate(&mut self) -> Result<Vec<u8>, OutlineError> {
+    /// The certificate of all spots, one after the other from where the filter begins.
+    pub(crate) fn certificate(&mut self) -> Result<Outlined, OutlineError> {
         self.begin()?;
         let kinds = self.all_kinds()?;
         listed_nodes(self, &kinds)
-    }
-}
-
-fn made(
-    alloc: Global,
-    profile: &Profile,
-    program: &Program<'_>,
-    outline: &Outline,
-    is_early: bool,
-) -> Result<Vec<u8>, OutlineError> {
-    let mut maker = Maker::new(alloc, profile, *program, outline, is_early)?;
-    maker.certificate()
-}
-
-// A certificate of more bytes is made in both ways: it has some thousand nodes.
-const LARGE: usize = 0x4_0000;
-
-// How many bytes there are, more than any certificate has where there is none.
-fn length(made: &Result<Vec<u8>, OutlineError>) -> usize {
-    match made {
-        Ok(bytes) => bytes.len(),
-        Err(_) => usize::MAX,
-    }
-}
-
-/// The certificate of the filter that the compiler made of a profile, with this outline. Calls that are asked alike are told
-/// apart at the returns; where it comes out large so, or too large, also before their arguments are asked for, and the shorter
-/// one is taken.
-pub fn outlined(
-    alloc: Global,
-    profile: &Profile,
-    program: &Program<'_>,
-    outline: &Outline,
-) -> Result<Vec<u8>, OutlineError> {
-    let first = made(alloc, profile, program, outline, false);
-    if let Err(OutlineError::OutOfMemory) = first {
-        return first;
-    }
-    if length(&first) <= LARGE {
-        return first;
-    }
-    let other = made(alloc, profile, program, outline, true);
-    if let Err(OutlineError::OutOfMemory) = other {
-        return other;
-    }
-    if length(&other) < length(&first) {
-        other
-    } else {
-        first
     }
 }

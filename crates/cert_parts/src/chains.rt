@@ -67,6 +67,11 @@ impl Chains {
         }
     }
 
+    /// How many entries there are.
+    pub fn count(&self) -> usize {
+        self.entries.items().len()
+    }
+
     /// The chain with one claim more.
     pub fn longer(&mut self, chain: u32, claim: Claim) -> Result<u32, FormError> {
         let place = self.entries.place((chain, claim))?;
