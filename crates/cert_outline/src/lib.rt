@@ -23,4 +23,4 @@ mod stating;
 mod words;
 
 pub use fault::OutlineError;
-pub use outlined::{Outlined, outlined};
+pub use outlined::{Certificate, outlined};

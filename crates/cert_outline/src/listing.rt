@@ -2,7 +2,7 @@
 
 use crate::fault::OutlineError;
 use crate::maker::{Maker, regs_of};
-use crate::outlined::Outlined;
+use crate::outlined::Certificate;
 use cert_form::{ChainNode, Kind};
 use cert_parts::{Chains, NOBODY, followers, leading_to};
 use std::alloc::{AllocError, Global};
@@ -144,11 +144,11 @@ impl Listing {
 const LARGE: usize = 0x2_0000;
 
 /// The certificate of all spots of a maker, with what they do.
-pub(crate) fn listed_nodes(maker: &Maker<'_>, ways: &[Kind]) -> Result<Outlined, OutlineError> {
+pub(crate) fn listed_nodes(maker: &Maker<'_>, ways: &[Kind]) -> Result<Certificate, OutlineError> {
     let order = sorted(maker.alloc, ways)?;
     let mut listing = Listing::new(maker.alloc, &order)?;
     listing.add_all(maker, ways, &order)?;
     let bytes = listing.chains.written(maker.alloc, &listing.nodes)?;
     let states_much = bytes.len() > LARGE && listing.chains.count() / 3 >= listing.nodes.len();
-    Ok(Outlined { bytes, states_much })
+    Ok(Certificate { bytes, states_much })
 }

@@ -3,7 +3,7 @@
 use crate::asked::{AskedCall, Left, asked_calls};
 use crate::fault::OutlineError;
 use crate::listing::listed_nodes;
-use crate::outlined::Outlined;
+use crate::outlined::Certificate;
 use crate::spot::{Spot, Which};
 use crate::words::Words;
 use bpf_insn::{Arithmetic, Insn, Operand, Operation, Program, Test};
@@ -239,7 +239,7 @@ impl<'a> Maker<'a> {
     }
 
     /// The certificate of all spots, one after the other from where the filter begins.
-    pub(crate) fn certificate(&mut self) -> Result<Outlined, OutlineError> {
+    pub(crate) fn certificate(&mut self) -> Result<Certificate, OutlineError> {
         self.begin()?;
         let kinds = self.all_kinds()?;
         listed_nodes(self, &kinds)

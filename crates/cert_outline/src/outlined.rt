@@ -9,7 +9,7 @@ use std::alloc::Global;
 
 /// A certificate of the filter that the compiler made of a profile.
 #[derive(Drop)]
-pub struct Outlined {
+pub struct Certificate {
     pub bytes: Vec<u8>,
     /// Whether it is large for how many nodes it has: it has more than 128 KiB, and more than three entries a node.
     pub states_much: bool,
@@ -19,14 +19,14 @@ pub struct Outlined {
 const LARGE: usize = 0x4_0000;
 
 // How many bytes there are, more than any certificate has where there is none.
-fn length(made: &Result<Outlined, OutlineError>) -> usize {
+fn length(made: &Result<Certificate, OutlineError>) -> usize {
     match made {
         Ok(made) => made.bytes.len(),
         Err(_) => usize::MAX,
     }
 }
 
-fn is_refused(made: &Result<Outlined, OutlineError>) -> bool {
+fn is_refused(made: &Result<Certificate, OutlineError>) -> bool {
     matches!(made, Err(OutlineError::OutOfMemory))
 }
 
@@ -36,7 +36,7 @@ fn made(
     program: &Program<'_>,
     outline: &Outline,
     is_early: bool,
-) -> Result<Outlined, OutlineError> {
+) -> Result<Certificate, OutlineError> {
     let mut maker = Maker::new(alloc, profile, *program, outline, is_early)?;
     maker.certificate()
 }
@@ -49,7 +49,7 @@ pub fn outlined(
     profile: &Profile,
     program: &Program<'_>,
     outline: &Outline,
-) -> Result<Outlined, OutlineError> {
+) -> Result<Certificate, OutlineError> {
     let first = made(alloc, profile, program, outline, false);
     if is_refused(&first) || length(&first) <= LARGE {
         return first;

@@ -1,6 +1,6 @@
 //! Certificates of filters of profiles with conditions.
 
-use cert_outline::{OutlineError, Outlined, outlined};
+use cert_outline::{Certificate, OutlineError, outlined};
 use cert_walk::{CertifyError, walk_through};
 use kernel_check::Accepted;
 use profile::Profile;
@@ -35,7 +35,7 @@ fn by_outline(
     outline: &Outline,
 ) -> Result<Vec<u8>, CertifyError> {
     match outlined(alloc, profile, &program.program(), outline) {
-        Ok(Outlined { bytes, states_much }) => {
+        Ok(Certificate { bytes, states_much }) => {
             if states_much {
                 return shorter(alloc, profile, program, bytes);
             }
