@@ -16,11 +16,11 @@ mod fault;
 mod learning;
 mod listing;
 mod maker;
+mod making;
 mod numbers;
-mod outlined;
 mod spot;
 mod stating;
 mod words;
 
 pub use fault::OutlineError;
-pub use outlined::{Certificate, outlined};
+pub use making::{Certificate, outlined};

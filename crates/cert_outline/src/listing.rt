@@ -2,7 +2,7 @@
 
 use crate::fault::OutlineError;
 use crate::maker::{Maker, regs_of};
-use crate::outlined::Certificate;
+use crate::making::Certificate;
 use cert_form::{ChainNode, Kind};
 use cert_parts::{Chains, NOBODY, followers, leading_to};
 use std::alloc::{AllocError, Global};

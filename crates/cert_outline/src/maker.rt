@@ -3,7 +3,7 @@
 use crate::asked::{AskedCall, Left, asked_calls};
 use crate::fault::OutlineError;
 use crate::listing::listed_nodes;
-use crate::outlined::Certificate;
+use crate::making::Certificate;
 use crate::spot::{Spot, Which};
 use crate::words::Words;
 use bpf_insn::{Arithmetic, Insn, Operand, Operation, Program, Test};
