@@ -20,8 +20,8 @@ fn bit_of(place: usize) -> u32 {
     1 << (place % 32)
 }
 
-// The bits of all conditions of a rule.
-fn all_bits(rule: &Rule) -> u32 {
+/// The bits of all conditions of a rule.
+pub(crate) fn all_bits(rule: &Rule) -> u32 {
     bit_of(rule.conds.len()).saturating_sub(1)
 }
 
@@ -90,8 +90,12 @@ fn still_left<K: Knowledge>(
     Some(left)
 }
 
-// The same, where all that is known was learned before.
-fn left_by_all<K: Knowledge>(known: &Told<'_, K>, rule: &Rule, left: LeftRule) -> Option<LeftRule> {
+/// The same, where all that is known was learned before.
+pub(crate) fn left_by_all<K: Knowledge>(
+    known: &Told<'_, K>,
+    rule: &Rule,
+    left: LeftRule,
+) -> Option<LeftRule> {
     let mut left = left;
     for cond in rule.conds.iter() {
         left = still_left(known, rule, left, low_word(cond) + 1)?;
@@ -142,8 +146,8 @@ impl<'a> Maker<'a> {
         self.profile.rules().get(place as usize)
     }
 
-    // The rules of a list that may still hold, now that something was learned of a word. Many rules are asked of what is
-    // gathered once.
+    // The rules of a list that may still hold, now that something was learned of a word, or one that holds. Many rules are asked
+    // of what is gathered once.
     fn rules_left(&self, known: &Words, left: &Left, word: u8) -> Result<Left, AllocError> {
         let whole = listed(&known.whole);
         if left.rules.len() < MANY {
@@ -159,6 +163,8 @@ impl<'a> Maker<'a> {
         word: u8,
     ) -> Result<Left, AllocError> {
         let mut rules = Vec::with_capacity(self.alloc, left.rules.len())?;
+        let mut fewest = usize::MAX;
+        let mut held = None;
         for own in &left.rules {
             let Some(rule) = self.rule(own.rule) else {
                 continue;
@@ -171,10 +177,15 @@ impl<'a> Maker<'a> {
             let Some(own) = own else {
                 continue;
             };
-            if own.met == all_bits(rule) {
-                return Left::holding(self.alloc, own);
+            if own.met != all_bits(rule) {
+                rules.push(own)?;
+            } else if rule.conds.len() < fewest {
+                fewest = rule.conds.len();
+                held = Some(own);
             }
-            rules.push(own)?;
+        }
+        if let Some(own) = held {
+            return Left::holding(self.alloc, own);
         }
         Ok(Left {
             part: left.part,
@@ -225,18 +236,21 @@ impl<'a> Maker<'a> {
         known: &Words,
         word: u8,
     ) -> Result<(Left, Words), AllocError> {
+        let mut part = left.part;
         let mut left = self.rules_left(known, left, word)?;
         for _ in left.part..self.parts(call) {
             if !left.rules.is_empty() {
                 break;
             }
-            left = self.whole(call, left.part.saturating_add(1), left.is_late)?;
+            part = left.part.saturating_add(1);
+            left = self.whole(call, part, left.is_late)?;
             if !left.is_late {
                 return Ok((left, Words::none(self.alloc)));
             }
             left = self.rules_left(known, &left, NUMBER)?;
         }
         if left.holds {
+            let left = self.simplest(call, part, known, left)?;
             return Ok((left, Words::none(self.alloc)));
         }
         let needed = self.needed(known, &left)?;
@@ -328,9 +342,6 @@ impl<'a> Maker<'a> {
             return self.learn_number(spot, literal);
         }
         let known = self.with(spot.arguments, literal)?;
-        if known == spot.arguments {
-            return Ok(());
-        }
         spot.arguments = known;
         if self.is_dead(known) {
             return Ok(());

@@ -13,14 +13,17 @@ mod asked;
 mod conditions;
 mod cuts;
 mod fault;
+mod keeping;
 mod learning;
 mod listing;
 mod maker;
 mod making;
+mod needs;
 mod numbers;
+mod reasons;
 mod spot;
 mod stating;
 mod words;
 
 pub use fault::OutlineError;
-pub use making::{Certificate, outlined};
+pub use making::outlined;

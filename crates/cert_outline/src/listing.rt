@@ -1,20 +1,20 @@
-//! The nodes of a certificate in their order, and its bytes.
+//! The nodes of a certificate in their order, each with all that is known there, and its bytes.
 
 use crate::fault::OutlineError;
 use crate::maker::{Maker, regs_of};
-use crate::making::Certificate;
+use crate::spot::Spot;
 use cert_form::{ChainNode, Kind};
 use cert_parts::{Chains, NOBODY, followers, leading_to};
 use std::alloc::{AllocError, Global};
 
-fn number_at(numbers: &[u32], place: u32) -> u32 {
+pub(crate) fn number_at(numbers: &[u32], place: u32) -> u32 {
     match numbers.get(place as usize) {
         Some(number) => *number,
         None => NOBODY,
     }
 }
 
-fn set(numbers: &mut [u32], place: u32, number: u32) {
+pub(crate) fn set(numbers: &mut [u32], place: u32, number: u32) {
     if let Some(own) = numbers.get_mut(place as usize) {
         *own = number;
     }
@@ -50,8 +50,8 @@ fn pass_all(ready: &mut Vec<u32>, counts: &mut [u32], kind: Kind) -> Result<(), 
     pass(ready, counts, first)
 }
 
-// The places of the spots in an order in which each stands before those to which it leads.
-fn sorted(alloc: Global, ways: &[Kind]) -> Result<Vec<u32>, AllocError> {
+/// The places of the spots in an order in which each stands before those to which it leads.
+pub(crate) fn sorted(alloc: Global, ways: &[Kind]) -> Result<Vec<u32>, AllocError> {
     let mut counts = ways_to(alloc, ways)?;
     let mut ready = Vec::new(alloc);
     let mut order = Vec::new(alloc);
@@ -79,76 +79,73 @@ fn numbers_of(alloc: Global, order: &[u32]) -> Result<Vec<u32>, AllocError> {
     Ok(numbers)
 }
 
-// The nodes so far, and the chains of what they state.
+/// The nodes so far, and the chains of what they state.
 #[derive(Drop)]
-struct Listing {
+pub(crate) struct Listing {
     // For each spot the number of its node.
     numbers: Vec<u32>,
-    // For each spot the chain of one before it.
-    before: Vec<u32>,
-    chains: Chains,
+    pub(crate) chains: Chains,
     nodes: Vec<ChainNode>,
 }
 
 impl Listing {
-    // No nodes, of spots in an order.
-    fn new(alloc: Global, order: &[u32]) -> Result<Listing, AllocError> {
-        let numbers = numbers_of(alloc, order)?;
-        let before = vec![in alloc; 0u32; order.len()]?;
+    /// No nodes, of spots in an order.
+    pub(crate) fn new(alloc: Global, order: &[u32]) -> Result<Listing, AllocError> {
         Ok(Listing {
-            numbers,
-            before,
+            numbers: numbers_of(alloc, order)?,
             chains: Chains::new(alloc),
             nodes: Vec::new(alloc),
         })
     }
 
-    // Adds the nodes of all spots.
-    fn add_all(
-        &mut self,
-        maker: &Maker<'_>,
-        ways: &[Kind],
-        order: &[u32],
-    ) -> Result<(), OutlineError> {
-        for place in order {
-            self.add(maker, ways, *place)?;
-        }
-        Ok(())
-    }
-
-    // Adds the node of the spot at a place.
-    fn add(&mut self, maker: &Maker<'_>, ways: &[Kind], place: u32) -> Result<(), OutlineError> {
-        let (Some(spot), Some(kind)) = (maker.spots.get(place as usize), ways.get(place as usize))
-        else {
-            return Err(OutlineError::Unlike);
-        };
-        let is_first = self.nodes.is_empty();
-        let before = number_at(&self.before, place);
-        let chain = self.chains.of(maker.alloc, maker.stated(spot)?, before)?;
-        let (first, second) = followers(*kind);
-        set(&mut self.before, first, chain);
-        set(&mut self.before, second, chain);
+    /// Adds the node of a spot, with a chain.
+    pub(crate) fn push(&mut self, spot: &Spot, kind: Kind, chain: u32) -> Result<(), AllocError> {
+        let (first, second) = followers(kind);
         let first = number_at(&self.numbers, first);
         let second = number_at(&self.numbers, second);
+        let is_first = self.nodes.is_empty();
         self.nodes.push(ChainNode {
-            kind: leading_to(*kind, first, second),
+            kind: leading_to(kind, first, second),
             pc: spot.pc.min(0xffff) as u16,
             regs: regs_of(is_first, spot.a),
             chain,
         })?;
         Ok(())
     }
+
+    /// The certificate of the nodes, and whether it states much: it has an entry a node, or more.
+    pub(crate) fn written(&self, alloc: Global) -> Result<Written, OutlineError> {
+        Ok(Written {
+            bytes: self.chains.written(alloc, &self.nodes)?,
+            states_much: self.chains.count() >= self.nodes.len(),
+        })
+    }
 }
 
-// A certificate of more bytes states much where it has more than three entries a node.
-const LARGE: usize = 0x2_0000;
+/// A certificate.
+#[derive(Drop)]
+pub(crate) struct Written {
+    pub(crate) bytes: Vec<u8>,
+    pub(crate) states_much: bool,
+}
 
-/// The certificate of all spots of a maker, with what they do.
-pub(crate) fn listed_nodes(maker: &Maker<'_>, ways: &[Kind]) -> Result<Certificate, OutlineError> {
-    let order = sorted(maker.alloc, ways)?;
-    let mut listing = Listing::new(maker.alloc, &order)?;
-    listing.add_all(maker, ways, &order)?;
-    let bytes = listing.chains.written(maker.alloc, &listing.nodes)?;
-    let states_much = bytes.len() > LARGE && listing.chains.count() / 3 >= listing.nodes.len();
-    Ok(Certificate { bytes, states_much })
+/// The certificate of all spots of a maker, with what they do, in an order.
+pub(crate) fn listed_nodes(
+    maker: &Maker<'_>,
+    kinds: &[Kind],
+    order: &[u32],
+) -> Result<Written, OutlineError> {
+    let mut listing = Listing::new(maker.alloc, order)?;
+    // For each spot the chain of one before it.
+    let mut before = vec![in maker.alloc; 0u32; order.len()]?;
+    for place in order {
+        let (spot, kind) = maker.spot_at(kinds, *place)?;
+        let last = number_at(&before, *place);
+        let chain = listing.chains.of(maker.alloc, maker.stated(&spot)?, last)?;
+        let (first, second) = followers(kind);
+        set(&mut before, first, chain);
+        set(&mut before, second, chain);
+        listing.push(&spot, kind, chain)?;
+    }
+    listing.written(maker.alloc)
 }

@@ -2,8 +2,6 @@
 
 use crate::asked::{AskedCall, Left, asked_calls};
 use crate::fault::OutlineError;
-use crate::listing::listed_nodes;
-use crate::making::Certificate;
 use crate::spot::{Spot, Which};
 use crate::words::Words;
 use bpf_insn::{Arithmetic, Insn, Operand, Operation, Program, Test};
@@ -150,24 +148,28 @@ impl<'a> Maker<'a> {
         Ok(Kind::Split(one, other, first, second))
     }
 
+    /// What is told by a comparison of what a spot knows A to hold, where it holds and where it fails.
+    pub(crate) fn told(&self, spot: &Spot) -> (Option<Lit>, Option<Lit>) {
+        match self.operation(spot.pc) {
+            Some((insn, Operation::Branch(_, _))) => {
+                let state = Listed {
+                    regs: regs_of(false, spot.a),
+                    lits: &[],
+                    more: None,
+                };
+                let holds = sharp_fact(&state, &insn, true);
+                (holds, sharp_fact(&state, &insn, false))
+            }
+            _ => (None, None),
+        }
+    }
+
     // Both ways of a comparison.
-    fn compared(
-        &mut self,
-        spot: &Spot,
-        lits: &[Lit],
-        insn: &Insn,
-        test: Test,
-    ) -> Result<Kind, OutlineError> {
+    fn compared(&mut self, spot: &Spot, insn: &Insn, test: Test) -> Result<Kind, OutlineError> {
         if !tells(test, spot.a) {
             return Err(OutlineError::Unlike);
         }
-        let state = Listed {
-            regs: regs_of(false, spot.a),
-            lits,
-            more: None,
-        };
-        let holds = sharp_fact(&state, insn, true);
-        let fails = sharp_fact(&state, insn, false);
+        let (holds, fails) = self.told(spot);
         let yes = after(spot.pc, u32::from(insn.jt));
         let no = after(spot.pc, u32::from(insn.jf));
         let first = self.place(spot, yes, spot.a, holds)?;
@@ -176,7 +178,7 @@ impl<'a> Maker<'a> {
     }
 
     // What a spot does at its instruction.
-    fn carried_out(&mut self, spot: &Spot, lits: &[Lit]) -> Result<Kind, OutlineError> {
+    fn carried_out(&mut self, spot: &Spot) -> Result<Kind, OutlineError> {
         let Some((insn, operation)) = self.operation(spot.pc) else {
             return Err(OutlineError::Unlike);
         };
@@ -197,24 +199,9 @@ impl<'a> Maker<'a> {
                 let a = AVal::Masked(word, mask & insn.k);
                 self.step(spot, after(spot.pc, 0), a)
             }
-            (Operation::Branch(test, Operand::K), _) => self.compared(spot, lits, &insn, test),
+            (Operation::Branch(test, Operand::K), _) => self.compared(spot, &insn, test),
             _ => Err(OutlineError::Unlike),
         }
-    }
-
-    /// What is known at a spot.
-    fn literals(&self, spot: &Spot) -> Result<Vec<Lit>, OutlineError> {
-        let (Some(numbers), Some(arguments)) = (
-            self.words.get(spot.numbers),
-            self.words.get(spot.arguments),
-        ) else {
-            return Err(OutlineError::Unlike);
-        };
-        let mut lits = Vec::from_slice(self.alloc, &numbers.whole)?;
-        lits.extend_from_slice(&numbers.masked)?;
-        lits.extend_from_slice(&arguments.whole)?;
-        lits.extend_from_slice(&arguments.masked)?;
-        Ok(lits)
     }
 
     // What the node of a spot does.
@@ -222,12 +209,20 @@ impl<'a> Maker<'a> {
         if self.is_dead(spot.numbers) || self.is_dead(spot.arguments) {
             return Ok(Kind::Dead);
         }
-        let lits = self.literals(spot)?;
-        self.carried_out(spot, &lits)
+        self.carried_out(spot)
     }
 
-    // What each spot does, beginning with the first.
-    fn all_kinds(&mut self) -> Result<Vec<Kind>, OutlineError> {
+    /// The spot at a place, and what it does.
+    pub(crate) fn spot_at(&self, kinds: &[Kind], place: u32) -> Result<(Spot, Kind), OutlineError> {
+        match (self.spots.get(place as usize), kinds.get(place as usize)) {
+            (Some(spot), Some(kind)) => Ok((*spot, *kind)),
+            _ => Err(OutlineError::Unlike),
+        }
+    }
+
+    /// What each spot does, one after the other from where the filter begins.
+    pub(crate) fn all_kinds(&mut self) -> Result<Vec<Kind>, OutlineError> {
+        self.begin()?;
         let mut kinds = Vec::new(self.alloc);
         for place in 0..MAX_NODES {
             let Some(spot) = self.spots.get(place).copied() else {
@@ -236,12 +231,5 @@ impl<'a> Maker<'a> {
             kinds.push(self.kind_of(&spot)?)?;
         }
         Ok(kinds)
-    }
-
-    /// The certificate of all spots, one after the other from where the filter begins.
-    pub(crate) fn certificate(&mut self) -> Result<Certificate, OutlineError> {
-        self.begin()?;
-        let kinds = self.all_kinds()?;
-        listed_nodes(self, &kinds)
     }
 }

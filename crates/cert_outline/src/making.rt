@@ -1,44 +1,89 @@
 //! The certificate from an outline.
 
 use crate::fault::OutlineError;
+use crate::keeping::kept_nodes;
+use crate::listing::{Written, listed_nodes, sorted};
 use crate::maker::Maker;
 use bpf_insn::Program;
+use cert_form::Kind;
 use profile::Profile;
 use rule_compile::Outline;
 use std::alloc::Global;
 
-/// A certificate of the filter that the compiler made of a profile.
-#[derive(Drop)]
-pub struct Certificate {
-    pub bytes: Vec<u8>,
-    /// Whether it is large for how many nodes it has: it has more than 128 KiB, and more than three entries a node.
-    pub states_much: bool,
-}
-
-// A certificate of more bytes is made in both ways: it has some thousand nodes.
+// A certificate of more bytes is made with calls told apart early as well: it has some thousand nodes.
 const LARGE: usize = 0x4_0000;
 
+// A certificate of more bytes is looked at for how much it states.
+const MIDDLING: usize = 0x1_0000;
+
+// All nodes of a certificate; and the certificate in which each states all that is known there, if that has room.
+#[derive(Drop)]
+struct Draft<'a> {
+    maker: Maker<'a>,
+    kinds: Vec<Kind>,
+    order: Vec<u32>,
+    written: Option<Written>,
+}
+
+type Drafted<'a> = Result<Draft<'a>, OutlineError>;
+
 // How many bytes there are, more than any certificate has where there is none.
-fn length(made: &Result<Certificate, OutlineError>) -> usize {
-    match made {
-        Ok(made) => made.bytes.len(),
+fn length(drafted: &Drafted<'_>) -> usize {
+    match drafted {
+        Ok(draft) => match &draft.written {
+            Some(written) => written.bytes.len(),
+            None => usize::MAX,
+        },
         Err(_) => usize::MAX,
     }
 }
 
-fn is_refused(made: &Result<Certificate, OutlineError>) -> bool {
-    matches!(made, Err(OutlineError::OutOfMemory))
+fn is_refused(drafted: &Drafted<'_>) -> bool {
+    matches!(drafted, Err(OutlineError::OutOfMemory))
 }
 
-fn made(
+fn drafted<'a>(
     alloc: Global,
-    profile: &Profile,
-    program: &Program<'_>,
+    profile: &'a Profile,
+    program: &Program<'a>,
     outline: &Outline,
     is_early: bool,
-) -> Result<Certificate, OutlineError> {
+) -> Drafted<'a> {
     let mut maker = Maker::new(alloc, profile, *program, outline, is_early)?;
-    maker.certificate()
+    let kinds = maker.all_kinds()?;
+    let order = sorted(alloc, &kinds)?;
+    let written = match listed_nodes(&maker, &kinds, &order) {
+        Ok(written) => Some(written),
+        Err(OutlineError::TooLarge) => None,
+        Err(error) => return Err(error),
+    };
+    Ok(Draft {
+        maker,
+        kinds,
+        order,
+        written,
+    })
+}
+
+// The certificate of a draft: where it states much, the shorter one of it and of one whose nodes state what is needed behind.
+fn finished(drafted: Drafted<'_>) -> Result<Vec<u8>, OutlineError> {
+    let Draft {
+        maker,
+        kinds,
+        order,
+        written,
+    } = drafted?;
+    let Some(written) = written else {
+        return kept_nodes(&maker, &kinds, &order);
+    };
+    if !written.states_much || written.bytes.len() <= MIDDLING {
+        return Ok(written.bytes);
+    }
+    match kept_nodes(&maker, &kinds, &order) {
+        Ok(kept) if kept.len() < written.bytes.len() => Ok(kept),
+        Err(OutlineError::OutOfMemory) => Err(OutlineError::OutOfMemory),
+        _ => Ok(written.bytes),
+    }
 }
 
 /// The certificate of the filter that the compiler made of a profile, with this outline. Calls that are asked alike are told
@@ -49,14 +94,14 @@ pub fn outlined(
     profile: &Profile,
     program: &Program<'_>,
     outline: &Outline,
-) -> Result<Certificate, OutlineError> {
-    let first = made(alloc, profile, program, outline, false);
+) -> Result<Vec<u8>, OutlineError> {
+    let first = drafted(alloc, profile, program, outline, false);
     if is_refused(&first) || length(&first) <= LARGE {
-        return first;
+        return finished(first);
     }
-    let other = made(alloc, profile, program, outline, true);
-    if is_refused(&other) || length(&other) < length(&first) {
-        return other;
+    let other = drafted(alloc, profile, program, outline, true);
+    if first.is_err() || is_refused(&other) || length(&other) < length(&first) {
+        return finished(other);
     }
-    first
+    finished(first)
 }

@@ -1,5 +1,6 @@
 //! What is known of some words of a record, as literals.
 
+use cert_form::Claim;
 use cert_parts::{Item, listed, mixed};
 use cert_state::{Knowledge, Lit, is_dead_at, range};
 use std::alloc::{AllocError, Global};
@@ -105,6 +106,18 @@ impl Words {
     /// The same, with what its whole words are asked of.
     pub(crate) fn told<'a, K: Knowledge>(&'a self, whole: &'a K) -> Told<'a, K> {
         Told { words: self, whole }
+    }
+
+    /// Adds the literals among some claims, as they are.
+    pub(crate) fn add_of(&mut self, claims: &[Claim]) -> Result<(), AllocError> {
+        for claim in claims {
+            match *claim {
+                Claim::Knows(literal) if is_whole(literal) => self.whole.push(literal)?,
+                Claim::Knows(literal) => self.masked.push(literal)?,
+                Claim::Out(_) | Claim::Met(_, _) => {}
+            }
+        }
+        Ok(())
     }
 
     /// Whether a literal is known, by those of the same bits.

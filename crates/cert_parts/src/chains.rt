@@ -169,6 +169,98 @@ impl Chains {
         self.with_left(&begun)
     }
 
+    /// A chain of all these claims, without those that follow from others of it: behind another one, with these that are lacking
+    /// there; or as one that is found claim by claim, where that is shorter.
+    pub fn behind(
+        &mut self,
+        alloc: Global,
+        before: u32,
+        lacking: Vec<Claim>,
+        all: Vec<Claim>,
+    ) -> Result<u32, FormError> {
+        if self.length(before).saturating_add(lacking.len()) <= MAX_LITERALS {
+            let begun = self.begun(alloc, before, lacking)?;
+            let other = self.begun(alloc, 0, all)?;
+            if begun.left.len() <= other.left.len() {
+                return self.with_left(&begun);
+            }
+            return self.with_left(&other);
+        }
+        if all.len() > MAX_LITERALS {
+            return Err(FormError::BadCount);
+        }
+        let begun = self.begun(alloc, 0, all)?;
+        self.with_left(&begun)
+    }
+
+    // How many claims a chain has.
+    fn length(&self, chain: u32) -> usize {
+        let mut left = chain;
+        for length in 0..MAX_LITERALS {
+            match self.last(left) {
+                Some((parent, _)) => left = parent,
+                None => return length,
+            }
+        }
+        MAX_LITERALS
+    }
+
+    // The chain without its last claim.
+    fn parent(&self, chain: u32) -> u32 {
+        match self.last(chain) {
+            Some((parent, _)) => parent,
+            None => 0,
+        }
+    }
+
+    /// The longest beginning that two chains have in common. The number of an entry is greater than that of its parent.
+    pub fn common(&self, one: u32, other: u32) -> u32 {
+        let (mut one, mut other) = (one, other);
+        for _ in 0..2 * MAX_LITERALS {
+            if one == other {
+                return one;
+            }
+            if one > other {
+                one = self.parent(one);
+            } else {
+                other = self.parent(other);
+            }
+        }
+        0
+    }
+
+    /// A chain up to the first literal of a word that is none of these claims.
+    pub fn up_to_others(&self, chain: u32, word: u8, claims: &[Claim]) -> u32 {
+        let (mut kept, mut left) = (chain, chain);
+        for _ in 0..MAX_LITERALS {
+            let Some((parent, claim)) = self.last(left) else {
+                break;
+            };
+            if let Claim::Knows(literal) = claim
+                && literal.word() == word
+                && !claims.contains(&claim)
+            {
+                kept = parent;
+            }
+            left = parent;
+        }
+        kept
+    }
+
+    /// Those of some claims that a chain does not state.
+    pub fn lacking(
+        &self,
+        alloc: Global,
+        chain: u32,
+        claims: &[Claim],
+    ) -> Result<Vec<Claim>, AllocError> {
+        let mut marks = Marks::of(alloc, claims)?;
+        for link in &self.links(alloc, chain)? {
+            marks.take(link.claim);
+        }
+        marks.left(alloc, claims)
+    }
+
     /// The last claim of a chain, with the chain before it.
     pub fn last(&self, chain: u32) -> Option<(u32, Claim)> {
         self.entries.get((chain as usize).wrapping_sub(1)).copied()

@@ -14,5 +14,6 @@ mod table;
 pub use chains::{Chains, Stated};
 pub use cuts::{Cut, cut_below, cut_of_bits};
 pub use kinds::{NOBODY, followers, leading_to};
+pub use marks::Marks;
 pub use states::{NO_REGS, listed};
 pub use table::{Item, Table, bits, mixed};

@@ -12,7 +12,7 @@ const RULES: usize = 8192;
 
 /// Claims: the literals among them, and for each rule that others are of, up to the last one, the bits of these.
 #[derive(Drop)]
-pub(crate) struct Marks {
+pub struct Marks {
     literals: Vec<Lit>,
     bits: Vec<u64>,
 }
@@ -34,7 +34,7 @@ fn count_to(claim: Claim) -> usize {
 
 impl Marks {
     /// Those of a list.
-    pub(crate) fn of(alloc: Global, claims: &[Claim]) -> Result<Marks, AllocError> {
+    pub fn of(alloc: Global, claims: &[Claim]) -> Result<Marks, AllocError> {
         let mut count = 0usize;
         for claim in claims {
             count = count.max(count_to(*claim));
@@ -101,7 +101,7 @@ impl Marks {
     }
 
     /// Whether a claim is there.
-    pub(crate) fn has(&self, claim: Claim) -> bool {
+    pub fn has(&self, claim: Claim) -> bool {
         match claim {
             Claim::Knows(literal) => self.literals.contains(&literal),
             Claim::Out(rule) => self.has_bit(rule, OUT),

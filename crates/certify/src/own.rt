@@ -1,33 +1,14 @@
 //! Certificates of filters of profiles with conditions.
 
-use cert_outline::{Certificate, OutlineError, outlined};
+use cert_outline::{OutlineError, outlined};
 use cert_walk::{CertifyError, walk_through};
 use kernel_check::Accepted;
 use profile::Profile;
 use rule_compile::{CompileError, Outline, make};
 use std::alloc::Global;
 
-// The shorter one of a certificate and of one for which the filter is walked through as any other.
-fn shorter(
-    alloc: Global,
-    profile: &Profile,
-    program: Accepted<'_>,
-    bytes: Vec<u8>,
-) -> Result<Vec<u8>, CertifyError> {
-    match walk_through(alloc, profile, program) {
-        Ok(walked) => {
-            if walked.len() < bytes.len() {
-                return Ok(walked);
-            }
-            Ok(bytes)
-        }
-        Err(CertifyError::OutOfMemory) => Err(CertifyError::OutOfMemory),
-        Err(_) => Ok(bytes),
-    }
-}
-
-// A certificate of the filter that the compiler made of a profile, from its outline. Where that comes out too large, or states
-// much, the filter is walked through as any other.
+// A certificate of the filter that the compiler made of a profile, from its outline. Where that comes out too large, the filter
+// is walked through as any other.
 fn by_outline(
     alloc: Global,
     profile: &Profile,
@@ -35,12 +16,7 @@ fn by_outline(
     outline: &Outline,
 ) -> Result<Vec<u8>, CertifyError> {
     match outlined(alloc, profile, &program.program(), outline) {
-        Ok(Certificate { bytes, states_much }) => {
-            if states_much {
-                return shorter(alloc, profile, program, bytes);
-            }
-            Ok(bytes)
-        }
+        Ok(bytes) => Ok(bytes),
         Err(OutlineError::OutOfMemory) => Err(CertifyError::OutOfMemory),
         Err(_) => walk_through(alloc, profile, program),
     }
