@@ -227,22 +227,22 @@ impl<'a> Maker<'a> {
         })
     }
 
-    // What is left of the rules of a call, and what is known of its arguments as far as they need it. Where none is left of a
-    // part, the next part is asked.
+    // What is left of the rules of a call, of which these are left of the part that is asked, and what is known of its arguments as
+    // far as they need it. Where none is left of a part, the next part is asked.
     fn settled(
         &self,
         call: usize,
-        left: &Left,
+        asked: usize,
+        left: Left,
         known: &Words,
-        word: u8,
     ) -> Result<(Left, Words), AllocError> {
-        let mut part = left.part;
-        let mut left = self.rules_left(known, left, word)?;
-        for _ in left.part..self.parts(call) {
+        let mut part = asked;
+        let mut left = left;
+        for _ in asked..self.parts(call) {
             if !left.rules.is_empty() {
                 break;
             }
-            part = left.part.saturating_add(1);
+            part = part.saturating_add(1);
             left = self.whole(call, part, left.is_late)?;
             if !left.is_late {
                 return Ok((left, Words::none(self.alloc)));
@@ -273,8 +273,14 @@ impl<'a> Maker<'a> {
         }
     }
 
-    // Settles the rules of a spot's call, now that something was learned of a word.
-    fn settle(&mut self, spot: &mut Spot, word: u8) -> Result<(), OutlineError> {
+    // Settles the rules of a spot's call, now that something was told of a word. Where it was known already, what is told settles
+    // only what it settles by itself, as for the compiler, which asks again since it has forgotten the rest.
+    fn settle(
+        &mut self,
+        spot: &mut Spot,
+        word: u8,
+        told_again: Option<Lit>,
+    ) -> Result<(), OutlineError> {
         let Which::Asked(call) = spot.which else {
             return Ok(());
         };
@@ -282,10 +288,15 @@ impl<'a> Maker<'a> {
         else {
             return Err(OutlineError::Unlike);
         };
-        if left.holds || left.rules.is_empty() {
+        let is_settled = left.holds || left.rules.is_empty();
+        if is_settled || left.is_late && told_again.is_some() {
             return Ok(());
         }
-        let (left, known) = self.settled(call, left, known, word)?;
+        let rules = match told_again {
+            Some(literal) => self.rules_left(&known.only(self.alloc, literal)?, left, word)?,
+            None => self.rules_left(known, left, word)?,
+        };
+        let (left, known) = self.settled(call, left.part, rules, known)?;
         spot.left = self.left.place(left)?;
         spot.arguments = self.words.place(known)?;
         Ok(())
@@ -322,7 +333,7 @@ impl<'a> Maker<'a> {
             let is_late = self.is_known(spot.arguments);
             let whole = self.whole(call, 0, is_late)?;
             spot.left = self.left.place(whole)?;
-            self.settle(spot, NUMBER)?;
+            self.settle(spot, NUMBER, None)?;
         }
         Ok(())
     }
@@ -342,10 +353,15 @@ impl<'a> Maker<'a> {
             return self.learn_number(spot, literal);
         }
         let known = self.with(spot.arguments, literal)?;
+        let told_again = if known == spot.arguments {
+            Some(literal)
+        } else {
+            None
+        };
         spot.arguments = known;
         if self.is_dead(known) {
             return Ok(());
         }
-        self.settle(spot, word)
+        self.settle(spot, word, told_again)
     }
 }

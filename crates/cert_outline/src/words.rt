@@ -108,16 +108,36 @@ impl Words {
         Told { words: self, whole }
     }
 
+    // Adds a literal as it is.
+    fn add(&mut self, literal: Lit) -> Result<(), AllocError> {
+        if is_whole(literal) {
+            self.whole.push(literal)?;
+        } else {
+            self.masked.push(literal)?;
+        }
+        Ok(())
+    }
+
     /// Adds the literals among some claims, as they are.
     pub(crate) fn add_of(&mut self, claims: &[Claim]) -> Result<(), AllocError> {
         for claim in claims {
-            match *claim {
-                Claim::Knows(literal) if is_whole(literal) => self.whole.push(literal)?,
-                Claim::Knows(literal) => self.masked.push(literal)?,
-                Claim::Out(_) | Claim::Met(_, _) => {}
+            if let Claim::Knows(literal) = *claim {
+                self.add(literal)?;
             }
         }
         Ok(())
+    }
+
+    /// The same, where of a literal's word this one alone is known.
+    pub(crate) fn only(&self, alloc: Global, literal: Lit) -> Result<Words, AllocError> {
+        let mut words = Words::none(alloc);
+        for other in self.whole.iter().chain(self.masked.iter()) {
+            if other.word() != literal.word() {
+                words.add(*other)?;
+            }
+        }
+        words.add(literal)?;
+        Ok(words)
     }
 
     /// Whether a literal is known, by those of the same bits.
