@@ -195,11 +195,12 @@ impl<'a> Maker<'a> {
         })
     }
 
-    // Whether some rule that is left needs a literal. What was learned late is known of both halves.
-    fn is_needed(&self, left: &Left, literal: Lit) -> bool {
+    // Whether some rule that is left needs a literal, of both halves or of that which is asked for. What was learned late is known of
+    // both.
+    fn is_needed(&self, left: &Left, of_both: bool, literal: Lit) -> bool {
         for own in &left.rules {
             if let Some(rule) = self.rule(own.rule)
-                && rule_needs(rule, *own, left.is_late, literal)
+                && rule_needs(rule, *own, of_both || left.is_late, literal)
             {
                 return true;
             }
@@ -208,10 +209,10 @@ impl<'a> Maker<'a> {
     }
 
     // The literals of a list that some rule that is left needs.
-    fn needed_of(&self, lits: &[Lit], left: &Left) -> Result<Vec<Lit>, AllocError> {
+    fn needed_of(&self, lits: &[Lit], left: &Left, of_both: bool) -> Result<Vec<Lit>, AllocError> {
         let mut needed = Vec::new(self.alloc);
         for literal in lits {
-            if self.is_needed(left, *literal) {
+            if self.is_needed(left, of_both, *literal) {
                 needed.push(*literal)?;
             }
         }
@@ -219,10 +220,10 @@ impl<'a> Maker<'a> {
     }
 
     // What is known, without what no rule that is left needs.
-    fn needed(&self, known: &Words, left: &Left) -> Result<Words, AllocError> {
+    fn needed(&self, known: &Words, left: &Left, of_both: bool) -> Result<Words, AllocError> {
         Ok(Words {
-            whole: self.needed_of(&known.whole, left)?,
-            masked: self.needed_of(&known.masked, left)?,
+            whole: self.needed_of(&known.whole, left, of_both)?,
+            masked: self.needed_of(&known.masked, left, of_both)?,
             are_dead: false,
         })
     }
@@ -235,6 +236,7 @@ impl<'a> Maker<'a> {
         asked: usize,
         left: Left,
         known: &Words,
+        of_both: bool,
     ) -> Result<(Left, Words), AllocError> {
         let mut part = asked;
         let mut left = left;
@@ -253,7 +255,7 @@ impl<'a> Maker<'a> {
             let left = self.simplest(call, part, known, left)?;
             return Ok((left, Words::none(self.alloc)));
         }
-        let needed = self.needed(known, &left)?;
+        let needed = self.needed(known, &left, of_both)?;
         Ok((left, needed))
     }
 
@@ -296,7 +298,8 @@ impl<'a> Maker<'a> {
             Some(literal) => self.rules_left(&known.only(self.alloc, literal)?, left, word)?,
             None => self.rules_left(known, left, word)?,
         };
-        let (left, known) = self.settled(call, left.part, rules, known)?;
+        let of_both = self.is_at_return(spot.pc);
+        let (left, known) = self.settled(call, left.part, rules, known, of_both)?;
         spot.left = self.left.place(left)?;
         spot.arguments = self.words.place(known)?;
         Ok(())

@@ -97,6 +97,11 @@ impl<'a> Maker<'a> {
         None
     }
 
+    /// Whether a return stands at a position.
+    pub(crate) fn is_at_return(&self, pc: usize) -> bool {
+        matches!(self.operation(pc), Some((_, Operation::ReturnK)))
+    }
+
     // Whether jumps lead from a position to a return or a load, where it does not matter what A holds.
     fn is_new_start(&self, pc: usize) -> bool {
         let mut pc = pc;
