@@ -151,7 +151,7 @@ module _ (r : List ℕ) (rec : IsRecord r) (p : List Insn) (accepted : IsAccepte
     taken : Bool
     taken = holds test s.a (operand c i s)
 
-    by_form : (b : Bool) → IfSome (cond b (sharp_fact n.regs i taken) (edge_fact n.regs i taken)) (λ l. Holds l r)
+    by_form : (b : Bool) → IfSome (cond b (sharp_fact n.known n.regs i taken) (edge_fact n.regs i taken)) (λ l. Holds l r)
     by_form true = follows_sharp_fact n.regs n.known i r s test c rec inside op
     by_form false = follows_fact n.regs n.known i r s test c rec inside op
 

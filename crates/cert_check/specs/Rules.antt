@@ -38,7 +38,7 @@ pub record Edge : Type 0 where
 
 -- what is known on an edge of a jump: its fact, or where the certificate is sharp, its sharp fact
 abbrev pub fact_at : PlainNode → Insn → Bool → Option Lit
-fact_at n i taken = if n.sharp then sharp_fact n.regs i taken else edge_fact n.regs i taken
+fact_at n i taken = if n.sharp then sharp_fact n.known n.regs i taken else edge_fact n.regs i taken
 
 -- the one edge of a step that has no second successor
 abbrev pub one_edge : ℕ → ℕ → ℕ → Regs → Option (List Edge)

@@ -305,15 +305,20 @@ impl<'a> Maker<'a> {
         Ok(())
     }
 
-    // The place of what is known of some words, with a literal more, if it tells something.
-    fn with(&mut self, known: usize, literal: Lit) -> Result<usize, OutlineError> {
+    // The place of what is known of some words, with a literal more, if it tells something. One that is not told by itself comes
+    // to the others as it is.
+    fn with(&mut self, known: usize, literal: Lit, is_told: bool) -> Result<usize, OutlineError> {
         let Some(words) = self.words.get(known) else {
             return Err(OutlineError::Unlike);
         };
         if words.entail(literal) {
             return Ok(known);
         }
-        let words = words.with(self.alloc, literal)?;
+        let words = if is_told {
+            words.with(self.alloc, literal)?
+        } else {
+            words.with_as_is(self.alloc, literal)?
+        };
         Ok(self.words.place(words)?)
     }
 
@@ -326,8 +331,13 @@ impl<'a> Maker<'a> {
     }
 
     // Learns something of the machine or the number. Where this is the first to tell which call it is, all its rules are left.
-    fn learn_number(&mut self, spot: &mut Spot, literal: Lit) -> Result<(), OutlineError> {
-        spot.numbers = self.with(spot.numbers, literal)?;
+    fn learn_number(
+        &mut self,
+        spot: &mut Spot,
+        literal: Lit,
+        is_told: bool,
+    ) -> Result<(), OutlineError> {
+        spot.numbers = self.with(spot.numbers, literal, is_told)?;
         if spot.which != Which::Several {
             return Ok(());
         }
@@ -349,13 +359,18 @@ impl<'a> Maker<'a> {
         }
     }
 
-    /// Learns a literal.
-    pub(crate) fn learn(&mut self, spot: &mut Spot, literal: Lit) -> Result<(), OutlineError> {
+    /// Learns a literal, which is told, or follows from what is told of a part of the number.
+    pub(crate) fn learn(
+        &mut self,
+        spot: &mut Spot,
+        literal: Lit,
+        is_told: bool,
+    ) -> Result<(), OutlineError> {
         let word = literal.word();
         if word <= 1 {
-            return self.learn_number(spot, literal);
+            return self.learn_number(spot, literal, is_told);
         }
-        let known = self.with(spot.arguments, literal)?;
+        let known = self.with(spot.arguments, literal, true)?;
         let told_again = if known == spot.arguments {
             Some(literal)
         } else {

@@ -13,6 +13,7 @@ mod asked;
 mod conditions;
 mod cuts;
 mod fault;
+mod folded;
 mod keeping;
 mod learning;
 mod listing;

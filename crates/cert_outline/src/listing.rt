@@ -7,14 +7,14 @@ use cert_form::{ChainNode, Kind};
 use cert_parts::{Chains, NOBODY, followers, leading_to};
 use std::alloc::{AllocError, Global};
 
-pub(crate) fn number_at(numbers: &[u32], place: u32) -> u32 {
+fn number_at(numbers: &[u32], place: u32) -> u32 {
     match numbers.get(place as usize) {
         Some(number) => *number,
         None => NOBODY,
     }
 }
 
-pub(crate) fn set(numbers: &mut [u32], place: u32, number: u32) {
+fn set(numbers: &mut [u32], place: u32, number: u32) {
     if let Some(own) = numbers.get_mut(place as usize) {
         *own = number;
     }

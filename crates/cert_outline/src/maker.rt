@@ -31,7 +31,7 @@ fn after(pc: usize, skipped: u32) -> usize {
     pc.saturating_add(1).saturating_add(skipped as usize)
 }
 
-// Whether a comparison of what A holds tells all that it asks: by order only of a whole word.
+// Whether a comparison of what A holds tells all that it asks: by order only of a whole word, as far as the registers tell.
 fn tells(test: Test, a: AVal) -> bool {
     match (test, a) {
         (Test::Equal | Test::AnyBit, AVal::Masked(_, _)) => true,
@@ -131,7 +131,8 @@ impl<'a> Maker<'a> {
             a
         };
         if let Some(literal) = learned {
-            self.learn(&mut next, literal)?;
+            let is_told = !self.is_of_part(spot, literal);
+            self.learn(&mut next, literal, is_told)?;
         }
         let place = self.spots.place(next)?;
         if place < MAX_NODES {
@@ -153,25 +154,35 @@ impl<'a> Maker<'a> {
         Ok(Kind::Split(one, other, first, second))
     }
 
-    /// What is told by a comparison of what a spot knows A to hold, where it holds and where it fails.
+    /// What is told by a comparison of what a spot knows A to hold, where it holds and where it fails. Of a part of the number it
+    /// is told of the whole number.
     pub(crate) fn told(&self, spot: &Spot) -> (Option<Lit>, Option<Lit>) {
-        match self.operation(spot.pc) {
-            Some((insn, Operation::Branch(_, _))) => {
-                let state = Listed {
-                    regs: regs_of(false, spot.a),
-                    lits: &[],
-                    more: None,
-                };
-                let holds = sharp_fact(&state, &insn, true);
-                (holds, sharp_fact(&state, &insn, false))
-            }
-            _ => (None, None),
+        let Some((insn, Operation::Branch(_, _))) = self.operation(spot.pc) else {
+            return (None, None);
+        };
+        let part = self.part_of_number(spot);
+        let state = Listed {
+            regs: regs_of(false, spot.a),
+            lits: &[],
+            more: part.and_then(|part| part.known()),
+        };
+        let holds = sharp_fact(&state, &insn, true);
+        let fails = sharp_fact(&state, &insn, false);
+        match part {
+            Some(part) => (
+                holds.map(|literal| part.whole(literal)),
+                fails.map(|literal| part.whole(literal)),
+            ),
+            None => (holds, fails),
         }
     }
 
     // Both ways of a comparison.
     fn compared(&mut self, spot: &Spot, insn: &Insn, test: Test) -> Result<Kind, OutlineError> {
-        if !tells(test, spot.a) {
+        if let Some(cut) = self.cut_of_part(spot) {
+            return self.split(spot, cut);
+        }
+        if !tells(test, spot.a) && self.part_of_number(spot).is_none() {
             return Err(OutlineError::Unlike);
         }
         let (holds, fails) = self.told(spot);

@@ -8,7 +8,7 @@ use call_tables::Arch;
 use cert_parts::{Cut, listed};
 use cert_state::{Facts, Knowledge, Listed, Lit, range};
 use profile::{Rule, foreign_numbers};
-use std::alloc::AllocError;
+use std::alloc::{AllocError, Global};
 
 /// The words of a record that hold the call's number and the machine's token.
 pub(crate) const NUMBER: u8 = 0;
@@ -22,6 +22,13 @@ fn only(known: &Words, word: u8) -> Option<u32> {
         return Some(low);
     }
     None
+}
+
+// All that is known of the machine and the number, of whole words and of bits.
+fn all_of(alloc: Global, known: &Words) -> Result<Vec<Lit>, AllocError> {
+    let mut lits = Vec::from_slice(alloc, &known.whole)?;
+    lits.extend_from_slice(&known.masked)?;
+    Ok(lits)
 }
 
 impl<'a> Maker<'a> {
@@ -101,7 +108,8 @@ impl<'a> Maker<'a> {
         token: u32,
         verdict: u32,
     ) -> Result<Vec<u32>, AllocError> {
-        let state = listed(&known.whole);
+        let all = all_of(self.alloc, known)?;
+        let state = listed(&all);
         let facts = Facts::of(&state);
         let whole = listed(&arguments.whole);
         let of_arguments = Facts::of(&whole);
@@ -183,7 +191,8 @@ impl<'a> Maker<'a> {
         let Some(token) = only(known, TOKEN) else {
             return Ok(None);
         };
-        let state = listed(&known.whole);
+        let all = all_of(self.alloc, known)?;
+        let state = listed(&all);
         let facts = Facts::of(&state);
         let mut numbers = Vec::new(self.alloc);
         for call in &self.calls {

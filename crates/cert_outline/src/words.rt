@@ -206,6 +206,19 @@ impl Words {
         Ok(words)
     }
 
+    /// The same, where a literal of a whole word comes to the others as it is. It follows from what a comparison tells, but it is
+    /// not told, so no end of a range is told by it.
+    pub(crate) fn with_as_is(&self, alloc: Global, literal: Lit) -> Result<Words, AllocError> {
+        let mut words = Words {
+            whole: Vec::from_slice(alloc, &self.whole)?,
+            masked: Vec::from_slice(alloc, &self.masked)?,
+            are_dead: self.are_dead,
+        };
+        words.add(literal)?;
+        words.are_dead |= words.are_dead_at(alloc, literal.word())?;
+        Ok(words)
+    }
+
     /// Whether something is known of the bits of a word under a mask.
     pub(crate) fn have(&self, word: u8, mask: u32) -> bool {
         let wanted = Lit::Bits(word, mask, 0);

@@ -1,7 +1,8 @@
 -- Laws of masks, bit by bit.
-use Rattle.std.proofs.Common.{◌≡◌, ℕ, ◌%◌, ◌^◌, ◌<◌, ◌∙◌, arith}
-use Rattle.std.specs.Prelude.{bit_and, bit_or, bit_xor}
-use Rattle.std.specs.Int.Bits.{and_mask}
+use Rattle.std.proofs.Common.{◌≡◌, ℕ, ◌+◌, ◌%◌, ◌^◌, ◌<◌, sym, ap, ◌∙◌, arith}
+use Rattle.std.specs.Prelude.{bit_and, bit_or, bit_xor, min}
+use Rattle.std.specs.Int.{bit_at}
+use Rattle.std.specs.Int.Bits.{and_mask, xor_disjoint}
 use Rattle.std.proofs.lemmas.Nat.Bits.{bit_at_and, bit_at_or, bit_at_xor, bit_at-lt, bit_at-zero, same_from_bits}
 
 pub and_assoc : (a b c : ℕ) → bit_and (bit_and a b) c ≡ bit_and a (bit_and b c)
@@ -33,3 +34,30 @@ agree_on_both u m n = same_from_bits _ 0 (λ i.
 -- a word under the whole mask is itself
 pub and_all : (u : ℕ) → u < 2 ^ 32 → bit_and u 0xffffffff ≡ u
 and_all u h = and_mask u 32 ∙ (let e : u % 2 ^ 32 ≡ u = omega arith in e)
+
+-- a word is what it has under a mask and what it has outside
+pub and_parts : (u m : ℕ) → u < 2 ^ 32 → bit_and u m + bit_and u (bit_xor m 0xffffffff) ≡ u
+and_parts u m h = sym (xor_disjoint _ _ apart) ∙ together where
+  own : (i : ℕ) → bit_at u i ≡ min (bit_at u i) (bit_at 0xffffffff i)
+  own i = ap (λ n. bit_at n i) (sym (and_all u h)) ∙ bit_at_and u 0xffffffff i
+
+  apart : bit_and (bit_and u m) (bit_and u (bit_xor m 0xffffffff)) ≡ 0
+  apart = same_from_bits _ 0 (λ i.
+      rw (
+        bit_at_and (bit_and u m) (bit_and u (bit_xor m 0xffffffff)) i,
+        bit_at_and u m i,
+        bit_at_and u (bit_xor m 0xffffffff) i,
+        bit_at_xor m 0xffffffff i,
+        bit_at-zero i,
+      )
+      (omega (arith, own i, bit_at-lt u i, bit_at-lt m i, bit_at-lt 0xffffffff i)))
+
+  together : bit_xor (bit_and u m) (bit_and u (bit_xor m 0xffffffff)) ≡ u
+  together = same_from_bits _ _ (λ i.
+      rw (
+        bit_at_xor (bit_and u m) (bit_and u (bit_xor m 0xffffffff)) i,
+        bit_at_and u m i,
+        bit_at_and u (bit_xor m 0xffffffff) i,
+        bit_at_xor m 0xffffffff i,
+      )
+      (omega (arith, own i, bit_at-lt u i, bit_at-lt m i, bit_at-lt 0xffffffff i)))

@@ -35,7 +35,7 @@ module _ (r : List ℕ) (rec : IsRecord r) (lits : List Lit) (known : All (λ l.
   masks w = masks_are r w lits (recursion_from_All (λ l. Holds l r) lits known)
 
   -- what the Bits of a word say of it under a mask
-  under : (w m d : ℕ) → AreKnown lits w m d → bit_and (word r w) m ≡ d
+  pub under : (w m d : ℕ) → AreKnown lits w m d → bit_and (word r w) m ≡ d
   under w m d h =
       ap (λ n. bit_and (word r w) n) (sym h.within ∙ and_comm m (mask_of lits w))
       ∙ sym (and_assoc (word r w) (mask_of lits w) m)

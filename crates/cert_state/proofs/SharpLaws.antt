@@ -1,7 +1,7 @@
 -- The sharp fact of the edge that is taken is true.
 use Rattle.std.proofs.Common.{◌≡◌, ℕ, suc, ◌+◌, ◌-◌, ◌*◌, ◌/◌, ◌%◌, ◌^◌, ◌<◌, ◌≤◌, Bool, true, false, cond, List, sym, ap, ◌∙◌}
-use Rattle.std.proofs.Common.{subst, ⊎_elim, inl, inr, arith}
-use Rattle.std.specs.Prelude.{bit_and, bit_or, min, None, IfSome}
+use Rattle.std.proofs.Common.{refl, subst, eqb, ⊎_elim, inl, inr, arith}
+use Rattle.std.specs.Prelude.{bit_and, bit_or, bit_xor, min, None, IfSome, All}
 use Rattle.std.specs.Int.{w32, bit_at, trailing_zeros}
 use Rattle.std.specs.Int.Bits.{and_zero_r}
 use Rattle.std.proofs.lemmas.Nat.{and_le_l, le_or_r, mod_below, mul-le, or_block, or_disjoint, or_lt, pow_pos, shr_split, trailing_le}
@@ -17,12 +17,14 @@ use Rattle.cert_state.specs.declared.literal.AVal.{AVal}
 use Rattle.cert_state.specs.declared.literal.AVal.TheVariants.{Unknown, Const, Masked}
 use Rattle.cert_state.specs.declared.literal.Regs.{Regs}
 use Rattle.cert_state.specs.Literals.{Holds, all_bits}
+use Rattle.cert_state.specs.Points.{datum_of, mask_of}
 use Rattle.cert_state.specs.States.{HasValue}
 use Rattle.cert_state.specs.Transfer.{masked_fact, operand_value}
-use Rattle.cert_state.specs.Sharp.{above_fact, is_bit, is_high, lowest_bit, sharp_fact_by, sharp_masked_fact, sharp_test_fact}
+use Rattle.cert_state.specs.Sharp.{above_fact, beside_fact, is_bit, is_high, lowest_bit, outside, sharp_fact_by, sharp_masked_fact, sharp_test_fact}
 use Rattle.cert_state.specs.Soundness.{FollowsSharpFact}
-use Rattle.cert_state.proofs.BitLaws.{and_all}
+use Rattle.cert_state.proofs.BitLaws.{and_all, and_parts}
 use Rattle.cert_state.proofs.EdgeLaws.{masked_is_true, operand_has_value, test_is_true}
+use Rattle.cert_state.proofs.KnownLaws.{under}
 
 -- a number with its lowest k bits set
 or_ones : (c k : ℕ) → bit_or c (2 ^ k - 1) ≡ c / 2 ^ k * 2 ^ k + (2 ^ k - 1)
@@ -126,29 +128,54 @@ above_lowest u m fits some = elim (cases_lt u (lowest_bit m)) [
         ap (λ n. min n (bit_at m i)) unset ∙ omega arith
   ]
 
-module _ (r : List ℕ) (w : ℕ) (rec : IsRecord r) where
+-- with what a word has besides, a comparison of it under a mask is one of the word
+same_beside : (u a c d : ℕ) (b : Bool) → u < 2 ^ 32 → a + d ≡ u → holds Greater a c ≡ b → holds Greater u (min (c + d) all_bits) ≡ b
+same_beside u a c d true small is e = lt-ltb (min (c + d) all_bits) u (omega (arith, is, ltb-true c a e))
+same_beside u a c d false small is e = le-ltb (min (c + d) all_bits) u (omega (arith, small, is, ltb-false c a e))
+
+module _ (r : List ℕ) (w : ℕ) (rec : IsRecord r) (lits : List Lit) (known : All (λ l. Holds l r) lits) where
   -- what is known of the word itself is true
   whole : (t : Test) (c : ℕ) (b : Bool) → holds t (word r w) c ≡ b → IfSome (masked_fact t w all_bits c b) (λ l. Holds l r)
   whole t c b e = masked_is_true t r w all_bits c (word r w) b rec (sym (and_all (word r w) (rec.words w))) e
 
-  above_is_true : (m c a : ℕ) (b : Bool) → a ≡ bit_and (word r w) m → holds Greater a c ≡ b
-      → IfSome (above_fact w m c b) (λ l. Holds l r)
-  above_is_true m c a b h e = ⊎_elim
-      (λ (high : is_high m ≡ true).
-      rw high (whole Greater (bit_or c (all_bits - m)) b
-      (same_order (word r w) m c a b (rec.words w) h (eqb-true (m + lowest_bit m) (2 ^ 32) high) e)))
-      (λ (other : is_high m ≡ false). rw other (by_way b e))
-      (cases_Bool (is_high m))
+  beside_is_true : (m c a : ℕ) (b : Bool) → a ≡ bit_and (word r w) m → holds Greater a c ≡ b
+      → IfSome (beside_fact w c (outside lits w m) b) (λ l. Holds l r)
+  beside_is_true m c a b h e = ⊎_elim
+      (λ (all : eqb (bit_and rest (mask_of lits w)) rest ≡ true).
+      rw all (whole Greater (min (c + d) all_bits) b (same_beside (word r w) a c d b (rec.words w) (is all) e)))
+      (λ (some : eqb (bit_and rest (mask_of lits w)) rest ≡ false). rw some (by_way b e))
+      (cases_Bool (eqb (bit_and rest (mask_of lits w)) rest))
     where
+      rest : ℕ
+      rest = bit_xor m all_bits
+
+      d : ℕ
+      d = bit_and (datum_of lits w) rest
+
+      is : eqb (bit_and rest (mask_of lits w)) rest ≡ true → a + d ≡ word r w
+      is all =
+          let has : bit_and (word r w) rest ≡ d =
+          under r rec lits known w rest d (record { within = eqb-true (bit_and rest (mask_of lits w)) rest all; datum = refl }) in
+          ap (λ n. n + d) h ∙ (ap (λ n. bit_and (word r w) m + n) (sym has) ∙ and_parts (word r w) m (rec.words w))
+
       by_way : (b : Bool) → holds Greater a c ≡ b
           → IfSome (cond b (masked_fact Greater w all_bits c true) None) (λ l. Holds l r)
       by_way true e =
           whole Greater c true (lt-ltb c (word r w) (omega (arith, h, ltb-true c a e, and_le_l (word r w) m)))
       by_way false e = tt
 
+  above_is_true : (m c a : ℕ) (b : Bool) → a ≡ bit_and (word r w) m → holds Greater a c ≡ b
+      → IfSome (above_fact lits w m c b) (λ l. Holds l r)
+  above_is_true m c a b h e = ⊎_elim
+      (λ (high : is_high m ≡ true).
+      rw high (whole Greater (bit_or c (all_bits - m)) b
+      (same_order (word r w) m c a b (rec.words w) h (eqb-true (m + lowest_bit m) (2 ^ 32) high) e)))
+      (λ (other : is_high m ≡ false). rw other (beside_is_true m c a b h e))
+      (cases_Bool (is_high m))
+
   -- at least c, where c is not 0, is above c - 1
   least_is_true : (m c a : ℕ) (b : Bool) → a ≡ bit_and (word r w) m → holds AtLeast a c ≡ b
-      → IfSome (sharp_masked_fact AtLeast w m c b) (λ l. Holds l r)
+      → IfSome (sharp_masked_fact lits AtLeast w m c b) (λ l. Holds l r)
   least_is_true m c a b h e = elim (cases_eq c 0) [
     | inl none ↦ rw none (whole AtLeast 0 b (sym (always (word r w) a) ∙ (ap (holds AtLeast a) (sym none) ∙ e)))
     | inr some ↦ rw (ne_eqb c 0 some) (above_is_true m (c - 1) a b h (before b e some))
@@ -161,7 +188,7 @@ module _ (r : List ℕ) (w : ℕ) (rec : IsRecord r) where
     before false e some = le-ltb (c - 1) a (omega (arith, leb-false c a e))
 
   any_is_true : (m c a : ℕ) → a ≡ bit_and (word r w) m → holds AnyBit a c ≡ true
-      → IfSome (sharp_masked_fact AnyBit w m c true) (λ l. Holds l r)
+      → IfSome (sharp_masked_fact lits AnyBit w m c true) (λ l. Holds l r)
   any_is_true m c a h e =
       let told : bit_and (word r w) (bit_and m c) ≡ 0 → ⊥ = masked_is_true AnyBit r w m c a true rec h e in
       ⊎_elim
@@ -171,23 +198,24 @@ module _ (r : List ℕ) (w : ℕ) (rec : IsRecord r) where
       (cases_Bool (is_bit (bit_and m c)))
 
   sharp_masked_is_true : (t : Test) (m c a : ℕ) (b : Bool) → a ≡ bit_and (word r w) m → holds t a c ≡ b
-      → IfSome (sharp_masked_fact t w m c b) (λ l. Holds l r)
+      → IfSome (sharp_masked_fact lits t w m c b) (λ l. Holds l r)
   sharp_masked_is_true Equal m c a b h e = masked_is_true Equal r w m c a b rec h e
   sharp_masked_is_true Greater m c a b h e = above_is_true m c a b h e
   sharp_masked_is_true AtLeast m c a b h e = least_is_true m c a b h e
   sharp_masked_is_true AnyBit m c a true h e = any_is_true m c a h e
   sharp_masked_is_true AnyBit m c a false h e = masked_is_true AnyBit r w m c a false rec h e
 
-sharp_test_is_true : (t : Test) (r : List ℕ) (v w : AVal) (a c : ℕ) → IsRecord r → HasValue v r a → HasValue w r c
-    → IfSome (sharp_test_fact t v w (holds t a c)) (λ l. Holds l r)
-sharp_test_is_true t r (Masked i m) (Const n) a c rec h k =
-    sharp_masked_is_true r i rec t m n a (holds t a c) h (ap (λ x. holds t a x) (sym k))
-sharp_test_is_true t r (Const m) w a c rec h k = test_is_true t r (Const m) w a c rec h k
-sharp_test_is_true t r Unknown w a c rec h k = tt
-sharp_test_is_true t r (Masked i m) Unknown a c rec h k = tt
-sharp_test_is_true t r (Masked i m) (Masked j n) a c rec h k = tt
+sharp_test_is_true : (t : Test) (r : List ℕ) (v w : AVal) (a c : ℕ) (lits : List Lit) → IsRecord r → All (λ l. Holds l r) lits
+    → HasValue v r a → HasValue w r c → IfSome (sharp_test_fact lits t v w (holds t a c)) (λ l. Holds l r)
+sharp_test_is_true t r (Masked i m) (Const n) a c lits rec known h k =
+    sharp_masked_is_true r i rec lits known t m n a (holds t a c) h (ap (λ x. holds t a x) (sym k))
+sharp_test_is_true t r (Const m) w a c lits rec known h k = test_is_true t r (Const m) w a c rec h k
+sharp_test_is_true t r Unknown w a c lits rec known h k = tt
+sharp_test_is_true t r (Masked i m) Unknown a c lits rec known h k = tt
+sharp_test_is_true t r (Masked i m) (Masked j n) a c lits rec known h k = tt
 
 pub follows_sharp_fact : (regs : Regs) (lits : List Lit) (i : Insn) → FollowsSharpFact regs lits i
 follows_sharp_fact regs lits i r s t o rec inside is =
-    subst (λ op. IfSome (sharp_fact_by op i regs (holds t s.a (operand o i s))) (λ l. Holds l r)) (sym is)
-    (sharp_test_is_true t r regs.a (operand_value o i regs) s.a (operand o i s) rec inside.has_a (operand_has_value o i regs r s inside.has_x))
+    subst (λ op. IfSome (sharp_fact_by lits op i regs (holds t s.a (operand o i s))) (λ l. Holds l r)) (sym is)
+    (sharp_test_is_true t r regs.a (operand_value o i regs) s.a (operand o i s) lits rec inside.known inside.has_a
+    (operand_has_value o i regs r s inside.has_x))

@@ -30,7 +30,7 @@ FollowsFact regs lits i =
 abbrev pub FollowsSharpFact : Regs → List Lit → Insn → Type 0
 FollowsSharpFact regs lits i =
     (r : List ℕ) (s : Registers) (test : Test) (c : Operand) → IsRecord r → Inside regs lits r s
-    → operation_of i.code ≡ Some (Branch test c) → IfSome (sharp_fact regs i (holds test s.a (operand c i s))) (λ l. Holds l r)
+    → operation_of i.code ≡ Some (Branch test c) → IfSome (sharp_fact lits regs i (holds test s.a (operand c i s))) (λ l. Holds l r)
 
 -- a literal is true of each record inside
 abbrev pub HoldsInside : Regs → List Lit → Lit → Type 0

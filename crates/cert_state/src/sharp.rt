@@ -1,12 +1,13 @@
 //! Sharp facts: what certificates of form 4 tell on an edge of a conditional jump.
 ghost use Rattle.std.specs.Prelude.{◌≡◌};
-ghost use Rattle.cert_state.specs.Sharp.{above_fact, sharp_masked_fact};
+ghost use Rattle.cert_state.specs.Sharp.{above_fact, outside as bits_outside, sharp_masked_fact};
 ghost use Rattle.cert_state.specs.Sharp.{is_bit as has_one, is_high as has_high, lowest_bit as lowest_of};
 ghost use Rattle.cert_state.specs.Sharp.{sharp_fact as fact_of, sharp_test_fact as fact_of_test};
 
 use crate::after::{compared, masked, test_fact};
 use crate::literal::{AVal, Lit};
 use crate::state::State;
+use crate::summary::summarize;
 use bpf_insn::{Insn, Test};
 
 /// The lowest bit of a number; of 0 it is the one above all 32.
@@ -30,12 +31,27 @@ fn is_high(mask: u32) -> bool
     u64::from(mask) + lowest_bit(mask) == 1 << 32
 }
 
+// What a word has outside a mask, where its literals say it of each bit there.
+fn outside<S: State>(state: &S, word: u8, mask: u32) -> Option<u32>
+    ensures { result ≡ bits_outside (S.known state.now) word mask }
+{
+    let rest = mask ^ u32::MAX;
+    let summary = summarize(state, word);
+    if rest & summary.mask == rest {
+        return Some(summary.datum & rest);
+    }
+    None
+}
+
 // What is known where a word under a mask is above a number, or is not.
-fn above(word: u8, mask: u32, c: u32, taken: bool) -> Option<Lit>
-    ensures { result ≡ above_fact word mask c taken }
+fn above<S: State>(state: &S, word: u8, mask: u32, c: u32, taken: bool) -> Option<Lit>
+    ensures { result ≡ above_fact (S.known state.now) word mask c taken }
 {
     if is_high(mask) {
         return masked(Test::Greater, word, u32::MAX, c | (u32::MAX - mask), taken);
+    }
+    if let Some(rest) = outside(state, word, mask) {
+        return masked(Test::Greater, word, u32::MAX, c.saturating_add(rest), taken);
     }
     if taken {
         return masked(Test::Greater, word, u32::MAX, c, true);
@@ -44,24 +60,30 @@ fn above(word: u8, mask: u32, c: u32, taken: bool) -> Option<Lit>
 }
 
 // What is known where a comparison of a word under a mask came out so.
-fn sharp(test: Test, word: u8, mask: u32, c: u32, taken: bool) -> Option<Lit>
-    ensures { result ≡ sharp_masked_fact test word mask c taken }
+fn sharp<S: State>(state: &S, test: Test, word: u8, mask: u32, c: u32, taken: bool) -> Option<Lit>
+    ensures { result ≡ sharp_masked_fact (S.known state.now) test word mask c taken }
 {
     match test {
-        Test::Greater => above(word, mask, c, taken),
+        Test::Greater => above(state, word, mask, c, taken),
         Test::AtLeast if c == 0 => masked(test, word, u32::MAX, 0, taken),
-        Test::AtLeast => above(word, mask, c - 1, taken),
+        Test::AtLeast => above(state, word, mask, c - 1, taken),
         Test::AnyBit if taken && is_bit(mask & c) => Some(Lit::Bits(word, mask & c, mask & c)),
         Test::AnyBit | Test::Equal => masked(test, word, mask, c, taken),
     }
 }
 
 // What is known where a comparison of A with its operand came out so.
-fn sharp_test_fact(test: Test, a: AVal, operand: AVal, taken: bool) -> Option<Lit>
-    ensures { result ≡ fact_of_test test a operand taken }
+fn sharp_test_fact<S: State>(
+    state: &S,
+    test: Test,
+    a: AVal,
+    operand: AVal,
+    taken: bool,
+) -> Option<Lit>
+    ensures { result ≡ fact_of_test (S.known state.now) test a operand taken }
 {
     match (a, operand) {
-        (AVal::Masked(word, mask), AVal::Const(c)) => sharp(test, word, mask, c, taken),
+        (AVal::Masked(word, mask), AVal::Const(c)) => sharp(state, test, word, mask, c, taken),
         _ => test_fact(test, a, operand, taken),
     }
 }
@@ -69,8 +91,8 @@ fn sharp_test_fact(test: Test, a: AVal, operand: AVal, taken: bool) -> Option<Li
 /// What certificates of form 4 tell on the edge of a conditional jump that is taken where its test holds, or on the other
 /// one.
 pub fn sharp_fact<S: State>(state: &S, insn: &Insn, taken: bool) -> Option<Lit>
-    ensures { result ≡ fact_of (S.regs state.now) insn.now taken }
+    ensures { result ≡ fact_of (S.known state.now) (S.regs state.now) insn.now taken }
 {
     let (test, a, operand) = compared(state, insn)?;
-    sharp_test_fact(test, a, operand, taken)
+    sharp_test_fact(state, test, a, operand, taken)
 }

@@ -50,8 +50,8 @@ fn next_under(number: u32, mask: u32) -> Option<u32> {
     (number | lowest.wrapping_sub(1)).checked_add(1)
 }
 
-// The union of the masks of the `Bits` among literals of one word, and that of their data.
-fn bits_of(own: &[Lit]) -> (u32, u32) {
+/// The union of the masks of the `Bits` among literals of one word, and that of their data.
+pub(crate) fn bits_of(own: &[Lit]) -> (u32, u32) {
     let (mut mask, mut datum) = (0, 0);
     for literal in own {
         if let Lit::Bits(_, m, d) = literal {

@@ -1,7 +1,8 @@
 //! Places of a filter, where they lead, and what nodes state of registers and scratch words.
 ghost use Rattle.bpf_insn.specs.Causes.{IsPlain};
 
-use bpf_insn::{Insn, Operation};
+use crate::known::bits_of;
+use bpf_insn::{Insn, Operand, Operation, Test};
 use cert_parts::{Cut, NO_REGS};
 use cert_state::{AVal, Listed, Lit, Regs, sharp_fact, transfer};
 
@@ -25,13 +26,14 @@ impl Place {
     }
 
     /// The places that follow: over the instruction, of a conditional jump first that where it is not taken, or at the same
-    /// place with one literal and with the other. Where there is one way, it is told twice.
-    pub(crate) fn ways(&self, insn: &Insn, cut: Option<Cut>) -> (Place, Place)
+    /// place with one literal and with the other. Where there is one way, it is told twice. Of the word that A holds these
+    /// literals are known.
+    pub(crate) fn ways(&self, insn: &Insn, cut: Option<Cut>, own: &[Lit]) -> (Place, Place)
         requires { IsPlain insn.now }
     {
         let state = Listed {
             regs: self.regs,
-            lits: &[],
+            lits: own,
             more: None,
         };
         match (cut, insn.operation()) {
@@ -61,6 +63,48 @@ impl Place {
             }
         }
     }
+}
+
+/// The word that A holds under a mask, if any.
+pub(crate) fn word_in_part(regs: &Regs) -> Option<(u8, u32)> {
+    match regs.a {
+        AVal::Masked(word, mask) if mask != u32::MAX => Some((word, mask)),
+        _ => None,
+    }
+}
+
+/// What has to be known of the bits outside the mask of A for the facts on the ways, if they tell more by it.
+pub(crate) fn beside(place: &Place, insn: &Insn, cut: Option<Cut>, own: &[Lit]) -> Option<Lit>
+    requires { IsPlain insn.now }
+{
+    let (word, mask) = word_in_part(&place.regs)?;
+    let (one, other) = place.ways(insn, cut, own);
+    let (less, least) = place.ways(insn, cut, &[]);
+    if one.fact == less.fact && other.fact == least.fact {
+        return None;
+    }
+    let rest = mask ^ u32::MAX;
+    let (_, datum) = bits_of(own);
+    Some(Lit::Bits(word, rest, datum & rest))
+}
+
+// Few bits outside a mask are each asked for by themselves.
+const FEW: u32 = 2;
+
+/// Where a word is cut that is compared by order under a mask: at a bit outside of which nothing is known, if these are few.
+pub(crate) fn cut_beside(place: &Place, insn: &Insn, own: &[Lit]) -> Option<Cut> {
+    let (word, mask) = word_in_part(&place.regs)?;
+    let Some(Operation::Branch(Test::Greater | Test::AtLeast, Operand::K)) = insn.operation() else {
+        return None;
+    };
+    let rest = mask ^ u32::MAX;
+    let (known, _) = bits_of(own);
+    let open = rest & (known ^ u32::MAX);
+    if rest.count_ones() > FEW || open == 0 {
+        return None;
+    }
+    let bit = open & open.wrapping_neg();
+    Some((Lit::Bits(word, bit, 0), Lit::Bits(word, bit, bit)))
 }
 
 /// Whether a node leads on by two ways.
@@ -102,14 +146,21 @@ fn without(regs: &Regs, which: usize) -> Regs {
 
 /// What a node at a place has to state of registers so that the nodes behind it, which state this much, are reached by the same
 /// facts.
-pub(crate) fn needed(place: &Place, insn: &Insn, cut: Option<Cut>, one: &Regs, two: &Regs) -> Regs
+pub(crate) fn needed(
+    place: &Place,
+    insn: &Insn,
+    cut: Option<Cut>,
+    own: &[Lit],
+    one: &Regs,
+    two: &Regs,
+) -> Regs
     requires { IsPlain insn.now }
 {
-    let meant = place.ways(insn, cut);
+    let meant = place.ways(insn, cut, own);
     let mut needed = place.regs;
     for which in 0..18_usize {
         let regs = without(&needed, which);
-        let ways = Place { regs, ..*place }.ways(insn, cut);
+        let ways = Place { regs, ..*place }.ways(insn, cut, own);
         if leads(&ways.0, &meant.0, one) && leads(&ways.1, &meant.1, two) {
             needed = regs;
         }

@@ -232,6 +232,10 @@ impl Question<'_> {
         }
         match open {
             Some(cut) if !refuted => Err(cut),
+            // A number is excluded that bits of it exclude: what is left has another least one.
+            None if !is_one && !is_default && self.known.excludes(NUMBER, least) => {
+                cut(cut_below(NUMBER, least.saturating_add(1)))
+            }
             _ => Ok(is_default && !refuted),
         }
     }

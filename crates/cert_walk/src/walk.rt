@@ -7,7 +7,7 @@ ghost use Rattle.bpf_insn.specs.Causes.{IsPlain};
 use crate::fault::CertifyError;
 use crate::known::{Known, Needs, contradiction};
 use crate::nodes::Nodes;
-use crate::place::{BEGINNING, Place, has_two_ways, needed};
+use crate::place::{BEGINNING, Place, beside, cut_beside, has_two_ways, needed, word_in_part};
 use crate::rules::Rules;
 use crate::settle::Question;
 use crate::trials::Trials;
@@ -125,7 +125,9 @@ impl<'a> Walk<'a> {
             return Err(CertifyError::Undecided(u32::from(visit.place.pc)));
         };
         self.known.truncate(visit.known);
-        let (first, second) = visit.place.ways(&insn, visit.cut);
+        let (first, second) = visit
+            .place
+            .ways(&insn, visit.cut, self.of_part(&visit.place));
         let next = match (visit.first, visit.second) {
             (None, _) => first,
             (Some(_), None) if has_two_ways(&insn, visit.cut) => second,
@@ -133,6 +135,14 @@ impl<'a> Walk<'a> {
         };
         self.visits.push(visit)?;
         self.enter(&next)
+    }
+
+    // What is known of the word that A holds under a mask, if any.
+    fn of_part(&self, place: &Place) -> &[Lit] {
+        match word_in_part(&place.regs) {
+            Some((word, _)) => self.known.of(word),
+            None => &[],
+        }
     }
 
     // Comes to a place. A node that is there already, or ends the path, is answered.
@@ -156,6 +166,7 @@ impl<'a> Walk<'a> {
         if let Some(number) = self.nodes.find(place, &self.known, &mut self.work) {
             return Ok(Some(number));
         }
+        let cut = cut.or(cut_beside(place, &insn, self.of_part(place)));
         let a = place.regs.a;
         match (insn.operation(), a) {
             _ if cut.is_some() => self.wait(place, cut),
@@ -283,11 +294,17 @@ impl<'a> Walk<'a> {
     fn leave(&mut self, visit: &Visit, insn: &Insn, one: u32, other: u32) -> Found
         requires { IsPlain insn.now }
     {
-        let (first, second) = visit.place.ways(insn, visit.cut);
+        let own = self.of_part(&visit.place);
+        let (first, second) = visit.place.ways(insn, visit.cut, own);
+        let beside = beside(&visit.place, insn, visit.cut, own);
         self.needs = Needs::new(self.alloc);
         let stated = self.need(first.fact, one)?;
         let also = self.need(second.fact, other)?;
-        let regs = needed(&visit.place, insn, visit.cut, &stated, &also);
+        if let Some(literal) = beside {
+            self.needs.add(literal)?;
+        }
+        let own = self.of_part(&visit.place);
+        let regs = needed(&visit.place, insn, visit.cut, own, &stated, &also);
         let one = self.or_dead(&first, one)?;
         let other = self.or_dead(&second, other)?;
         let kind = match visit.cut {

@@ -16,4 +16,4 @@ mod plain;
 pub use cert_walk::CertifyError;
 pub use evidence::{Conviction, convict};
 pub use law::{compiled_is_right, shape_is_right, table_profiles_are_plain};
-pub use maker::{certify, certify_accepted, follow, propose};
+pub use maker::{certify, certify_accepted, follow, propose, propose_shared};

@@ -14,7 +14,7 @@ use crate::plain::plain_certificate;
 use bpf_insn::Program;
 use cert_check::{CheckError, check_accepted};
 use cert_paths::{PathsError, by_paths};
-use cert_walk::{CertifyError, walk_through};
+use cert_walk::CertifyError;
 use kernel_check::{Accepted, accept};
 use profile::{Profile, Rule};
 use rule_compile::Outline;
@@ -44,7 +44,7 @@ fn certified(
         Ok(bytes) => Ok(bytes),
         Err(CertifyError::OutOfMemory) => Err(CertifyError::OutOfMemory),
         // A filter of another shape.
-        Err(_) => walk_through(alloc, profile, *program),
+        Err(_) => with_conditions(alloc, profile, *program, outline),
     }
 }
 
@@ -182,6 +182,16 @@ pub fn propose(
     ensures never { OwnLacksMemory profile.now (accepted_insns program.now) result }
 {
     proposed(alloc, profile, program, Some(outline))
+}
+
+/// What the makers propose of a filter that `share_searches` gives, with its outline: the checker was not asked.
+pub fn propose_shared(
+    alloc: Global,
+    profile: &Profile,
+    program: &Accepted<'_>,
+    outline: &Outline,
+) -> Result<Vec<u8>, CertifyError> {
+    with_conditions(alloc, profile, *program, Some(outline))
 }
 
 /// The certificate that follows each path of a filter, for one of which what was proposed is refused. The checker says yes to it.

@@ -29,7 +29,7 @@ use Rattle.pipeline.specs.declared.unready.Unready.TheVariants.{Profile, Compile
 use Rattle.pipeline.specs.Exported.{Exports, ExportsFilter, IsToldAs, IsUnready}
 use Rattle.pipeline.specs.Finding.{IsBundle}
 use Rattle.pipeline.specs.Plain.{IsNotPlain, IsPlainBundle}
-use Rattle.pipeline.specs.Prepared.{IsMade, IsOwnWork, IsPrepared, IsProposed, IsTaken, IsUnbroken}
+use Rattle.pipeline.specs.Prepared.{IsPrepared, IsTaken, IsUnbroken}
 use Rattle.pipeline.proofs.FindingLaws.{no_fault, one_policy}
 
 -- ---- steps
@@ -129,18 +129,6 @@ prepared native bundle policy (Ok made) is same taken unbroken = record {
   unbroken = subst (λ (p : Policy). IsUnbroken p made.filter.items made.certificate.items) (sym same) unbroken;
 }
 prepared native bundle policy (Err u) is same taken unbroken = tt
-
--- what is proposed of it
-pub proposed : (native : Arch) (bundle : List ℕ) (policy : Policy) (r : Result Prepared Unready) → IsBundle native bundle policy
-    → IfOk r (λ made. made.profile ≡ policy) → IfOk r (λ made. IsMade policy made.filter.items)
-    → (IsPlain policy → IfOk r (λ made. IsUnbroken policy made.filter.items made.certificate.items))
-    → IfOk r (λ made. IsProposed native bundle made.profile made.filter.items made.certificate.items)
-proposed native bundle policy (Ok made) is same done own = record {
-  means = subst (IsBundle native bundle) (sym same) is;
-  made = subst (λ (p : Policy). IsMade p made.filter.items) (sym same) done;
-  own = subst (λ (p : Policy). IsOwnWork p made.filter.items made.certificate.items) (sym same) own;
-}
-proposed native bundle policy (Err u) is same done own = tt
 
 -- ---- plain bundles
 

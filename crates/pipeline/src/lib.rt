@@ -7,6 +7,7 @@ mod check;
 mod exporting;
 mod law;
 mod pipeline;
+mod shared;
 mod unready;
 mod verdict;
 

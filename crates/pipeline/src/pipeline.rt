@@ -2,6 +2,7 @@
 ghost use Rattle.std.specs.Prelude.{◌≡◌, None};
 ghost use Rattle.bpf_insn.specs.Bytes.{insns_of, spelling, view_fault};
 
+use crate::shared::{Proposal, shared};
 use crate::unready::Unready;
 use bpf_insn::Program;
 use call_tables::Arch;
@@ -40,7 +41,7 @@ impl Prepared {
     ghost use Rattle.pipeline.specs.declared.unready.Unready.TheVariants.{OutOfMemory};
     ghost use Rattle.pipeline.specs.Exported.{IsCheckedOf, IsUnready};
     ghost use Rattle.pipeline.specs.Finding.{IsBundle, IsYes};
-    ghost use Rattle.pipeline.specs.Prepared.{IsMade, IsPrepared, IsProposed, IsTaken, IsUnbroken};
+    ghost use Rattle.pipeline.specs.Prepared.{IsMade, IsPrepared, IsTaken, IsUnbroken};
 
     /// What is made of the text of a bundle, which is read for a native machine: the checker says yes to it.
     pub fn of(alloc: Global, native: Arch, bundle: &[u8]) -> Result<Prepared, Unready>
@@ -61,13 +62,63 @@ impl Prepared {
         ensures err { (native : TheArch) (bundle : List ℕ) → IsBundle native bundle profile
             → IfErr result (λ unready. unready ≢ OutOfMemory → IsUnready native bundle unready) }
     {
+        match shared(alloc, &profile)? {
+            Some(Proposal {
+                filter,
+                certificate,
+            }) => Prepared::shared_or_own(
+                alloc,
+                Prepared {
+                    profile,
+                    filter,
+                    certificate,
+                },
+            ),
+            None => Prepared::own(alloc, profile),
+        }
+    }
+
+    // What is proposed, where the checker says yes to it, or else what the compiler gives.
+    fn shared_or_own(alloc: Global, prepared: Prepared) -> Result<Prepared, Unready>
+        requires { IsTaken prepared.filter.items }
+        ensures profile { IfOk result (λ made. made.profile ≡ prepared.profile) }
+        ensures taken { IfOk result (λ made. IsTaken made.filter.items) }
+        ensures unbroken { IfOk result (λ made. IsUnbroken prepared.profile made.filter.items made.certificate.items) }
+        ensures never { IsPlain prepared.profile → IfErr result (λ unready. unready ≡ OutOfMemory) }
+        ensures err { (native : TheArch) (bundle : List ℕ) → IsBundle native bundle prepared.profile
+            → IfErr result (λ unready. unready ≢ OutOfMemory → IsUnready native bundle unready) }
+    {
+        match prepared.is_yes(alloc) {
+            Some(true) => Ok(prepared),
+            Some(false) => {
+                let Prepared {
+                    profile,
+                    filter: _,
+                    certificate: _,
+                } = prepared;
+                Prepared::own(alloc, profile)
+            }
+            None => Err(Unready::OutOfMemory),
+        }
+    }
+
+    // The compiler's filter of a profile, certified.
+    fn own(alloc: Global, profile: Profile) -> Result<Prepared, Unready>
+        ensures profile { IfOk result (λ made. made.profile ≡ profile) }
+        ensures taken { IfOk result (λ made. IsTaken made.filter.items) }
+        // What is made breaks no rule of the checker, and of a plain profile only memory is ever refused.
+        ensures unbroken { IfOk result (λ made. IsUnbroken profile made.filter.items made.certificate.items) }
+        ensures never { IsPlain profile → IfErr result (λ unready. unready ≡ OutOfMemory) }
+        ensures err { (native : TheArch) (bundle : List ℕ) → IsBundle native bundle profile
+            → IfErr result (λ unready. unready ≢ OutOfMemory → IsUnready native bundle unready) }
+    {
         let mut prepared = Prepared::proposed_for(alloc, profile)?;
         prepared.settle(alloc)?;
         Ok(prepared)
     }
 
-    // Compiles a profile, and has a certificate of the filter proposed.
-    fn proposed_for(alloc: Global, profile: Profile) -> Result<Prepared, Unready>
+    /// Compiles a profile, and has a certificate of the filter proposed.
+    pub(crate) fn proposed_for(alloc: Global, profile: Profile) -> Result<Prepared, Unready>
         ensures profile { IfOk result (λ made. made.profile ≡ profile) }
         ensures made { IfOk result (λ made. IsMade profile made.filter.items) }
         // What is proposed of a plain profile breaks no rule, and only memory is ever refused.
@@ -89,15 +140,6 @@ impl Prepared {
             filter: made.bytes,
             certificate,
         })
-    }
-
-    /// What is made of the text of a bundle before the checker is asked.
-    pub(crate) fn proposed(alloc: Global, native: Arch, bundle: &[u8]) -> Result<Prepared, Unready>
-        ensures ok { IfOk result
-            (λ made. IsProposed native bundle.now made.profile made.filter.items made.certificate.items) }
-        ensures err { IfErr result (λ unready. unready ≢ OutOfMemory → IsUnready native bundle.now unready) }
-    {
-        Prepared::proposed_for(alloc, read_bundle(alloc, bundle, native)?.profile)
     }
 
     // Whether the checker says yes to what is proposed, if there is memory to ask it.
