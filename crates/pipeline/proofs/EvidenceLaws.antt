@@ -31,7 +31,6 @@ use Rattle.profile_json.specs.Breaks.{Breaks}
 use Rattle.profile_json.specs.Fault.{fault_of}
 use Rattle.profile_json.specs.Laws.{MeaningIsOne}
 use Rattle.profile_json.proofs.unbroken.Unbroken.{meaning_is_one, meaning_is_unbroken}
-use Rattle.rule_compile.specs.Shape.{IsCallFilter, IsPlain}
 use Rattle.pipeline.proofs.ExportLaws.{as_failed}
 use Rattle.pipeline.proofs.FindingLaws.{no_fault, one_policy}
 use Rattle.pipeline.specs.Certified.{AreJudged, Certifies, CertifiesOwn, EvidenceExcludes, IsOpen, IsOwnFilter, WritesCertificate}

@@ -1,5 +1,4 @@
 use Rattle.std.proofs.Common.{List, sym, subst}
-use Rattle.std.specs.Prelude.{Result, Ok, Err, IfOk}
 use Rattle.bpf_insn.specs.declared.instruction.Insn.{Insn}
 use Rattle.kernel_check.specs.Lent.{accepted_insns}
 use Rattle.rule_compile.specs.Shape.{IsCallFilter}
