@@ -130,10 +130,14 @@ fn export_profile<S: Sink>(
         → Exports S.held S.failures sink.old sink.new native bundle form result }
 {
     match shared(alloc, &profile) {
-        Ok(Some(Proposal {
-            filter,
-            certificate,
-        })) => {
+        Ok(
+            Some(
+                Proposal {
+                    filter,
+                    certificate,
+                },
+            ),
+        ) => {
             let prepared = Prepared {
                 profile,
                 filter,

@@ -63,10 +63,12 @@ impl Prepared {
             → IfErr result (λ unready. unready ≢ OutOfMemory → IsUnready native bundle unready) }
     {
         match shared(alloc, &profile)? {
-            Some(Proposal {
-                filter,
-                certificate,
-            }) => Prepared::shared_or_own(
+            Some(
+                Proposal {
+                    filter,
+                    certificate,
+                },
+            ) => Prepared::shared_or_own(
                 alloc,
                 Prepared {
                     profile,
