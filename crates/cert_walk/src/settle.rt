@@ -11,6 +11,9 @@ use cert_parts::{Cut, cut_below, cut_of_bits};
 use cert_state::{Lit, is_bit, lowest_bit};
 use profile::{Cond, Op, Rule, foreign_numbers};
 
+// So many numbers more than the least are few.
+const FEW: u32 = 64;
+
 /// Whether something is so, by what is known; or, where it may be either, the cut that settles more.
 pub(crate) type Answer = Result<bool, Cut>;
 
@@ -154,7 +157,19 @@ impl Question<'_> {
                 }
             }
         }
-        Ok(false)
+        cut(self.cut_of_excluded())
+    }
+
+    // Where few numbers are left, and the least of them is excluded by some of its bits: there it is cut off.
+    fn cut_of_excluded(&self) -> Option<Cut> {
+        let (least, greatest) = self.known.range(NUMBER)?;
+        if least == greatest || greatest.saturating_sub(least) > FEW {
+            return None;
+        }
+        if !self.known.excludes(NUMBER, least) {
+            return None;
+        }
+        cut_below(NUMBER, least.saturating_add(1))
     }
 
     // The answer by what is known as it stands.
@@ -232,10 +247,6 @@ impl Question<'_> {
         }
         match open {
             Some(cut) if !refuted => Err(cut),
-            // A number is excluded that bits of it exclude: what is left has another least one.
-            None if !is_one && !is_default && self.known.excludes(NUMBER, least) => {
-                cut(cut_below(NUMBER, least.saturating_add(1)))
-            }
             _ => Ok(is_default && !refuted),
         }
     }
