@@ -151,6 +151,9 @@ impl<'a> Maker<'a> {
         told: Option<Lit>,
     ) -> Result<Vec<usize>, OutlineError> {
         let rules = needs.outs.rules(self.alloc, next)?;
+        if rules.is_empty() {
+            return Ok(rules);
+        }
         let (Some(literal), Some(words)) = (told, self.words.get(spot.arguments)) else {
             return Ok(rules);
         };
