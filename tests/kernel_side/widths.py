@@ -1,0 +1,42 @@
+"""Widths: how many bits of an argument a kernel reads, of the calls of widths.txt, with upper halves that are set."""
+from kernel_side.sides import HERE, Tally
+
+# Upper halves: their ends, and all bits. The last is the sign of a negative number.
+UPPERS = (1, 0x80000000, 0xFFFFFFFF)
+
+
+def rows():
+    """The rows of widths.txt: a name, a number, an argument's place, its width, the value that has another result, and arguments."""
+    with open(f"{HERE}/widths.txt", encoding="utf-8") as file:
+        for line in file:
+            if not line.startswith("#"):
+                head, _, args = line.partition(":")
+                name, nr, index, width, *other = head.split()
+                yield name, nr, int(index), int(width), other[0] if other else None, args.split()
+
+
+def asked_of(nr, args, index, value):
+    """The line that makes a call with another value of one argument."""
+    return " ".join(["width", nr, *args[:index], value, *args[index + 1 :]])
+
+
+def run(sides, dice, more):
+    """Tries each row with upper halves at their ends, and with so many others."""
+    tally = Tally("widths")
+    every = [*rows()]
+    uppers = [[*UPPERS, *(dice.below(2**32 - 1) + 1 for _ in range(more))] for _ in every]
+    asked, counts = [], []
+    for (_, nr, index, width, other, args), some in zip(every, uppers):
+        values = [args[index], *(f"{args[index]}/{upper:x}" for upper in some), *([other] if width == 32 else [])]
+        asked += [asked_of(nr, args, index, value) for value in values]
+        counts.append(len(values))
+    told = iter(sides.real(asked))
+    for (name, _, index, width, _, _), some, count in zip(every, uppers, counts):
+        plain, *results = [next(told) for _ in range(count)]
+        if width == 32:
+            *results, else_ = results
+            tally.count(else_ != plain, lambda: f"{name}, argument {index}: another value has the same result, {plain}")
+        for upper, result in zip(some, results):
+            is_right = (result == plain) == (width == 32)
+            tally.count(is_right, lambda: f"{name}, argument {index}: {plain} without an upper half, {result} with {upper:#x}")
+    return tally
