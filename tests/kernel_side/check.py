@@ -100,6 +100,7 @@ def compare(sides, tally, programs):
         right, named = wanted(program, one)
         if named and right == other:
             tally.name(named)
+        tally.see(one.partition(" pc")[0])
         tally.count(right == other, lambda: f"{digits(program)}: the model: {one}, the kernel: {other}")
 
 
@@ -111,6 +112,7 @@ def compare_planted(sides, tally, triples):
     came = [told.split()[0] for told in sides.real(lines)]
     for (_, program, cause), (clean_said, marred_said), *both in zip(triples, said, came[::2], came[1::2]):
         is_right = (clean_said, marred_said) == ("taken", cause) and both == [TAKEN, REFUSED]
+        tally.see(f"planted {cause.partition(' pc')[0]}")
         tally.count(is_right, lambda: f"{digits(program)}: wanted {cause}, the model: {marred_said}, the kernel: {both}")
 
 

@@ -188,11 +188,24 @@ def compare(sides, tally, scripts):
         compare_answers(tally, right, told.split(";"))
 
 
+def kind_of(command, wanted):
+    """What a command came to, for the counts."""
+    _, name, args, _ = command
+    told = wanted.split()[0]
+    if told in ("none", "ended"):
+        return {"none": "no task", "ended": "the task ends"}[told]
+    if name in ("seccomp", "prctl"):
+        what = "TSYNC" if name == "seccomp" and args[1] == TSYNC else "load"
+        return what if told == "0" else f"{what} fails"
+    return name if not told.startswith("-") else f"{name} fails"
+
+
 def compare_answers(tally, right, answers):
     """Compares the answers of a script, up to the first that differs."""
     for place, (command, wanted, named) in enumerate(right):
         told = answers[place] if place < len(answers) else "nothing"
         is_right = told == wanted
+        tally.see(kind_of(command, wanted))
         if named and is_right:
             tally.name(named)
         tally.count(is_right, lambda: f"{[line_of(it) for it, _, _ in right[: place + 1]]}: wanted {wanted}, the kernel: {told}")

@@ -2,6 +2,7 @@
 import os
 import subprocess
 import tempfile
+from collections import Counter
 
 from harness.ask import answers
 from harness.limits import ENDLESS
@@ -94,7 +95,8 @@ class Tally:
     """What came of the cases of a kind."""
 
     def __init__(self, kind):
-        self.kind, self.alike, self.unlike, self.named, self.faults, self.untried = kind, 0, 0, {}, [], []
+        self.kind, self.alike, self.unlike, self.faults, self.untried = kind, 0, 0, [], []
+        self.named, self.seen = Counter(), Counter()
 
     def count(self, is_alike, told):
         """Counts a case, and keeps the first that differ."""
@@ -107,10 +109,16 @@ class Tally:
 
     def name(self, difference):
         """Counts a case in which the kernel differs as docs/KERNEL.md says. It counts as alike as well."""
-        self.named[difference] = self.named.get(difference, 0) + 1
+        self.named[difference] += 1
+
+    def see(self, what):
+        """Counts what a case came to, so that one sees which are tried."""
+        self.seen[what] += 1
 
     def lines(self):
         """What is told of the kind."""
         head = f"{self.kind}: {self.alike} alike, {self.unlike} unlike"
+        if self.seen:
+            head += f" ({', '.join(f'{what} {count}' for what, count in sorted(self.seen.items()))})"
         named = [f"    {count} of them differ as docs/KERNEL.md says: {what}" for what, count in sorted(self.named.items())]
         return [*(f"    {fault}" for fault in self.faults), *named, *(f"    not tried: {what}" for what in self.untried), head]

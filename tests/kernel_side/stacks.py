@@ -5,7 +5,7 @@ filter and the same ones, and makes the same calls.
 """
 import json
 
-from kernel_side.insns import ACTIONS, ALLOW, EDGES, LD, NAMELESS, RET, digits
+from kernel_side.insns import ACTIONS, ALLOW, LD, NAMELESS, RET, digits
 from kernel_side.sides import SYSCALL, Tally, case_line
 
 GETPID, JEQ = 39, 0x15
@@ -41,6 +41,11 @@ def drawn_stack(dice):
     return [[word(place) for place in range(arguments)] for _ in range(dice.below(4) + 2)]
 
 
+def shown(stack):
+    """A stack for people: the verdicts of each filter."""
+    return " | ".join(" ".join(f"{word:#010x}" for word in words) for words in stack)
+
+
 def result_of(sides, reply):
     """What a reply of the model means for a child: a result, or None where it ends."""
     kind, _, value = reply.partition(" ")
@@ -65,13 +70,14 @@ def compare(sides, tally, first, stacks):
         right, right_end = [], "end"
         for reply in said:
             result = None if reply == "no task" else result_of(sides, reply)
+            tally.see("the task ends" if result is None else "carried out" if result == "pid" else "answers an error")
             if result is None:
                 right_end = "signal 31"
                 break
             right.append(result)
         wanted = f"{','.join('0' * (len(stack) + 1))} {','.join(right) or '-'} {right_end}"
         is_right = told == wanted and begun == ["ok", "ok", *["done 0"] * len(stack)]
-        tally.count(is_right, lambda: f"{[[f'{word:#x}' for word in words] for words in stack]}: the model: {begun} {said}, the kernel: {told}")
+        tally.count(is_right, lambda: f"{shown(stack)}: the model: {begun} {said}, the kernel: {told}")
 
 
 def run(sides, dice, count):

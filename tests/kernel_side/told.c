@@ -143,6 +143,30 @@ static void number_again(void)
 	leave();
 }
 
+/* The first process of a PID namespace, without handlers, is sent SIGTERM and then SIGKILL from outside: whether it lives on behind
+ * the first, and by which signal it ends. */
+static void first_from_outside(void)
+{
+	pid_t first = enter(SYS_clone, CLONE_NEWPID | SIGCHLD, 0, 0, 0);
+	int status = 0, lives_on;
+
+	if (first == 0)
+		for (;;)
+			pause();
+	if (first < 0) {
+		printf("no namespace");
+		return;
+	}
+	kill(first, SIGTERM);
+	usleep(50000);
+	lives_on = waitpid(first, &status, WNOHANG) == 0;
+	if (lives_on) {
+		kill(first, SIGKILL);
+		waitpid(first, &status, 0);
+	}
+	printf("%d %d", lives_on, WIFSIGNALED(status) ? WTERMSIG(status) : 0);
+}
+
 /* vfork: its child has the filter, and its maker goes on behind it. */
 static void vfork_hands_on(void)
 {
@@ -226,6 +250,7 @@ static const struct {
 	{ "kill_of_ended", kill_of_ended },
 	{ "exit_status", exit_status },
 	{ "number_again", number_again },
+	{ "first_from_outside", first_from_outside },
 	{ "vfork_hands_on", vfork_hands_on },
 	{ "listener_answers", listener_answers },
 	{ "tracer_answers", tracer_answers },

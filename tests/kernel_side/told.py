@@ -9,7 +9,7 @@ ALL, KILL = digits([(RET, 0, 0, ALLOW)]), digits([(RET, 0, 0, 0x80000000)])
 TSYNC_AND_ESRCH = 0x11
 # Filters of one instruction that a task of the model may have: each counts for 5, and the last for 1.
 MODEL_LIMIT = (32768 - 1) // 5 + 1
-URETPROBE, UPROBE, KILL_CALL, EXECVE, SECCOMP, CLONE3 = 335, 336, 62, 59, 317, 435
+URETPROBE, UPROBE, KILL_CALL, EXECVE, SECCOMP, CLONE3, CLOSE_OF_X86 = 335, 336, 62, 59, 317, 435, 6
 
 
 def of_tree(*commands):
@@ -29,6 +29,7 @@ SENTENCES = [
     ("kill answers 0 for a task that has ended and was not waited for, and then ESRCH", "told kill_of_ended", "0 -3"),
     ("of a status the low byte counts", "told exit_status", "52 53"),
     ("the number of an ended task is used again", "told number_again", "2 2"),
+    ("SIGTERM from outside does nothing to a namespace's first process, SIGKILL ends it", "told first_from_outside", "1 9"),
     ("vfork hands on filters", "told vfork_hands_on", "-77"),
     ("a listener may answer", "told listener_answers", "77"),
     ("a tracer may let a call be carried out", "told tracer_answers", "1"),
@@ -40,6 +41,10 @@ SENTENCES = [
     ("TSYNC_ESRCH: ESRCH in place of the thread's number",
      of_tree((1, 56, THREAD), (2, SECCOMP, 1, 0, ALL), (1, SECCOMP, 1, TSYNC_AND_ESRCH, ALL), (1, SECCOMP, 1, 1, ALL)),
      "2 1,2;0 1,2;-3 1,2;2 1,2"),
+    ("two loads of the same bytes are two filters",
+     of_tree((1, 56, THREAD), (1, SECCOMP, 1, 0, ALL), (2, SECCOMP, 1, 0, ALL), (1, SECCOMP, 1, 1, ALL)),
+     "2 1,2;0 1,2;0 1,2;2 1,2"),
+    ("x86 takes the lower halves of arguments", case_line([], [(INT80, CLOSE_OF_X86, [1 << 32])]), "- 0 end"),
     ("uretprobe of x86-64 passes every filter", case_line([KILL], [(SYSCALL, URETPROBE, [])]), "0 - signal 4"),
     ("uprobe of x86-64 passes every filter", case_line([KILL], [(SYSCALL, UPROBE, [])]), "0 -6 end"),
     ("335 of x86 passes none", case_line([KILL], [(INT80, URETPROBE, [])]), "0 - signal 31"),
@@ -72,5 +77,6 @@ def limit(sides, tally):
     lines = ["create c b1", "start c", *["call c 1 seccomp 1 0 0 prog 060000000000ff7f"] * (MODEL_LIMIT + 1)]
     replies = sides.script("x86-64", bundle, lines)[2:]
     loaded = replies.index("failed 12") if "failed 12" in replies else len(replies)
-    tally.count(error == "-12" and 0 < int(count) <= loaded, lambda: f"filters of one instruction: the model takes {loaded}, the kernel: {count}, {error}")
+    is_right = error == "-12" and 0 < int(count) <= loaded
+    tally.count(is_right, lambda: f"filters of one instruction: the model takes {loaded}, the kernel: {count}, {error}")
     tally.name(f"of filters of one instruction it takes {count}, and the model {loaded}")

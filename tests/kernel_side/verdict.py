@@ -10,7 +10,7 @@ import json
 from harness.asked import record
 from harness.calls import TOKENS
 from harness.places import TOP
-from kernel_side.insns import ALLOW, EDGES, LD, RET, SCRATCH, ST, STX, digits, drawn
+from kernel_side.insns import LD, SCRATCH, ST, STX, digits, drawn
 from kernel_side.sides import INT80, SYSCALL, Fault, Tally, case_line
 
 X32 = 0x40000000
@@ -71,8 +71,15 @@ def drawn_filter(dice, numbers):
     return digits([(LD, 0, 0, 4 * dice.below(16)), (ST, 0, 0, 0), (STX, 0, 0, 1), *body])
 
 
+def drawn_condition(dice, index):
+    """A condition on an argument."""
+    value, op = dice.pick(HALVES) << 32 | dice.pick(HALVES + NOT_OPEN), dice.pick(OPERATORS)
+    datum = {"valueTwo": value & dice.pick(HALVES)} if op == "MASKED_EQ" else {}
+    return {"index": index, "op": f"SCMP_CMP_{op}", "value": value, **datum}
+
+
 def drawn_bundle(dice):
-    """A bundle over the calls, of conditions that are told apart by their verdicts: of each call one operator and its contrary."""
+    """A bundle over the calls, with an entry of at most six conditions for most of them."""
     entries = []
     for name in NAMED:
         if dice.below(3) == 0:
@@ -81,12 +88,7 @@ def drawn_bundle(dice):
         entry = {"names": [name], "action": action}
         if action in ("SCMP_ACT_ERRNO", "SCMP_ACT_TRACE"):
             entry["errnoRet"] = dice.pick((0, 1, 13, 38, 4095))
-        args = []
-        for index in range(6):
-            if dice.below(4) == 0:
-                value = dice.pick(HALVES) << 32 | dice.pick(HALVES + NOT_OPEN)
-                op = dice.pick(OPERATORS)
-                args.append({"index": index, "op": f"SCMP_CMP_{op}", "value": value, **({"valueTwo": value & dice.pick(HALVES)} if op == "MASKED_EQ" else {})})
+        args = [drawn_condition(dice, index) for index in range(6) if dice.below(4) == 0]
         entries.append({**entry, **({"args": args} if args else {})})
     machines = ["SCMP_ARCH_X86_64", *(name for name in ("SCMP_ARCH_X86", "SCMP_ARCH_X32") if dice.below(2))]
     section = {"defaultAction": f"SCMP_ACT_{dice.pick(SCMP_ACTIONS)}", "architectures": machines, "syscalls": entries}
@@ -106,7 +108,9 @@ def of_others():
 def compare(records, tally, cases):
     """Has cases carried out, each a filter and its calls."""
     sides = records.sides
-    asked = [line for filtered, calls in cases for line in (f"filter bytes {filtered}", *(f"filter run {records.of(call)}" for call in calls))]
+    asked = []
+    for filtered, calls in cases:
+        asked += [f"filter bytes {filtered}", *(f"filter run {records.of(call)}" for call in calls)]
     said, came = iter(sides.modelled(asked)), sides.real([case_line([filtered], calls) for filtered, calls in cases])
     for (filtered, calls), told in zip(cases, came):
         next(said)
@@ -118,12 +122,13 @@ def compare(records, tally, cases):
                 raise Fault(f"no filter that the model takes: {filtered}, {word}")
             free = records.free.get((way, nr)) or sockets_free(records, nr, args)
             result = sides.came_of(int(word), free)
+            tally.see("the task ends" if result is None else "carried out" if result == free else "answers an error")
             if result is None:
                 right_end = "signal 31"
                 break
             right.append(result)
         is_right = (loads, results, end) == ("0", ",".join(right) or "-", right_end)
-        tally.count(is_right, lambda: f"{case_line([filtered], calls)}: the model: {words}, so {right} and {right_end}; the kernel: {told}")
+        tally.count(is_right, lambda: f"{case_line([filtered], calls)}: the model: {words}, {right}, {right_end}; the kernel: {told}")
 
 
 def sockets_free(records, nr, args):

@@ -2,7 +2,7 @@
  *
  * The line is a number and up to six arguments, hexadecimal, each behind a space. A letter stands for what the child has: the
  * descriptors F of a file of a page, N of /dev/null, S of a socket and D of a folder, the addresses B of room for answers, M of a page
- * of memory, P of the text "." and Z of "/", and I for its own number. A slash and a number behind an argument put this number into its upper
+ * of memory, P of the text "." and Z of "/", and I for its own number. A slash and a number behind an argument put it into its upper
  * half. */
 #define _GNU_SOURCE
 #include "side.h"

@@ -12,7 +12,7 @@ def rows():
             if not line.startswith("#"):
                 head, _, args = line.partition(":")
                 name, nr, index, width, *other = head.split()
-                yield name, nr, int(index), int(width), other[0] if other else None, args.split()
+                yield name, f"{int(nr):x}", int(index), int(width), other[0] if other else None, args.split()
 
 
 def asked_of(nr, args, index, value):
