@@ -75,10 +75,11 @@ static void answer(const char *line)
 	puts("unread");
 }
 
-/* What a child inherits: no core file, no large file, and at most 2 GiB of memory. */
+/* What a child inherits: no core file, no large file, and at most 2 GiB of memory. (A limit of 1 byte on core files is the one by which
+ * the kernel starts no program for them either.) */
 static void limit_all(void)
 {
-	struct rlimit none = { 0, 0 }, small = { 1 << 20, 1 << 20 }, memory = { 2UL << 30, 2UL << 30 };
+	struct rlimit none = { 1, 1 }, small = { 1 << 20, 1 << 20 }, memory = { 2UL << 30, 2UL << 30 };
 
 	setrlimit(RLIMIT_CORE, &none);
 	setrlimit(RLIMIT_FSIZE, &small);

@@ -115,10 +115,10 @@ class Tally:
         """Counts what a case came to, so that one sees which are tried."""
         self.seen[what] += 1
 
-    def lines(self):
-        """What is told of the kind."""
+    def summary(self):
+        """What is told of the kind: how many cases were alike, what they came to, and what was not tried."""
         head = f"{self.kind}: {self.alike} alike, {self.unlike} unlike"
         if self.seen:
             head += f" ({', '.join(f'{what} {count}' for what, count in sorted(self.seen.items()))})"
         named = [f"    {count} of them differ as docs/KERNEL.md says: {what}" for what, count in sorted(self.named.items())]
-        return [*(f"    {fault}" for fault in self.faults), *named, *(f"    not tried: {what}" for what in self.untried), head]
+        return [head, *named, *(f"    not tried: {what}" for what in self.untried)]

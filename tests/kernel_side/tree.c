@@ -25,7 +25,7 @@
 #include <time.h>
 #include <unistd.h>
 
-enum { MOST_TASKS = 64, MOST_INSNS = 64, STACK = 16384, SECONDS = 10 };
+enum { MOST_TASKS = 64, MOST_INSNS = 64, STACK = 16384, SECONDS = 60 };
 
 /* The numbers of a tree's tasks begin at 1. `asked` and `answered` count commands; `images` counts how often a task began, by a
  * call that made it or by execve. `who` is its place in /proc as it is seen from outside. */
@@ -376,7 +376,7 @@ void on_tree(const char *line)
 		puts("no namespace");
 		return;
 	}
-	wait_for_image(1, 0, time(NULL) + 3);
+	wait_for_image(1, 0, end);
 	on_commands(line, end);
 	kill(first, SIGKILL);
 	waitpid(first, NULL, 0);

@@ -1,5 +1,11 @@
 """Widths: how many bits of an argument a kernel reads, of the calls of widths.txt, with upper halves that are set."""
+import os
+
+from harness.places import TOP
 from kernel_side.sides import HERE, Tally
+
+# What is told of the widths of all calls, where that page stands: a name, and a width an argument.
+TABLE = f"{TOP}/docs/linux-6.18-arguments.txt"
 
 # Upper halves: their ends, and all bits. The last is the sign of a negative number.
 UPPERS = (1, 0x80000000, 0xFFFFFFFF)
@@ -15,6 +21,27 @@ def rows():
                 yield name, f"{int(nr):x}", int(index), int(width), other[0] if other else None, args.split()
 
 
+def told_widths():
+    """The widths that the page tells of each call, or None where there is no page."""
+    if not os.path.exists(TABLE):
+        return None
+    with open(TABLE, encoding="utf-8") as file:
+        lines = [line.split() for line in file if line.strip() and not line.startswith("#")]
+    return {name: told for name, *told in lines}
+
+
+def compare_with_page(tally, every):
+    """Compares the widths that are tried with those that the page tells."""
+    page = told_widths()
+    if page is None:
+        tally.untried.append("whether docs/linux-6.18-arguments.txt tells the same: there is no such page")
+        return
+    for name, _, index, width, *_ in every:
+        told = page.get(name, [])
+        is_right = index < len(told) and told[index] == str(width)
+        tally.count(is_right, lambda: f"{name}, argument {index}: {width} bits, and the page tells {told}")
+
+
 def asked_of(nr, args, index, value):
     """The line that makes a call with another value of one argument."""
     return " ".join(["width", nr, *args[:index], value, *args[index + 1 :]])
@@ -24,6 +51,7 @@ def run(sides, dice, more):
     """Tries each row with upper halves at their ends, and with so many others."""
     tally = Tally("widths")
     every = [*rows()]
+    compare_with_page(tally, every)
     uppers = [[*UPPERS, *(dice.below(2**32 - 1) + 1 for _ in range(more))] for _ in every]
     asked, counts = [], []
     for (_, nr, index, width, other, args), some in zip(every, uppers):
