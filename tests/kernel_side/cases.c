@@ -2,7 +2,8 @@
  *
  * The line is FILTERS and CALLS, each `-` or with commas between. A filter is its bytes in digits; a call is `s` or `i` for the way
  * in, and its number and arguments in hexadecimal, with colons before each. The answer has what came of each load and of each call
- * that was made, and how the child ended. The number of the child itself is told as `pid`. */
+ * that was made, and how the child ended. The number of the child itself is told as `pid`. Some children work at once, so answers come
+ * when a few are asked for, or none is any more. */
 #include "side.h"
 
 #include <stdio.h>
@@ -12,7 +13,7 @@
 #include <sys/wait.h>
 #include <unistd.h>
 
-enum { MOST_FILTERS = 8, MOST_CALLS = 16, MOST_BYTES = 8 * 4200 };
+enum { MOST_FILTERS = 8, MOST_CALLS = 16, MOST_BYTES = 8 * 4200, MOST_AT_ONCE = 16 };
 
 struct plan {
 	int filters, calls;
@@ -110,28 +111,49 @@ static void tell_numbers(const long *numbers, int count, long pid)
 	fputs(count ? " " : "- ", stdout);
 }
 
+/* Cases that are under way. */
+static struct {
+	pid_t child;
+	struct seen *seen;
+} begun[MOST_AT_ONCE];
+static int begun_count;
+
+void end_cases(void)
+{
+	int i, status;
+
+	for (i = 0; i < begun_count; i++) {
+		const struct seen *seen = begun[i].seen;
+
+		if (begun[i].child < 0) {
+			puts("unread");
+			continue;
+		}
+		status = 0;
+		waitpid(begun[i].child, &status, 0);
+		tell_numbers(seen->loads, seen->loaded, 0x7fffffff);
+		tell_numbers(seen->results, seen->called, begun[i].child);
+		tell_end(seen->whole, status);
+	}
+	begun_count = 0;
+}
+
 void on_case(const char *line)
 {
 	static struct plan plan;
 	static struct seen *seen;
-	int status = 0;
-	pid_t child;
+	int here = begun_count++;
 
 	if (!seen)
-		seen = mmap(NULL, sizeof(*seen), PROT_READ | PROT_WRITE, MAP_SHARED | MAP_ANONYMOUS, -1, 0);
-	if (seen == MAP_FAILED || !read_filters(&plan, &line) || *line++ != ' ' || !read_calls(&plan, &line)) {
-		puts("unread");
-		return;
+		seen = mmap(NULL, MOST_AT_ONCE * sizeof(*seen), PROT_READ | PROT_WRITE, MAP_SHARED | MAP_ANONYMOUS, -1, 0);
+	begun[here].child = -1;
+	if (seen != MAP_FAILED && read_filters(&plan, &line) && *line++ == ' ' && read_calls(&plan, &line)) {
+		begun[here].seen = &seen[here];
+		memset(&seen[here], 0, sizeof(*seen));
+		begun[here].child = fork();
+		if (begun[here].child == 0)
+			carry_out(&plan, &seen[here]);
 	}
-	memset(seen, 0, sizeof(*seen));
-	child = fork();
-	if (child == 0)
-		carry_out(&plan, seen);
-	if (child < 0 || waitpid(child, &status, 0) != child) {
-		puts("no child");
-		return;
-	}
-	tell_numbers(seen->loads, seen->loaded, 0x7fffffff);
-	tell_numbers(seen->results, seen->called, child);
-	tell_end(seen->whole, status);
+	if (begun_count == MOST_AT_ONCE)
+		end_cases();
 }

@@ -96,7 +96,7 @@ class Beside:
     """A script beside the model's replies: groups of tasks, and who lives behind each command."""
 
     def __init__(self):
-        self.groups, self.parents, self.live = {1: 1}, {1: 0}, {1}
+        self.groups, self.live = {1: 1}, {1}
 
     def group_lives(self, group):
         """Whether a group has a live task."""
@@ -110,7 +110,6 @@ class Beside:
         made = int(reply[5:])
         is_thread = name == "clone" and args[0] & 0x10000
         self.groups[made] = self.groups[task] if is_thread else made
-        self.parents[made] = self.parents[task] if is_thread else self.groups[task]
 
     def is_thread(self, number):
         """Whether a number is that of a live task that leads no group: no target in the model, and one in Linux."""

@@ -39,8 +39,9 @@ unsigned long read_number(const char **at);
 /* Writes how a child ended: `end` if it came to its end, else its signal or its status. */
 void tell_end(int whole, int status);
 
-/* What a line asks: a line of answer each. */
+/* What a line asks: a line of answer each. Cases are answered once `end_cases` is called, or some are under way. */
 void on_case(const char *line);
+void end_cases(void);
 void on_tree(const char *line);
 void on_width(const char *line);
 void on_told(const char *line);
