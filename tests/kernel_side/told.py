@@ -35,6 +35,8 @@ SENTENCES = [
     ("a tracer may let a call be carried out", "told tracer_answers", "1"),
     ("kill looks for its target first", case_line([], [(SYSCALL, KILL_CALL, [0x3FFFFFF0, 1000])]), "- -3 end"),
     ("kill of a thread's number is a signal for its group", of_tree((1, 57), (2, 56, THREAD), (1, 62, 3, 15)), "2 1,2;3 1,2,3;0 1"),
+    ("an orphan's new parent is the namespace's first process", of_tree((1, 57), (2, 57), (3, 110), (2, 231), (3, 110)),
+     "2 1,2;3 1,2,3;2 1,2,3;ended 1,3;1 1,3"),
     ("execve may fail", case_line([], [(SYSCALL, EXECVE, [])]), "- -14 end"),
     ("there is a strict mode", case_line([], [(SYSCALL, SECCOMP, [0])]), "- 0 end"),
     ("clone3 is there", case_line([], [(SYSCALL, CLONE3, [])]), "- -22 end"),
