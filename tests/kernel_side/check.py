@@ -12,6 +12,8 @@ from kernel_side.sides import Tally, case_line
 
 TAKEN, REFUSED = "0", "-22"
 LENGTHS = (0, 1, 2, 4095, 4096, 4097)
+# Codes that neither side takes.
+NO_CODES = [*(code for code in range(256) if code not in LISTED and code not in UNLISTED), 0x120, 0x8006, 0xFFFF]
 BESIDES = "it takes products, quotients, shifts by X and the record's length"
 IN_ORDER = "it looks at scratch words in code order"
 
@@ -23,7 +25,7 @@ def planted(dice):
     at = dice.below(length)
     left = length - 1 - at
     faults = [
-        ("1 Code", (dice.pick([c for c in range(256) if c not in LISTED and c not in UNLISTED] + [0x120, 0x8006, 0xFFFF]), 0, 0, 0)),
+        ("1 Code", (dice.pick(NO_CODES), 0, 0, dice.pick((0, 1, 4)))),
         ("2 Load", (LD, 0, 0, dice.pick((1, 2, 3, 5, 61, 62, 63, 64, 68, 2**31, 2**32 - 4)))),
         ("2 Load", (dice.pick(SCRATCH), 0, 0, dice.pick((16, 17, 255, 2**31, 2**32 - 1)))),
         ("3 Shift", (dice.pick(SHIFTS), 0, 0, dice.pick((32, 33, 64, 2**31, 2**32 - 1)))),
@@ -70,8 +72,9 @@ def hostile(dice):
 
 
 def of_codes(codes):
-    """Programs of an instruction of each code, and a return."""
-    return [[(code, 0, 0, 0), (RET, 0, 0, ALLOW)] for code in codes]
+    """Programs of an instruction of each code and a return: with 0, which is no divisor, and with 4, which is one, a shift, and a place of
+    a record."""
+    return [[(code, 0, 0, k), (RET, 0, 0, ALLOW)] for code in codes for k in (0, 4)]
 
 
 def wanted(program, said):

@@ -118,10 +118,10 @@ def compare(records, tally, cases):
         loads, results, end = told.split(" ", 2)
         right, right_end = [], "end"
         for (way, nr, args), (word, *_) in zip(calls, words):
-            if not word.isdigit():
+            if not word.startswith("0x"):
                 raise Fault(f"no filter that the model takes: {filtered}, {word}")
             free = records.free.get((way, nr)) or sockets_free(records, nr, args)
-            result = sides.came_of(int(word), free)
+            result = sides.came_of(int(word, 16), free)
             tally.see("the task ends" if result is None else "carried out" if result == free else "answers an error")
             if result is None:
                 right_end = "signal 31"
