@@ -7,6 +7,7 @@ from kernel_side.sides import INT80, SYSCALL, Tally, case_line
 
 ALL, KILL = digits([(RET, 0, 0, ALLOW)]), digits([(RET, 0, 0, 0x80000000)])
 TSYNC_AND_ESRCH = 0x11
+NO_CALL = "- -38 end"
 # Filters of one instruction that a task of the model may have: each counts for 5, and the last for 1.
 MODEL_LIMIT = (32768 - 1) // 5 + 1
 URETPROBE, UPROBE, KILL_CALL, EXECVE, SECCOMP, CLONE3, CLOSE_OF_X86 = 335, 336, 62, 59, 317, 435, 6
@@ -59,10 +60,21 @@ def is_of_x86(line):
     return f" {INT80}:" in line
 
 
+def lacked(sides, has_x86):
+    """The lines that cannot be tried on this kernel, and why not: it lacks the calls of x86, or a later call."""
+    later = {URETPROBE: "uretprobe", UPROBE: "uprobe"}
+    free = sides.real([case_line([], [(SYSCALL, nr, [])]) for nr in later])
+    why = {case_line([KILL], [(SYSCALL, nr, [])]): f"this kernel has no {later[nr]}" for nr, told in zip(later, free) if told == NO_CALL}
+    of_x86 = {line: "this kernel has no calls of x86" for _, line, _ in SENTENCES if is_of_x86(line) and not has_x86}
+    return {**why, **of_x86}
+
+
 def run(sides, has_x86):
     """Tries each sentence, and the limit on the length of a task's filters."""
     tally = Tally("sentences")
-    some = [(what, line, right) for what, line, right in SENTENCES if has_x86 or not is_of_x86(line)]
+    why = lacked(sides, has_x86)
+    tally.untried = [f"{what}: {why[line]}" for what, line, _ in SENTENCES if line in why]
+    some = [sentence for sentence in SENTENCES if sentence[1] not in why]
     for (what, _, right), told in zip(some, sides.real([line for _, line, _ in some])):
         if told in ("no namespace", "no count", "no /proc"):
             tally.untried.append(f"{what}: {told}")

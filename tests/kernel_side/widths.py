@@ -4,6 +4,8 @@ import os
 from harness.places import TOP
 from kernel_side.sides import HERE, Tally
 
+# What a call answers where something that this process runs in refuses it: EPERM and ENOSYS.
+REFUSED = ("-1", "-38")
 # What is told of the widths of all calls, where that page stands: a name, and a width an argument.
 TABLE = f"{TOP}/docs/linux-6.18-arguments.txt"
 
@@ -61,6 +63,9 @@ def run(sides, dice, more):
     told = iter(sides.real(asked))
     for (name, _, index, width, _, _), some, count in zip(every, uppers, counts):
         plain, *results = [next(told) for _ in range(count)]
+        if plain in REFUSED:
+            tally.untried.append(f"{name}, argument {index}: it answers {plain} here")
+            continue
         if width == 32:
             *results, else_ = results
             tally.count(else_ != plain, lambda: f"{name}, argument {index}: another value has the same result, {plain}")
