@@ -12,7 +12,6 @@ from kernel_side.sides import Tally
 JEQ = 0x15
 CALLS = {"sched_yield": 24, "getpid": 39, "clone": 56, "fork": 57, "execve": 59, "exit": 60, "kill": 62, "getppid": 110, "prctl": 157,
          "gettid": 186, "exit_group": 231, "seccomp": 317}
-NAMES = {nr: name for name, nr in CALLS.items()}
 # clone(2): CLONE_VM, CLONE_FS, CLONE_FILES, CLONE_SIGHAND and CLONE_THREAD; and a process that sends SIGCHLD.
 THREAD, PROCESS = 0x10F00, 17
 SECCOMP_LOAD, TSYNC, PRCTL_LOAD = 1, 1, (22, 2)
