@@ -11,8 +11,8 @@ pub(crate) struct Found<'a> {
     pub(crate) asked: Shape,
 }
 
-/// A fault that is looked for, by its number, in a bundle for the machines of a family, or in an engine's configuration. There a
-/// member that is null is as good as missing, and so is a missing edition as one that is read.
+/// A fault that is looked for, by its number, in a bundle for the machines of a family, or in an engine's configuration, as it is
+/// once what can be mended is. There a member that is null is as good as missing, and no edition or list of names is missed.
 #[derive(Clone, Copy)]
 pub(crate) struct Wanted {
     pub(crate) number: u32,
@@ -31,7 +31,13 @@ fn member_at<'a>(wanted: Wanted, object: &'a Value, key: &str) -> Option<&'a Val
 
 // Whether the fault is that a key is missing.
 fn misses(wanted: Wanted, key: Key) -> bool {
-    wanted.number == 5 && key.needed && !(wanted.is_config && key.name == "ociVersion")
+    let is_mended = wanted.is_config && (key.name == "ociVersion" || key.name == "names");
+    wanted.number == 5 && key.needed && !is_mended
+}
+
+// Whether an action is known: in a configuration also the newer name of one.
+fn is_action(wanted: Wanted, name: &str) -> bool {
+    is_one_of(ACTIONS, name) || (wanted.is_config && name == "SCMP_ACT_KILL_THREAD")
 }
 
 const ACTIONS: &[&str] = &[
@@ -98,12 +104,13 @@ fn has_stray_bit(object: &Value) -> bool {
 }
 
 // Whether what stands under a key of an object breaks the rule of the key that the fault names.
-fn breaks_rule(number: u32, key: &str, object: &Value, value: &Value) -> bool {
+fn breaks_rule(wanted: Wanted, key: &str, object: &Value, value: &Value) -> bool {
+    let number = wanted.number;
     let text = value.as_str().unwrap_or("");
     let whole = value.as_u64().unwrap_or(0);
     match key {
         "ociVersion" => number == 2,
-        "defaultAction" | "action" => number == 6 && !is_one_of(ACTIONS, text),
+        "defaultAction" | "action" => number == 6 && !is_action(wanted, text),
         "defaultErrnoRet" | "errnoRet" => match number {
             11 => !takes_data(object),
             12 => whole > 4095,
@@ -126,7 +133,7 @@ fn stands_at(wanted: Wanted, key: Key, object: &Value) -> bool {
             if wanted.number == 4 {
                 return !key.shape.fits(value);
             }
-            breaks_rule(wanted.number, key.name, object, value)
+            breaks_rule(wanted, key.name, object, value)
         }
     }
 }

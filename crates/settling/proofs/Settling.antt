@@ -1,9 +1,10 @@
 -- Where each rule is kept or gives way to one that is, the profile of those that are kept settles them.
-use Rattle.std.proofs.Common.{◌≡◌, ℕ, ◌≤◌, ◌⊎◌, inl, inr, true, false, List, [], ◌∷◌, refl, sym, ◌∙◌, subst, arith, Some}
+use Rattle.std.proofs.Common.{◌≡◌, ℕ, ◌+◌, ◌<◌, ◌≤◌, ◌⊎◌, inl, inr, true, false, List, [], ◌∷◌, length, get_or, refl, sym, ◌∙◌, ap, subst, arith, Some}
 use Rattle.std.specs.Prelude.{slice_get}
 use Rattle.std.specs.List.{All, Contains}
 use Rattle.std.proofs.lemmas.List.Elements.{All-contains}
-use Rattle.std.proofs.lemmas.Option.{same_Some}
+use Rattle.std.proofs.lemmas.Bool.{cases_lt}
+use Rattle.std.proofs.lemmas.Option.{same_Some, slice_get-get_or}
 use Rattle.call_record.specs.Words.{IsRecord}
 use Rattle.profile.specs.declared.rules.Rule.{Rule}
 use Rattle.profile.specs.Rule.{Matches}
@@ -57,3 +58,19 @@ settles choice rules p clear among each = record {
     unmatched = λ _ _. refl;
   };
 }
+
+-- one place further
+pub each_further : (choice : Choice) (rules kept : List Rule) (n : ℕ) (x : Rule) → n < length rules → x ≡ get_or rules n x
+    → ((k : ℕ) (rule : Rule) → k < n → slice_get rules k ≡ Some rule → GivesWay choice rules kept k rule)
+    → GivesWay choice rules kept n x
+    → (k : ℕ) (rule : Rule) → k < n + 1 → slice_get rules k ≡ Some rule → GivesWay choice rules kept k rule
+each_further choice rules kept n x within is before here k rule lt at =
+    elim (cases_lt k n) [
+      | inl less ↦ before k rule less at
+      | inr le ↦
+          let e : n ≡ k = omega (arith, le, lt) in
+          let at_n : slice_get rules n ≡ Some x = slice_get-get_or rules n x within ∙ ap Some (sym is) in
+          let at_k : slice_get rules k ≡ Some x = subst (λ m. slice_get rules m ≡ Some x) e at_n in
+          let same : x ≡ rule = same_Some x rule (sym at_k ∙ at) in
+          subst (λ y. GivesWay choice rules kept k y) same (subst (λ m. GivesWay choice rules kept m x) e here)
+    ]

@@ -1,7 +1,5 @@
 //! Whether a profile says of each record what the rule says that counts.
-ghost use Rattle.std.specs.Prelude.{◌≡◌, IsTrue, IfOk, All, Contains, Some, slice_get};
-ghost use Rattle.profile.specs.Policy.{IsProfile};
-ghost use Rattle.profile.specs.declared.rules.Rule.{Rule as spec_rule};
+ghost use Rattle.std.specs.Prelude.{IsTrue, IfOk, All, Contains};
 ghost use Rattle.settling.specs.Settled as spec;
 
 use crate::calls::Calls;
@@ -23,34 +21,47 @@ fn are_among(kept: &[Rule], rules: &[Rule], calls: &Calls) -> bool
     true
 }
 
-// Whether a rule is kept, or the rule at a place of the list is, which counts for all that it matches.
-fn gives_way(
+// Whether the rule at a place of the list is kept, and counts for all that a rule matches, which stands at the place `i`.
+fn counts_for(
     choice: Choice,
     rules: &[Rule],
-    (i, j): (usize, usize),
+    i: usize,
+    rule: &Rule,
+    j: usize,
     kept: &[Rule],
     calls: &Calls,
 ) -> bool
-    ensures { IsTrue result → (rule : spec_rule) → slice_get rules.now i ≡ Some rule → spec.GivesWay choice rules.now kept.now i rule }
+    ensures { IsTrue result → spec.GivesWay choice rules.now kept.now i rule.now }
 {
-    if i >= rules.len() {
-        return true;
-    }
     if j >= rules.len() {
         return false;
     }
-    let rule = &rules[i];
     let other = &rules[j];
     if !is_among(kept, calls.places(other), other) {
         return false;
-    }
-    if i == j {
-        return true;
     }
     if !covers(other, rule) {
         return false;
     }
     precedes(choice, j, other, i, rule)
+}
+
+// Whether the rule at the place `i` is kept, or the one at the place `j` is, which counts for all that it matches.
+fn gives_way(
+    choice: Choice,
+    rules: &[Rule],
+    i: usize,
+    rule: &Rule,
+    j: usize,
+    kept: &[Rule],
+    calls: &Calls,
+) -> bool
+    ensures { IsTrue result → spec.GivesWay choice rules.now kept.now i rule.now }
+{
+    if is_among(kept, calls.places(rule), rule) {
+        return true;
+    }
+    counts_for(choice, rules, i, rule, j, kept, calls)
 }
 
 // Whether that is so of each rule.
@@ -65,27 +76,29 @@ fn each_gives_way(
 {
     for i in 0..rules.len() {
         let j = winners.get(i).copied().unwrap_or(i);
-        if !gives_way(choice, rules, (i, j), kept, calls) {
+        if !gives_way(choice, rules, i, &rules[i], j, kept, calls) {
             return false;
         }
     }
     true
 }
 
-// Whether the rules of a profile settle these rules.
+// Whether a profile says of each record what the rule says that counts, looked for by the places of both lists of rules.
 fn settles(
     choice: Choice,
-    rules: (&[Rule], &Calls),
+    rules: &[Rule],
+    before: &Calls,
     winners: &[usize],
-    kept: (&[Rule], &Calls),
+    profile: &Profile,
+    after: &Calls,
 ) -> bool
-    ensures among { IsTrue result → All (Contains rules.0.now) kept.0.now }
-    ensures each { IsTrue result → spec.EachGivesWay choice rules.0.now kept.0.now }
+    ensures { IsTrue result → spec.Settles choice rules.now profile.now }
 {
-    if !are_among(kept.0, rules.0, rules.1) {
+    let kept = profile.rules();
+    if !are_among(kept, rules, before) {
         return false;
     }
-    each_gives_way(choice, rules.0, winners, kept.0, kept.1)
+    each_gives_way(choice, rules, winners, kept, after)
 }
 
 /// Whether a profile says of each record what the rule says that counts, where each rule gives way to the one whose place is told
@@ -101,6 +114,5 @@ pub fn is_settled(
 {
     let before = Calls::of(alloc, rules)?;
     let after = Calls::of(alloc, profile.rules())?;
-    let is_settled = settles(choice, (rules, &before), winners, (profile.rules(), &after));
-    Ok(is_settled)
+    Ok(settles(choice, rules, &before, winners, profile, &after))
 }
