@@ -46,7 +46,7 @@ fn no_json(alloc: Global, config: &[u8], error: &Error) -> Result<Adapted, Alloc
     if error.is_memory() {
         return Err(AllocError);
     }
-    let fault = fault_of(config, error);
+    let fault = fault_of(alloc, config, error);
     let why = format!(in alloc; "{fault}\n")?;
     let told = refused_profile(alloc, ProfileError::Syntax)?;
     Ok(refused(alloc, told, why))

@@ -93,10 +93,14 @@ fn is_one_of(names: &[&str], name: &str) -> bool {
 
 // The bit of a capability, 0 where there is no such.
 fn bit_of(name: &str) -> u64 {
-    match CAPABILITIES.iter().position(|other| *other == name) {
-        Some(number) => 1u64.checked_shl(number as u32).unwrap_or(0),
-        None => 0,
+    let mut bit = 1u64;
+    for other in CAPABILITIES {
+        if *other == name {
+            return bit;
+        }
+        bit = bit.saturating_mul(2);
     }
+    0
 }
 
 impl Capabilities {

@@ -84,7 +84,7 @@ pub(crate) fn dropped_of(
                 &mut dropped,
                 (top, bundle),
                 all,
-                [place, *winner],
+                (place, *winner),
             )?;
         }
     }
@@ -98,7 +98,7 @@ fn drop_name(
     dropped: &mut Dropped,
     (top, bundle): (&'static str, &Bundle),
     all: &EntryRules,
-    [place, winner]: [usize; 2],
+    (place, winner): (usize, usize),
 ) -> Result<(), AllocError> {
     let Some(loser) = with_entry(bundle, all, place) else {
         return Ok(());

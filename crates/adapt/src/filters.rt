@@ -1,7 +1,6 @@
 //! For which containers an entry of an engine's own profile counts.
-use crate::actions::text_at;
 use crate::changes::Changes;
-use crate::kernels::kernel_of;
+use crate::kernels::{Kernel, kernel_of};
 use crate::keys::{FILTER, is_void, tell_unknown};
 use crate::place::Place;
 use crate::settings::Settings;
@@ -20,13 +19,24 @@ fn machine_name(native: Arch) -> &'static str {
     }
 }
 
+// The member under a key of a filter.
+fn member_of<'a>(entry: &'a Value, filter: &str, key: &str) -> Option<&'a Value> {
+    let filter = entry.get(filter)?;
+    filter.get(key)
+}
+
 // The list under a key of a filter, empty where there is none.
 fn list_at<'a>(entry: &'a Value, filter: &str, key: &str) -> &'a [Value] {
-    let list = entry.get(filter).and_then(|filter| filter.get(key));
-    match list.and_then(Value::as_array) {
+    match member_of(entry, filter, key).and_then(Value::as_array) {
         Some(list) => list.as_slice(),
         None => &[],
     }
+}
+
+// The edition of a kernel in a filter, if there is one.
+fn edition_in(entry: &Value, filter: &str) -> Option<Kernel> {
+    let edition = member_of(entry, filter, "minKernel")?;
+    kernel_of(edition.as_str()?)
 }
 
 // Whether a list has a text.
@@ -51,18 +61,12 @@ fn is_for_others(native: Arch, entry: &Value) -> bool {
 
 // Whether an entry is for other kernels.
 fn is_for_other_kernels(container: Container, entry: &Value) -> bool {
-    let from = entry
-        .get("includes")
-        .map_or("", |filter| text_at(filter, "minKernel"));
-    let until = entry
-        .get("excludes")
-        .map_or("", |filter| text_at(filter, "minKernel"));
-    if let Some(edition) = kernel_of(from) {
+    if let Some(edition) = edition_in(entry, "includes") {
         if !container.kernel.has(edition) {
             return true;
         }
     }
-    match kernel_of(until) {
+    match edition_in(entry, "excludes") {
         Some(edition) => container.kernel.has(edition),
         None => false,
     }

@@ -108,6 +108,14 @@ fn put_row(
     text.put("]");
 }
 
+// Whether something stands under a key.
+fn says_something(section: &Value, key: &str) -> bool {
+    match section.get(key) {
+        Some(member) => !is_void(member),
+        None => false,
+    }
+}
+
 // Adds the machines of the row of `archMap` for the native machine, which is alone where there is none.
 fn put_mapped(
     text: &mut Text,
@@ -117,7 +125,7 @@ fn put_mapped(
     section: &Value,
 ) {
     let place = place.key("archMap");
-    if member_at(section, "architectures").is_some_and(|machines| !is_void(machines)) {
+    if says_something(section, "architectures") {
         return changes.refuse(place, "beside architectures");
     }
     let Some(rows) = section.get("archMap").and_then(Value::as_array) else {
@@ -147,8 +155,7 @@ pub(crate) fn put_machines(
     place: Place<'_>,
     section: &Value,
 ) {
-    let is_mapped = section.get("archMap").is_some_and(|rows| !is_void(rows));
-    if is_mapped && settings.container().is_some() {
+    if settings.container().is_some() && says_something(section, "archMap") {
         return put_mapped(text, changes, settings, place, section);
     }
     put_listed(text, changes, settings.family(), place, section);

@@ -9,6 +9,7 @@ use crate::judging::{nothing, settled};
 use crate::overlapping::put_sides;
 use crate::section::Section;
 use crate::settings::Settings;
+use call_tables::Arch;
 use describe::{Configuration, fault_in};
 use explain::{Told, refused_profile};
 use profile_json::{ProfileError, read_bundle, rules_by_entry};
@@ -115,7 +116,26 @@ fn refusal(
     }
 }
 
+// What tells these bytes.
+fn whole(alloc: Global, bytes: &[u8]) -> Result<Told, AllocError>
+    ensures { IfOk result (λ told. told.bytes.items ≡ bytes.now) }
+{
+    Ok(Told {
+        bytes: Vec::from_slice(alloc, bytes)?,
+        done: true,
+    })
+}
+
 // The draft itself, if it is a bundle.
+fn draft_if_read(alloc: Global, native: Arch, draft: &[u8]) -> Result<Told, ProfileError>
+    ensures { IfOk result (IsRead native) }
+{
+    let _read = read_bundle(alloc, draft, native)?;
+    let told = whole(alloc, draft)?;
+    Ok(told)
+}
+
+// The draft itself, or why it is no bundle.
 fn read_over(
     alloc: Global,
     changes: &mut Changes,
@@ -125,11 +145,8 @@ fn read_over(
 ) -> Result<Told, AllocError>
     ensures { IfOk result (IsRead settings.now.native) }
 {
-    match read_bundle(alloc, draft.text.as_bytes(), settings.native) {
-        Ok(_) => Ok(Told {
-            bytes: Vec::from_slice(alloc, draft.text.as_bytes())?,
-            done: true,
-        }),
+    match draft_if_read(alloc, settings.native, draft.text.as_bytes()) {
+        Ok(told) => Ok(told),
         Err(error) => refusal(alloc, changes, settings, source, draft, error),
     }
 }

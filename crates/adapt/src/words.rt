@@ -214,7 +214,7 @@ pub fn wanted_of(words: &[&str]) -> Option<Wanted> {
         awaits: Awaits::Word,
     };
     for word in words {
-        match with_next(read, word) {
+        match with_next(read, *word) {
             Some(next) => read = next,
             None => return None,
         }

@@ -134,7 +134,7 @@ fn put_fault(
             if error.is_memory() {
                 return Err(AllocError);
             }
-            let fault = fault_of(bundle, &error);
+            let fault = fault_of(alloc, bundle, &error);
             writeln!(text, "{fault}")
         }
     }

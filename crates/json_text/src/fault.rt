@@ -1,6 +1,7 @@
 //! Where and why a text is no JSON.
 use json::is_number;
-use serde_json::Error;
+use serde_json::{Error, Value};
+use std::alloc::Global;
 use std::fmt;
 
 /// Where a text is no JSON, and why.
@@ -52,22 +53,45 @@ fn place_at(text: &[u8], point: (usize, usize)) -> usize {
     text.len()
 }
 
-// The bytes from a place on.
-fn rest_at(text: &[u8], at: usize) -> &[u8] {
-    text.get(at..).unwrap_or(&[])
+// The bytes up to a place, and those from it on.
+fn split_at(text: &[u8], at: usize) -> (&[u8], &[u8]) {
+    let before = text.get(..at).unwrap_or(text);
+    (before, text.get(at..).unwrap_or(&[]))
 }
 
 fn is_of_number(byte: u8) -> bool {
     byte.is_ascii_digit() || matches!(byte, b'-' | b'+' | b'.' | b'e' | b'E')
 }
 
-// Whether a number begins the bytes. A reader that stops there has no room for it.
-fn begins_number(bytes: &[u8]) -> bool {
-    let end = bytes.iter().position(|byte| !is_of_number(*byte));
-    let number = bytes.get(..end.unwrap_or(bytes.len())).unwrap_or(&[]);
+// How many bytes at the end may be of a number.
+fn count_of_number(bytes: &[u8]) -> usize {
+    let mut count = 0usize;
+    for byte in bytes {
+        count = if is_of_number(*byte) {
+            count.saturating_add(1)
+        } else {
+            0
+        };
+    }
+    count
+}
+
+// Whether bytes are a number that no reader takes.
+fn is_too_large(alloc: Global, number: &[u8]) -> bool {
     match str::from_utf8(number) {
-        Ok(number) => is_number(number),
+        Ok(text) => is_number(text) && Value::from_slice(alloc, number).is_err(),
         Err(_) => false,
+    }
+}
+
+// Where a number begins that no reader takes, if one ends at a place.
+fn large_number(alloc: Global, before: &[u8]) -> Option<usize> {
+    let start = before.len().saturating_sub(count_of_number(before));
+    let (_, number) = split_at(before, start);
+    if is_too_large(alloc, number) {
+        Some(start)
+    } else {
+        None
     }
 }
 
@@ -134,30 +158,33 @@ fn cause_of_whole(text: &[u8]) -> Option<&'static str> {
     None
 }
 
-// Why a text is no JSON from a place on, which a reader did not pass.
-fn cause_at(text: &[u8], at: usize) -> &'static str {
+// Why a text is no JSON at a place at which a reader stopped, and where that begins.
+fn cause_at(alloc: Global, text: &[u8], at: usize, is_cut: bool) -> (&'static str, usize) {
     if str::from_utf8(text).is_err() {
-        return "no JSON: the text has bytes that are no UTF-8";
+        return ("no JSON: the text has bytes that are no UTF-8", at);
     }
-    let rest = rest_at(text, at);
+    let (before, rest) = split_at(text, at);
+    if is_deep(before) {
+        return (
+            "no JSON that is read: nested deeper than 127",
+            at.saturating_sub(1),
+        );
+    }
+    if let Some(start) = large_number(alloc, before) {
+        return ("no JSON that is read: a number above 10^308", start);
+    }
+    if is_cut {
+        return ("no JSON: the text ends too early", text.len());
+    }
     match rest.first() {
-        None => "no JSON: the text ends too early",
-        Some(b'/') => "no JSON: a comment, which JSON does not have",
-        Some(b'#') => "no JSON: a comment, which JSON does not have",
-        Some(_) => {
-            if begins_number(rest) {
-                return "no JSON that is read: a number above 10^308";
-            }
-            if is_deep(text.get(..at.saturating_add(1)).unwrap_or(text)) {
-                return "no JSON that is read: nested deeper than 127";
-            }
-            "no JSON"
-        }
+        Some(b'/') => ("no JSON: a comment, which JSON does not have", at),
+        Some(b'#') => ("no JSON: a comment, which JSON does not have", at),
+        _ => ("no JSON", at),
     }
 }
 
 /// Where and why a text is no JSON, by the error of the reader of values.
-pub fn fault_of(text: &[u8], error: &Error) -> TextFault {
+pub fn fault_of(alloc: Global, text: &[u8], error: &Error) -> TextFault {
     if let Some(cause) = cause_of_whole(text) {
         return TextFault {
             line: 1,
@@ -165,12 +192,12 @@ pub fn fault_of(text: &[u8], error: &Error) -> TextFault {
             cause,
         };
     }
-    let line = error.line();
-    let column = error.column().max(1);
-    let at = place_at(text, (line, column));
+    let at = place_at(text, (error.line(), error.column().max(1)));
+    let (cause, at) = cause_at(alloc, text, at, error.is_eof());
+    let (line, column) = point_of(text, at);
     TextFault {
         line,
         column,
-        cause: cause_at(text, at),
+        cause,
     }
 }
