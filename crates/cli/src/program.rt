@@ -9,6 +9,7 @@ use crate::comparing::{compare, tell_conviction};
 use crate::files::{Files, read, read_certificate, read_each, read_filter, read_record};
 use crate::run::run_bundles;
 use crate::stops::{Stop, report};
+use adapt::Wanted;
 use call_tables::Arch;
 use command_line::{Command, Form, read_arguments};
 use describe::{annotated, drawn};
@@ -176,7 +177,8 @@ fn adapt<'a, E: Sink>(
     ensures stopped { OnErr result (err.new ≡ err.old) }
 {
     let config = read(alloc, files, config)?;
-    let adapted = adapt::adapt(alloc, native, &config, may_widen)?;
+    let wanted = Wanted::plain(may_widen);
+    let adapted = adapt::adapt(alloc, native, &config, &wanted)?;
     let done = tell(&adapted.told, out)?;
     let _ = write_all(adapted.changes.as_bytes(), err);
     Ok(done)
