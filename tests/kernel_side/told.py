@@ -1,7 +1,7 @@
 """Sentences of docs/KERNEL.md on what Linux does otherwise, or besides: each is tried by itself."""
 import json
 
-from kernel_side.handed import THREAD
+from kernel_side.handed import PROCESS, THREAD
 from kernel_side.insns import ALLOW, RET, digits
 from kernel_side.sides import INT80, SYSCALL, Tally, case_line
 
@@ -38,6 +38,8 @@ SENTENCES = [
     ("kill of a thread's number is a signal for its group", of_tree((1, 57), (2, 56, THREAD), (1, 62, 3, 15)), "2 1,2;3 1,2,3;0 1"),
     ("an orphan's new parent is the namespace's first process", of_tree((1, 57), (2, 57), (3, 110), (2, 231), (3, 110)),
      "2 1,2;3 1,2,3;2 1,2,3;ended 1,3;1 1,3"),
+    ("of clone's flags the lower half is read", of_tree((1, 56, 1 << 32 | PROCESS), (2, 39)), "2 1,2;2 1,2"),
+    ("of the target of kill the lower half is read", of_tree((1, 57), (1, 62, 1 << 32 | 2, 9)), "2 1,2;0 1"),
     ("execve may fail", case_line([], [(SYSCALL, EXECVE, [])]), "- -14 end"),
     ("there is a strict mode", case_line([], [(SYSCALL, SECCOMP, [0])]), "- 0 end"),
     ("clone3 is there", case_line([], [(SYSCALL, CLONE3, [])]), "- -22 end"),
