@@ -1,16 +1,15 @@
 -- Where each rule is kept or gives way to one that is, the profile of those that are kept settles them.
-use Rattle.std.proofs.Common.{◌≡◌, ℕ, ◌+◌, ◌<◌, ◌≤◌, ◌⊎◌, inl, inr, true, false, List, [], ◌∷◌, length, get_or, refl, sym, ◌∙◌, ap, subst, arith, Some}
+use Rattle.std.proofs.Common.{◌≡◌, ℕ, ◌+◌, ◌<◌, ◌≤◌, inl, inr, true, false, List, length, get_or, refl, sym, ◌∙◌, ap, subst, arith, Some}
 use Rattle.std.specs.Prelude.{slice_get}
 use Rattle.std.specs.List.{All, Contains}
 use Rattle.std.proofs.lemmas.List.Elements.{All-contains}
 use Rattle.std.proofs.lemmas.Bool.{cases_lt}
 use Rattle.std.proofs.lemmas.Option.{same_Some, slice_get-get_or}
-use Rattle.call_record.specs.Words.{IsRecord}
 use Rattle.profile.specs.declared.rules.Rule.{Rule}
 use Rattle.profile.specs.Rule.{Matches}
-use Rattle.profile.specs.Policy.{Policy, Says, IsNative, IsClear}
+use Rattle.profile.specs.Policy.{Policy, IsClear}
 use Rattle.settling.specs.declared.choice.Choice.{Choice}
-use Rattle.settling.specs.Settled.{outranks, Precedes, Counts, Settles, GivesWay, EachGivesWay}
+use Rattle.settling.specs.Settled.{Precedes, Counts, Settles, GivesWay, EachGivesWay}
 
 -- two rules that each count before the other stand at one place
 same_place : (choice : Choice) (i j : ℕ) (a b : Rule) → Precedes choice i a j b → Precedes choice j b i a → i ≡ j

@@ -1,5 +1,4 @@
-use Rattle.std.proofs.Common.{◌≡◌, true, sym, ◌∙◌, subst, List, ℕ}
-use Rattle.serde_json.specs.Data.{Data}
+use Rattle.std.proofs.Common.{sym, ◌∙◌, subst, List, ℕ}
 use Rattle.profile.specs.declared.rules.Rule.{Rule}
 use Rattle.profile_json.specs.Meaning.{IsText}
 use Rattle.settling.specs.Settled.{Settles}

@@ -1,11 +1,7 @@
-use Rattle.std.proofs.Common.{◌≡◌, ◌<◌, ℕ, Some, arith, sym, ◌∙◌, subst, inl, inr, refl}
-use Rattle.std.specs.Prelude.{slice_get}
-use Rattle.std.proofs.lemmas.Bool.{cases_lt}
-use Rattle.std.proofs.lemmas.Option.{same_Some, slice_get-get_or, slice_get_within}
-use Rattle.profile.specs.declared.rules.Rule.{Rule}
-use Rattle.settling.specs.Settled.{GivesWay}
-use Rattle.settling.proofs.judged.each_gives_way.Goals as goal
+use Rattle.std.proofs.Common.{arith}
+use Rattle.std.proofs.lemmas.Option.{slice_get_within}
 use Rattle.settling.proofs.Settling.{each_further}
+use Rattle.settling.proofs.judged.each_gives_way.Goals as goal
 
 pub loop-i-preserved : goal.loop-i-preserved
 loop-i-preserved c = each_further c.args.choice c.args.rules.now c.args.kept.now c.loop-i.i c.index-rules-i.result c.loop-i-test.true
