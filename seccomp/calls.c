@@ -4,7 +4,7 @@
 #include <string.h>
 
 const struct machine MACHINE[MACHINES] = {
-    {"x86_64", CCELL_X86_64}, {"x86", CCELL_X86}, {"x32", CCELL_X32}, {"aarch64", CCELL_AARCH64}, {"arm", CCELL_ARM},
+    {"x86_64", CCELL_X86_64}, {"x32", CCELL_X32}, {"x86", CCELL_X86}, {"aarch64", CCELL_AARCH64}, {"arm", CCELL_ARM},
     {"mips", 0x00000008}, {"mipsel", 0x40000008}, {"mips64", 0x80000008}, {"mipsel64", 0xc0000008},
     {"mips64n32", 0xa0000008}, {"mipsel64n32", 0xe0000008}, {"parisc", 0x0000000f}, {"parisc64", 0x8000000f},
     {"ppc", 0x00000014}, {"ppc64", 0x80000015}, {"ppc64le", 0xc0000015}, {"s390", 0x00000016}, {"s390x", 0x80000016},

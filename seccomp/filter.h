@@ -11,7 +11,7 @@ enum { OURS = 5, MACHINES = 19, MOST_NESTED = 16 };
 /* Machines, those first for which ccell makes filters. A set of these is a mask of five bits. */
 struct machine { const char *name; uint32_t token; };
 extern const struct machine MACHINE[MACHINES];
-enum { X86_64, X86, X32, AARCH64, ARM };
+enum { X86_64, X32, X86, AARCH64, ARM }; /* in this order ccell takes the rules of a bundle */
 
 #if defined __x86_64__ && !defined __ILP32__
 enum { NATIVE = X86_64, FAMILY = 1 << X86_64 | 1 << X86 | 1 << X32 };
