@@ -45,6 +45,14 @@ int call_number(int machine, int call) {
     return !has_two_ways(machine, call) && call_has(machine, call, &number) ? (int)number : CALLS[call].pseudo;
 }
 
+/* The call through which x86 makes this one, too, and the number that its first argument then is: by the numbers of the header,
+ * -101 is call 1 of socketcall, and -201 call 1 of ipc. */
+int other_way(int call, uint64_t *number) {
+    int pseudo = call_number(X86, call);
+    *number = (uint64_t)(-pseudo % 100);
+    return pseudo > -100 || pseudo <= -300 ? -1 : call_named(pseudo > -200 ? "socketcall" : "ipc");
+}
+
 int call_with(int machine, int number) {
     uint8_t name[NAME_SIZE];
     size_t length = 0;

@@ -75,7 +75,7 @@ int judge_action(uint32_t action) {
     case KILL_PROCESS: case KILL_THREAD: case TRAP: case LOG: case ALLOW: return 0;
     case NOTIFY: return refuse(-EOPNOTSUPP, "SCMP_ACT_NOTIFY is no action of ccell");
     }
-    if ((action & 0xffff0000) == TRACE || ((action & 0xffff0000) == ERRNO && (action & 0xffff) < 4096)) return 0;
+    if ((action & 0xffff0000) == TRACE || ((action & 0xffff0000) == ERRNO && (action & 0xffff) < 4095)) return 0;
     return -EINVAL;
 }
 
@@ -162,7 +162,7 @@ API int seccomp_arch_add(scmp_filter_ctx ctx, uint32_t token) {
 
 API int seccomp_arch_remove(scmp_filter_ctx ctx, uint32_t token) {
     int machine = machine_with(token);
-    struct filter *filter = machine < 0 ? NULL : take(ctx);
+    struct filter *filter = machine < 0 ? NULL : begun(ctx);
     if (!filter) return -EINVAL;
     if (!(filter->now.machines >> machine & 1)) return done(filter, -EEXIST);
     if (filter->nested) return done(filter, refuse(-EOPNOTSUPP, "seccomp_arch_remove: not within a transaction"));

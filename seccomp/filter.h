@@ -30,6 +30,7 @@ int call_with(int machine, int number);
 const char *call_name(int call);
 int call_number(int machine, int call);        /* as libseccomp tells it */
 bool call_has(int machine, int call, uint32_t *number); /* the machine's own number */
+int other_way(int call, uint64_t *number);              /* on x86: socketcall or ipc, and the number that it is told by */
 
 struct rule {
     uint32_t action, machines;

@@ -38,14 +38,6 @@ static struct text told(const struct filter *filter, size_t place) {
 
 /* ---- what libseccomp adds on x86 */
 
-/* The call through which x86 makes this one, too, and the number that its first argument then is: by the numbers of the header,
- * -101 is call 1 of socketcall, and -201 call 1 of ipc. */
-static int way_of(int call, uint64_t *number) {
-    int pseudo = call_number(X86, call);
-    *number = (uint64_t)(-pseudo % 100);
-    return pseudo > -100 || pseudo <= -300 ? -1 : call_named(pseudo > -200 ? "socketcall" : "ipc");
-}
-
 /* The rule without conditions for a call on x86, if there is one. */
 static const struct rule *whole_rule(const struct filter *filter, int call) {
     for (size_t i = 0; i < filter->now.count; i++)
@@ -59,8 +51,8 @@ static const struct rule *whole_rule(const struct filter *filter, int call) {
 static int add_other_way(const struct filter *filter, size_t place, struct list *list) {
     const struct rule *rule = &filter->rules[place];
     uint64_t first;
-    int way = way_of(rule->call, &first);
     uint32_t number;
+    int way = rule->call < 0 ? -1 : other_way(rule->call, &first);
     if (way < 0 || !call_has(X86, way, &number)) return 0;
     const struct rule *whole = whole_rule(filter, way);
     if (whole && whole->action == rule->action) return 0;
@@ -105,14 +97,14 @@ static int write_rule(const struct filter *filter, size_t place, struct list *li
     const struct rule *rule = &filter->rules[place];
     for (int machine = 0; machine < OURS; machine++) {
         uint32_t number = (uint32_t)rule->number;
-        if (!(rule->machines & FAMILY & 1u << machine) || (rule->call >= 0 && !call_has(machine, rule->call, &number))) continue;
-        int error = judge_width(filter, place, machine);
+        if (!(rule->machines & FAMILY & 1u << machine)) continue;
+        int error = machine == X86 ? add_other_way(filter, place, list) : 0;
+        if (!error) error = judge_width(filter, place, machine);
         if (error) return error;
+        if (rule->call >= 0 && !call_has(machine, rule->call, &number)) continue;
         struct ccell_rule written = {MACHINE[machine].token, number, rule->action, rule->count, {{0, 0, 0, 0}}};
         memcpy(written.conditions, rule->conditions, sizeof rule->conditions);
-        error = push(list, &written, place);
-        if (!error && machine == X86) error = add_other_way(filter, place, list);
-        if (error) return error;
+        if ((error = push(list, &written, place))) return error;
     }
     return 0;
 }

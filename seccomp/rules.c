@@ -51,6 +51,8 @@ static int append(struct filter *filter, const struct rule *rule) {
 
 static bool one_has(uint32_t machines, int call) {
     uint32_t number;
+    uint64_t told;
+    if (machines >> X86 & 1 && other_way(call, &told) >= 0) return true;
     for (int i = 0; i < OURS; i++)
         if (machines >> i & 1 && call_has(i, call, &number)) return true;
     return false;
@@ -68,7 +70,8 @@ static int add(struct filter *filter, bool exact, uint32_t action, int number, u
     rule.call = call_with(NATIVE, number);
     if (rule.call < 0) {
         rule.number = number;
-        if (number < 0 || rule.machines != 1u << NATIVE) return number < 0 && is_alone ? -EDOM : -EFAULT;
+        if (rule.machines != 1u << NATIVE) return -EFAULT; /* without a name it has no number elsewhere */
+        if (number < 0) return exact ? -EDOM : 0;          /* a call that this machine lacks */
     } else if (!one_has(rule.machines, rule.call)) {
         return exact ? -EDOM : 0; /* no machine that is listed has the call */
     }
