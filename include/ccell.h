@@ -71,7 +71,8 @@ enum ccell_status {
     CCELL_NO_RECORD = 12,      /* the call record does not have 64 bytes */
     CCELL_NO_PROGRAM = 13,     /* the filter's bytes are no program of 1 to 4096 instructions */
     CCELL_KERNEL_REFUSES = 14, /* the kernel would refuse the filter */
-    CCELL_NO_CALL = 15         /* the machine has no such call */
+    CCELL_NO_CALL = 15,        /* the machine has no such call */
+    CCELL_NO_TEXT = 16         /* the name of a call is no UTF-8 */
 };
 
 /* How an argument is compared, as an unsigned number of 64 bits: enum scmp_compare of libseccomp. */
@@ -139,7 +140,7 @@ uint32_t ccell_check(uint32_t native, const uint8_t *bundle, size_t bundle_lengt
 uint32_t ccell_certify(uint32_t native, const uint8_t *bundle, size_t bundle_length, const uint8_t *filter, size_t filter_length,
                        uint8_t *out, size_t room, size_t *count);
 
-/* The number of a machine's call, by its name. Statuses: 0, 4, 15. */
+/* The number of a machine's call, by its name. Statuses: 0, 4, 15, 16. */
 uint32_t ccell_call_number(uint32_t machine, const uint8_t *name, size_t name_length, uint32_t *number);
 
 /* The name of a machine's call, by its number; no null byte is written. Statuses: 0, 2, 4, 15. */

@@ -15,6 +15,7 @@
 
 scmp_filter_ctx seccomp_init(uint32_t action);
 void seccomp_release(scmp_filter_ctx ctx);
+int seccomp_reset(scmp_filter_ctx ctx, uint32_t action);
 int seccomp_arch_add(scmp_filter_ctx ctx, uint32_t token);
 int seccomp_attr_set(scmp_filter_ctx ctx, int attribute, uint32_t value);
 int seccomp_rule_add_array(scmp_filter_ctx ctx, uint32_t action, int number, unsigned count, const struct scmp_arg_cmp *args);
@@ -87,6 +88,20 @@ static void threads(void) {
     tell(lengths[0] == lengths[1] && !memcmp(first, second, lengths[0]), 1, "four threads add what one does");
 }
 
+/* More rules than there may be are refused, and a context that is reset then has room again. */
+static void many(void) {
+    scmp_filter_ctx ctx = seccomp_init(ERRNO | 1);
+    size_t length = sizeof first;
+    for (uint64_t value = 0; value <= 8192; value++) {
+        struct scmp_arg_cmp is = {0, 4, value, 0};
+        seccomp_rule_add_array(ctx, ALLOW, 1000, 1, &is);
+    }
+    tell(seccomp_export_bpf_mem(ctx, first, &length), -EINVAL, "8193 rules");
+    tell(seccomp_reset(ctx, ALLOW), 0, "a reset");
+    tell(seccomp_export_bpf_mem(ctx, first, &length), 0, "an export after it");
+    seccomp_release(ctx);
+}
+
 /* The least stack on which it was seen to work, in KiB, of docker's profile or so. */
 static void *exports(void *into) {
     scmp_filter_ctx ctx = seccomp_init(ERRNO | 1);
@@ -128,6 +143,7 @@ int main(int argc, char **argv) {
     loads();
     descriptors();
     threads();
+    many();
     tell(works_with(96 << 10), 1, "a stack of 96 KiB");
     return wrong != 0;
 }

@@ -27,9 +27,9 @@ fn put_checked(alloc: Global, prepared: &Prepared, out: &mut [u8], told: &mut To
     ensures room { result ≡ 2 → length out.old < told.new.count }
     ensures statuses { (result ≡ 0) ⊎ ((result ≡ 2) ⊎ (result ≡ 3)) }
 {
-    if prepared.checked(alloc).is_err() {
+    let Ok(_checked) = prepared.checked(alloc) else {
         return NO_MEMORY;
-    }
+    };
     if written(&prepared.filter, out, &mut told.count) {
         DONE
     } else {

@@ -32,6 +32,8 @@ pub const NO_PROGRAM: u32 = 13;
 pub const KERNEL_REFUSES: u32 = 14;
 /// There is no such call.
 pub const NO_CALL: u32 = 15;
+/// The name of a call is no UTF-8.
+pub const NO_TEXT: u32 = 16;
 
 /// How many bytes are written, or would be, and the places that a refusal names.
 #[repr(C)]
