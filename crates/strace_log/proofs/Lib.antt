@@ -1,2 +1,2 @@
-mod Splits
+pub mod Splits
 mod Spaces

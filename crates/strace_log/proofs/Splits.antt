@@ -1,12 +1,14 @@
 -- The lines of a text, one after the other.
-use Rattle.std.proofs.Common.{◌≡◌, ℕ, Bool, true, false, cond, List, [], ◌∷◌, refl, ap, sym, subst, ◌∙◌}
+use Rattle.std.proofs.Common.{◌≡◌, ℕ, Bool, true, false, cond, List, [], ◌∷◌, refl, ap, sym, subst, lit<, ◌∙◌}
 use Rattle.std.specs.Prelude.{◌==◌, Option, Some, None, MatchOption}
 use Rattle.std.specs.Option.{option_map}
 use Rattle.std.specs.List.{onto_first, slice_split}
 use denote.Ref.{Bor}
 use Rattle.std.proofs.lemmas.List.Splits.{slice_split-cons_no, slice_split-cons_yes}
+use Rattle.std.proofs.lemmas.Str.Pattern.{IsSplitOnceResult}
 use Rattle.texts.specs.Lines.{line_feed}
 use Rattle.texts.specs.Splits.{split_at}
+use Rattle.texts.proofs.Splits.{split_is}
 use Rattle.strace_log.specs.Lines.{lines_of}
 
 -- the parts of a text are what stands before the first such byte, and the parts of what stands behind it
@@ -23,14 +25,17 @@ cuts c (b ∷ text) = by_test (b == c) refl (split_at c text) (cuts c text) wher
   by_test false e (Some q) ih = slice_split-cons_no (λ x. x == c) b text e ∙ ap (onto_first b) ih
 
 -- what a split at the first line feed tells of the lines
-pub first_of_lines : (text : List ℕ) (r : Option (Bor (List ℕ) × Bor (List ℕ)))
-    → option_map (λ parts. (parts.0.now, parts.1.now)) r ≡ split_at line_feed text
+pub lines-split : (text : List ℕ) (r : Option (Bor (List ℕ) × Bor (List ℕ))) → IsSplitOnceResult line_feed text r
     → MatchOption r (lines_of text ≡ text ∷ []) (λ p. lines_of text ≡ p.0.now ∷ lines_of p.1.now)
-first_of_lines text None e = by_split (split_at line_feed text) e (cuts line_feed text) where
-  by_split : (o : Option (List ℕ × List ℕ)) → None ≡ o
+lines-split text r h = by_case r (split_is line_feed text r h (lit< tt)) where
+  by_none : (o : Option (List ℕ × List ℕ)) → None ≡ o
       → MatchOption o (lines_of text ≡ text ∷ []) (λ p. lines_of text ≡ p.0 ∷ lines_of p.1) → lines_of text ≡ text ∷ []
-  by_split None g h = h
-  by_split (Some p) g h = absurd (cc)
-first_of_lines text (Some x) e =
-    subst (λ (o : Option (List ℕ × List ℕ)). MatchOption o (lines_of text ≡ text ∷ []) (λ p. lines_of text ≡ p.0 ∷ lines_of p.1)) (sym e)
-    (cuts line_feed text)
+  by_none None g k = k
+  by_none (Some p) g k = absurd (cc)
+
+  by_case : (r : Option (Bor (List ℕ) × Bor (List ℕ))) → option_map (λ parts. (parts.0.now, parts.1.now)) r ≡ split_at line_feed text
+      → MatchOption r (lines_of text ≡ text ∷ []) (λ p. lines_of text ≡ p.0.now ∷ lines_of p.1.now)
+  by_case None e = by_none (split_at line_feed text) e (cuts line_feed text)
+  by_case (Some x) e =
+      subst (λ (o : Option (List ℕ × List ℕ)). MatchOption o (lines_of text ≡ text ∷ []) (λ p. lines_of text ≡ p.0 ∷ lines_of p.1)) (sym e)
+      (cuts line_feed text)

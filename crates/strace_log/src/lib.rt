@@ -8,5 +8,5 @@ mod machines;
 mod numbers;
 
 pub use call::Call;
-pub use line::{call_on, first_line, is_remark};
+pub use line::{call_on, is_remark};
 pub use machines::machines_run;

@@ -1,8 +1,7 @@
 //! Lines of a log.
-ghost use Rattle.std.specs.Prelude.{◌≡◌, ◌∷◌, [], MatchOption};
+ghost use Rattle.std.specs.Prelude.{◌≡◌};
 ghost use Rattle.std.specs.Option.{option_map};
 ghost use Rattle.strace_log.specs.Line as spec;
-ghost use Rattle.strace_log.specs.Lines.{lines_of};
 
 use crate::arguments::{arguments, given};
 use crate::call::Call;
@@ -55,15 +54,5 @@ pub fn is_remark(line: &str) -> bool {
     match split(line, ']') {
         Some((_, text)) => REMARKS.iter().any(|mark| text.starts_with(*mark)),
         None => line.is_empty(),
-    }
-}
-
-/// The first line of a text, and what stands behind its line feed, if there is one.
-pub fn first_line(text: &str) -> (&str, Option<&str>)
-    ensures { MatchOption result.1 (lines_of text.now ≡ result.0.now ∷ []) (λ more. lines_of text.now ≡ result.0.now ∷ lines_of more.now) }
-{
-    match split(text, '\n') {
-        Some((line, more)) => (line, Some(more)),
-        None => (text, None),
     }
 }
