@@ -69,7 +69,18 @@ static long own_number(void)
 
 static _Noreturn void serve(struct slot *slot);
 
-/* What a new task does, or one that has a new image. Its group is its own where none is told. */
+/* Where the calling task is in /proc: written once, since an image that execve makes has the place of the group's first task. */
+static void tell_place(char *who, size_t room)
+{
+	char place[64] = { 0 };
+
+	enter(SYS_readlink, (unsigned long)"/proc/thread-self", (unsigned long)place, sizeof(place) - 1, 0);
+	if (strcmp(who, place))
+		memcpy(who, place, room);
+}
+
+/* What a new task does, or one that has a new image. Its group is its own where none is told. The image is counted before the command
+ * that made it counts as answered. */
 static _Noreturn void begin(long group)
 {
 	long number = own_number();
@@ -79,11 +90,11 @@ static _Noreturn void begin(long group)
 		leave();
 	slot = &tree->slots[number];
 	slot->group = group ? group : number;
-	memset(slot->who, 0, sizeof(slot->who));
-	enter(SYS_readlink, (unsigned long)"/proc/thread-self", (unsigned long)slot->who, sizeof(slot->who) - 1, 0);
-	atomic_store(&slot->answered, atomic_load(&slot->asked));
+	tell_place(slot->who, sizeof(slot->who));
 	atomic_fetch_add(&slot->images, 1);
+	atomic_store(&slot->answered, atomic_load(&slot->asked));
 	wake(&slot->images);
+	wake(&slot->answered);
 	serve(slot);
 }
 
@@ -223,20 +234,23 @@ static void wait_for_image(long number, unsigned images, time_t end)
 		wait_while(&slot->images, images, &blink);
 }
 
-/* The answer to execve: the group's task has a new image, or the caller an error. Returns whether there is one. */
+/* The answer to execve: the group's first task has a new image, or the caller an error. Returns whether there is one. A caller that is
+ * gone went on as the first task, or was ended by a filter; then the first task, where it lives, answers and has no new image. */
 static int wait_for_exec(struct slot *slot, unsigned done, struct slot *first, unsigned images, time_t end)
 {
 	const struct timespec blink = { 0, 1000000 };
 
 	while (!is_late(end)) {
+		int has_ended = !is_live(slot), is_answered = atomic_load(&slot->answered) != done;
+
+		if (has_ended && slot != first)
+			answers(first, end);
 		if (atomic_load(&first->images) != images) {
 			slot->result = 0;
 			return 1;
 		}
-		if (atomic_load(&slot->answered) != done)
-			return 1;
-		if (!is_live(slot) && !is_live(first) && atomic_load(&first->images) == images)
-			return 0;
+		if (has_ended || is_answered)
+			return is_answered;
 		wait_while(&first->images, images, &blink);
 	}
 	return 0;
@@ -282,23 +296,40 @@ static long read_command(const char **at, struct call *call, struct sock_filter 
 	return task;
 }
 
-static void tell_live(time_t end)
+/* Which tasks live, as bits. A task's end may be that of others a little later: it is asked until the answer stays. */
+static unsigned long live_tasks(unsigned long before, time_t end)
+{
+	for (;;) {
+		unsigned long live = 0;
+		int i;
+
+		for (i = 1; i < MOST_TASKS; i++)
+			live |= answers(&tree->slots[i], end) ? 1UL << i : 0;
+		if (!(before & ~live))
+			return live;
+		before = live;
+	}
+}
+
+static void tell_live(unsigned long live)
 {
 	const char *between = " ";
 	int i;
 
 	for (i = 1; i < MOST_TASKS; i++) {
-		if (!answers(&tree->slots[i], end))
+		if (!(live >> i & 1))
 			continue;
 		printf("%s%d", between, i);
 		between = ",";
 	}
-	if (between[0] == ' ')
+	if (!live)
 		fputs(" -", stdout);
 }
 
 static void on_commands(const char *at, time_t end)
 {
+	unsigned long live = 2;
+
 	while (*at && !is_late(end)) {
 		struct sock_filter program[MOST_INSNS];
 		unsigned short insns;
@@ -317,7 +348,8 @@ static void on_commands(const char *at, time_t end)
 			else
 				fputs("ended", stdout);
 		}
-		tell_live(end);
+		live = live_tasks(live, end);
+		tell_live(live);
 		if (*at == ';')
 			++at;
 		putchar(*at ? ';' : '\n');
