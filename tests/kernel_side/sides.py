@@ -10,7 +10,7 @@ from harness.places import ASK, CCELL
 from harness.rows import Fault
 
 HERE = os.path.dirname(os.path.abspath(__file__))
-SOURCES = ("main.c", "enter.c", "cases.c", "tree.c", "widths.c", "told.c")
+SOURCES = ("main.c", "enter.c", "cases.c", "tree.c", "tree_tasks.c", "widths.c", "told.c")
 SYSCALL, INT80 = "s", "i"
 
 
