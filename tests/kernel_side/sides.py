@@ -7,14 +7,11 @@ from collections import Counter
 from harness.ask import answers
 from harness.limits import ENDLESS
 from harness.places import ASK, CCELL
+from harness.rows import Fault
 
 HERE = os.path.dirname(os.path.abspath(__file__))
-SOURCES = ("main.c", "enter.c", "cases.c", "tree.c", "widths.c", "told.c")
+SOURCES = ("main.c", "enter.c", "cases.c", "tree.c", "tree_tasks.c", "widths.c", "told.c")
 SYSCALL, INT80 = "s", "i"
-
-
-class Fault(Exception):
-    """A side that does not answer."""
 
 
 class Sides:

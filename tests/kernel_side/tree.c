@@ -7,14 +7,11 @@
  *
  * Tasks wait for commands in shared memory. Whoever gives them stands outside of the namespace, and sees by /proc who lives. */
 #define _GNU_SOURCE
-#include "side.h"
+#include "tree.h"
 
-#include <errno.h>
 #include <fcntl.h>
-#include <linux/futex.h>
 #include <sched.h>
 #include <signal.h>
-#include <stdatomic.h>
 #include <stdio.h>
 #include <stdlib.h>
 #include <string.h>
@@ -22,144 +19,7 @@
 #include <sys/prctl.h>
 #include <sys/syscall.h>
 #include <sys/wait.h>
-#include <time.h>
 #include <unistd.h>
-
-enum { MOST_TASKS = 64, MOST_INSNS = 64, STACK = 16384, SECONDS = 60 };
-
-/* The numbers of a tree's tasks begin at 1. `asked` and `answered` count commands; `images` counts how often a task began, by a
- * call that made it or by execve. `who` is its place in /proc as it is seen from outside. */
-struct slot {
-	atomic_uint asked, answered, images;
-	long group, result;
-	int is_ping;
-	struct call call;
-	unsigned short insns;
-	struct sock_filter program[MOST_INSNS];
-	char who[64];
-};
-
-struct tree {
-	atomic_int stacks;
-	char program[256];
-	struct slot slots[MOST_TASKS];
-};
-
-static struct tree *tree;
-static int tree_file;
-static char stacks[MOST_TASKS][STACK] __attribute__((aligned(16)));
-
-static void wait_while(atomic_uint *word, unsigned value, const struct timespec *timeout)
-{
-	enter(SYS_futex, (unsigned long)word, FUTEX_WAIT, value, (unsigned long)timeout);
-}
-
-static void wake(atomic_uint *word)
-{
-	enter(SYS_futex, (unsigned long)word, FUTEX_WAKE, 1, 0);
-}
-
-/* The number of the calling task, by a call that no script makes. */
-static long own_number(void)
-{
-	static int cleared;
-
-	return enter(SYS_set_tid_address, (unsigned long)&cleared, 0, 0, 0);
-}
-
-static _Noreturn void serve(struct slot *slot);
-
-/* What a new task does, or one that has a new image. Its group is its own where none is told. */
-static _Noreturn void begin(long group)
-{
-	long number = own_number();
-	struct slot *slot;
-
-	if (number < 1 || number >= MOST_TASKS)
-		leave();
-	slot = &tree->slots[number];
-	slot->group = group ? group : number;
-	memset(slot->who, 0, sizeof(slot->who));
-	enter(SYS_readlink, (unsigned long)"/proc/thread-self", (unsigned long)slot->who, sizeof(slot->who) - 1, 0);
-	atomic_store(&slot->answered, atomic_load(&slot->asked));
-	atomic_fetch_add(&slot->images, 1);
-	wake(&slot->images);
-	serve(slot);
-}
-
-static int begin_thread(void *maker)
-{
-	begin(((struct slot *)maker)->group);
-}
-
-/* A call that makes a task. The new task does not return. */
-static long make_task(struct slot *slot, const struct call *call)
-{
-	long made;
-
-	if (call->number == SYS_clone && call->args[0] & CLONE_THREAD) {
-		int next = atomic_fetch_add(&tree->stacks, 1) % MOST_TASKS;
-
-		made = clone(begin_thread, stacks[next] + STACK, (int)call->args[0], slot);
-		return made < 0 ? -errno : made;
-	}
-	made = enter_by_syscall(call);
-	if (made == 0 && own_number() != slot - tree->slots)
-		begin(0);
-	return made;
-}
-
-static long carry_out(struct slot *slot)
-{
-	struct call call = slot->call;
-	struct sock_fprog program = { slot->insns, slot->program };
-	char number[16];
-	char *const words[] = { tree->program, "tree", number, NULL };
-	char *const none[] = { NULL };
-
-	switch (call.number) {
-	case SYS_fork:
-	case SYS_clone:
-		return make_task(slot, &call);
-	case SYS_execve:
-		number[0] = '0' + tree_file / 10;
-		number[1] = '0' + tree_file % 10;
-		number[2] = 0;
-		call.args[0] = (unsigned long)tree->program;
-		call.args[1] = (unsigned long)words;
-		call.args[2] = (unsigned long)none;
-		return enter_by_syscall(&call);
-	default:
-		if (slot->insns)
-			call.args[2] = (unsigned long)&program;
-		return enter_by_syscall(&call);
-	}
-}
-
-static _Noreturn void serve(struct slot *slot)
-{
-	for (;;) {
-		unsigned done = atomic_load(&slot->answered);
-
-		while (atomic_load(&slot->asked) == done)
-			wait_while(&slot->asked, done, NULL);
-		if (!slot->is_ping)
-			slot->result = carry_out(slot);
-		atomic_store(&slot->answered, done + 1);
-		wake(&slot->answered);
-	}
-}
-
-_Noreturn void go_on_in_tree(const char *descriptor)
-{
-	tree_file = atoi(descriptor);
-	tree = mmap(NULL, sizeof(*tree), PROT_READ | PROT_WRITE, MAP_SHARED, tree_file, 0);
-	if (tree == MAP_FAILED)
-		_exit(1);
-	begin(0);
-}
-
-/* From here on: who stands outside. */
 
 static int is_live(const struct slot *slot)
 {
@@ -223,20 +83,23 @@ static void wait_for_image(long number, unsigned images, time_t end)
 		wait_while(&slot->images, images, &blink);
 }
 
-/* The answer to execve: the group's task has a new image, or the caller an error. Returns whether there is one. */
+/* The answer to execve: the group's first task has a new image, or the caller an error. Returns whether there is one. A caller that is
+ * gone went on as the first task, or was ended by a filter; then the first task, where it lives, answers and has no new image. */
 static int wait_for_exec(struct slot *slot, unsigned done, struct slot *first, unsigned images, time_t end)
 {
 	const struct timespec blink = { 0, 1000000 };
 
 	while (!is_late(end)) {
+		int has_ended = !is_live(slot), is_answered = atomic_load(&slot->answered) != done;
+
+		if (has_ended && slot != first)
+			answers(first, end);
 		if (atomic_load(&first->images) != images) {
 			slot->result = 0;
 			return 1;
 		}
-		if (atomic_load(&slot->answered) != done)
-			return 1;
-		if (!is_live(slot) && !is_live(first) && atomic_load(&first->images) == images)
-			return 0;
+		if (has_ended || is_answered)
+			return is_answered;
 		wait_while(&first->images, images, &blink);
 	}
 	return 0;
@@ -282,23 +145,40 @@ static long read_command(const char **at, struct call *call, struct sock_filter 
 	return task;
 }
 
-static void tell_live(time_t end)
+/* Which tasks live, as bits. A task's end may be that of others a little later: it is asked until the answer stays. */
+static unsigned long live_tasks(unsigned long before, time_t end)
+{
+	for (;;) {
+		unsigned long live = 0;
+		int i;
+
+		for (i = 1; i < MOST_TASKS; i++)
+			live |= answers(&tree->slots[i], end) ? 1UL << i : 0;
+		if (!(before & ~live))
+			return live;
+		before = live;
+	}
+}
+
+static void tell_live(unsigned long live)
 {
 	const char *between = " ";
 	int i;
 
 	for (i = 1; i < MOST_TASKS; i++) {
-		if (!answers(&tree->slots[i], end))
+		if (!(live >> i & 1))
 			continue;
 		printf("%s%d", between, i);
 		between = ",";
 	}
-	if (between[0] == ' ')
+	if (!live)
 		fputs(" -", stdout);
 }
 
 static void on_commands(const char *at, time_t end)
 {
+	unsigned long live = 2;
+
 	while (*at && !is_late(end)) {
 		struct sock_filter program[MOST_INSNS];
 		unsigned short insns;
@@ -317,7 +197,8 @@ static void on_commands(const char *at, time_t end)
 			else
 				fputs("ended", stdout);
 		}
-		tell_live(end);
+		live = live_tasks(live, end);
+		tell_live(live);
 		if (*at == ';')
 			++at;
 		putchar(*at ? ';' : '\n');
