@@ -31,3 +31,7 @@ SaysOfCleared p q = (r s : List ℕ) → IsRecord r → IsRecord s → IsCleared
 pub record IsNarrowed (p q : Policy) : Type 0 where
   pub says : SaysOfCleared p q
   pub alone : SpeaksOfRead q
+
+-- a record with the bits at 0 that are not read is alike to it
+abbrev pub ClearedIsAlike : Type 0
+ClearedIsAlike = (r s : List ℕ) → IsCleared r s → Alike r s

@@ -24,3 +24,4 @@ pub record AreNarrowed (rules narrowed : List Rule) : Type 0 where
   pub answers : (r s : List ℕ) → IsRecord r → IsRecord s → IsCleared r s → (word : ℕ)
       → Has (Answers word r) narrowed ↔ Has (Answers word s) rules
   pub alone : All MatchesRead narrowed
+  pub machines : All (λ part. Has (λ rule. rule.arch ≡ part.arch) rules) narrowed

@@ -47,7 +47,7 @@ fn extended(
 }
 
 /// The lists of conditions, each of one part of each condition: how many bits each argument is cut to stands in the plan.
-pub(crate) fn combined(
+pub fn conditions(
     alloc: Global,
     conds: &[Cond],
     plan: &[u32; 6],
@@ -59,10 +59,11 @@ pub(crate) fn combined(
     made.push(ArrayVec::new())?;
     for cond in conds {
         let parts = parts(alloc, cond, plan[cond.index as usize])?;
-        made = extended(alloc, &made, &parts)?;
-        if made.len() > MOST_PARTS {
+        let longer = extended(alloc, &made, &parts)?;
+        if longer.len() > MOST_PARTS {
             return Err(CutError::TooMany);
         }
+        made = longer;
     }
     Ok(made)
 }
@@ -71,15 +72,15 @@ pub(crate) fn combined(
 fn with_conds(
     alloc: Global,
     rule: &Rule,
-    lists: Vec<ArrayVec<Cond, 6>>,
+    lists: &[ArrayVec<Cond, 6>],
 ) -> Result<Vec<Rule>, CutError>
-    requires { All (λ v. map (λ d. d.index) v.items ≡ map (λ c. c.index) rule.now.conds.items) lists.items }
+    requires { All (λ v. map (λ d. d.index) v.items ≡ map (λ c. c.index) rule.now.conds.items) lists.now }
     ensures like { IfOk result (λ made. All (spec.IsLike rule.now) made.items) }
-    ensures conds { IfOk result (λ made. map (λ q. q.conds.items) made.items ≡ map (λ v. v.items) lists.items) }
+    ensures conds { IfOk result (λ made. map (λ q. q.conds.items) made.items ≡ map (λ v. v.items) lists.now) }
 {
     let mut made = Vec::new(alloc);
     for list in lists {
-        match Rule::new(rule.arch, rule.nr, list, rule.word) {
+        match Rule::new(rule.arch, rule.nr, list.clone()?, rule.word) {
             Some(part) => made.push(part)?,
             None => unreachable!(),
         }
@@ -91,6 +92,6 @@ fn with_conds(
 pub(crate) fn cut(alloc: Global, rule: &Rule, plan: &[u32; 6]) -> Result<Vec<Rule>, CutError>
     ensures { IfOk result (λ made. spec.AreCut plan.now rule.now made.items) }
 {
-    let lists = combined(alloc, rule.conds.as_slice(), plan)?;
-    with_conds(alloc, rule, lists)
+    let lists = conditions(alloc, rule.conds.as_slice(), plan)?;
+    with_conds(alloc, rule, &lists)
 }

@@ -10,6 +10,15 @@ mod cutting;
 mod fault;
 mod parts;
 mod patterns;
+mod profiles;
+mod records;
+mod rules;
+mod suiting;
 
-pub use cutting::MOST_PARTS;
+pub use cutting::{MOST_PARTS, conditions};
 pub use fault::CutError;
+pub use parts::WIDEST;
+pub use profiles::{is_narrowed, narrowed};
+pub use records::{cleared, cleared_is_alike};
+pub use rules::{add_narrowed, narrowed_rule, narrowed_rules};
+pub use suiting::{Plan, WHOLE, own_plan, sees_low, suit_call, suits};

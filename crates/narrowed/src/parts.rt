@@ -1,5 +1,6 @@
 //! The conditions that stand for one on the lowest bits of its argument.
-ghost use Rattle.std.specs.Prelude.{◌<◌, ◌≤◌, IfOk};
+ghost use Rattle.std.specs.Prelude.{◌≡◌, ◌<◌, ◌≤◌, ◌++◌, [], ◌∷◌, List, IfOk};
+ghost use Rattle.narrowed.specs.declared.patterns.Pattern.{Pattern as ThePattern};
 ghost use Rattle.narrowed.specs.inner.Parts.{AreOfPatterns, AreParts};
 
 use crate::asked::patterns;
@@ -8,7 +9,26 @@ use profile::{Cond, Op};
 use std::alloc::{AllocError, Global};
 
 /// The greatest width to which arguments are cut.
-pub(crate) const WIDEST: u32 = 32;
+pub const WIDEST: u32 = 32;
+
+fn push(list: &mut Vec<Cond>, cond: Cond) -> Result<(), AllocError>
+    ensures { IfOk result (λ _. list.new.items ≡ list.old.items ++ cond ∷ []) }
+{
+    list.push(cond)?;
+    Ok(())
+}
+
+// Adds a condition for a pattern, if some number has it.
+fn add(list: &mut Vec<Cond>, index: u8, pattern: &Pattern) -> Result<(), AllocError>
+    requires { index < 6 }
+    ensures { IfOk result (λ _. (before : List ThePattern) → AreOfPatterns index before list.old.items
+        → AreOfPatterns index (before ++ pattern.now ∷ []) list.new.items) }
+{
+    match Cond::new(index, Op::MaskedEq, pattern.mask, pattern.datum) {
+        Some(cond) => push(list, cond),
+        None => Ok(()),
+    }
+}
 
 // A condition for each pattern that some number has.
 fn of_patterns(alloc: Global, index: u8, patterns: &[Pattern]) -> Result<Vec<Cond>, AllocError>
@@ -17,9 +37,7 @@ fn of_patterns(alloc: Global, index: u8, patterns: &[Pattern]) -> Result<Vec<Con
 {
     let mut list = Vec::new(alloc);
     for pattern in patterns {
-        if let Some(cond) = Cond::new(index, Op::MaskedEq, pattern.mask, pattern.datum) {
-            list.push(cond)?;
-        }
+        add(&mut list, index, pattern)?;
     }
     Ok(list)
 }

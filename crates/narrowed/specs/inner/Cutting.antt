@@ -1,7 +1,9 @@
 -- Lists of conditions, each of one part of each condition.
-use Rattle.std.specs.Prelude.{◌≡◌, ◌↔◌, ◌⊎◌, ℕ, ◌<◌, ◌≤◌, List, [], ◌∷◌, ◌++◌, map, slice_index}
+use Rattle.std.specs.Prelude.{◌≡◌, true, ◌↔◌, ℕ, ◌<◌, ◌≤◌, List, [], ◌∷◌, ◌++◌, map, slice_index}
 use Rattle.std.specs.List.{All, Contains, flat_map}
-use Rattle.arrayvec.specs.ArrayVec.{ArrayVec}
+use Rattle.call_arguments.specs.Reads.{read_bits}
+use Rattle.call_tables.specs.Arch.{token_of}
+use Rattle.call_tables.specs.Width.{is_narrow}
 use Rattle.profile.specs.declared.conditions.Cond.{Cond}
 use Rattle.profile.specs.declared.rules.Rule.{Rule}
 use Rattle.profile.specs.Condition.{Meets}
@@ -23,9 +25,14 @@ with_each parts cs = map (λ d. cs ++ d ∷ []) parts
 abbrev pub extended : List Cond → List (List Cond) → List (List Cond)
 extended parts css = flat_map (with_each parts) css
 
--- a part is cut to the bits of its argument, or is one of the conditions, where its argument is left whole
+-- d is a part of a condition on its argument: it looks at the lowest bits alone, or is the condition, where the plan leaves it
+pub record IsPartOf (bits : ℕ) (d c : Cond) : Type 0 where
+  pub index : c.index ≡ d.index
+  pub low : bits ≤ 32 → IsLow bits d
+  pub kept : 32 < bits → d ≡ c
+
 abbrev pub IsPart : List ℕ → List Cond → Cond → Type 0
-IsPart plan cs d = ((slice_index plan d.index ≤ 32) × IsLow (slice_index plan d.index) d) ⊎ ((32 < slice_index plan d.index) × Contains cs d)
+IsPart plan cs d = Has (IsPartOf (slice_index plan d.index) d) cs
 
 -- lists of parts: the arguments meet one of them where their lowest bits meet the conditions
 pub record AreCombined (plan : List ℕ) (cs : List Cond) (css : List (List Cond)) : Type 0 where
@@ -43,3 +50,17 @@ pub record IsLike (rule part : Rule) : Type 0 where
 pub record AreCut (plan : List ℕ) (rule : Rule) (parts : List Rule) : Type 0 where
   pub like : All (IsLike rule) parts
   pub combined : AreCombined plan rule.conds.items (map (λ q. q.conds.items) parts)
+
+-- what is cut of the argument of a condition is what is read of it; or it is left, since the machine's arguments are narrow, or since
+-- the condition looks at bits alone that are read
+pub data SuitsAt (token nr bits : ℕ) (c : Cond) : Type 0 where
+  read : bits ≡ read_bits token nr c.index → SuitsAt token nr bits c
+  narrow : is_narrow token ≡ true → 32 < bits → SuitsAt token nr bits c
+  masked : 32 < bits → IsLow (read_bits token nr c.index) c → SuitsAt token nr bits c
+
+abbrev pub Suits : List ℕ → Rule → Type 0
+Suits plan rule = All (λ c. SuitsAt (token_of rule.arch) rule.nr (slice_index plan c.index) c) rule.conds.items
+
+-- what is read of each argument
+abbrev pub IsReadPlan : ℕ → ℕ → List ℕ → Type 0
+IsReadPlan token nr plan = (j : ℕ) → j < 6 → slice_index plan j ≡ read_bits token nr j

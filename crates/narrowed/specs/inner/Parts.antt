@@ -23,9 +23,9 @@ pub record ArePatterns (bits : ℕ) (asked : ℕ → Type 0) (ps : List Pattern)
   pub low : All (λ p. p.mask < 2 ^ bits) ps
 
 -- conditions on one argument that hold of the numbers which have the patterns
-pub record AreOfPatterns (index : ℕ) (ps : List Pattern) (ds : List Cond) : Type 0 where
+pub record AreOfPatterns (argument : ℕ) (ps : List Pattern) (ds : List Cond) : Type 0 where
   pub meets : (u : ℕ) → Has (λ d. Meets d u) ds ↔ Has (HasPattern u) ps
-  pub index : All (λ d. d.index ≡ index) ds
+  pub index : All (λ d. d.index ≡ argument) ds
   pub low : (bits : ℕ) → All (λ p. p.mask < 2 ^ bits) ps → All (IsLow bits) ds
 
 -- a number meets one of the conditions where its lowest bits meet the condition
