@@ -1,0 +1,4 @@
+pub mod Reading
+pub mod Rows
+pub mod Tables
+pub mod Reads

@@ -1,0 +1,28 @@
+-- What narrowing a bundle answers.
+use Rattle.std.specs.Prelude.{◌≡◌, ℕ, List, true}
+use Rattle.serde_json.specs.Data.{Data}
+use Rattle.call_tables.specs.declared.arch.Arch.{Arch}
+use Rattle.explain.specs.declared.told.Told.{Told}
+use Rattle.narrowed.specs.Alike.{IsNarrowed}
+use Rattle.profile.specs.Policy.{Policy}
+use Rattle.profile_json.specs.Meaning.{IsText, Means}
+use Rattle.narrow.specs.declared.told.Narrowing.{Narrowing}
+
+-- the text of these bytes is a bundle that means the profile
+abbrev pub IsBundle : Arch → List ℕ → Policy → Type 0
+IsBundle native bytes p = (t : Data) × IsText bytes t × Means t native p
+
+-- what is written means the narrowed profile of what was read
+pub record IsWritten (native : Arch) (bundle written : List ℕ) : Type 0 where
+  pub read : Policy
+  pub means : IsBundle native bundle read
+  pub narrowed : Policy
+  pub says : IsBundle native written narrowed
+  pub is_narrowed : IsNarrowed read narrowed
+
+-- where it was done
+abbrev pub IsTold : Arch → List ℕ → Told → Type 0
+IsTold native bundle told = told.done ≡ true → IsWritten native bundle told.bytes.items
+
+abbrev pub IsNarrow : Arch → List ℕ → Narrowing → Type 0
+IsNarrow native bundle narrow = IsTold native bundle narrow.told

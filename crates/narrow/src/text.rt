@@ -1,0 +1,69 @@
+//! Texts that are written a part at a time.
+use std::alloc::{AllocError, Global};
+use std::fmt::{Display, Write};
+
+/// A text, whether there was memory for all of it, and whether a list or an object has begun in it that has no member yet.
+#[derive(Drop)]
+pub struct Text {
+    text: String,
+    is_whole: bool,
+    has_begun: bool,
+}
+
+impl Text {
+    /// An empty text.
+    pub fn new(alloc: Global) -> Text {
+        Text {
+            text: String::new(alloc),
+            is_whole: true,
+            has_begun: false,
+        }
+    }
+
+    /// Adds a part.
+    pub fn put(&mut self, part: impl Display + Drop) {
+        if write!(self.text, "{part}").is_err() {
+            self.is_whole = false;
+        }
+    }
+
+    /// Begins a list or an object.
+    pub fn begin(&mut self, bracket: &str) {
+        self.put(bracket);
+        self.has_begun = true;
+    }
+
+    /// Whether it has no member yet.
+    pub fn has_begun(&self) -> bool {
+        self.has_begun
+    }
+
+    /// Adds what stands between two members, if one stands there.
+    pub fn separate(&mut self, separator: &str) {
+        if self.has_begun {
+            self.has_begun = false;
+        } else {
+            self.put(separator);
+        }
+    }
+
+    /// Ends a list or an object.
+    pub fn end(&mut self, bracket: &str) {
+        self.has_begun = false;
+        self.put(bracket);
+    }
+
+    /// Keeps in mind that there was no memory.
+    pub fn fail(&mut self) {
+        self.is_whole = false;
+    }
+
+    /// All that was added.
+    pub fn whole(self) -> Result<String, AllocError> {
+        if self.is_whole {
+            Ok(self.text)
+        } else {
+            Err(AllocError)
+        }
+    }
+}

@@ -1,0 +1,11 @@
+pub mod TurnLaws
+pub mod HasLaws
+pub mod PatternLaws
+pub mod CutLaws
+pub mod WidthLaws
+pub mod RuleLaws
+pub mod PolicyLaws
+pub mod AskedLaws
+pub mod StepLaws
+pub mod BuildLaws
+pub mod SuitLaws

@@ -1,0 +1,6 @@
+use Rattle.std.proofs.Common.{take}
+use Rattle.narrowed.specs.inner.Parts.{AreOfPatterns}
+use Rattle.narrowed.proofs.parts.of_patterns.Given as goal
+
+abbrev pub invariant-loop-pattern : goal.invariant-loop-pattern
+invariant-loop-pattern l = AreOfPatterns l.index (take l.pattern-index l.patterns) l.list.items

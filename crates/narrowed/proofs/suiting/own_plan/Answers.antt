@@ -1,0 +1,16 @@
+use Rattle.std.proofs.Common.{◌≡◌, [], ◌∷◌, ap, refl, sym, ◌∙◌, subst}
+use Rattle.std.specs.Prelude.{slice_index}
+use Rattle.call_arguments.specs.Reads.{read_bits}
+use Rattle.call_tables.specs.Arch.{token_of}
+use Rattle.narrowed.specs.inner.Cutting.{IsReadPlan}
+use Rattle.narrowed.proofs.SuitLaws.{six, read_suits, whole_suits}
+use Rattle.narrowed.proofs.suiting.own_plan.Goals as goal
+
+pub returns-then-is_narrow : goal.returns-then-is_narrow
+returns-then-is_narrow c =
+    whole_suits c.args.rule.now (64 ∷ 64 ∷ 64 ∷ 64 ∷ 64 ∷ 64 ∷ []) (sym c.is_narrow.ensures ∙ c.if-is_narrow.true) (six (λ _. 64) 64 64 64 64 64 64 refl refl refl refl refl refl)
+
+pub returns : goal.returns
+returns c =
+    read_suits c.args.rule.now c.read_plan.result
+    (subst (λ t. IsReadPlan t c.args.rule.now.nr c.read_plan.result) c.token.ensures c.read_plan.ensures)

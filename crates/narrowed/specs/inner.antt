@@ -1,0 +1,4 @@
+pub mod Patterns
+pub mod Parts
+pub mod Cutting
+pub mod Sizes

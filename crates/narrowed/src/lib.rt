@@ -1,0 +1,24 @@
+//! Profiles that speak of what a kernel reads alone.
+//!
+//! A condition compares a register of 64 bits, and many calls look at the lower half of it alone. So a profile can say two things
+//! of two records that are alike to the kernel. The narrowed profile says of each record what the profile says of it with the
+//! bits at 0 that are not read.
+#![tactic(auto)]
+
+mod asked;
+mod cutting;
+mod fault;
+mod parts;
+mod patterns;
+mod profiles;
+mod records;
+mod rules;
+mod suiting;
+
+pub use cutting::{MOST_PARTS, conditions};
+pub use fault::CutError;
+pub use parts::WIDEST;
+pub use profiles::{is_narrowed, narrowed};
+pub use records::{cleared, cleared_is_alike};
+pub use rules::{add_narrowed, narrowed_rule, narrowed_rules};
+pub use suiting::{Plan, WHOLE, own_plan, sees_low, suit_call, suits};

@@ -1,0 +1,60 @@
+//! Narrowed rules.
+ghost use Rattle.std.specs.Prelude.{◌≡◌, ◌++◌, [], ◌∷◌, IfOk, ℕ, List};
+ghost use Rattle.narrowed.specs.Narrowed.{AreNarrowed};
+ghost use Rattle.profile.specs.declared.rules.Rule.{Rule as TheRule};
+ghost use Rattle.narrowed.specs.inner.Cutting.{Suits};
+
+use crate::cutting::{MOST_PARTS, cut};
+use crate::fault::CutError;
+use crate::suiting::own_plan;
+use profile::Rule;
+use std::alloc::{AllocError, Global};
+
+/// The narrowed rules of one rule, whose arguments are cut so.
+pub fn narrowed_rule(alloc: Global, rule: &Rule, plan: &[u32; 6]) -> Result<Vec<Rule>, CutError>
+    requires { Suits plan.now rule.now }
+    ensures { IfOk result (λ parts. AreNarrowed (rule.now ∷ []) parts.items) }
+{
+    cut(alloc, rule, plan)
+}
+
+// Adds rules.
+fn append(rules: &mut Vec<Rule>, more: &[Rule]) -> Result<(), AllocError>
+    ensures { IfOk result (λ _. rules.new.items ≡ rules.old.items ++ more.now) }
+{
+    for rule in more {
+        rules.push(rule.clone()?)?;
+    }
+    Ok(())
+}
+
+/// Adds the narrowed rules of one rule.
+pub fn add_narrowed(
+    alloc: Global,
+    rules: &mut Vec<Rule>,
+    rule: &Rule,
+    plan: &[u32; 6],
+) -> Result<(), CutError>
+    requires { Suits plan.now rule.now }
+    ensures { IfOk result (λ _. (before : List TheRule) → AreNarrowed before rules.old.items
+        → AreNarrowed (before ++ rule.now ∷ []) rules.new.items) }
+{
+    let parts = narrowed_rule(alloc, rule, plan)?;
+    append(rules, &parts)?;
+    if rules.len() > 2 * MOST_PARTS {
+        return Err(CutError::TooMany);
+    }
+    Ok(())
+}
+
+/// The narrowed rules of a list.
+pub fn narrowed_rules(alloc: Global, rules: &[Rule]) -> Result<Vec<Rule>, CutError>
+    ensures { IfOk result (λ narrowed. AreNarrowed rules.now narrowed.items) }
+{
+    let mut narrowed = Vec::new(alloc);
+    for rule in rules {
+        let plan = own_plan(rule);
+        add_narrowed(alloc, &mut narrowed, rule, &plan)?;
+    }
+    Ok(narrowed)
+}
