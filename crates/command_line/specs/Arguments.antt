@@ -1,5 +1,6 @@
 -- The arguments of a command line: which command they are.
-use Rattle.std.specs.Prelude.{Any, Bool, true, false, ℕ, ◌≡◌, ◌⊎◌, List, [], ◌∷◌, if◌then◌else◌, map, Option, Some, None, Result, Ok, Err, slice_get, codes}
+use Rattle.std.specs.Prelude.{Any, Bool, true, false, ℕ, ◌≡◌, ◌⊎◌, List, [], ◌∷◌, if◌then◌else◌, map, Option, Some, None, slice_get, codes}
+use Rattle.std.specs.Prelude.{Result, Ok, Err}
 use Rattle.std.specs.Option.{option_map}
 use Rattle.std.specs.Str.{bytes_eq}
 use denote.Ref.{Bor}

@@ -1,5 +1,6 @@
 -- Which command the parts are that clap found behind a name, by the rows of its matches. A list is the last arguments.
-use Rattle.std.specs.Prelude.{◌-◌, ℕ, true, false, Bool, List, length, drop, if◌then◌else◌, Option, Some, None, codes, option_map, option_and_then}
+use Rattle.std.specs.Prelude.{◌-◌, ℕ, true, false, Bool, List, length, drop, if◌then◌else◌, Option, Some, None, codes}
+use Rattle.std.specs.Prelude.{option_map, option_and_then}
 use Rattle.std.specs.Option.{option_map_or}
 use Rattle.std.specs.Str.{bytes_eq}
 use Rattle.call_tables.specs.declared.arch.Arch.{Arch}
@@ -7,7 +8,8 @@ use Rattle.call_tables.specs.Arch.{native_called}
 use Rattle.clap.specs.Words.{Row, Text, all_of, first_of}
 use Rattle.export.specs.declared.form.Form.{Form}
 use Rattle.command_line.specs.Arguments.{Given, form_called}
-use Rattle.command_line.specs.Arguments.Given.{Verdict, Check, Certify, Export, Run, Explain, Read, Record, Assemble, Annotate, Draw, Compare, Adapt, Manual, Version}
+use Rattle.command_line.specs.Arguments.Given.{Verdict, Check, Certify, Export, Run, Explain, Read, Record}
+use Rattle.command_line.specs.Arguments.Given.{Assemble, Annotate, Draw, Compare, Adapt, Manual, Version}
 
 -- the machine that the part MACHINE calls
 abbrev pub native_in : List Row → Option Arch
