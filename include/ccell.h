@@ -35,7 +35,7 @@
  *     returns. Not to be called from a signal handler.
  *
  * STACK
- *     See docs/LIBRARY.md for what was measured.
+ *     ccell_filter_for_rules was seen to work with 112 KiB for the default profile of docker. docs/LIBRARY.md has what was measured.
  */
 #ifndef CCELL_H
 #define CCELL_H

@@ -4,6 +4,8 @@
 #include <stdio.h>
 #include <stdlib.h>
 #include <string.h>
+#include <sys/mman.h>
+#include <ucontext.h>
 
 /* Rules as ccell takes them, and of which one that was added each is. */
 struct list { struct ccell_rule *rules; size_t *of, count, room; };
@@ -126,17 +128,44 @@ static int tell(const struct filter *filter, const struct list *list, uint32_t s
     return refuse(-EFAULT, "status %u of ccell", status);
 }
 
-static int ask(struct filter *filter, const struct list *list) {
+/* ccell is called on a stack of its own, since a thread of an engine may have little. */
+enum { STACK = 1 << 20 };
+struct question {
+    const struct filter *filter;
+    const struct list *list;
+    struct ccell_told at;
+    uint32_t status;
+};
+
+static void answer(unsigned low, unsigned high) {
     static const struct ccell_rule none;
-    struct ccell_told at = {0, 0, 0};
+    struct question *of = (struct question *)((uintptr_t)low | (uintptr_t)high << 32);
+    const struct state *now = &of->filter->now;
     uint32_t machines[OURS];
     size_t count = 0;
     for (int i = 0; i < OURS; i++)
-        if (filter->now.machines & FAMILY & 1u << i) machines[count++] = MACHINE[i].token;
-    uint32_t status = ccell_filter_for_rules(MACHINE[NATIVE].token, filter->now.attributes[DEFAULT_ACTION], machines, count,
-                                             list->count ? list->rules : &none, list->count, filter->bytes, CCELL_MOST_BYTES, &at);
-    filter->length = status == CCELL_DONE ? at.count : 0;
-    return tell(filter, list, status, &at);
+        if (now->machines & FAMILY & 1u << i) machines[count++] = MACHINE[i].token;
+    of->status = ccell_filter_for_rules(MACHINE[NATIVE].token, now->attributes[DEFAULT_ACTION], machines, count,
+                                        of->list->count ? of->list->rules : &none, of->list->count, of->filter->bytes,
+                                        CCELL_MOST_BYTES, &of->at);
+}
+
+static int ask(struct filter *filter, const struct list *list) {
+    struct question of = {filter, list, {0, 0, 0}, CCELL_NO_MEMORY};
+    ucontext_t here, there;
+    void *stack = mmap(NULL, STACK, PROT_READ | PROT_WRITE, MAP_PRIVATE | MAP_ANONYMOUS | MAP_STACK, -1, 0);
+    if (stack == MAP_FAILED) return -ENOMEM;
+    bool is_switched = !mprotect(stack, 4096, PROT_NONE) && !getcontext(&there); /* the lowest page is a guard */
+    if (is_switched) {
+        there.uc_stack.ss_sp = stack;
+        there.uc_stack.ss_size = STACK;
+        there.uc_link = &here;
+        makecontext(&there, (void (*)(void))answer, 2, (unsigned)(uintptr_t)&of, (unsigned)((uintptr_t)&of >> 32));
+        is_switched = !swapcontext(&here, &there);
+    }
+    munmap(stack, STACK);
+    filter->length = is_switched && of.status == CCELL_DONE ? of.at.count : 0;
+    return is_switched ? tell(filter, list, of.status, &of.at) : -EFAULT;
 }
 
 int make(struct filter *filter) {
