@@ -6,4 +6,5 @@ use Rattle.certify.proofs.maker.followed.Goals as goal
 pub returns-in-Err-clause-sure : goal.returns-in-Err-clause-sure
 returns-in-Err-clause-sure c = λ right steady.
     c.told.ensures
-    (of_right {A = Unit {0}} c.args.profile.now (accepted_insns c.args.program.now) right (Err c.in-Err.error) (c.in-Err.ensures.steady steady))
+    (of_right c.args.profile.now (accepted_insns c.args.program.now) {A = Unit {0}} right (Err c.in-Err.error)
+    (c.in-Err.ensures.steady steady))
