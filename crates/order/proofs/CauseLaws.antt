@@ -1,25 +1,25 @@
 -- The kernel refuses the program that asks one program and then another for nothing, if it refuses neither and it compares steadily.
-use Rattle.std.proofs.Common.{◌≡◌, ℕ, zero, suc, ◌+◌, ◌≤◌, ◌⊎◌, inl, inr, Bool, true, false, List, [], ◌∷◌, ◌++◌, length, refl, ap, sym, ◌∙◌, arith, subst}
+use Rattle.std.proofs.Common.{◌≡◌, ℕ, zero, suc, ◌+◌, ◌≤◌, ◌⊎◌, inl, inr, Bool, true, false, List, [], ◌∷◌, length, refl, ap, sym, ◌∙◌, arith, subst}
 use Rattle.std.specs.Prelude.{Option, Some, None, map, if◌then◌else◌, slice_get}
 use Rattle.std.proofs.lemmas.Option.{same_Some, none-some}
 use Rattle.std.proofs.lemmas.List.{length-append}
 use Rattle.bpf_insn.specs.declared.code.Operand.TheVariants.{K}
 use Rattle.bpf_insn.specs.declared.code.Arithmetic.TheVariants.{And}
 use Rattle.bpf_insn.specs.declared.code.Operation.{Operation}
-use Rattle.bpf_insn.specs.declared.code.Operation.TheVariants.{Branch, Compute, Jump, LoadScratch, LoadScratchX, LoadWord, ReturnK, ShiftLeft, ShiftRight}
+use Rattle.bpf_insn.specs.declared.code.Operation.TheVariants.{Branch, Compute, Jump, LoadScratch, LoadScratchX, LoadWord, ReturnK}
 use Rattle.bpf_insn.specs.declared.instruction.Insn.{Insn}
 use Rattle.bpf_insn.specs.Code.{operation_of}
-use Rattle.bpf_insn.specs.Causes.{NamesNoWord, ReadsScratch}
+use Rattle.bpf_insn.specs.Causes.{NamesNoWord}
 use Rattle.kernel_check.specs.declared.fault.Cause.{Cause}
 use Rattle.kernel_check.specs.declared.fault.Cause.TheVariants as cause
-use Rattle.kernel_check.specs.Accepted.{CauseAt, HasCause, IsReturn, LeadsOut}
+use Rattle.kernel_check.specs.Accepted.{CauseAt, HasCause, LeadsOut}
 use Rattle.kernel_check.specs.Paths.{LeadsTo, Unwritten}
 use Rattle.kernel_check.specs.Paths.Unwritten.{at_first, handed_on}
 use Rattle.call_record.specs.Verdict.{is_through, kill_thread}
 use Rattle.cert_paths.proofs.EndLaws.{steady_at}
 use Rattle.rule_compile.specs.Steady.{Held, IsSteady, Nothing, Part, Whole, steady_by}
 use Rattle.order.specs.inner.Excess.{asked, asking, asking_by, excess_of, jumping, opposite, turned, turned_by, with_number}
-use Rattle.order.proofs.RunLaws.{jump_code, length_asked, turned_code}
+use Rattle.order.proofs.RunLaws.{jump_code, length_asked}
 
 -- ---- a path of a steady program comes to steady places alone, of which none reads a scratch word
 

@@ -1,9 +1,8 @@
 -- What is decided of two profiles by their program.
-use Rattle.std.proofs.Common.{◌≡◌, ◌≢◌, ◌↔◌, ℕ, Bool, true, false, List, ap, sym, ◌∙◌, refl, subst}
+use Rattle.std.proofs.Common.{◌≡◌, ◌≢◌, ℕ, Bool, true, false, List, sym, ◌∙◌, refl, subst}
 use Rattle.std.specs.Prelude.{Option, Some, if◌then◌else◌, IfSome, IsTrue}
 use Rattle.std.proofs.lemmas.Option.{same_Some}
 use Rattle.bpf_insn.specs.declared.instruction.Insn.{Insn}
-use Rattle.bpf_insn.specs.Machine.{verdict_of}
 use Rattle.call_record.specs.Verdict.{Through, allow, is_through, kill_thread}
 use Rattle.call_record.specs.Words.{IsRecord}
 use Rattle.cert_check.specs.Right.{IsRight}
@@ -15,8 +14,8 @@ use Rattle.order.specs.declared.decided.Excess.{Excess}
 use Rattle.profile.specs.Policy.{IsClear, Policy, Says}
 use Rattle.profile.specs.Said.{said}
 use Rattle.profile.proofs.SaidLaws.{each_record_is_said_one_verdict}
-use Rattle.order.specs.Order.{AllowsNoMore, Exceeds, LetsThrough}
-use Rattle.order.specs.inner.Excess.{IsExcess, SaysNothing, excess_word, opposite}
+use Rattle.order.specs.Order.{AllowsNoMore, Exceeds}
+use Rattle.order.specs.inner.Excess.{IsExcess, SaysNothing, excess_word}
 
 -- a verdict that is no through one
 not_through : (b : Bool) → b ≡ false → IsTrue b → ⊥

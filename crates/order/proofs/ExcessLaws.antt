@@ -1,6 +1,6 @@
 -- The program of two profiles.
-use Rattle.std.proofs.Common.{◌≡◌, ◌≤◌, ◌+◌, ℕ, Bool, true, false, List, length, ap, sym, ◌∙◌, refl, arith}
-use Rattle.std.specs.Prelude.{Option, Some, if◌then◌else◌, map, option_and_then}
+use Rattle.std.proofs.Common.{◌≡◌, ◌≤◌, ◌+◌, ℕ, Bool, true, false, List, length, ap, ◌∙◌, refl, arith}
+use Rattle.std.specs.Prelude.{Some, if◌then◌else◌, map, option_and_then}
 use Rattle.std.specs.Option.{option_map}
 use Rattle.bpf_insn.specs.declared.instruction.Insn.{Insn}
 use Rattle.bpf_insn.specs.Bytes.{max_insns}

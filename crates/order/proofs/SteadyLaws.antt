@@ -1,6 +1,6 @@
 -- The program that asks one program and then another compares steadily, if both do.
 use Rattle.std.proofs.Common.{◌≡◌, ℕ, zero, suc, ◌+◌, Bool, true, false, List, [], ◌∷◌, ◌++◌, length, refl, sym, arith, subst}
-use Rattle.std.specs.Prelude.{Option, Some, None, map, if◌then◌else◌}
+use Rattle.std.specs.Prelude.{Option, Some, map, if◌then◌else◌}
 use Rattle.bpf_insn.specs.declared.code.Operand.TheVariants.{K}
 use Rattle.bpf_insn.specs.declared.code.Test.{Test}
 use Rattle.bpf_insn.specs.declared.code.Test.TheVariants.{Equal, AtLeast, AnyBit, Greater}
@@ -11,7 +11,7 @@ use Rattle.bpf_insn.specs.declared.instruction.Insn.{Insn}
 use Rattle.bpf_insn.specs.Code.{operation_of}
 use Rattle.call_record.specs.Verdict.{is_through, kill_thread}
 use Rattle.rule_compile.specs.Steady.{Held, IsSteady, Nothing, Part, Tells, Whole, steady_by}
-use Rattle.order.specs.inner.Excess.{asked, asking, asking_by, excess_of, jumping, turned, turned_by, with_number}
+use Rattle.order.specs.inner.Excess.{asked, asking_by, excess_of, jumping, turned, turned_by, with_number}
 use Rattle.order.proofs.RunLaws.{jump_code, length_asked, turned_code}
 
 -- ---- whatever A holds

@@ -1,5 +1,5 @@
 -- What is decided of a new profile and an old one.
-use Rattle.std.specs.Prelude.{ℕ, ⊤, ◌+◌, ◌<◌, List, length}
+use Rattle.std.specs.Prelude.{⊤, ◌+◌, ◌<◌, List, length}
 use Rattle.bpf_insn.specs.Bytes.{max_insns}
 use Rattle.bpf_insn.specs.declared.instruction.Insn.{Insn}
 use Rattle.call_record.specs.Record.{words}

@@ -1,5 +1,5 @@
 -- What a profile lets through, and when it allows no more than another (seccomp(2): the call is carried out by ALLOW and LOG).
-use Rattle.std.specs.Prelude.{ℕ, ◌≡◌, List}
+use Rattle.std.specs.Prelude.{ℕ, List}
 use Rattle.call_record.specs.Words.{IsRecord}
 use Rattle.call_record.specs.Verdict.{Through}
 use Rattle.profile.specs.Policy.{Policy, Says}
