@@ -23,6 +23,14 @@ fn place_of(action: &str) -> Option<u8> {
     }
 }
 
+/// Whether an action refuses a call: logged in its place, the call is let through.
+pub(crate) fn refuses(action: &str) -> bool {
+    match place_of(action) {
+        Some(place) => place < 6,
+        None => false,
+    }
+}
+
 /// Whether an action is stricter than another, or may be: one that is not known may be anything.
 pub(crate) fn may_be_stricter(action: &str, other: &str) -> bool {
     match (place_of(action), place_of(other)) {

@@ -1,171 +1,154 @@
 //! What an adapted configuration gives.
 ghost use Rattle.std.specs.Prelude.{◌≡◌, IfOk, false};
-ghost use Rattle.adapt.specs.Adapted.{IsAdapted, IsRead};
+ghost use Rattle.adapt.specs.Adapted.{IsAdapted};
 
-use crate::bundle::{Bundle, bundle_of};
+use crate::actions::text_at;
+use crate::bundle::bundle_of;
 use crate::changes::Changes;
-use crate::overlapping::put_side;
-use crate::place::Place;
-use crate::section::section_of;
+use crate::judging::nothing;
+use crate::keys::READ;
+use crate::making::{Source, made};
+use crate::section::{Section, section_of};
+use crate::settings::Settings;
+use crate::words::Wanted;
 use call_tables::Arch;
 use explain::{Told, refused_profile};
-use profile_json::{ProfileError, read_bundle, rules_by_entry};
+use json_text::{Doubled, Trimmed, fault_of, without_unread};
+use profile_json::ProfileError;
 use serde_json::{Error, Value};
 use std::alloc::{AllocError, Global};
 
-/// What an adapted configuration gives: the bundle, or why there is none, and what was changed, a line each.
+/// What an adapted configuration gives: the bundle, or why there is none; the draft, which is the bundle before overlaps are
+/// settled; and what was changed, a line each.
 #[derive(Drop)]
 pub struct Adapted {
     pub told: Told,
+    pub draft: String,
     pub changes: String,
 }
 
-// What tells that there is no bundle, and nothing more on standard output.
-fn nothing(alloc: Global) -> Told
-    ensures { result.done ≡ false }
+// What tells that there is no bundle, and why.
+fn refused(alloc: Global, told: Told, why: String) -> Adapted
+    requires { told.done ≡ false }
+    ensures { result.told.done ≡ false }
 {
-    Told {
-        bytes: Vec::new(alloc),
-        done: false,
+    Adapted {
+        told,
+        draft: String::new(alloc),
+        changes: why,
     }
 }
 
-// What tells where a text is no JSON.
-fn no_json(alloc: Global, error: &Error) -> Result<Adapted, AllocError>
+// What tells where and why a text is no JSON.
+fn no_json(alloc: Global, config: &[u8], error: &Error) -> Result<Adapted, AllocError>
     ensures { IfOk result (λ a. a.told.done ≡ false) }
 {
     if error.is_memory() {
         return Err(AllocError);
     }
-    let line = error.line();
-    let column = error.column();
-    Ok(Adapted {
-        told: refused_profile(alloc, ProfileError::Syntax)?,
-        changes: format!(in alloc; "line {line}, column {column}: no JSON\n")?,
-    })
+    let fault = fault_of(alloc, config, error);
+    let why = format!(in alloc; "{fault}\n")?;
+    let told = refused_profile(alloc, ProfileError::Syntax)?;
+    Ok(refused(alloc, told, why))
 }
 
 // What tells that there is no section.
 fn no_section(alloc: Global) -> Result<Adapted, AllocError>
     ensures { IfOk result (λ a. a.told.done ≡ false) }
 {
-    let line = "there is no section linux.seccomp: such a container has no filter\n";
+    let why = "there is no section linux.seccomp: such a container has no filter\n";
+    let why = String::from_str(alloc, why)?;
+    let told = refused_profile(alloc, ProfileError::NoSeccomp)?;
+    Ok(refused(alloc, told, why))
+}
+
+// What tells that a key stands twice.
+fn stands_twice(alloc: Global, doubled: &Doubled) -> Result<Adapted, AllocError>
+    ensures { IfOk result (λ a. a.told.done ≡ false) }
+{
+    let place = doubled.place.as_str();
+    let (line, column) = doubled.first;
+    let (other, its_column) = doubled.second;
+    let why = format!(in alloc;
+        "{place}: stands twice, at line {line}, column {column} and at line {other}, column {its_column}: write it once\n"
+    )?;
+    Ok(refused(alloc, nothing(alloc), why))
+}
+
+// What a section gives.
+fn adapt_section(
+    alloc: Global,
+    native: Arch,
+    config: &Value,
+    section: Section<'_>,
+    wanted: Wanted,
+) -> Result<Adapted, AllocError>
+    ensures { IfOk result (IsAdapted native wanted.choice) }
+{
+    let settings = Settings {
+        native,
+        default: text_at(section.value, "defaultAction"),
+        wanted,
+        dropped: None,
+    };
+    let mut changes = Changes::new(alloc);
+    let draft = bundle_of(alloc, &mut changes, &settings, config, section)?;
+    let source = Source { config, section };
+    let told = made(alloc, &mut changes, &settings, source, &draft)?;
     Ok(Adapted {
-        told: refused_profile(alloc, ProfileError::NoSeccomp)?,
-        changes: String::from_str(alloc, line)?,
+        told,
+        draft: draft.text,
+        changes: changes.lines.whole()?,
     })
 }
 
-// Adds what both of two entries say of a call by its name.
-fn put_sides(
-    changes: &mut Changes,
-    alloc: Global,
-    native: Arch,
-    bundle: &Bundle,
-    (top, name): (&'static str, &str),
-    sides: [usize; 2],
-) {
-    let Ok(all) = rules_by_entry(alloc, bundle.text.as_bytes(), native) else {
-        return;
-    };
-    for side in sides {
-        let place = Place::top(top).entry(bundle.place_of(side));
-        put_side(&mut changes.lines, &all, side, place, name);
-    }
-}
-
-// Why a bundle is refused, by the places that entries had in the configuration.
-fn refusal_of(
-    alloc: Global,
-    changes: &mut Changes,
-    native: Arch,
-    bundle: &Bundle,
-    top: &'static str,
-    error: ProfileError,
-) -> ProfileError {
-    match error {
-        ProfileError::Overlap {
-            name,
-            first,
-            second,
-        } => {
-            let told = (top, name.as_str());
-            put_sides(changes, alloc, native, bundle, told, [first, second]);
-            ProfileError::Overlap {
-                name,
-                first: bundle.place_of(first),
-                second: bundle.place_of(second),
-            }
-        }
-        _ => error,
-    }
-}
-
-// The bundle, once it was read, or why it is refused.
-fn read_over(
-    alloc: Global,
-    changes: &mut Changes,
-    native: Arch,
-    bundle: Bundle,
-    top: &'static str,
-) -> Result<Told, AllocError>
-    ensures { IfOk result (IsRead native) }
-{
-    match read_bundle(alloc, bundle.text.as_bytes(), native) {
-        Ok(_) => Ok(Told {
-            bytes: bundle.text.into_bytes(),
-            done: true,
-        }),
-        Err(error) => {
-            let error = refusal_of(alloc, changes, native, &bundle, top, error);
-            refused_profile(alloc, error)
-        }
-    }
-}
-
-// The bundle of a configuration, unless it cannot be made or may not be.
-fn made(
-    alloc: Global,
-    changes: &mut Changes,
-    native: Arch,
-    bundle: Bundle,
-    top: &'static str,
-    may_widen: bool,
-) -> Result<Told, AllocError>
-    ensures { IfOk result (IsRead native) }
-{
-    if changes.is_refused {
-        return Ok(nothing(alloc));
-    }
-    if changes.widening > 0 && !may_widen {
-        changes.tell_nothing_written();
-        return Ok(nothing(alloc));
-    }
-    read_over(alloc, changes, native, bundle, top)
-}
-
-/// Makes a bundle, which is read for a native machine, of an engine's configuration. Where a change widens the profile, none
-/// is made unless it may.
-pub fn adapt(
+// What a text gives.
+fn adapt_text(
     alloc: Global,
     native: Arch,
     config: &[u8],
-    may_widen: bool,
+    wanted: Wanted,
 ) -> Result<Adapted, AllocError>
-    ensures { IfOk result (IsAdapted native) }
+    ensures { IfOk result (IsAdapted native wanted.choice) }
 {
     let value = match Value::from_slice(alloc, config) {
         Ok(value) => value,
-        Err(error) => return no_json(alloc, &error),
+        Err(error) => return no_json(alloc, config, &error),
     };
     let Some(section) = section_of(&value) else {
         return no_section(alloc);
     };
-    let mut changes = Changes::new(alloc);
-    let bundle = bundle_of(alloc, &mut changes, native.family(), &value, section)?;
-    let told = made(alloc, &mut changes, native, bundle, section.top, may_widen)?;
-    Ok(Adapted {
-        told,
-        changes: changes.lines.whole()?,
-    })
+    adapt_section(alloc, native, &value, section, wanted)
+}
+
+// What a text gives without the members that are not read, unless a key stands twice in it.
+fn adapt_trimmed(
+    alloc: Global,
+    native: Arch,
+    config: &Trimmed,
+    wanted: Wanted,
+) -> Result<Adapted, AllocError>
+    ensures { IfOk result (IsAdapted native wanted.choice) }
+{
+    match &config.doubled {
+        Some(doubled) => stands_twice(alloc, doubled),
+        None => adapt_text(alloc, native, &config.text, wanted),
+    }
+}
+
+/// Makes a bundle, which is read for a native machine, of an engine's configuration, its own profile, a section by itself or a
+/// Kubernetes object. Where a change widens the profile, none is made unless it may. Entries that say unlike things of one record
+/// are settled by the choice that is asked for, and refused where none is.
+pub fn adapt(
+    alloc: Global,
+    native: Arch,
+    config: &[u8],
+    wanted: &Wanted,
+) -> Result<Adapted, AllocError>
+    ensures { IfOk result (IsAdapted native wanted.now.choice) }
+{
+    match without_unread(alloc, config, READ)? {
+        Some(trimmed) => adapt_trimmed(alloc, native, &trimmed, *wanted),
+        None => adapt_text(alloc, native, config, *wanted),
+    }
 }

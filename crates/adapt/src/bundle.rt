@@ -1,13 +1,13 @@
 //! The bundle of a section.
-use crate::actions::text_at;
 use crate::changes::Changes;
-use crate::entries::{put_action, put_entries};
+use crate::entries::put_entries;
 use crate::keys::put_member;
 use crate::machines::put_machines;
 use crate::place::Place;
 use crate::section::{Section, put_edition, tell_section_keys};
+use crate::settings::Settings;
 use crate::text::Text;
-use call_tables::Family;
+use crate::verdicts::{OF_SECTION, put_verdict};
 use serde_json::Value;
 use std::alloc::{AllocError, Global};
 
@@ -73,16 +73,15 @@ fn put_listener(
 fn put_head(
     text: &mut Text,
     changes: &mut Changes,
-    family: Family,
+    settings: &Settings<'_>,
     place: Place<'_>,
     section: &Value,
 ) {
-    put_action(text, changes, place, section, "defaultAction");
-    put_member(text, section, "defaultErrnoRet");
+    put_verdict(text, changes, settings, place, section, OF_SECTION);
     put_flags(text, changes, place, section);
     put_listener(text, changes, place, section, "listenerPath");
     put_listener(text, changes, place, section, "listenerMetadata");
-    put_machines(text, changes, family, place, section);
+    put_machines(text, changes, settings, place, section);
 }
 
 // Adds a section's entries, if it has some, and where each stood.
@@ -90,14 +89,13 @@ fn put_syscalls(
     text: &mut Text,
     changes: &mut Changes,
     places: &mut Vec<usize>,
-    family: Family,
+    settings: &Settings<'_>,
     place: Place<'_>,
     section: &Value,
 ) {
     let Some(list) = section.get("syscalls").and_then(Value::as_array) else {
         return put_member(text, section, "syscalls");
     };
-    let settings = (family, text_at(section, "defaultAction"));
     text.separate(",\n      ");
     text.begin("\"syscalls\": [");
     put_entries(text, changes, places, settings, place, list.as_slice());
@@ -111,23 +109,23 @@ fn put_syscalls(
 pub(crate) fn bundle_of(
     alloc: Global,
     changes: &mut Changes,
-    family: Family,
+    settings: &Settings<'_>,
     config: &Value,
     section: Section<'_>,
 ) -> Result<Bundle, AllocError> {
-    tell_section_keys(changes, config, section);
+    tell_section_keys(changes, config, section, settings.container().is_some());
     let mut text = Text::new(alloc);
     let mut places = Vec::new(alloc);
     let place = Place::top(section.top);
     text.put("{\n  \"ociVersion\": ");
     put_edition(&mut text, changes, config);
     text.begin(",\n  \"linux\": {\n    \"seccomp\": {\n      ");
-    put_head(&mut text, changes, family, place, section.value);
+    put_head(&mut text, changes, settings, place, section.value);
     put_syscalls(
         &mut text,
         changes,
         &mut places,
-        family,
+        settings,
         place,
         section.value,
     );

@@ -1,6 +1,6 @@
 //! The conditions of an entry.
 use crate::changes::Changes;
-use crate::keys::{put_member, tell_keys};
+use crate::keys::{CONDITION, put_member, tell_keys};
 use crate::place::Place;
 use crate::text::Text;
 use serde_json::Value;
@@ -15,7 +15,7 @@ fn put_members(text: &mut Text, condition: &Value) {
 
 // Adds a condition behind those that the list has.
 fn put_condition(text: &mut Text, changes: &mut Changes, place: Place<'_>, condition: &Value) {
-    tell_keys(changes, place, condition);
+    tell_keys(changes, place, condition, CONDITION, true);
     text.separate(", ");
     if !condition.is_object() {
         return text.put(format_args!("{condition}"));

@@ -1,10 +1,11 @@
 //! The machines that a section lists.
-use crate::actions::says_kill_process;
+use crate::actions::{says_kill_process, text_at};
 use crate::changes::Changes;
-use crate::keys::member_at;
+use crate::keys::{MACHINES, is_void, member_at, tell_unknown};
 use crate::place::Place;
+use crate::settings::Settings;
 use crate::text::Text;
-use call_tables::Family;
+use call_tables::{Arch, Family};
 use serde_json::Value;
 
 // The name of a machine that is not known.
@@ -53,8 +54,8 @@ fn put_list(
     text.end("]");
 }
 
-/// Adds a section's machines, if it lists some, of those that are known. What is no list stays what it is.
-pub(crate) fn put_machines(
+// Adds the machines under `architectures`. What is no list stays what it is.
+fn put_listed(
     text: &mut Text,
     changes: &mut Changes,
     family: Family,
@@ -72,4 +73,90 @@ pub(crate) fn put_machines(
     let place = place.key("architectures");
     let widens = says_kill_process(section);
     put_list(text, changes, family, place, machines.as_slice(), widens);
+}
+
+// The place of the row for a machine.
+fn row_for(native: Arch, rows: &[Value]) -> Option<usize> {
+    rows.iter()
+        .position(|row| text_at(row, "architecture") == native.scmp())
+}
+
+// The machines that stand in a row besides.
+fn further_machines(row: &Value) -> &[Value] {
+    match row.get("subArchitectures").and_then(Value::as_array) {
+        Some(machines) => machines.as_slice(),
+        None => &[],
+    }
+}
+
+// Adds the machines of a row.
+fn put_row(
+    text: &mut Text,
+    changes: &mut Changes,
+    settings: &Settings<'_>,
+    place: Place<'_>,
+    row: &Value,
+    widens: bool,
+) {
+    tell_unknown(changes, place, row, MACHINES);
+    let native = settings.native.scmp();
+    text.separate(", ");
+    text.put(format_args!("\"architectures\": [\"{native}\""));
+    for machine in further_machines(row) {
+        put_machine(text, changes, settings.family(), place, machine, widens);
+    }
+    text.put("]");
+}
+
+// Whether something stands under a key.
+fn says_something(section: &Value, key: &str) -> bool {
+    match section.get(key) {
+        Some(member) => !is_void(member),
+        None => false,
+    }
+}
+
+// Adds the machines of the row of `archMap` for the native machine, which is alone where there is none.
+fn put_mapped(
+    text: &mut Text,
+    changes: &mut Changes,
+    settings: &Settings<'_>,
+    place: Place<'_>,
+    section: &Value,
+) {
+    let place = place.key("archMap");
+    if says_something(section, "architectures") {
+        return changes.refuse(place, "beside architectures");
+    }
+    let Some(rows) = section.get("archMap").and_then(Value::as_array) else {
+        return changes.refuse(place, "no list, where one is asked for");
+    };
+    let rows = rows.as_slice();
+    let Some(at) = row_for(settings.native, rows) else {
+        return;
+    };
+    if let Some(row) = rows.get(at) {
+        put_row(
+            text,
+            changes,
+            settings,
+            place.member(at),
+            row,
+            says_kill_process(section),
+        );
+    }
+}
+
+/// Adds a section's machines, if it lists some, of those that are known.
+pub(crate) fn put_machines(
+    text: &mut Text,
+    changes: &mut Changes,
+    settings: &Settings<'_>,
+    place: Place<'_>,
+    section: &Value,
+) {
+    if settings.container().is_some() && says_something(section, "archMap") {
+        return put_mapped(text, changes, settings, place, section);
+    }
+    put_listed(text, changes, settings.family(), place, section);
 }

@@ -1,9 +1,13 @@
 //! Two entries that give unlike verdicts to one call.
+use crate::bundle::Bundle;
+use crate::changes::Changes;
 use crate::place::Place;
 use crate::text::Text;
+use call_tables::Arch;
 use explain::{ActionText, ConditionText};
 use profile::{Cond, Rule};
-use profile_json::EntryRules;
+use profile_json::{EntryRules, rules_by_entry};
+use std::alloc::Global;
 
 // Whether a rule is for a call of this name.
 fn is_of(rule: &Rule, name: &str) -> bool {
@@ -31,18 +35,30 @@ fn put_conditions(text: &mut Text, conds: &[Cond]) {
     }
 }
 
-/// Adds the line of what an entry says of a call by its name, at the place where it stood in the configuration.
-pub(crate) fn put_side(
-    text: &mut Text,
-    all: &EntryRules,
-    entry: usize,
-    place: Place<'_>,
-    name: &str,
-) {
+// Adds the line of what an entry says of a call by its name, at the place where it stood in the configuration.
+fn put_side(text: &mut Text, all: &EntryRules, entry: usize, place: Place<'_>, name: &str) {
     if let Some(rule) = rule_of(all, entry, name) {
         let action = ActionText(rule.word);
         text.put(format_args!("{place}: {name} gets {action}"));
         put_conditions(text, rule.conds.as_slice());
         text.put("\n");
+    }
+}
+
+/// Adds what both of two entries say of a call by its name.
+pub(crate) fn put_sides(
+    changes: &mut Changes,
+    alloc: Global,
+    native: Arch,
+    bundle: &Bundle,
+    (top, name): (&'static str, &str),
+    sides: [usize; 2],
+) {
+    let Ok(all) = rules_by_entry(alloc, bundle.text.as_bytes(), native) else {
+        return;
+    };
+    for side in sides {
+        let place = Place::top(top).entry(bundle.place_of(side));
+        put_side(&mut changes.lines, &all, side, place, name);
     }
 }

@@ -1,6 +1,6 @@
 //! The section of a configuration, and its edition.
 use crate::changes::Changes;
-use crate::keys::{member_at, tell_keys};
+use crate::keys::{SECTION, member_at, tell_keys, tell_other_cases};
 use crate::place::Place;
 use crate::text::Text;
 use serde_json::Value;
@@ -12,17 +12,29 @@ pub(crate) struct Section<'a> {
     pub(crate) top: &'static str,
 }
 
-// Whether a text is a section by itself.
+// Whether a value is a section by itself.
 fn is_by_itself(config: &Value) -> bool {
     config.get("linux").is_none() && config.get("defaultAction").is_some()
 }
 
-/// The section of a configuration, or one that stands by itself.
+// The section of a Kubernetes object, a SeccompProfile.
+fn spec_of(config: &Value) -> Option<&Value> {
+    let spec = config.get("spec")?;
+    if is_by_itself(spec) { Some(spec) } else { None }
+}
+
+/// The section of a configuration, of a Kubernetes object, or one that stands by itself.
 pub(crate) fn section_of(config: &Value) -> Option<Section<'_>> {
     if is_by_itself(config) {
         return Some(Section {
             value: config,
             top: "",
+        });
+    }
+    if let Some(value) = spec_of(config) {
+        return Some(Section {
+            value,
+            top: "spec.",
         });
     }
     let linux = config.get("linux")?;
@@ -33,15 +45,20 @@ pub(crate) fn section_of(config: &Value) -> Option<Section<'_>> {
 }
 
 /// Tells the keys of what stands above a section, and its own.
-pub(crate) fn tell_section_keys(changes: &mut Changes, config: &Value, section: Section<'_>) {
-    tell_keys(changes, Place::top(""), config);
-    if section.top == "" {
-        return;
+pub(crate) fn tell_section_keys(
+    changes: &mut Changes,
+    config: &Value,
+    section: Section<'_>,
+    is_for: bool,
+) {
+    let place = Place::top(section.top);
+    if section.top == "linux.seccomp." {
+        tell_other_cases(changes, Place::top(""), config);
+        if let Some(linux) = config.get("linux") {
+            tell_other_cases(changes, Place::top("linux."), linux);
+        }
     }
-    if let Some(linux) = config.get("linux") {
-        tell_keys(changes, Place::top("linux."), linux);
-    }
-    tell_keys(changes, Place::top(section.top), section.value);
+    tell_keys(changes, place, section.value, SECTION, is_for);
 }
 
 const EDITION: &str = "\"1.0.2\"";

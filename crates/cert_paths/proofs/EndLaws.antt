@@ -1,17 +1,10 @@
--- How a run ends, and how a filter compares, by the instruction at a position.
-use Rattle.std.proofs.Common.{◌≡◌, ℕ, zero, suc, ◌+◌, List, [], ◌∷◌, refl, ap, ◌∙◌, arith, subst}
+-- How a run ends, by the instruction at a position.
+use Rattle.std.proofs.Common.{◌≡◌, ℕ, ◌+◌, List, refl, ap, ◌∙◌}
 use Rattle.std.specs.Prelude.{Option, Some, None, slice_get}
 use Rattle.std.specs.Option.{option_map}
-use Rattle.std.proofs.lemmas.Option.{same_Some}
-use Rattle.bpf_insn.specs.declared.code.Operand.TheVariants.{K}
-use Rattle.bpf_insn.specs.declared.code.Arithmetic.TheVariants.{And}
-use Rattle.bpf_insn.specs.declared.code.Operation.{Operation}
-use Rattle.bpf_insn.specs.declared.code.Operation.TheVariants.{Branch, Compute, Jump, LoadWord, ReturnK}
 use Rattle.bpf_insn.specs.declared.instruction.Insn.{Insn}
-use Rattle.bpf_insn.specs.Code.{operation_of}
-use Rattle.bpf_insn.specs.Machine.{Ending, Ends, Goes, Registers, after_one, ending, step}
-use Rattle.bpf_insn.proofs.RunLaws.{ending_ends, ending_goes}
-use Rattle.rule_compile.specs.Steady.{Held, Whole, Part, IsSteady, steady_by}
+use Rattle.bpf_insn.specs.Machine.{Ending, Ends, Goes, Registers, Stuck, after_one, ending, step}
+use Rattle.bpf_insn.proofs.RunLaws.{ending_ends, ending_goes, ending_stuck}
 
 -- the verdict that is given from a position on
 abbrev pub given : List Insn → ℕ → Registers → List ℕ → Option ℕ
@@ -33,27 +26,7 @@ given_goes p pc i s r skip t found e =
     ap (option_map (λ (end : ℕ × ℕ). end.0)) (ending_goes p pc i s r skip t (pc + 1 + skip) found e refl)
     ∙ after_one_word (ending p (pc + 1 + skip) t r)
 
--- what is asked of the rest may be less
-steady_less : (o : Option Operation) (i : Insn) (h : Held) (rest less : ℕ → Held → Type 0) → ((skip : ℕ) (now : Held) → rest skip now
-    → less skip now)
-    → steady_by o i h rest → steady_by o i h less
-steady_less (Some ReturnK) i h rest less f s = tt
-steady_less (Some Jump) i h rest less f s = f i.k h s
-steady_less (Some LoadWord) i h rest less f s = f 0 Whole s
-steady_less (Some (Compute And K)) i h rest less f s = (s.0, f 0 Part s.1)
-steady_less (Some (Branch test K)) i h rest less f s = (s.0, f i.jt h s.1, f i.jf h s.2)
-steady_less _ i h rest less f s = absurd s
-
--- a filter that compares steadily from a position on, by the instruction there
-pub steady_at : (p : List Insn) (pc : ℕ) (i : Insn) (h : Held) → slice_get p pc ≡ Some i → IsSteady p pc h
-    → steady_by (operation_of i.code) i h (λ skip now. IsSteady p (pc + 1 + skip) now)
-steady_at [] pc i h found s = absurd s
-steady_at (x ∷ p) zero i h found s =
-    steady_less (operation_of i.code) i h (λ skip now. IsSteady p skip now) (λ skip now. IsSteady (x ∷ p) (0 + 1 + skip) now)
-    (λ skip now rest. let e : suc skip ≡ 0 + 1 + skip = omega arith in subst (λ k. IsSteady (x ∷ p) k now) e rest)
-    (subst (λ y. steady_by (operation_of y.code) y h (λ skip now. IsSteady p skip now)) (same_Some x i found) s)
-steady_at (x ∷ p) (suc pc) i h found s =
-    steady_less (operation_of i.code) i h (λ skip now. IsSteady p (pc + 1 + skip) now) (λ skip now. IsSteady (x ∷ p) (suc pc + 1 + skip)
-    now)
-    (λ skip now rest. let e : suc (pc + 1 + skip) ≡ suc pc + 1 + skip = omega arith in subst (λ k. IsSteady (x ∷ p) k now) e rest)
-    (steady_at p pc i h found s)
+-- from one that is stuck
+pub given_stuck : (p : List Insn) (pc : ℕ) (i : Insn) (s : Registers) (r : List ℕ) → slice_get p pc ≡ Some i
+    → step r i s ≡ Stuck → given p pc s r ≡ None
+given_stuck p pc i s r found e = ap (option_map (λ (end : ℕ × ℕ). end.0)) (ending_stuck p pc i s r found e)

@@ -64,7 +64,7 @@ place_more es fs place longer is = record {
   chain = let c = is.chain in omega (arith, c, longer_length es fs longer);
   depth = ap length (known_more es fs place.chain longer is.chain) ∙ is.depth;
   few = is.few;
-  value = is.value;
+  values = is.values;
 }
 
 -- ---- growth
@@ -114,7 +114,7 @@ module _ (s t : Paths) (is : ArePaths s) (grown : IsGrown s t) where
   -- nodes of all places are nodes of those before
   pub are_at_before : (ns : List PlainNode) → AreAt ns t.entries.items t.places.items → AreAt ns s.entries.items s.places.items
   are_at_before ns at k place there =
-      subst (StandsAt ns k place.pc place.a) (known_grown k place there)
+      subst (StandsAt ns k place.pc place.regs) (known_grown k place there)
       (at k place (longer_at s.places.items t.places.items k place grown.places there))
 
   pub keeps_grown : (policy : Policy) (p : List Insn) (k : ℕ) (place : Place) (kind : Kind) → slice_get s.places.items k ≡ Some place
@@ -137,14 +137,14 @@ module _ (s t : Paths) (is : ArePaths s) (grown : IsGrown s t) where
 -- the node that was added stands where it is said to
 pub stands_added : (s t u : Paths) (from : Place) (next : Next) (number : ℕ) → IsAdded s t from next number → ArePaths t → IsGrown t u
     → (ns : List PlainNode) → AreAt ns u.entries.items u.places.items
-    → StandsAt ns number next.pc next.a (option_to_list next.learned ++ known_at s.entries.items from)
+    → StandsAt ns number next.pc next.regs (option_to_list next.learned ++ known_at s.entries.items from)
 stands_added s t u from next number added is grown ns at =
     let there = added_there s t from next number added in
-    let stands : StandsAt ns number added.place.pc added.place.a (known_at t.entries.items added.place) =
+    let stands : StandsAt ns number added.place.pc added.place.regs (known_at t.entries.items added.place) =
     are_at_before t u is grown ns at number added.place there in
-    subst (StandsAt ns number next.pc next.a) added.known_is
-    (subst (λ a. StandsAt ns number next.pc a (known_at t.entries.items added.place)) added.a_is
-    (subst (λ pc. StandsAt ns number pc added.place.a (known_at t.entries.items added.place)) added.pc_is stands))
+    subst (StandsAt ns number next.pc next.regs) added.known_is
+    (subst (λ regs. StandsAt ns number next.pc regs (known_at t.entries.items added.place)) added.regs_are
+    (subst (λ pc. StandsAt ns number pc added.place.regs (known_at t.entries.items added.place)) added.pc_is stands))
 
 -- one place more has a node
 pub kept_push : (policy : Policy) (p : List Insn) (s t : Paths) (from : Place) (kind : Kind) → AreKept policy p s

@@ -4,31 +4,48 @@ use Rattle.std.specs.Prelude.{All, Some, slice_get}
 use Rattle.std.proofs.lemmas.List.Elements.{All-cons, All-nil}
 use Rattle.std.proofs.lemmas.Option.{slice_get_within}
 use Rattle.bpf_insn.specs.declared.instruction.Insn.{Insn}
-use Rattle.bpf_insn.specs.Machine.{start}
+use Rattle.bpf_insn.specs.Machine.{kept, start}
 use Rattle.kernel_check.specs.Accepted.{IsAccepted}
 use Rattle.profile.specs.Policy.{Policy}
 use Rattle.cert_form.specs.declared.node.Kind.{Kind}
-use Rattle.rule_compile.specs.Steady.{Nothing, IsSteady}
+use Rattle.cert_state.specs.declared.literal.AVal.{AVal}
+use Rattle.cert_state.specs.declared.literal.AVal.TheVariants.{Unknown}
+use Rattle.cert_state.specs.States.{IsKept}
+use Rattle.cert_form.specs.Spelling.{nothing_stated}
+use Rattle.cert_paths.specs.Telling.{IsTelling}
 use Rattle.cert_form.specs.Writing.{AreLiteralEntries}
 use Rattle.cert_paths.specs.declared.paths.Paths.{Paths}
 use Rattle.cert_paths.specs.declared.place.Place.{Place}
 use Rattle.cert_paths.specs.inner.Follow.{AreSound, IsFollowed, IsGiven}
 use Rattle.cert_paths.specs.inner.Led.{AreLed, IsLed}
 use Rattle.cert_paths.specs.inner.Places.{ArePaths, IsPlace, KeepsAt, first_place, known_at}
-use Rattle.cert_paths.proofs.GrowLaws.{kept_grown, kept_push, longer_at}
+use Rattle.cert_paths.proofs.GrowLaws.{all_at, kept_grown, kept_push, longer_at}
 
 -- ---- at first
 
-pub first_led : (p : List Insn) (paths : Paths) → IsSteady p 0 Nothing → paths.places.items ≡ first_place ∷ [] → AreLed p paths
-first_led p paths steady is =
-    let Led : Place → Type 0 = λ place. IsLed p place.pc place.a (known_at paths.entries.items place) in
+pub first_led : (p : List Insn) (paths : Paths) → IsTelling p → paths.places.items ≡ first_place ∷ [] → AreLed p paths
+first_led p paths telling is =
+    let Led : Place → Type 0 = λ place. IsLed p place.pc place.regs (known_at paths.entries.items place) in
     let led : Led first_place = record {
-      runs = λ r is_r all. record { registers = start; has_a = refl; gives = refl };
-      held = Nothing;
-      is_held = tt;
-      steady = steady;
+      runs = λ r is_r all. record {
+        registers = start;
+        inside = record {
+          known = all;
+          has_a = refl;
+          has_x = refl;
+          sixteen = refl;
+          has_scratch = λ k v found. unstated k v r (Rattle.std.proofs.lemmas.List.Elements.All-replicate (λ (v : AVal). v ≡ Unknown) 16 Unknown refl) found;
+        };
+        gives = refl;
+      };
+      telling = telling;
     } in
     subst (All Led) (sym is) (All-cons Led first_place [] led (All-nil Led))
+  where
+    unstated : (k : ℕ) (v : AVal) (r : List ℕ) → All (λ (v : AVal). v ≡ Unknown) nothing_stated → slice_get nothing_stated k ≡ Some v
+        → IsKept v r (kept start k)
+    unstated k v r all found =
+        subst (λ v. IsKept v r (kept start k)) (sym (all_at (λ (v : AVal). v ≡ Unknown) nothing_stated k v all found)) tt
 
 pub first_sound : (policy : Policy) (p : List Insn) (paths : Paths) → IsAccepted p → ArePaths paths → paths.places.items ≡ first_place ∷ []
     → paths.kinds.items ≡ [] → AreSound policy p paths
@@ -85,5 +102,5 @@ module _ (policy : Policy) (p : List Insn) (old now new : Paths) (from : Place) 
 
   pub next_led : AreLed p old → AreLed p new
   next_led led =
-      subst (λ es. All (λ (place : Place). IsLed p place.pc place.a (known_at es place)) new.places.items) (sym given.entries)
-      (subst (All (λ (place : Place). IsLed p place.pc place.a (known_at now.entries.items place))) (sym given.places) (followed.led led))
+      subst (λ es. All (λ (place : Place). IsLed p place.pc place.regs (known_at es place)) new.places.items) (sym given.entries)
+      (subst (All (λ (place : Place). IsLed p place.pc place.regs (known_at now.entries.items place))) (sym given.places) (followed.led led))

@@ -1,15 +1,13 @@
 -- What errors tell of a program.
-use Rattle.std.proofs.Common.{List, ℕ, inl, inr, ◌⊎◌}
+use Rattle.std.proofs.Common.{List}
 use Rattle.std.specs.Prelude.{Result, Ok, Err, IfErr}
 use Rattle.call_record.specs.Record.{words}
 use Rattle.bpf_insn.specs.declared.instruction.Insn.{Insn}
 use Rattle.profile.specs.Policy.{Policy}
-use Rattle.cert_state.specs.declared.literal.Lit.{Lit}
 use Rattle.cert_check.specs.Right.{IsRight}
 use Rattle.cert_paths.specs.declared.fault.PathsError.{PathsError}
 use Rattle.cert_paths.specs.declared.fault.PathsError.TheVariants.{Unlike, Unsettled, TooLarge, OutOfMemory}
-use Rattle.cert_paths.specs.Fault.{IsSize, IsWrongOn, TellsWrong}
-use Rattle.cert_paths.specs.inner.Follow.{IsUnlike, TellsUnlike}
+use Rattle.cert_paths.specs.Fault.{IsSize, TellsTruly, TellsWrong}
 
 module _ (policy : Policy) (p : List Insn) where
   size_tells : (e : PathsError) → IsSize e → TellsWrong policy p e
@@ -22,22 +20,15 @@ module _ (policy : Policy) (p : List Insn) where
   of_size (Ok a) is = tt
   of_size (Err e) is = size_tells e is
 
-  -- what else an error may tell can not be
-  pub of_size_or : {A : Type 0} → (result : Result A PathsError) (P : Type 0) → IfErr result (λ e. IsSize e ⊎ P) → (P → ⊥)
-      → IfErr result (TellsWrong policy p)
-  of_size_or (Ok a) P is never = tt
-  of_size_or (Err e) P (inl size) never = size_tells e size
-  of_size_or (Err e) P (inr other) never = absurd (never other)
+  pub wrong_tells : (e : PathsError) → TellsWrong policy p e → TellsTruly policy p e
+  wrong_tells (Unlike pc call) is = is
+  wrong_tells (Unsettled pc) is = absurd is
+  wrong_tells TooLarge is = is
+  wrong_tells OutOfMemory is = is
 
-  -- a record of which the policy says another verdict than a return's
-  pub of_unlike : {A : Type 0} → (known : List Lit) (word : ℕ) (result : Result A PathsError) → IfErr result (TellsUnlike policy known word)
-      → ((r : List ℕ) → IsUnlike policy known r word → IsWrongOn policy p r)
-      → IfErr result (TellsWrong policy p)
-  of_unlike known word (Ok a) is f = tt
-  of_unlike known word (Err (Unlike pc call)) is f = f (words call) is
-  of_unlike known word (Err (Unsettled pc)) is f = is
-  of_unlike known word (Err TooLarge) is f = is
-  of_unlike known word (Err OutOfMemory) is f = is
+  pub truly_of_size : {A : Type 0} → (result : Result A PathsError) → IfErr result IsSize → IfErr result (TellsTruly policy p)
+  truly_of_size (Ok a) is = tt
+  truly_of_size (Err e) is = wrong_tells e (size_tells e is)
 
   -- no record tells that a right program is wrong
   right_tells : IsRight policy p → (e : PathsError) → TellsWrong policy p e → IsSize e

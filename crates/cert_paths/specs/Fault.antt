@@ -22,6 +22,13 @@ pub record IsWrongOn (policy : Policy) (p : List Insn) (r : List ℕ) : Type 0 w
   pub gives : verdict_of p r ≡ Some word
   pub unsaid : Says policy r word → ⊥
 
+-- a record that is told is one on which the program is wrong
+abbrev pub TellsTruly : Policy → List Insn → PathsError → Type 0
+TellsTruly policy p (Unlike pc call) = IsWrongOn policy p (words call)
+TellsTruly policy p (Unsettled pc) = ⊤
+TellsTruly policy p TooLarge = ⊤
+TellsTruly policy p OutOfMemory = ⊤
+
 -- no path is told of, or a record on which the program is wrong
 abbrev pub TellsWrong : Policy → List Insn → PathsError → Type 0
 TellsWrong policy p (Unlike pc call) = IsWrongOn policy p (words call)

@@ -1,3 +1,4 @@
 pub mod Chains
 pub mod Fault
+pub mod Telling
 pub mod inner

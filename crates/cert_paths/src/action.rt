@@ -1,37 +1,30 @@
-//! What an instruction does, as far as a path can be followed.
+//! What a path does at an instruction.
 ghost use Rattle.std.specs.Prelude.{◌≡◌};
 ghost use Rattle.bpf_insn.specs.Code.{operation_of};
 ghost use Rattle.cert_paths.specs.inner.Actions.{action_by};
 
-use bpf_insn::{Arithmetic, Insn, Operand, Operation, Test};
+use bpf_insn::{Insn, Operation};
 
-/// What an instruction does, as far as a path can be followed.
+/// What a path does at an instruction.
 #[derive(Clone, Copy)]
 pub(crate) enum Action {
-    /// It returns its number.
+    /// It ends there, by a verdict.
     Ends,
-    /// It skips some instructions.
-    Jumps,
-    /// It loads a word of the record.
-    Loads,
-    /// It takes some bits of what A holds.
-    Masks,
-    /// It compares what A holds with its number.
-    Compares(Test),
-    /// A path is not followed past it.
-    Other,
+    /// It goes on in two ways.
+    Forks,
+    /// It goes on after so many instructions are skipped.
+    Goes(u32),
 }
 
-/// What an instruction does.
-pub(crate) fn action_of(insn: Insn) -> Action
-    ensures { result ≡ action_by (operation_of insn.code) }
+/// What a path does at an instruction.
+pub(crate) fn action_of(insn: &Insn) -> Action
+    ensures { result ≡ action_by (operation_of insn.now.code) insn.now }
 {
     match insn.operation() {
         Some(Operation::ReturnK) => Action::Ends,
-        Some(Operation::Jump) => Action::Jumps,
-        Some(Operation::LoadWord) => Action::Loads,
-        Some(Operation::Compute(Arithmetic::And, Operand::K)) => Action::Masks,
-        Some(Operation::Branch(test, Operand::K)) => Action::Compares(test),
-        _ => Action::Other,
+        Some(Operation::ReturnA) => Action::Ends,
+        Some(Operation::Branch(_, _)) => Action::Forks,
+        Some(Operation::Jump) => Action::Goes(insn.k),
+        _ => Action::Goes(0),
     }
 }

@@ -1,11 +1,8 @@
 //! The literals of a chain, as a state that the checker's questions are asked of.
-ghost use Rattle.std.specs.Prelude.{◌≡◌, ◌≤◌, ◌↔◌, All, Contains, IsTrue, length};
-ghost use Rattle.call_record.specs.Record.{words};
-ghost use Rattle.cert_state.specs.Literals.{Holds, Meets};
+ghost use Rattle.std.specs.Prelude.{◌≡◌, ◌≤◌, ◌↔◌, Contains, IsTrue, length};
 ghost use Rattle.cert_form.specs.Nodes.{literals};
 ghost use Rattle.cert_paths.specs.Chains.{AreEarlier};
 
-use call_record::Record;
 use cert_state::{AVal, Lit, Regs, State};
 
 /// Entries, and the number of the one that a chain begins with, or 0 for a chain of no literals. Of the registers nothing is
@@ -55,43 +52,7 @@ impl State for Chain<'_> {
     }
 }
 
-// Whether a literal is true where its word is this number.
-fn meets(literal: Lit, number: u32) -> bool
-    ensures { IsTrue result → Meets literal number }
-{
-    match literal {
-        Lit::In(_, low, high) => low <= number && number <= high,
-        Lit::Bits(_, mask, datum) => number & mask == datum,
-        Lit::NotBits(_, mask, datum) => number & mask != datum,
-    }
-}
-
-// Whether a literal is true of a record.
-fn is_true(literal: Lit, call: &Record) -> bool
-    ensures { IsTrue result → Holds literal (words call.now) }
-{
-    let word = usize::from(literal.word());
-    if word >= 16 {
-        return false;
-    }
-    meets(literal, call.word(word))
-}
-
 impl Chain<'_> {
-    /// Whether all literals are true of a record.
-    pub(crate) fn are_true(&self, call: Record) -> bool
-        ensures { IsTrue result → All (λ literal. Holds literal (words call)) (literals self.now.entries.now self.now.number) }
-    {
-        let mut at = self.start();
-        while let Some((literal, next)) = self.next(at) {
-            if !is_true(literal, &call) {
-                return false;
-            }
-            at = next;
-        }
-        true
-    }
-
     /// Whether a literal is stated.
     pub(crate) fn states(&self, wanted: Lit) -> bool
         ensures { IsTrue result ↔ Contains (literals self.now.entries.now self.now.number) wanted }

@@ -3,12 +3,11 @@ ghost use Rattle.std.specs.Prelude.{◌≡◌, ◌≢◌, ◌<◌, ◌≤◌, �
 ghost use Rattle.cert_form.specs.Nodes.{literals};
 ghost use Rattle.cert_state.specs.declared.literal.Lit.TheVariants.{Bits};
 ghost use Rattle.cert_state.specs.Literals.{IsLit, all_bits};
-ghost use Rattle.cert_check.specs.Rules.{Covers};
-ghost use Rattle.cert_paths.specs.inner.Cuts.{Covers-prop, IsLit-prop};
+ghost use Rattle.cert_paths.specs.inner.Cuts.{AreHalves, AreHalves-prop, IsLit-prop};
 
 use crate::chain::Chain;
 use call_tables::Arch;
-use cert_state::{Facts, Knowledge, Lit};
+use cert_state::{Facts, Knowledge, Lit, is_bit, range};
 use profile::{Cond, Op, Profile, Rule, foreign_numbers};
 
 /// Two literals of a word, of which one holds of each record.
@@ -18,7 +17,7 @@ pub(crate) struct Cut {
     pub(crate) other: Lit,
     ghost one_is: { IsLit one } by { IsLit-prop one },
     ghost other_is: { IsLit other } by { IsLit-prop other },
-    ghost covers: { Covers one other } by { Covers-prop one other },
+    ghost covers: { AreHalves one other } by { AreHalves-prop one other },
 }
 
 // The words of a record that hold the call's number and the machine's token.
@@ -50,6 +49,17 @@ impl Cut {
         Some(Cut {
             one: Lit::Bits(word, mask, datum),
             other: Lit::NotBits(word, mask, datum),
+        })
+    }
+
+    /// A bit of a word is not set, or is set.
+    pub(crate) fn bit(word: u8, bit: u32) -> Option<Cut> {
+        if word >= 16 || !is_bit(bit) {
+            return None;
+        }
+        Some(Cut {
+            one: Lit::Bits(word, bit, 0),
+            other: Lit::Bits(word, bit, bit),
         })
     }
 
@@ -178,7 +188,11 @@ pub(crate) fn cut_of_profile(profile: &Profile, known: &Chain<'_>) -> Option<Cut
             return Some(cut);
         }
     }
+    let (least, greatest) = range(known, NUMBER).unwrap_or((1, 0));
     for rule in profile.rules() {
+        if rule.nr < least || rule.nr > greatest {
+            continue;
+        }
         if let Some(cut) = cut_of_rule(&facts, rule) {
             return Some(cut);
         }

@@ -6,10 +6,10 @@ use std::alloc::{AllocError, AllocFailed};
 /// Why there is no certificate that follows each path.
 #[derive(Clone, Copy, Debug, PartialEq, Eq)]
 pub enum PathsError {
-    /// At the return at this position the profile says another verdict of this call record, which comes there if the filter
-    /// compares steadily.
+    /// The filter gives this call record another verdict than the profile says. It was met at the return at this position.
     Unlike(u32, Record),
-    /// The path that comes to this position is not settled: what the filter does or compares there tells of no word.
+    /// The path that comes to the return at this position is not settled: its verdict is not known, or some comparison on the way
+    /// did not tell all that it asked.
     Unsettled(u32),
     /// The paths are too many or too long for a certificate.
     TooLarge,

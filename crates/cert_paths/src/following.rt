@@ -1,23 +1,22 @@
 //! The paths of a filter, from where it begins on.
-ghost use Rattle.std.specs.Prelude.{◌≡◌, ◌<◌, ◌≤◌, ◌+◌, ◌/◌, ◌^◌, ◌⊎◌, Some, false, IfErr, IfOk, IfSome, IsTrue, OnOk, length, slice_get};
+ghost use Rattle.std.specs.Prelude.{◌≡◌, ◌<◌, ◌+◌, ◌^◌, ◌⊎◌, ℕ, Some, false, IfErr, IfOk, IfSome, OnOk, length, slice_get};
 ghost use Rattle.bpf_insn.specs.Causes.{IsPlain};
 ghost use Rattle.bpf_insn.specs.Code.{operation_of};
-ghost use Rattle.bpf_insn.specs.declared.code.Operand.TheVariants.{K};
-ghost use Rattle.bpf_insn.specs.declared.code.Operation.TheVariants.{Branch};
 ghost use Rattle.kernel_check.specs.Lent.{accepted_insns};
 ghost use Rattle.profile.specs.Policy.{IsProfile};
 ghost use Rattle.rule_compile.specs.Steady.{IsSteady, Nothing};
 ghost use Rattle.cert_state.specs.Entailment.{IsDead};
-ghost use Rattle.cert_state.specs.declared.literal.AVal.TheVariants.{Masked};
-ghost use Rattle.cert_state.specs.Literals.{IsLit, IsValue, all_bits};
+ghost use Rattle.cert_state.specs.Literals.{AreValues, IsLit};
+ghost use Rattle.cert_state.specs.Transfer.{transfer};
 ghost use Rattle.cert_check.specs.Right.{IsRight};
+ghost use Rattle.cert_check.specs.Rules.{verdict_by};
 ghost use Rattle.cert_check.specs.Settled.{StatedIsSettled};
 ghost use Rattle.cert_check.specs.Valid.{IsValidCertificate};
 ghost use Rattle.call_record.specs.Words.{IsRecord};
 ghost use Rattle.call_record.specs.Record.{words};
-ghost use Rattle.cert_paths.specs.Fault.{IsSize, TellsWrong};
-ghost use Rattle.cert_paths.specs.inner.Follow.{AreSound, AreTwo, HoldsNoWord, IsCut, IsFollowed, IsFork};
-ghost use Rattle.cert_paths.specs.inner.Follow.{IsMasked, IsReturn, IsStep, IsUntold, TellsUnlike};
+ghost use Rattle.cert_paths.specs.Fault.{IsSize, TellsTruly, TellsWrong};
+ghost use Rattle.cert_paths.specs.Telling.{IsTelling};
+ghost use Rattle.cert_paths.specs.inner.Follow.{AreSound, AreTwo, GivesThere, IsCut, IsFollowed, IsFork, IsReturn, IsStep};
 ghost use Rattle.cert_paths.specs.inner.Led.{AreLed};
 ghost use Rattle.cert_paths.specs.inner.Places.{AreInside, ArePaths, IsPlace, known_at};
 
@@ -27,8 +26,8 @@ use crate::fault::PathsError;
 use crate::paths::Paths;
 use crate::place::{Next, Place};
 use crate::told::told_or_cut;
-use crate::unlike::{is_unlike, likely_record};
-use bpf_insn::{Insn, Test};
+use crate::unlike::{is_wrong_on, likely_record, tried};
+use bpf_insn::{Insn, Operation};
 use call_record::{Record, Word, words_are_a_record};
 use cert_check::{is_settled, stated_is_settled};
 use cert_form::{Kind, MAX_NODES};
@@ -48,14 +47,14 @@ fn after(pc: u16, skip: u32) -> u16
     pc + 1 + skip as u16
 }
 
-// Whether a comparison of what A holds tells all that it asks: by order only of a whole word.
-fn tells(test: Test, a: AVal) -> bool
-    ensures { IsTrue result ⊎ IsUntold test a }
+// The verdict of a return, if it is known there.
+fn verdict_at(from: Place, insn: &Insn) -> Option<u32>
+    ensures { result ≡ verdict_by (operation_of insn.now.code) from.regs insn.now }
 {
-    match (test, a) {
-        (Test::Equal | Test::AnyBit, AVal::Masked(_, _)) => true,
-        (Test::AtLeast | Test::Greater, AVal::Masked(_, mask)) => mask == u32::MAX,
-        (_, AVal::Unknown | AVal::Const(_)) => false,
+    match (insn.operation(), from.regs.a) {
+        (Some(Operation::ReturnK), _) => Some(insn.k),
+        (Some(Operation::ReturnA), AVal::Const(word)) => Some(word),
+        _ => None,
     }
 }
 
@@ -70,29 +69,12 @@ fn settles(profile: &Profile, call: &Record)
     words_are_a_record(call);
 }
 
-// The node of a place from which a path goes on at one position.
-fn step(paths: &mut Paths, from: Place, pc: u16, a: AVal) -> Result<Kind, PathsError>
-    requires paths { ArePaths paths.old }
-    requires from { IsPlace paths.old.entries.items from }
-    requires value { IsValue a }
-    ensures paths { OnOk result (ArePaths paths.new) }
-    ensures step { IfOk result (IsStep paths.old paths.new from pc a) }
-    ensures size { IfErr result IsSize }
-{
-    let next = Next {
-        pc,
-        a,
-        learned: None,
-    };
-    Ok(Kind::Step(paths.add(from, next)?, NO_NODE))
-}
-
 // Adds two places, one after the other.
 fn add_two(paths: &mut Paths, from: Place, one: Next, other: Next) -> Result<(u32, u32), PathsError>
     requires paths { ArePaths paths.old }
     requires from { IsPlace paths.old.entries.items from }
-    requires one { IfSome one.learned IsLit × IsValue one.a }
-    requires other { IfSome other.learned IsLit × IsValue other.a }
+    requires one { IfSome one.learned IsLit × AreValues one.regs }
+    requires other { IfSome other.learned IsLit × AreValues other.regs }
     ensures paths { OnOk result (ArePaths paths.new) }
     ensures two { IfOk result (λ two. AreTwo paths.old paths.new from one other two.0 two.1) }
     ensures size { IfErr result IsSize }
@@ -115,11 +97,12 @@ fn split(paths: &mut Paths, from: Place, cut: Cut) -> Result<Kind, PathsError>
     Ok(Kind::Split(one, other, first, second))
 }
 
-// The node of a place at a return: what is known is cut until the profile is settled. A record that is seen to get another
-// verdict than the profile says ends that; and if all words were cut, the one that is left is such a record.
+// The node of a place at a return of this verdict: what is known is cut until the profile is settled. A record on which the
+// filter is seen to be wrong ends that; and if all words were cut, the one that is left is such a record, if it comes there.
 fn at_return(
     paths: &mut Paths,
     profile: &Profile,
+    program: &Accepted<'_>,
     from: Place,
     word: u32,
 ) -> Result<Kind, PathsError>
@@ -128,85 +111,105 @@ fn at_return(
     requires alive { IsDead (known_at paths.old.entries.items from) → ⊥ }
     ensures paths { OnOk result (ArePaths paths.new) }
     ensures done { IfOk result (λ kind. IsReturn profile.now paths.old paths.new from word kind ⊎ IsCut paths.old paths.new from kind) }
-    ensures unlike { IfErr result (TellsUnlike profile.now (known_at paths.old.entries.items from) word) }
+    ensures truly { IfErr result (TellsTruly profile.now (accepted_insns program.now)) }
+    ensures wrong { GivesThere (accepted_insns program.now) (known_at paths.old.entries.items from) word
+        → IfErr result (TellsWrong profile.now (accepted_insns program.now)) }
 {
     let known = paths.known(from);
     if is_settled(profile, &known, Word(word)) {
         return Ok(Kind::Return);
     }
     let likely = likely_record(&known);
-    if is_unlike(profile, &known, &likely, word) {
+    if is_wrong_on(profile, program, &likely) {
         return Err(PathsError::Unlike(u32::from(from.pc), likely));
     }
     match told_or_cut(profile, &known) {
         Err(cut) => split(paths, from, cut),
         Ok(call) => {
             settles(profile, &call);
-            Err(PathsError::Unlike(u32::from(from.pc), call))
+            Err(tried(profile, program, from.pc, call))
         }
     }
 }
 
+// Why there is no node at a return of which the verdict is not known.
+fn at_unknown(paths: &Paths, profile: &Profile, program: &Accepted<'_>, from: Place) -> PathsError
+    requires { ArePaths paths.now }
+    ensures { TellsTruly profile.now (accepted_insns program.now) result }
+{
+    let likely = likely_record(&paths.known(from));
+    tried(profile, program, from.pc, likely)
+}
+
 // The node of a place at a comparison.
-fn at_branch(paths: &mut Paths, from: Place, insn: Insn, test: Test) -> Result<Kind, PathsError>
+fn at_branch(paths: &mut Paths, from: Place, insn: Insn) -> Result<Kind, PathsError>
     requires paths { ArePaths paths.old }
     requires from { IsPlace paths.old.entries.items from }
-    requires is { operation_of insn.code ≡ Some (Branch test K) }
+    requires plain { IsPlain insn }
     requires taken { from.pc + 1 + insn.jt < 2 ^ 16 }
     requires not_taken { from.pc + 1 + insn.jf < 2 ^ 16 }
     ensures paths { OnOk result (ArePaths paths.new) }
     ensures fork { IfOk result (IsFork paths.old paths.new from insn) }
-    ensures untold { IfErr result (λ e. IsSize e ⊎ IsUntold test from.a) }
+    ensures size { IfErr result IsSize }
 {
-    if !tells(test, from.a) {
-        return Err(PathsError::Unsettled(u32::from(from.pc)));
-    }
+    let known = paths.known(from);
+    let regs = from.after(&insn);
     let taken = Next {
         pc: after(from.pc, u32::from(insn.jt)),
-        a: from.a,
-        learned: from.fact(&insn, true),
+        regs,
+        learned: from.fact(&known, &insn, true),
     };
     let not_taken = Next {
         pc: after(from.pc, u32::from(insn.jf)),
-        a: from.a,
-        learned: from.fact(&insn, false),
+        regs,
+        learned: from.fact(&known, &insn, false),
     };
     let (first, second) = add_two(paths, from, taken, not_taken)?;
     Ok(Kind::Step(first, second))
 }
 
-// The node of a place at a load: A holds a whole word.
-fn at_load(paths: &mut Paths, from: Place, insn: Insn) -> Result<Kind, PathsError>
+// The node of a place from which a path goes on at one position, after so many instructions are skipped.
+fn step(paths: &mut Paths, from: Place, insn: Insn, skip: u32) -> Result<Kind, PathsError>
     requires paths { ArePaths paths.old }
     requires from { IsPlace paths.old.entries.items from }
-    requires word { insn.k / 4 < 16 }
-    requires inside { from.pc + 1 + 0 < 2 ^ 16 }
+    requires plain { IsPlain insn }
+    requires inside { from.pc + 1 + skip < 2 ^ 16 }
     ensures paths { OnOk result (ArePaths paths.new) }
-    ensures step { IfOk result (IsStep paths.old paths.new from (from.pc + 1 + 0) (Masked (insn.k / 4) all_bits)) }
+    ensures step { IfOk result (IsStep paths.old paths.new from (from.pc + 1 + skip) (transfer from.regs insn)) }
     ensures size { IfErr result IsSize }
 {
-    let a = AVal::Masked((insn.k / 4) as u8, u32::MAX);
-    step(paths, from, after(from.pc, 0), a)
+    let regs = from.after(&insn);
+    let next = Next {
+        pc: after(from.pc, skip),
+        regs,
+        learned: None,
+    };
+    Ok(Kind::Step(paths.add(from, next)?, NO_NODE))
 }
 
-// The node of a place where some bits are taken of what A holds.
-fn at_mask(paths: &mut Paths, from: Place, insn: Insn) -> Result<Kind, PathsError>
+// The node of a place at a return.
+fn at_end(
+    paths: &mut Paths,
+    profile: &Profile,
+    program: &Accepted<'_>,
+    from: Place,
+    insn: Insn,
+) -> Result<Kind, PathsError>
     requires paths { ArePaths paths.old }
     requires from { IsPlace paths.old.entries.items from }
-    requires inside { from.pc + 1 + 0 < 2 ^ 16 }
+    requires alive { IsDead (known_at paths.old.entries.items from) → ⊥ }
     ensures paths { OnOk result (ArePaths paths.new) }
-    ensures masked { IfOk result (IsMasked paths.old paths.new from insn.k) }
-    ensures no_word { IfErr result (λ e. IsSize e ⊎ HoldsNoWord from.a) }
+    ensures done { IfOk result (λ kind. (word : ℕ) × (verdict_by (operation_of insn.code) from.regs insn ≡ Some word)
+        × (IsReturn profile.now paths.old paths.new from word kind ⊎ IsCut paths.old paths.new from kind)) }
+    ensures truly { IfErr result (TellsTruly profile.now (accepted_insns program.now)) }
+    ensures wrong { (word : ℕ) → verdict_by (operation_of insn.code) from.regs insn ≡ Some word
+        → GivesThere (accepted_insns program.now) (known_at paths.old.entries.items from) word
+        → IfErr result (TellsWrong profile.now (accepted_insns program.now)) }
 {
-    let AVal::Masked(word, mask) = from.a else {
-        return Err(PathsError::Unsettled(u32::from(from.pc)));
-    };
-    step(
-        paths,
-        from,
-        after(from.pc, 0),
-        AVal::Masked(word, mask & insn.k),
-    )
+    match verdict_at(from, &insn) {
+        Some(word) => at_return(paths, profile, program, from, word),
+        None => Err(at_unknown(paths, profile, program, from)),
+    }
 }
 
 // What the node of a place does that is not dead, by the instruction there.
@@ -226,15 +229,13 @@ fn at_insn(
     requires plain { IsPlain insn }
     ensures paths { OnOk result (ArePaths paths.new) }
     ensures followed { IfOk result (IsFollowed profile.now (accepted_insns program.now) paths.old paths.new from) }
+    ensures truly { IfErr result (TellsTruly profile.now (accepted_insns program.now)) }
     ensures told { AreLed (accepted_insns program.now) paths.old → IfErr result (TellsWrong profile.now (accepted_insns program.now)) }
 {
-    match action_of(insn) {
-        Action::Ends => at_return(paths, profile, from, insn.k),
-        Action::Jumps => step(paths, from, after(from.pc, insn.k), from.a),
-        Action::Loads => at_load(paths, from, insn),
-        Action::Masks => at_mask(paths, from, insn),
-        Action::Compares(test) => at_branch(paths, from, insn, test),
-        Action::Other => Err(PathsError::Unsettled(u32::from(from.pc))),
+    match action_of(&insn) {
+        Action::Ends => at_end(paths, profile, program, from, insn),
+        Action::Forks => at_branch(paths, from, insn),
+        Action::Goes(skip) => step(paths, from, insn, skip),
     }
 }
 
@@ -250,6 +251,7 @@ fn follow(
     requires from { slice_get paths.old.places.items (length paths.old.kinds.items) ≡ Some from }
     ensures paths { OnOk result (ArePaths paths.new) }
     ensures followed { IfOk result (IsFollowed profile.now (accepted_insns program.now) paths.old paths.new from) }
+    ensures truly { IfErr result (TellsTruly profile.now (accepted_insns program.now)) }
     ensures told { AreLed (accepted_insns program.now) paths.old → IfErr result (TellsWrong profile.now (accepted_insns program.now)) }
 {
     if dead(&paths.known(from)) {
@@ -271,6 +273,7 @@ fn follow_next(
     ensures sound { OnOk result (AreSound profile.now (accepted_insns program.now) paths.new) }
     ensures all { IfOk result (λ more. more ≡ false → length paths.new.kinds.items ≡ length paths.new.places.items) }
     ensures led { AreLed (accepted_insns program.now) paths.old → OnOk result (AreLed (accepted_insns program.now) paths.new) }
+    ensures truly { IfErr result (TellsTruly profile.now (accepted_insns program.now)) }
     ensures told { AreLed (accepted_insns program.now) paths.old → IfErr result (TellsWrong profile.now (accepted_insns program.now)) }
 {
     let Some(from) = paths.next_place() else {
@@ -290,6 +293,7 @@ fn follow_all(
     requires sound { AreSound profile.now (accepted_insns program.now) paths.old }
     ensures sound { OnOk result (AreSound profile.now (accepted_insns program.now) paths.new) }
     ensures all { OnOk result (length paths.new.kinds.items ≡ length paths.new.places.items) }
+    ensures truly { IfErr result (TellsTruly profile.now (accepted_insns program.now)) }
     ensures told { AreLed (accepted_insns program.now) paths.old → IfErr result (TellsWrong profile.now (accepted_insns program.now)) }
 {
     for _ in 0..=MAX_NODES {
@@ -300,18 +304,24 @@ fn follow_all(
     Err(PathsError::TooLarge)
 }
 
-/// The certificate that follows each path of a filter: it keeps each rule of the checker. Of a filter that compares steadily an
-/// error tells of memory, of the format's limits, or of a call record on which the filter is wrong.
+/// The certificate that follows each path of a filter: it keeps each rule of the checker. What an error tells is so: a record that
+/// it carries is one on which the filter is wrong, whatever the filter computes. Of a filter of which each comparison tells all that
+/// it asks, an error tells such a record, or of memory, or of the format's limits.
 pub fn by_paths(
     alloc: Global,
     profile: &Profile,
     program: &Accepted<'_>,
 ) -> Result<Vec<u8>, PathsError>
     ensures valid { IfOk result (λ bytes. IsValidCertificate profile.now (accepted_insns program.now) bytes.items) }
-    // A filter that compares steadily is certified, or told to be wrong, if memory and the format have room for it.
-    ensures told { IsSteady (accepted_insns program.now) 0 Nothing
+    // A record that is told convicts the filter.
+    ensures truly { IfErr result (TellsTruly profile.now (accepted_insns program.now)) }
+    // A filter of which each comparison tells all that it asks is certified, or told to be wrong, if memory and the format have
+    // room for it. Each filter that compares steadily is one.
+    ensures told { IsTelling (accepted_insns program.now)
         → IfErr result (TellsWrong profile.now (accepted_insns program.now)) }
-    ensures never { IsSteady (accepted_insns program.now) 0 Nothing → IsRight profile.now (accepted_insns program.now)
+    ensures steady { IsSteady (accepted_insns program.now) 0 Nothing
+        → IfErr result (TellsWrong profile.now (accepted_insns program.now)) }
+    ensures never { IsTelling (accepted_insns program.now) → IsRight profile.now (accepted_insns program.now)
         → IfErr result IsSize }
 {
     let mut paths = Paths::new(alloc)?;

@@ -1,11 +1,12 @@
-//! Certificates that follow each path of a filter.
+//! Certificates that follow each path of a filter, or the record on which it is wrong.
 //!
-//! At each place of a path a node says what the comparisons on the way there have told. At a return the word that is known
-//! is cut in two, again and again, until the checker's own question says that the profile is settled. So the certificate keeps
-//! each rule of the checker, whatever the filter; and for each right filter that compares steadily, as those of the compiler do,
-//! there is one, if memory and the limits of the format allow it: where all words of a record are told, the profile is settled. If it
-//! says another verdict then, the record tells that the filter is wrong.
-//! It grows with the number of paths, so it is made only where no smaller one was found.
+//! At each place of a path a node says what the comparisons on the way there have told, and what the registers hold, as far as that
+//! is known. At a return what is known is cut in two, again and again, until the checker's own question says that the profile is
+//! settled. So the certificate keeps each rule of the checker, whatever the filter. At each return that is not settled a record is
+//! tried that may come there: a record that is told is one on which filter and profile differ. Where each comparison of a filter tells
+//! all that it asks, as in the compiler's, there is one of the two, if memory and the limits of the format allow it: where all words
+//! of a record are told, the profile is settled, and if it says another verdict then, the record tells that the filter is wrong.
+//! A certificate grows with the number of paths.
 //! What is known at a place is lent as a [`Chain`] of literals.
 #![tactic(auto)]
 
@@ -14,6 +15,8 @@ mod chain;
 mod cuts;
 mod fault;
 mod following;
+mod law;
+mod masks;
 mod paths;
 mod place;
 mod told;
@@ -22,3 +25,4 @@ mod unlike;
 pub use chain::Chain;
 pub use fault::PathsError;
 pub use following::by_paths;
+pub use law::steady_is_telling;

@@ -2,8 +2,9 @@
 ghost use Rattle.std.specs.Prelude.{◌≡◌, ◌<◌, ◌^◌, ◌++◌, ◌∷◌, [], All, IfErr, IfOk, IfSome, OnOk, length, slice_get};
 ghost use Rattle.bpf_insn.specs.declared.instruction.Insn.{Insn as TheInsn};
 ghost use Rattle.profile.specs.Policy.{Policy};
-ghost use Rattle.cert_state.specs.Literals.{IsLit, IsValue};
+ghost use Rattle.cert_state.specs.Literals.{AreValues, IsLit};
 ghost use Rattle.cert_form.specs.Nodes.{literals};
+ghost use Rattle.cert_form.specs.Writing.{all_known};
 ghost use Rattle.cert_paths.specs.Fault.{IsSize};
 ghost use Rattle.cert_check.specs.Valid.{IsValidCertificate};
 ghost use Rattle.cert_paths.specs.inner.Follow.{IsGiven};
@@ -13,7 +14,7 @@ ghost use Rattle.std.specs.Prelude.{List};
 use crate::chain::Chain;
 use crate::fault::PathsError;
 use crate::place::{Next, Place};
-use cert_form::{ChainNode, FormError, Kind, MAX_LITERALS, MAX_NODES, write_chained};
+use cert_form::{ChainNode, Claim, FormError, Kind, MAX_LITERALS, MAX_NODES, write_claims};
 use cert_state::Lit;
 use std::alloc::{AllocError, Global};
 
@@ -44,9 +45,20 @@ fn node(place: Place, kind: Kind) -> ChainNode
     ChainNode {
         kind,
         pc: place.pc,
-        regs: place.regs(),
+        regs: place.regs,
         chain: place.chain,
     }
+}
+
+// What the entries of a chain state, as claims.
+fn as_claims(alloc: Global, entries: &[(u32, Lit)]) -> Result<Vec<(u32, Claim)>, AllocError>
+    ensures { IfOk result (λ claims. claims.items ≡ all_known entries.now) }
+{
+    let mut claims = Vec::new(alloc);
+    for (parent, literal) in entries {
+        claims.push((*parent, Claim::Knows(*literal)))?;
+    }
+    Ok(claims)
 }
 
 impl Paths {
@@ -82,7 +94,7 @@ impl Paths {
         requires paths { ArePaths self.old }
         requires from { IsPlace self.old.entries.items from }
         requires literal { IfSome next.learned IsLit }
-        requires value { IsValue next.a }
+        requires values { AreValues next.regs }
         ensures paths { OnOk result (ArePaths self.new) }
         ensures added { IfOk result (IsAdded self.old self.new from next) }
         ensures size { IfErr result IsSize }
@@ -94,7 +106,7 @@ impl Paths {
         let (chain, depth) = self.learn(from, next.learned)?;
         self.places.push(Place {
             pc: next.pc,
-            a: next.a,
+            regs: next.regs,
             chain,
             depth,
         })?;
@@ -157,8 +169,9 @@ impl Paths {
             → IfOk result (λ bytes. IsValidCertificate policy p bytes.items) }
         ensures size { IfErr result IsSize }
     {
+        let claims = as_claims(alloc, &self.entries)?;
         let nodes = self.nodes(alloc)?;
-        match write_chained(alloc, &self.entries, &nodes) {
+        match write_claims(alloc, &claims, &nodes) {
             Ok(bytes) => Ok(bytes),
             Err(error) => Err(refused(error)),
         }

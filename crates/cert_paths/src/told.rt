@@ -8,6 +8,7 @@ ghost use Rattle.cert_check.specs.Settled.{AreStated};
 
 use crate::chain::Chain;
 use crate::cuts::{Cut, cut_of_profile};
+use crate::masks::cut_of_mask;
 use call_record::Record;
 use cert_state::{Lit, range};
 use profile::Profile;
@@ -80,12 +81,15 @@ fn cut_of_point(known: &Chain<'_>) -> Option<Cut> {
     None
 }
 
-/// Where what is known is cut in two: where a machine, a rule or a condition is not settled, then where a word may be one number
-/// alone, and else anywhere. There is no such place only where each word of the record is stated, which is given then.
+/// Where what is known is cut in two: where a machine, a rule or a condition is not settled, then at a bit of a mask, then where a
+/// word may be one number alone, and else anywhere. There is no such place only where each word of the record is stated, which is given then.
 pub(crate) fn told_or_cut(profile: &Profile, known: &Chain<'_>) -> Result<Record, Cut>
     ensures { IfOk result (λ call. AreStated (literals known.now.entries.now known.now.number) (words call)) }
 {
     if let Some(cut) = cut_of_profile(profile, known) {
+        return Err(cut);
+    }
+    if let Some(cut) = cut_of_mask(known) {
         return Err(cut);
     }
     if let Some(cut) = cut_of_point(known) {

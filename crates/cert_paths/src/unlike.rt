@@ -1,12 +1,15 @@
-//! Whether a filter is seen to be wrong at a return: the profile says another verdict of a record that comes there.
-ghost use Rattle.std.specs.Prelude.{IsTrue};
+//! Whether a filter is seen to be wrong: it gives a record that may come to a return another verdict than the profile says.
+ghost use Rattle.std.specs.Prelude.{◌↔◌, IsTrue};
 ghost use Rattle.call_record.specs.Record.{words};
-ghost use Rattle.cert_form.specs.Nodes.{literals};
-ghost use Rattle.cert_paths.specs.inner.Follow.{IsUnlike};
+ghost use Rattle.kernel_check.specs.Lent.{accepted_insns};
+ghost use Rattle.cert_paths.specs.Fault.{IsWrongOn, TellsTruly, TellsWrong};
 
 use crate::chain::Chain;
+use crate::fault::PathsError;
+use bpf_interp::verdict;
 use call_record::{Record, words_are_a_record};
 use cert_state::{Lit, State, range};
+use kernel_check::Accepted;
 use profile::Profile;
 
 // A number with the bits that a literal asks for, or another than it rules out.
@@ -57,14 +60,24 @@ pub(crate) fn likely_record(known: &Chain<'_>) -> Record {
     }
 }
 
-/// Whether what is known is true of a record, of which the profile says another verdict.
-pub(crate) fn is_unlike(profile: &Profile, known: &Chain<'_>, call: &Record, word: u32) -> bool
-    ensures { IsTrue result → IsUnlike profile.now (literals known.now.entries.now known.now.number) (words call.now) word }
+/// Whether the filter gives a record another verdict than the profile says of it.
+pub(crate) fn is_wrong_on(profile: &Profile, program: &Accepted<'_>, call: &Record) -> bool
+    ensures { IsTrue result ↔ IsWrongOn profile.now (accepted_insns program.now) (words call.now) }
 {
     words_are_a_record(call);
-    if !known.are_true(*call) {
-        return false;
-    }
     profile.rules();
-    profile.decide(call).0 != word
+    verdict(program, call).0 != profile.decide(call).0
+}
+
+/// What is told of a return that is not settled, once a record was tried that may come there.
+pub(crate) fn tried(profile: &Profile, program: &Accepted<'_>, pc: u16, call: Record) -> PathsError
+    ensures truly { TellsTruly profile.now (accepted_insns program.now) result }
+    ensures wrong { IsWrongOn profile.now (accepted_insns program.now) (words call)
+        → TellsWrong profile.now (accepted_insns program.now) result }
+{
+    let pc = u32::from(pc);
+    if is_wrong_on(profile, program, &call) {
+        return PathsError::Unlike(pc, call);
+    }
+    PathsError::Unsettled(pc)
 }

@@ -1,8 +1,8 @@
 -- What the commands do, by what they read and write.
-use Rattle.std.proofs.Common.{◌≡◌, ◌⊎◌, ℕ, ◌+◌, ◌<◌, inl, inr, List, [], ◌∷◌, ◌++◌, ap, drop, get_or, length, map, refl, subst, sym, take, ◌∙◌}
+use Rattle.std.proofs.Common.{◌≡◌, ℕ, ◌+◌, ◌<◌, inl, inr, List, [], ◌∷◌, ◌++◌, ap, drop, get_or, length, map, refl, subst, sym, take, ◌∙◌}
 use Rattle.std.proofs.lemmas.List.{get_or_default, map-append, take_more}
 use denote.Ref.{Bor}
-use Rattle.std.specs.Prelude.{Bool, Option, Result, Ok, Err}
+use Rattle.std.specs.Prelude.{Bool, Option, Result, Err}
 use Rattle.call_tables.specs.declared.arch.Arch.{Arch}
 use Rattle.streams.specs.Failures.{Failures}
 use Rattle.streams.specs.declared.fault.WriteFault.{WriteFault}
@@ -11,8 +11,14 @@ use Rattle.pipeline.specs.Answer.{WritesAnswer}
 use Rattle.pipeline.specs.Certified.{Certifies}
 use Rattle.pipeline.specs.Exported.{Exports}
 use Rattle.pipeline.specs.Finding.{WritesFinding}
+use Rattle.command_line.specs.Arguments.{Given, Reads}
+use Rattle.command_line.specs.Arguments.Given.{Verdict, Check, Certify, Export, Run, Explain, Read as ReadOut, Record, Assemble, Annotate, Draw, Compare, Adapt, Manual, Version}
+use Rattle.command_line.specs.declared.Misuse.{Misuse}
+use Rattle.command_line.specs.declared.Misuse.TheVariants as kind
 use Rattle.cli.specs.declared.stops.Stop.{Stop}
-use Rattle.cli.specs.Dispatch.{AnswersCertify, AnswersCheck, AnswersExport, AnswersVerdict, FirstUnread, HaveBytes, StopsAt}
+use Rattle.cli.specs.declared.stops.Stop.TheVariants.{Usage, CannotRead, Read, Write, OutOfMemory}
+use Rattle.cli.specs.Dispatch.{AnswersCertify, AnswersCheck, AnswersExport, AnswersVerdict, Does, FirstUnread, HaveBytes, IsMisuse, StopsAt, StopsAtFile, TellsMisuse}
+use Rattle.cli.specs.Stop.{Reports, line_of, status_of, stop_at_misuse}
 use Rattle.cli.specs.Files.{Folder, HasBytes, HasEnough}
 use Rattle.cli.specs.Running.{told_line}
 use Rattle.cli.proofs.TurnLaws.{cut_at}
@@ -140,7 +146,56 @@ module _ {O : Type 0} (held : O → Option (List ℕ)) (failures : O → Failure
                   },
                 )
 
--- files in turn
+-- ---- arguments that were not read
+
+-- memory is refused before any file is read
+unread_memory : (folder : Option Folder) (names : List (List ℕ)) → FirstUnread folder names OutOfMemory
+unread_memory folder [] = tt
+unread_memory folder (name ∷ names) = inl tt
+
+stops_early : {O : Type 0} (folder : Option Folder) (out : O) (names : List (List ℕ)) → StopsAtFile folder out out names (Err OutOfMemory)
+stops_early folder out names = record { stop = OutOfMemory; at = unread_memory folder names; told = refl; unwritten = refl }
+
+module _ {I O : Type 0} (left : I → Option (List ℕ)) (given : I → Failures) (held : O → Option (List ℕ)) (taken : O → Failures)
+    (folder : Option Folder) (input : I) (out : O) where
+  -- a command for which there is no memory is not begun
+  not_begun : (command : Given) → Does left given held taken folder input input out out command (Err OutOfMemory)
+  not_begun (Verdict filter rec) = (refl, inl (stops_early folder out (filter ∷ rec ∷ [])))
+  not_begun (Check native bundle filter cert) = (refl, inl (stops_early folder out (bundle ∷ filter ∷ cert ∷ [])))
+  not_begun (Certify native bundle filter) = (refl, inl (stops_early folder out (bundle ∷ filter ∷ [])))
+  not_begun (Export native bundle form) = (refl, inl (stops_early folder out (bundle ∷ [])))
+  not_begun (Run native bundles) = inl (refl, stops_early folder out bundles)
+  not_begun (Explain native bundle call) = refl
+  not_begun (ReadOut native bundle) = refl
+  not_begun (Record native call) = refl
+  not_begun (Assemble listing) = refl
+  not_begun (Annotate native filter) = refl
+  not_begun (Draw native filter) = refl
+  not_begun (Compare native first second) = refl
+  not_begun (Adapt native config may_widen) = refl
+  not_begun (Manual name) = refl
+  not_begun Version = refl
+
+  pub unread_arguments : (command : Given) (misuse : Misuse) (result : Result Bool Stop) → Reads command (Err misuse)
+      → result ≡ Err (stop_at_misuse misuse) → Does left given held taken folder input input out out command result
+  unread_arguments command kind.OutOfMemory result memory e =
+      subst (λ r. Does left given held taken folder input input out out command r) (sym e) (not_begun command)
+  unread_arguments command kind.Usage result memory e = absurd memory
+
+pub is_misuse : (misuse : Misuse) (result : Result Bool Stop) → result ≡ Err (stop_at_misuse misuse) → IsMisuse result
+is_misuse kind.Usage result e = subst IsMisuse (sym e) tt
+is_misuse kind.OutOfMemory result e = subst IsMisuse (sym e) tt
+
+pub tells_misuse : {E : Type 0} (held : E → Option (List ℕ)) (failures : E → Failures) (old new : E) (stop : Stop) (status : ℕ)
+    → IsMisuse (Err stop) → status ≡ status_of stop → Reports held failures old new (line_of stop) → TellsMisuse held failures old new status
+tells_misuse held failures old new Usage status is e h = inl (e, h)
+tells_misuse held failures old new OutOfMemory status is e h = inr (e, h)
+tells_misuse held failures old new (CannotRead name) status is e h = absurd is
+tells_misuse held failures old new (Read line) status is e h = absurd is
+tells_misuse held failures old new (Write out) status is e h = absurd is
+
+-- ---- files in turn
+
 pub one_more_read : (folder : Option Folder) (names texts : List (List ℕ)) (name text : List ℕ) → HaveBytes folder names texts
     → HasBytes folder name text → HaveBytes folder (names ++ name ∷ []) (texts ++ text ∷ [])
 one_more_read folder [] [] name text h g = (g, tt)

@@ -7,7 +7,7 @@ use Rattle.bpf_insn.specs.Bytes.{view_fault}
 use Rattle.bpf_insn.specs.declared.fault.ViewError.{ViewError}
 use Rattle.bpf_insn.specs.declared.fault.ViewError.TheVariants.{NotMultipleOf8, Empty, TooLong}
 use Rattle.profile.specs.Policy.{Policy}
-use Rattle.cert_check.specs.Certified.{IsFirst, Kept, KeptBefore, Tells, turn_of}
+use Rattle.cert_check.specs.Certified.{IsFirst, turn_of}
 use Rattle.cert_check.specs.declared.fault.CheckError.{CheckError}
 use Rattle.cert_check.specs.declared.fault.CheckError.TheVariants.{View, Kernel, Form, Root, Edge, Split, Entail, Return, OutOfMemory}
 use Rattle.cert_check.proofs.FirstLaws.{first_view}

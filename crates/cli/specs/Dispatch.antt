@@ -11,7 +11,7 @@ use Rattle.pipeline.specs.Certified.{Certifies}
 use Rattle.pipeline.specs.Exported.{Exports}
 use Rattle.pipeline.specs.Finding.{WritesFinding}
 use Rattle.cli.specs.declared.stops.Stop.{Stop}
-use Rattle.cli.specs.declared.stops.Stop.TheVariants.{CannotRead, OutOfMemory}
+use Rattle.cli.specs.declared.stops.Stop.TheVariants.{CannotRead, OutOfMemory, Usage}
 use Rattle.cli.specs.Files.{CannotBeRead, Folder, HasBytes, HasEnough}
 use Rattle.cli.specs.Running.{RunsBundles, told_line}
 use Rattle.cli.specs.Stop.{Reports, line_of, status_of}
@@ -22,8 +22,9 @@ StopsAt folder name (CannotRead told) = (told.now ≡ name) × CannotBeRead fold
 StopsAt folder name OutOfMemory = Unit {0}
 StopsAt folder name other = ⊥
 
--- it stops at one of the files, and those before it can be read
+-- it stops at one of the files, and those before it can be read; memory may be refused before any
 abbrev pub FirstUnread : Option Folder → List (List ℕ) → Stop → Type 0
+FirstUnread folder [] OutOfMemory = Unit {0}
 FirstUnread folder [] stop = ⊥
 FirstUnread folder (name ∷ names) stop =
     StopsAt folder name stop ⊎ (((bytes : List ℕ) × HasBytes folder name bytes) × FirstUnread folder names stop)
@@ -117,3 +118,14 @@ pub record Answers {I O E : Type 0} (left : I → Option (List ℕ)) (given : I 
   pub does : Does left given held taken folder input input' out out' command outcome
   pub ends : status ≡ exit_status outcome
   pub tells : Tells shown dropped err err' command outcome
+
+-- the program stops at arguments that are no command: since they are none, or for want of memory
+abbrev pub IsMisuse : Result Bool Stop → Type 0
+IsMisuse (Err Usage) = Unit {0}
+IsMisuse (Err OutOfMemory) = Unit {0}
+IsMisuse other = ⊥
+
+-- it ends as a fault of the command line, or of memory, and standard error says so
+abbrev pub TellsMisuse : {E : Type 0} → (E → Option (List ℕ)) → (E → Failures) → E → E → ℕ → Type 0
+TellsMisuse held failures old new status =
+    ((status ≡ 2) × Reports held failures old new (line_of Usage)) ⊎ ((status ≡ 3) × Reports held failures old new (line_of OutOfMemory))

@@ -8,6 +8,8 @@ use Rattle.streams.specs.declared.fault.WriteFault.{WriteFault}
 use Rattle.streams.specs.declared.fault.WriteFault.TheVariants as fault
 use Rattle.session.specs.declared.fault.ScriptFault.{ScriptFault}
 use Rattle.session.specs.declared.fault.ScriptFault.TheVariants as script
+use Rattle.command_line.specs.declared.Misuse.{Misuse}
+use Rattle.command_line.specs.declared.Misuse.TheVariants as misuse
 use Rattle.cli.specs.declared.stops.Stop.{Stop}
 use Rattle.cli.specs.declared.stops.Stop.TheVariants.{Usage, CannotRead, Read, Write, OutOfMemory}
 
@@ -46,3 +48,7 @@ abbrev pub stop_at_script : ScriptFault → Stop
 stop_at_script (script.Read line) = Read line
 stop_at_script (script.Write out) = Write out
 stop_at_script (script.Memory line) = OutOfMemory
+
+abbrev pub stop_at_misuse : Misuse → Stop
+stop_at_misuse misuse.Usage = Usage
+stop_at_misuse misuse.OutOfMemory = OutOfMemory

@@ -1,9 +1,9 @@
 //! Why a file was not read.
-use std::error::Error;
 use std::fmt;
+use thiserror::Error;
 
 /// Why a file was not read.
-#[derive(Clone, Copy, Debug, PartialEq, Eq)]
+#[derive(Clone, Copy, Debug, PartialEq, Eq, Error)]
 pub enum FileFault {
     /// There is no such file, or it cannot be read.
     CannotRead,
@@ -38,5 +38,3 @@ impl fmt::Display for FileFault {
         write!(f, "{number} {name}")
     }
 }
-
-impl Error for FileFault {}

@@ -1,14 +1,13 @@
 //! The whole program, from the arguments after its name to its exit status.
 ghost use Rattle.std.specs.Prelude.{◌≡◌, ◌⊎◌, ◌≤◌, Err, Ok, OnErr, true, map};
 ghost use Rattle.command_line.specs.Arguments.{Given, IsCommandLine, NoCommandLine, given};
-ghost use Rattle.cli.specs.Dispatch.{Answers, AnswersCertify, AnswersCheck, AnswersExport, AnswersRun, AnswersVerdict, Does, TellsChanges};
-ghost use Rattle.cli.specs.Stop.{Reports, line_of};
-ghost use Rattle.cli.specs.declared.stops.Stop.TheVariants.{Usage};
+ghost use Rattle.cli.specs.Dispatch.{Answers, AnswersCertify, AnswersCheck, AnswersExport, AnswersRun, AnswersVerdict, Does, IsMisuse, TellsChanges, TellsMisuse};
 
 use crate::comparing::{compare, tell_conviction};
 use crate::files::{Files, read, read_certificate, read_each, read_filter, read_record};
 use crate::run::run_bundles;
 use crate::stops::{Stop, report};
+use adapt::Wanted;
 use call_tables::Arch;
 use command_line::{Command, Form, read_arguments};
 use describe::{annotated, drawn};
@@ -176,7 +175,8 @@ fn adapt<'a, E: Sink>(
     ensures stopped { OnErr result (err.new ≡ err.old) }
 {
     let config = read(alloc, files, config)?;
-    let adapted = adapt::adapt(alloc, native, &config, may_widen)?;
+    let wanted = Wanted::plain(may_widen);
+    let adapted = adapt::adapt(alloc, native, &config, &wanted)?;
     let done = tell(&adapted.told, out)?;
     let _ = write_all(adapted.changes.as_bytes(), err);
     Ok(done)
@@ -267,13 +267,13 @@ fn carry_out<'a, F: Files, I: Source, O: Sink, E: Sink>(
         → Does I.left I.failures O.held O.failures (F.folder files.old) input.old input.new out.old out.new command result }
     ensures stopped { OnErr result (err.new ≡ err.old) }
     ensures quiet { (command : Given) → IsCommandLine arguments.entry.now command → result ≡ Ok true → TellsChanges command ⊎ (err.new ≡ err.old) }
-    ensures usage { NoCommandLine arguments.entry.now → result ≡ Err Usage }
+    ensures misuse { NoCommandLine arguments.entry.now → IsMisuse result }
     ensures unread { NoCommandLine arguments.entry.now → input.new ≡ input.old }
     ensures unwritten { NoCommandLine arguments.entry.now → out.new ≡ out.old }
 {
-    match read_arguments(arguments) {
-        Some(command) => obey(alloc, command, files, input, out, err),
-        None => Err(Stop::Usage),
+    match read_arguments(alloc, arguments) {
+        Ok(command) => obey(alloc, command, files, input, out, err),
+        Err(misuse) => Err(Stop::from(misuse)),
     }
 }
 
@@ -292,12 +292,11 @@ pub fn dispatch<F: Files, I: Source, O: Sink, E: Sink>(
     ensures answers { (command : Given) → IsCommandLine arguments.entry.now command
         → Answers I.left I.failures O.held O.failures E.held E.failures (F.folder files.old) input.old input.new out.old out.new
         err.old err.new command result }
-    // Arguments that are no command are a fault of the command line: no input is read, no output is written, and standard
-    // error says so.
-    ensures usage { NoCommandLine arguments.entry.now → result ≡ 2 }
+    // Arguments that are no command are a fault of the command line, unless the memory to read them is refused: no input is
+    // read, no output is written, and standard error says so.
+    ensures misuse { NoCommandLine arguments.entry.now → TellsMisuse E.held E.failures err.old err.new result }
     ensures unread { NoCommandLine arguments.entry.now → input.new ≡ input.old }
     ensures unwritten { NoCommandLine arguments.entry.now → out.new ≡ out.old }
-    ensures told { NoCommandLine arguments.entry.now → Reports E.held E.failures err.old err.new (line_of Usage) }
 {
     match carry_out(alloc, arguments, files, input, out, err) {
         Ok(true) => 0,

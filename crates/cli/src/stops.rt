@@ -4,15 +4,16 @@ ghost use Rattle.cli.specs.Stop.{Reports, line_of, name_line, status_of};
 ghost use Rattle.cli.specs.declared.stops.Stop.TheVariants.{Read, Write};
 
 use arrayvec::ArrayString;
+use command_line::Misuse;
 use session::ScriptFault;
 use std::alloc::AllocError;
-use std::error::Error;
 use std::fmt;
 use streams::{Sink, WriteFault, write_all};
 use texts::{Line, put, put_number};
+use thiserror::Error;
 
 /// What stops the program before its line is written. Its text is the line on standard error.
-#[derive(Debug, Drop)]
+#[derive(Debug, Drop, Error)]
 pub enum Stop<'a> {
     /// The arguments are no command.
     Usage,
@@ -58,8 +59,6 @@ impl fmt::Display for Stop<'_> {
     }
 }
 
-impl Error for Stop<'_> {}
-
 impl From<AllocError> for Stop<'_> {
     ghost use Rattle.cli.specs.declared.stops.Stop.TheVariants.{OutOfMemory};
 
@@ -93,6 +92,19 @@ impl From<ScriptFault> for Stop<'_> {
             ScriptFault::Read { line } => Stop::Read(line),
             ScriptFault::Write { out } => Stop::Write(out),
             ScriptFault::Memory { .. } => Stop::OutOfMemory,
+        }
+    }
+}
+
+impl From<Misuse> for Stop<'_> {
+    ghost use Rattle.cli.specs.Stop.{stop_at_misuse};
+
+    ghost from_gives = { λ misuse stop. stop ≡ stop_at_misuse misuse };
+
+    fn from(misuse: Misuse) -> Self {
+        match misuse {
+            Misuse::Usage => Stop::Usage,
+            Misuse::OutOfMemory => Stop::OutOfMemory,
         }
     }
 }

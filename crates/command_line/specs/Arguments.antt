@@ -1,5 +1,6 @@
 -- The arguments of a command line: which command they are.
 use Rattle.std.specs.Prelude.{Any, Bool, true, false, ℕ, ◌≡◌, ◌⊎◌, List, [], ◌∷◌, if◌then◌else◌, map, Option, Some, None, slice_get, codes}
+use Rattle.std.specs.Prelude.{Result, Ok, Err}
 use Rattle.std.specs.Option.{option_map}
 use Rattle.std.specs.Str.{bytes_eq}
 use denote.Ref.{Bor}
@@ -7,6 +8,8 @@ use Rattle.call_tables.specs.declared.arch.Arch.{Arch}
 use Rattle.call_tables.specs.Arch.{native_called}
 use Rattle.command_line.specs.declared.Command.{Command}
 use Rattle.command_line.specs.declared.Command.TheVariants as command
+use Rattle.command_line.specs.declared.Misuse.{Misuse}
+use Rattle.command_line.specs.declared.Misuse.TheVariants as misuse
 use Rattle.export.specs.declared.form.Form.{Form}
 use Rattle.export.specs.declared.form.Form.TheVariants.{Raw, Listing, Certificate}
 
@@ -174,3 +177,9 @@ pub record IsCommandLine (arguments : List (Bor (List ℕ))) (given : Given) : T
 -- they are none: they are no command, or one of them begins with a hyphen
 abbrev pub NoCommandLine : List (Bor (List ℕ)) → Type 0
 NoCommandLine arguments = (command_of (texts arguments) ≡ None) ⊎ Any (λ a. IsDashed a.now) arguments
+
+-- the command is read, or memory is refused
+abbrev pub Reads : Given → Result Command Misuse → Type 0
+Reads g (Ok command) = given command ≡ g
+Reads g (Err misuse.OutOfMemory) = Unit {0}
+Reads g (Err misuse.Usage) = ⊥

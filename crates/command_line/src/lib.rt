@@ -1,20 +1,28 @@
-//! The command line of `ccell`: which command its arguments are.
+//! The command line of `ccell`: which command its arguments are, as clap reads them by one table.
 #![tactic(auto)]
 
-ghost use Rattle.std.specs.Prelude.{◌≡◌, ◌↔◌, IsTrue, Any, None, map};
-ghost use Rattle.std.specs.Option.{option_map};
-ghost use Rattle.std.specs.Prelude.{Some};
-ghost use Rattle.command_line.specs.Arguments.{Given, IsCommandLine, IsDashed, NoCommandLine, command_of, form_called, given, texts};
-ghost use Rattle.command_line.specs.Arguments as spec;
+ghost use Rattle.std.specs.Prelude.{◌≡◌, ◌↔◌, Any, Err, IsErr, IsTrue, option_map};
+ghost use Rattle.clap.specs.Words.{found_of, rows_of, subcommand_rows_of};
+ghost use Rattle.command_line.specs.inner.Misused.{misuse_by};
+ghost use Rattle.command_line.specs.Arguments.{Given, IsCommandLine, IsDashed, NoCommandLine, Reads, form_called, given, texts};
+ghost use Rattle.command_line.specs.declared.Misuse.TheVariants.{Usage};
+ghost use Rattle.command_line.specs.inner.Found as found;
 
-mod behind;
+mod grammar;
+mod parts;
+mod table;
 
-use crate::behind::{
+use crate::grammar::{commands, grammar};
+use crate::parts::{
     adapt, annotate, assemble, certify, check, compare, draw, explain, export, manual, read,
-    record_for, run, verdict, version,
+    record_for, run, verdict,
 };
+pub use crate::table::{COMMANDS, Entry, Part};
 use call_tables::Arch;
+use clap::ArgMatches;
+use clap::error::ErrorKind;
 pub use export::Form;
+use std::alloc::Global;
 
 /// What the arguments after the program's name ask for.
 #[derive(Clone, Copy)]
@@ -134,52 +142,92 @@ fn has_dashed(arguments: &[&str]) -> bool
     arguments.iter().any(|argument| is_dashed(argument))
 }
 
-// The command of a name that tells, with these parts.
-#[tactic(auto, unfolding(crate::specs::Arguments::telling))]
-fn telling<'a>(name: &str, parts: &'a [&'a str]) -> Option<Command<'a>>
-    ensures { option_map given result ≡ spec.telling name.now (texts parts.entry.now) }
+// The command of a name that tells, of the parts that clap found behind it.
+#[tactic(auto, unfolding(crate::specs::inner::Found::telling_in))]
+fn telling<'a>(name: &str, parts: &ArgMatches<'a>, arguments: &'a [&'a str]) -> Option<Command<'a>>
+    ensures { option_map given result ≡ found.telling_in name.now (rows_of (found_of parts.now)) (texts arguments.entry.now) }
 {
     match name {
-        "explain" => explain(parts),
+        "explain" => explain(parts, arguments),
         "read" => read(parts),
-        "record" => record_for(parts),
+        "record" => record_for(parts, arguments),
         "assemble" => assemble(parts),
         "annotate" => annotate(parts),
         "draw" => draw(parts),
         "compare" => compare(parts),
         "adapt" => adapt(parts),
         "manual" => manual(parts),
-        "version" => version(parts),
+        "version" => Some(Command::Version),
         _ => None,
     }
 }
 
-// The command of a name, with these parts.
-#[tactic(auto, unfolding(crate::specs::Arguments::judging))]
-fn command_named<'a>(name: &str, parts: &'a [&'a str]) -> Option<Command<'a>>
-    ensures { option_map given result ≡ spec.judging name.now (texts parts.entry.now) (spec.telling name.now (texts parts.entry.now)) }
+// The command of a name, of the parts that clap found behind it.
+#[tactic(auto, unfolding(crate::specs::inner::Found::judging_in))]
+fn command_named<'a>(
+    name: &str,
+    parts: &ArgMatches<'a>,
+    arguments: &'a [&'a str],
+) -> Option<Command<'a>>
+    ensures { option_map given result ≡ found.named_in name.now (rows_of (found_of parts.now)) (texts arguments.entry.now) }
 {
     match name {
         "verdict" => verdict(parts),
         "check" => check(parts),
         "certify" => certify(parts),
         "export" => export(parts),
-        "run" => run(parts),
-        _ => telling(name, parts),
+        "run" => run(parts, arguments),
+        _ => telling(name, parts, arguments),
+    }
+}
+
+// The command of the matches that clap found.
+fn command_found<'a>(matches: &ArgMatches<'a>, arguments: &'a [&'a str]) -> Option<Command<'a>>
+    ensures { option_map given result ≡ found.command_in (subcommand_rows_of matches.now) (texts arguments.entry.now) }
+{
+    let (name, parts) = matches.subcommand()?;
+    command_named(name, parts, arguments)
+}
+
+/// Why arguments are no command.
+#[derive(Clone, Copy, Debug, PartialEq, Eq)]
+pub enum Misuse {
+    /// They are no command, or one of them begins with `-`.
+    Usage,
+    /// There is not enough memory to read them.
+    OutOfMemory,
+}
+
+// What clap's fault is: a call for help is no command either.
+fn misuse_of(kind: ErrorKind) -> Misuse
+    ensures { result ≡ misuse_by kind }
+{
+    match kind {
+        ErrorKind::OutOfMemory => Misuse::OutOfMemory,
+        _ => Misuse::Usage,
     }
 }
 
 /// The command that arguments are: its name first, and its parts behind it, each an argument. One that begins with `-` is
 /// never part of a command.
-pub fn read_arguments<'a>(arguments: &'a [&'a str]) -> Option<Command<'a>>
-    ensures command { (g : Given) → IsCommandLine arguments.entry.now g → option_map given result ≡ Some g }
-    ensures none { NoCommandLine arguments.entry.now → result ≡ None }
+pub fn read_arguments<'a>(alloc: Global, arguments: &'a [&'a str]) -> Result<Command<'a>, Misuse>
+    // Arguments that are a command are read as it, unless memory is refused.
+    ensures command { (g : Given) → IsCommandLine arguments.entry.now g → Reads g result }
+    // Arguments that are none are refused; where one begins with a hyphen, no memory is needed for that.
+    ensures none { NoCommandLine arguments.entry.now → IsErr result }
+    ensures dashed { Any (λ a. IsDashed a.now) arguments.entry.now → result ≡ Err Usage }
 {
     if has_dashed(arguments) {
-        return None;
+        return Err(Misuse::Usage);
     }
-    match arguments {
-        [name, parts @ ..] => command_named(name, parts),
-        [] => None,
+    let Ok(grammar) = grammar(alloc, commands()) else {
+        return Err(Misuse::OutOfMemory);
+    };
+    match grammar.try_get_matches_from(arguments) {
+        Ok(matches) => match command_found(&matches, arguments) {
+            Some(command) => Ok(command),
+            None => Err(Misuse::Usage),
+        },
+        Err(error) => Err(misuse_of(error.kind())),
     }
 }

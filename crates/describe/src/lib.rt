@@ -4,6 +4,7 @@
 
 mod annotating;
 mod drawing;
+mod edition;
 mod entries;
 mod flow;
 mod lines;
@@ -16,4 +17,4 @@ mod search;
 pub use annotating::annotated;
 pub use drawing::drawn;
 pub use pages::manual;
-pub use reading::read_out;
+pub use reading::{Configuration, fault_in, read_out};

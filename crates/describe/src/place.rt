@@ -29,9 +29,22 @@ impl Place {
 
 fn write_entry<W: fmt::Write>(f: &mut fmt::Formatter<W>, place: &Place) -> fmt::Result {
     let top = place.top;
+    write!(f, "{top}")?;
     match place.entry {
-        Some(entry) => write!(f, "{top}.syscalls[{entry}]"),
-        None => write!(f, "{top}"),
+        Some(entry) => {
+            let dot = dot_behind(place.top, None);
+            write!(f, "{dot}syscalls[{entry}]")
+        }
+        None => Ok(()),
+    }
+}
+
+// The dot behind what stands before a key, if something does.
+fn dot_behind(top: &str, entry: Option<usize>) -> &'static str {
+    if top == "" && entry.is_none() {
+        ""
+    } else {
+        "."
     }
 }
 
@@ -40,7 +53,8 @@ fn write_list<W: fmt::Write>(f: &mut fmt::Formatter<W>, place: &Place) -> fmt::R
     if list == "" {
         return Ok(());
     }
-    write!(f, ".{list}")
+    let dot = dot_behind(place.top, place.entry);
+    write!(f, "{dot}{list}")
 }
 
 fn write_member<W: fmt::Write>(f: &mut fmt::Formatter<W>, place: &Place) -> fmt::Result {
@@ -55,10 +69,11 @@ fn write_key<W: fmt::Write>(f: &mut fmt::Formatter<W>, place: &Place) -> fmt::Re
     if key == "" {
         return Ok(());
     }
-    if place.top == "" {
-        return write!(f, "{key}");
+    if place.list != "" {
+        return write!(f, ".{key}");
     }
-    write!(f, ".{key}")
+    let dot = dot_behind(place.top, place.entry);
+    write!(f, "{dot}{key}")
 }
 
 impl fmt::Display for Place {

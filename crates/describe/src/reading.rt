@@ -1,10 +1,12 @@
 //! What a bundle means, or where it is wrong.
+use crate::edition::{READ, of_first_edition};
 use crate::entries::put_bundle;
 use crate::near::put_nearest;
 use crate::place::{Place, shape_of};
-use crate::search::{Found, Wanted, find};
+use crate::search::{Found, Wanted, find, find_in_config};
 use call_tables::{Arch, Family};
 use explain::{Told, refused_profile};
+use json_text::{Trimmed, fault_of, without_unread};
 use profile::Profile;
 use profile_json::{ProfileError, read_bundle, rules_by_entry};
 use serde_json::Value;
@@ -53,12 +55,7 @@ fn put_why(
     }
 }
 
-// Adds a place.
-fn put_at(text: &mut String, place: &Place) -> Result<(), AllocError> {
-    write!(text, "at {place}: ")
-}
-
-// Adds the line of the place of a fault that was found.
+// Adds the line of a fault that was found.
 fn put_found(
     text: &mut String,
     alloc: Global,
@@ -66,7 +63,8 @@ fn put_found(
     found: &Found<'_>,
     error: &ProfileError,
 ) -> Result<(), AllocError> {
-    put_at(text, &found.place)?;
+    let place = found.place;
+    write!(text, "{place}: ")?;
     put_why(text, alloc, family, found, error)?;
     text.push_str("\n")
 }
@@ -83,8 +81,22 @@ fn overlap_in(error: &ProfileError) -> Option<(usize, usize)> {
 fn put_overlap(text: &mut String, first: usize, second: usize) -> Result<(), AllocError> {
     writeln!(
         text,
-        "at linux.seccomp.syscalls[{second}]: another action for a call that linux.seccomp.syscalls[{first}] matches too"
+        "linux.seccomp.syscalls[{second}]: another action for a call that linux.seccomp.syscalls[{first}] matches too"
     )
+}
+
+// Adds the line of the place of a fault, if it was found.
+fn put_if_found(
+    text: &mut String,
+    alloc: Global,
+    family: Family,
+    found: Option<Found<'_>>,
+    error: &ProfileError,
+) -> Result<(), AllocError> {
+    match found {
+        Some(found) => put_found(text, alloc, family, &found, error),
+        None => text.push_str("linux.seccomp.syscalls: too many rules or entries\n"),
+    }
 }
 
 // Adds the line of the place of a fault.
@@ -99,10 +111,12 @@ fn put_place(
         return put_overlap(text, first, second);
     }
     let (number, _) = error.label();
-    let Some(found) = find(Wanted { number, family }, value) else {
-        return text.push_str("at linux.seccomp.syscalls: too many rules or entries\n");
+    let wanted = Wanted {
+        number,
+        family,
+        is_config: false,
     };
-    put_found(text, alloc, family, &found, error)
+    put_if_found(text, alloc, family, find(wanted, value), error)
 }
 
 // Adds the line of the place of a fault, which is a line and a column where the text is no JSON.
@@ -113,27 +127,55 @@ fn put_fault(
     bundle: &[u8],
     error: &ProfileError,
 ) -> Result<(), AllocError> {
+    text.push_str("at ")?;
     match Value::from_slice(alloc, bundle) {
         Ok(value) => put_place(text, alloc, family, &value, error),
         Err(error) => {
             if error.is_memory() {
                 return Err(AllocError);
             }
-            let line = error.line();
-            let column = error.column();
-            writeln!(text, "at line {line}, column {column}: no JSON")
+            let fault = fault_of(alloc, bundle, &error);
+            writeln!(text, "{fault}")
         }
     }
 }
 
-// What tells why and where a bundle is refused.
-fn fault(
+/// An engine's configuration, its section, and the place at which that stands.
+#[derive(Clone, Copy)]
+pub struct Configuration<'a> {
+    pub root: &'a Value,
+    pub section: &'a Value,
+    pub top: &'static str,
+}
+
+/// The line of the place of a fault in an engine's configuration, of which a bundle was made that is refused.
+pub fn fault_in(
+    alloc: Global,
+    family: Family,
+    config: Configuration<'_>,
+    error: &ProfileError,
+) -> Result<String, AllocError> {
+    let mut text = String::new(alloc);
+    let (number, _) = error.label();
+    let wanted = Wanted {
+        number,
+        family,
+        is_config: true,
+    };
+    let found = find_in_config(wanted, config.root, config.top, config.section);
+    put_if_found(&mut text, alloc, family, found, error)?;
+    Ok(text)
+}
+
+// Adds why and where a bundle is refused.
+fn refused(
+    mut text: String,
     alloc: Global,
     family: Family,
     bundle: &[u8],
     error: ProfileError,
 ) -> Result<Told, AllocError> {
-    let mut text = format!(in alloc; "refused profile {error}\n")?;
+    writeln!(text, "refused profile {error}")?;
     put_fault(&mut text, alloc, family, bundle, &error)?;
     Ok(Told {
         bytes: text.into_bytes(),
@@ -141,8 +183,9 @@ fn fault(
     })
 }
 
-// What tells what a bundle means, by its profile.
+// Adds what a bundle means, by its profile.
 fn meaning(
+    mut text: String,
     alloc: Global,
     native: Arch,
     bundle: &[u8],
@@ -152,7 +195,6 @@ fn meaning(
         Ok(all) => all,
         Err(error) => return refused_profile(alloc, error),
     };
-    let mut text = String::new(alloc);
     put_bundle(&mut text, profile, &all)?;
     Ok(Told {
         bytes: text.into_bytes(),
@@ -160,12 +202,34 @@ fn meaning(
     })
 }
 
+// Adds what a bundle means, or why and where it is refused.
+fn read_behind(
+    text: String,
+    alloc: Global,
+    native: Arch,
+    bundle: &[u8],
+) -> Result<Told, AllocError> {
+    match read_bundle(alloc, bundle, native) {
+        Ok(read) => meaning(text, alloc, native, bundle, &read.profile),
+        Err(ProfileError::OutOfMemory) => Err(AllocError),
+        Err(error) => refused(text, alloc, native.family(), bundle, error),
+    }
+}
+
+// Tells what a bundle means, or why and where it is refused. An edition that begins with `1.` is told, and read as the first.
+fn read_trimmed(alloc: Global, native: Arch, bundle: &[u8]) -> Result<Told, AllocError> {
+    let mut text = String::new(alloc);
+    match of_first_edition(alloc, &mut text, bundle)? {
+        Some(other) => read_behind(text, alloc, native, &other),
+        None => read_behind(text, alloc, native, bundle),
+    }
+}
+
 /// Tells what a bundle, which is read for a native machine, means: its machines, what is said of calls that no entry
 /// matches, and a line for each entry. Of a bundle that is refused, why, and the place of the fault.
 pub fn read_out(alloc: Global, native: Arch, bundle: &[u8]) -> Result<Told, AllocError> {
-    match read_bundle(alloc, bundle, native) {
-        Ok(read) => meaning(alloc, native, bundle, &read.profile),
-        Err(ProfileError::OutOfMemory) => Err(AllocError),
-        Err(error) => fault(alloc, native.family(), bundle, error),
+    match without_unread(alloc, bundle, READ)? {
+        Some(Trimmed { text, .. }) => read_trimmed(alloc, native, &text),
+        None => read_trimmed(alloc, native, bundle),
     }
 }

@@ -11,11 +11,33 @@ pub(crate) struct Found<'a> {
     pub(crate) asked: Shape,
 }
 
-/// A fault that is looked for, by its number, in a bundle for the machines of a family.
+/// A fault that is looked for, by its number, in a bundle for the machines of a family, or in an engine's configuration, as it is
+/// once what can be mended is. There a member that is null is as good as missing, and no edition or list of names is missed.
 #[derive(Clone, Copy)]
 pub(crate) struct Wanted {
     pub(crate) number: u32,
     pub(crate) family: Family,
+    pub(crate) is_config: bool,
+}
+
+// The member under a key that says something.
+fn member_at<'a>(wanted: Wanted, object: &'a Value, key: &str) -> Option<&'a Value> {
+    let member = object.get(key)?;
+    if wanted.is_config && member.is_null() {
+        return None;
+    }
+    Some(member)
+}
+
+// Whether the fault is that a key is missing.
+fn misses(wanted: Wanted, key: Key) -> bool {
+    let is_mended = wanted.is_config && (key.name == "ociVersion" || key.name == "names");
+    wanted.number == 5 && key.needed && !is_mended
+}
+
+// Whether an action is known: in a configuration also the newer name of one.
+fn is_action(wanted: Wanted, name: &str) -> bool {
+    is_one_of(ACTIONS, name) || (wanted.is_config && name == "SCMP_ACT_KILL_THREAD")
 }
 
 const ACTIONS: &[&str] = &[
@@ -82,12 +104,13 @@ fn has_stray_bit(object: &Value) -> bool {
 }
 
 // Whether what stands under a key of an object breaks the rule of the key that the fault names.
-fn breaks_rule(number: u32, key: &str, object: &Value, value: &Value) -> bool {
+fn breaks_rule(wanted: Wanted, key: &str, object: &Value, value: &Value) -> bool {
+    let number = wanted.number;
     let text = value.as_str().unwrap_or("");
     let whole = value.as_u64().unwrap_or(0);
     match key {
         "ociVersion" => number == 2,
-        "defaultAction" | "action" => number == 6 && !is_one_of(ACTIONS, text),
+        "defaultAction" | "action" => number == 6 && !is_action(wanted, text),
         "defaultErrnoRet" | "errnoRet" => match number {
             11 => !takes_data(object),
             12 => whole > 4095,
@@ -103,14 +126,14 @@ fn breaks_rule(number: u32, key: &str, object: &Value, value: &Value) -> bool {
 }
 
 // Whether the fault stands at a key of an object.
-fn stands_at(number: u32, key: Key, object: &Value) -> bool {
-    match object.get(key.name) {
-        None => number == 5 && key.needed,
+fn stands_at(wanted: Wanted, key: Key, object: &Value) -> bool {
+    match member_at(wanted, object, key.name) {
+        None => misses(wanted, key),
         Some(value) => {
-            if number == 4 {
+            if wanted.number == 4 {
                 return !key.shape.fits(value);
             }
-            breaks_rule(number, key.name, object, value)
+            breaks_rule(wanted, key.name, object, value)
         }
     }
 }
@@ -125,7 +148,7 @@ fn at_keys<'a>(
     let key = keys
         .iter()
         .copied()
-        .find(|key| stands_at(wanted.number, *key, object))?;
+        .find(|key| stands_at(wanted, *key, object))?;
     Some(Found {
         place: Place {
             key: key.name,
@@ -149,21 +172,23 @@ fn is_machine(family: Family, name: &str) -> bool {
     family.machines().iter().any(|arch| arch.scmp() == name)
 }
 
-// Whether the fault stands at a member of a list of texts: names of machines or of calls.
-fn stands_in(wanted: Wanted, value: &Value) -> bool {
+// Whether the fault stands at a member of a list of texts: names of machines, or of calls.
+fn stands_in(wanted: Wanted, list: &str, value: &Value) -> bool {
     let Some(text) = value.as_str() else {
         return wanted.number == 4;
     };
-    match wanted.number {
-        7 => !is_machine(wanted.family, text),
-        9 => !is_known(wanted.family, text),
+    match (wanted.number, list) {
+        (7, "architectures") => !is_machine(wanted.family, text),
+        (9, "names") => !is_known(wanted.family, text),
         _ => false,
     }
 }
 
 // The first member of a list of texts at which the fault stands.
 fn at_texts<'a>(wanted: Wanted, place: Place, values: &'a [Value]) -> Option<Found<'a>> {
-    let member = values.iter().position(|value| stands_in(wanted, value))?;
+    let member = values
+        .iter()
+        .position(|value| stands_in(wanted, place.list, value))?;
     Some(Found {
         place: Place {
             member: Some(member),
@@ -271,9 +296,9 @@ fn at_entries<'a>(wanted: Wanted, place: Place, entries: &'a [Value]) -> Option<
     None
 }
 
-// The first place under `linux.seccomp` at which the fault stands.
-fn at_seccomp(wanted: Wanted, seccomp: &Value) -> Option<Found<'_>> {
-    let place = Place::top("linux.seccomp");
+// The first place in a section at which the fault stands. The section stands at the place `top`.
+fn at_seccomp<'a>(wanted: Wanted, top: &'static str, seccomp: &'a Value) -> Option<Found<'a>> {
+    let place = Place::top(top);
     if let Some(found) = at_keys(wanted, SECCOMP, place, seccomp) {
         return Some(found);
     }
@@ -319,5 +344,21 @@ pub(crate) fn find(wanted: Wanted, root: &Value) -> Option<Found<'_>> {
     if !seccomp.is_object() {
         return at_top("linux.seccomp", Some(seccomp));
     }
-    at_seccomp(wanted, seccomp)
+    at_seccomp(wanted, "linux.seccomp", seccomp)
+}
+
+/// The first place of an engine's configuration at which the fault stands: its edition, or a place in its section.
+pub(crate) fn find_in_config<'a>(
+    wanted: Wanted,
+    root: &'a Value,
+    top: &'static str,
+    section: &'a Value,
+) -> Option<Found<'a>> {
+    if let Some(found) = at_keys(wanted, ROOT, Place::top(""), root) {
+        return Some(found);
+    }
+    if !section.is_object() {
+        return at_top("linux.seccomp", Some(section));
+    }
+    at_seccomp(wanted, top, section)
 }

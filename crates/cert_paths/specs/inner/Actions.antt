@@ -1,16 +1,14 @@
--- What an instruction does, by its operation, as far as a path can be followed.
+-- What a path does at an instruction, by its operation.
 use Rattle.std.specs.Prelude.{Option, Some}
-use Rattle.bpf_insn.specs.declared.code.Operand.TheVariants.{K}
-use Rattle.bpf_insn.specs.declared.code.Arithmetic.TheVariants.{And}
 use Rattle.bpf_insn.specs.declared.code.Operation.{Operation}
-use Rattle.bpf_insn.specs.declared.code.Operation.TheVariants.{Branch, Compute, Jump, LoadWord, ReturnK}
+use Rattle.bpf_insn.specs.declared.code.Operation.TheVariants.{Branch, Jump, ReturnA, ReturnK}
+use Rattle.bpf_insn.specs.declared.instruction.Insn.{Insn}
 use Rattle.cert_paths.specs.declared.action.Action.{Action}
-use Rattle.cert_paths.specs.declared.action.Action.TheVariants.{Ends, Jumps, Loads, Masks, Compares, Other}
+use Rattle.cert_paths.specs.declared.action.Action.TheVariants.{Ends, Forks, Goes}
 
-abbrev pub action_by : Option Operation → Action
-action_by (Some ReturnK) = Ends
-action_by (Some Jump) = Jumps
-action_by (Some LoadWord) = Loads
-action_by (Some (Compute And K)) = Masks
-action_by (Some (Branch test K)) = Compares test
-action_by _ = Other
+abbrev pub action_by : Option Operation → Insn → Action
+action_by (Some ReturnK) i = Ends
+action_by (Some ReturnA) i = Ends
+action_by (Some (Branch test c)) i = Forks
+action_by (Some Jump) i = Goes i.k
+action_by _ i = Goes 0

@@ -1,26 +1,21 @@
 -- The places of all paths as they are found, and their nodes, which keep the rules wherever the rest leads.
-use Rattle.std.specs.Prelude.{◌≡◌, ℕ, ◌+◌, ◌<◌, ◌≤◌, List, [], ◌∷◌, ◌++◌, false, length, min, Option, Some, slice_get, option_to_list}
+use Rattle.std.specs.Prelude.{◌≡◌, ℕ, ◌+◌, ◌<◌, ◌≤◌, List, [], ◌∷◌, ◌++◌, true, length, min, Option, Some, slice_get, option_to_list}
 use Rattle.std.specs.List.{All}
 use Rattle.bpf_insn.specs.declared.instruction.Insn.{Insn}
 use Rattle.profile.specs.Policy.{Policy}
-use Rattle.cert_state.specs.declared.literal.AVal.{AVal}
-use Rattle.cert_state.specs.declared.literal.AVal.TheVariants.{Const}
 use Rattle.cert_state.specs.declared.literal.Lit.{Lit}
 use Rattle.cert_state.specs.declared.literal.Regs.{Regs}
-use Rattle.cert_state.specs.Literals.{IsValue}
+use Rattle.cert_state.specs.Literals.{AreValues}
 use Rattle.cert_form.specs.declared.node.ChainNode.{ChainNode}
 use Rattle.cert_form.specs.declared.node.Kind.{Kind}
 use Rattle.cert_form.specs.Nodes.{PlainNode, literals}
-use Rattle.cert_form.specs.Spelling.{IsKind, nothing_stated}
+use Rattle.cert_form.specs.Spelling.{IsKind}
 use Rattle.cert_form.specs.Writing.{AreLiteralEntries}
 use Rattle.cert_check.specs.Rules.{Keeps}
+use Rattle.cert_paths.specs.Telling.{at_first}
 use Rattle.cert_paths.specs.declared.paths.Paths.{Paths}
 use Rattle.cert_paths.specs.declared.place.Next.{Next}
 use Rattle.cert_paths.specs.declared.place.Place.{Place}
-
--- what is known of the registers where A holds this
-abbrev pub regs_of : AVal → Regs
-regs_of a = record { a = a; x = Const 0; scratch = nothing_stated }
 
 -- what a place knows
 abbrev pub known_at : List (ℕ × Lit) → Place → List Lit
@@ -28,14 +23,14 @@ known_at es place = literals es place.chain
 
 -- where each path begins
 abbrev pub first_place : Place
-first_place = record { pc = 0; a = Const 0; chain = 0; depth = 0 }
+first_place = record { pc = 0; regs = at_first; chain = 0; depth = 0 }
 
 -- a place has a chain that is not too long
 pub record IsPlace (es : List (ℕ × Lit)) (place : Place) : Type 0 where
   pub chain : place.chain ≤ length es
   pub depth : length (known_at es place) ≡ place.depth
   pub few : place.depth ≤ 512
-  pub value : IsValue place.a
+  pub values : AreValues place.regs
 
 -- entries and places are such, and few
 pub record ArePaths (paths : Paths) : Type 0 where
@@ -79,17 +74,17 @@ pub record IsAdded (old new : Paths) (from : Place) (next : Next) (number : ℕ)
   pub entries : IsLonger old.entries.items new.entries.items
   pub kinds : new.kinds.items ≡ old.kinds.items
   pub pc_is : place.pc ≡ next.pc
-  pub a_is : place.a ≡ next.a
+  pub regs_are : place.regs ≡ next.regs
   pub known_is : known_at new.entries.items place ≡ option_to_list next.learned ++ known_at old.entries.items from
 
 -- the node of a place that does this
 abbrev pub node_of : List (ℕ × Lit) → Place → Kind → PlainNode
 node_of es place kind =
-    record { kind = kind; pc = place.pc; regs = regs_of place.a; known = known_at es place; out = []; met = []; sharp = false }
+    record { kind = kind; pc = place.pc; regs = place.regs; known = known_at es place; out = []; met = []; sharp = true }
 
 -- the same as a maker states it
 abbrev pub chain_node_of : Place → Kind → ChainNode
-chain_node_of place kind = record { kind = kind; pc = place.pc; regs = regs_of place.a; chain = place.chain }
+chain_node_of place kind = record { kind = kind; pc = place.pc; regs = place.regs; chain = place.chain }
 
 -- nodes in order, each of its place and of what it does
 pub record AreNodes (places : List Place) (kinds : List Kind) (nodes : List ChainNode) : Type 0 where
@@ -98,11 +93,11 @@ pub record AreNodes (places : List Place) (kinds : List Kind) (nodes : List Chai
       → slice_get nodes k ≡ Some (chain_node_of place kind)
 
 -- a node stands at the number of a place, and says what the place says
-pub record StandsAt (ns : List PlainNode) (at : ℕ) (pc : ℕ) (a : AVal) (known : List Lit) : Type 0 where
+pub record StandsAt (ns : List PlainNode) (at : ℕ) (pc : ℕ) (regs : Regs) (known : List Lit) : Type 0 where
   pub node : PlainNode
   pub there : slice_get ns at ≡ Some node
   pub pc_is : node.pc ≡ pc
-  pub regs_are : node.regs ≡ regs_of a
+  pub regs_are : node.regs ≡ regs
   pub known_is : node.known ≡ known
   pub none_out : node.out ≡ []
   pub none_met : node.met ≡ []
@@ -110,7 +105,7 @@ pub record StandsAt (ns : List PlainNode) (at : ℕ) (pc : ℕ) (a : AVal) (know
 -- so do nodes of all places
 abbrev pub AreAt : List PlainNode → List (ℕ × Lit) → List Place → Type 0
 AreAt ns es places =
-    (at : ℕ) (place : Place) → slice_get places at ≡ Some place → StandsAt ns at place.pc place.a (known_at es place)
+    (at : ℕ) (place : Place) → slice_get places at ≡ Some place → StandsAt ns at place.pc place.regs (known_at es place)
 
 -- the node of a place that does this keeps the rules, wherever the nodes of all places stand so
 abbrev pub KeepsAt : Policy → List Insn → Paths → ℕ → Place → Kind → Type 0

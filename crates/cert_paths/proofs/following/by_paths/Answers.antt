@@ -1,6 +1,7 @@
 use Rattle.std.proofs.lemmas.Result.{err_from_is_err_and}
 use Rattle.kernel_check.specs.Lent.{accepted_insns}
 use Rattle.cert_paths.proofs.SoundLaws.{first_led, first_sound}
+use Rattle.cert_paths.proofs.TellingLaws.{steady_telling}
 use Rattle.cert_paths.proofs.ToldLaws.{of_right}
 use Rattle.cert_paths.proofs.WayLaws.{accepted_is}
 use Rattle.cert_paths.proofs.following.by_paths.Goals as goal
@@ -11,12 +12,21 @@ follow_all-requires c = record {
       c.in_ok-paths.ensures.paths c.in_ok-paths.ensures.places c.in_ok-paths.ensures.kinds;
 }
 
+pub returns-in_err-follow_all-clause-truly : goal.returns-in_err-follow_all-clause-truly
+returns-in_err-follow_all-clause-truly c =
+    let p = err_from_is_err_and c.from_residual-in_err-follow_all.result c.from_residual-in_err-follow_all.ensures.1 in
+    rw (p.1, p.2) c.in_err-follow_all.ensures.truly
+
 pub returns-in_err-follow_all-clause-told : goal.returns-in_err-follow_all-clause-told
-returns-in_err-follow_all-clause-told c = λ steady.
+returns-in_err-follow_all-clause-told c = λ telling.
     let p = err_from_is_err_and c.from_residual-in_err-follow_all.result c.from_residual-in_err-follow_all.ensures.1 in
     rw (p.1, p.2) (c.in_err-follow_all.ensures.told
-    (first_led (accepted_insns c.args.program.now) c.in_ok-paths.paths steady c.in_ok-paths.ensures.places))
+    (first_led (accepted_insns c.args.program.now) c.in_ok-paths.paths telling c.in_ok-paths.ensures.places))
 
 pub returns-in_err-follow_all-clause-never : goal.returns-in_err-follow_all-clause-never
-returns-in_err-follow_all-clause-never c = λ steady right.
-    of_right c.args.profile.now (accepted_insns c.args.program.now) right _ (returns-in_err-follow_all-clause-told c steady)
+returns-in_err-follow_all-clause-never c = λ telling right.
+    of_right c.args.profile.now (accepted_insns c.args.program.now) right _ (returns-in_err-follow_all-clause-told c telling)
+
+pub returns-in_err-follow_all-clause-steady : goal.returns-in_err-follow_all-clause-steady
+returns-in_err-follow_all-clause-steady c = λ steady.
+    returns-in_err-follow_all-clause-told c (steady_telling (accepted_insns c.args.program.now) steady)

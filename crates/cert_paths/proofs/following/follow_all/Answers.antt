@@ -7,6 +7,11 @@ loop-preserved c = record {
   led = λ first. c.in_ok-follow_next.ensures.led (c.loop.invariant.led first);
 }
 
+pub returns-in_err-follow_next-clause-truly : goal.returns-in_err-follow_next-clause-truly
+returns-in_err-follow_next-clause-truly c =
+    let p = err_from_is_err_and c.from_residual.result c.from_residual.ensures.1 in
+    rw (p.1, p.2) c.in_err-follow_next.ensures.truly
+
 pub returns-in_err-follow_next-clause-told : goal.returns-in_err-follow_next-clause-told
 returns-in_err-follow_next-clause-told c = λ first.
     let p = err_from_is_err_and c.from_residual.result c.from_residual.ensures.1 in

@@ -1,10 +1,19 @@
-use Rattle.std.proofs.Common.{◌≡◌, ◌⊎◌, Some, subst}
-use Rattle.std.proofs.lemmas.Option.{same_Some}
+use Rattle.std.proofs.Common.{◌≡◌, ◌⊎◌, ap, subst}
+use Rattle.std.specs.Prelude.{Err}
 use Rattle.command_line.specs.Arguments.{given}
 use Rattle.cli.specs.Dispatch.{TellsChanges}
+use Rattle.cli.proofs.DispatchLaws.{is_misuse, unread_arguments}
 use Rattle.cli.proofs.program.carry_out.Goals as goal
 
-pub returns-in-Some-clause-quiet : goal.returns-in-Some-clause-quiet
-returns-in-Some-clause-quiet g c command is done =
-    let same : given c.in-Some.command ≡ command = same_Some (given c.in-Some.command) command (c.in-Some.ensures.command command is) in
+pub returns-in-Ok-clause-quiet : goal.returns-in-Ok-clause-quiet
+returns-in-Ok-clause-quiet g c command is done =
+    let same : given c.in-Ok.command ≡ command = c.in-Ok.ensures.command command is in
     subst (λ k. TellsChanges k ⊎ (c.obey.new.err ≡ c.args.err.now)) same (c.obey.ensures.quiet done)
+
+pub returns-in-Err-clause-does : goal.returns-in-Err-clause-does
+returns-in-Err-clause-does g c command is =
+    unread_arguments g.I.Source.left g.I.Source.failures g.O.Sink.held g.O.Sink.failures (g.F.Files.folder c.args.files.now) c.args.input.now
+    c.args.out.now command c.in-Err.misuse (Err c.from.result) (c.in-Err.ensures.command command is) (ap Err c.from.ensures)
+
+pub returns-in-Err-clause-misuse : goal.returns-in-Err-clause-misuse
+returns-in-Err-clause-misuse g c none = is_misuse c.in-Err.misuse (Err c.from.result) (ap Err c.from.ensures)

@@ -1,0 +1,5 @@
+pub mod Lists
+pub mod Same
+pub mod Laws
+mod Causes
+mod Rules

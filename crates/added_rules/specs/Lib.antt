@@ -1,0 +1,4 @@
+pub mod Machine
+pub mod Parts
+pub mod Saying
+pub mod Refusal

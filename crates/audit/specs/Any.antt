@@ -1,0 +1,81 @@
+-- The text that tells what a bundle says of a call whatever its arguments.
+use Rattle.std.specs.Prelude.{ℕ, ◌≡◌, ◌+◌, ◌==◌, ◌&&◌, Bool, true, if◌then◌else◌, List, [], ◌∷◌, ◌++◌, None, Some, codes}
+use Rattle.std.specs.Fmt.{decimal}
+use Rattle.std.specs.List.{list_any}
+use Rattle.serde_json.specs.Data.{Data}
+use Rattle.texts.specs.Lines.{line_feed}
+use Rattle.call_tables.specs.declared.arch.Arch.{Arch}
+use Rattle.call_tables.specs.declared.arch.Family.{Family}
+use Rattle.call_tables.specs.Arch.{family_of, token_of}
+use Rattle.call_tables.specs.Numbers.{has_call}
+use Rattle.profile.specs.declared.conditions.Cond.{Cond}
+use Rattle.profile.specs.declared.rules.Rule.{Rule}
+use Rattle.profile.specs.Policy.{Policy}
+use Rattle.profile_json.specs.Meaning.{IsText, Means}
+use Rattle.profile_json.specs.ByEntry.{AreRulesOf}
+use Rattle.script.specs.Grammar.{LineIs}
+use Rattle.script.specs.Commands.{Call}
+use Rattle.explain.specs.declared.told.Told.{Told}
+use Rattle.explain.specs.Phrases.{action_text, call_on, condition_text, machine_with}
+use Rattle.explain.specs.Reason.{entry_at}
+
+-- conditions, the first behind `if` and the others behind `and`
+abbrev pub conditions_text : List ℕ → List Cond → List ℕ
+conditions_text word [] = []
+conditions_text word (c ∷ conds) = codes " " ++ word ++ codes " " ++ condition_text c ++ conditions_text (codes "and") conds
+
+-- a rule of an entry: its action and its conditions
+abbrev pub rule_line : ℕ → Rule → List ℕ
+rule_line entry rule =
+    codes "entry " ++ decimal entry ++ codes " " ++ action_text rule.word ++ conditions_text (codes "if") rule.conds.items
+    ++ line_feed ∷ []
+
+-- the rule is for this call
+abbrev pub is_of : Rule → ℕ → ℕ → Bool
+is_of rule token nr = token_of rule.arch == token && rule.nr == nr
+
+-- the lines of those rules that are for a call, in order; the first rule has this place
+abbrev pub lines_from : ℕ → List Rule → List ℕ → ℕ → ℕ → List ℕ
+lines_from place [] ends token nr = []
+lines_from place (rule ∷ rules) ends token nr =
+    (if is_of rule token nr then rule_line (entry_at ends place) rule else []) ++ lines_from (place + 1) rules ends token nr
+
+-- what is said where no rule matches
+abbrev pub default_line : Policy → List ℕ
+default_line p = codes "default " ++ action_text p.default_word ++ line_feed ∷ []
+
+-- what is said of a call of machines that are not listed
+abbrev pub foreign_line : List ℕ
+foreign_line = codes "foreign KILL_THREAD" ++ line_feed ∷ []
+
+-- the rules for a call and the default, or that it is no call of the profile's machines
+abbrev pub said_lines : Policy → List Rule → List ℕ → ℕ → ℕ → List ℕ
+said_lines p rules ends token nr =
+    if list_any (has_call token nr) p.machines then lines_from 0 rules ends token nr ++ default_line p else foreign_line
+
+-- the line of a call, and what is said of it
+abbrev pub any_text : Family → Policy → List Rule → List ℕ → ℕ → ℕ → List ℕ
+any_text family p rules ends token nr = call_on (machine_with family token nr) token nr ++ said_lines p rules ends token nr
+
+-- the text tells of a call each entry of the bundle that has a rule for it, with its conditions, and the default
+pub record ExplainsAny (native : Arch) (bundle : List ℕ) (token nr : ℕ) (text : List ℕ) : Type 0 where
+  pub t : Data
+  pub is_text : IsText bundle t
+  pub policy : Policy
+  pub means : Means t native policy
+  pub rules : List Rule
+  pub ends : List ℕ
+  pub are : AreRulesOf native bundle rules ends
+  pub told : text ≡ any_text (family_of native) policy rules ends token nr
+
+-- a line of a script with this word asks for the call of this machine with this number
+pub record IsWhat (native : Arch) (word : List ℕ) (arch : Arch) (nr : ℕ) : Type 0 where
+  pub id : List ℕ
+  pub task : ℕ
+  pub args : List ℕ
+  pub is_line : LineIs native (codes "call c 1 " ++ word) (Some (Call id task arch nr args None))
+
+-- where it was done: a text that tells it of the call that the word asks for
+abbrev pub IsExplained : Arch → List ℕ → List ℕ → Told → Type 0
+IsExplained native bundle word told = told.done ≡ true
+    → (arch : Arch) × (nr : ℕ) × IsWhat native word arch nr × ExplainsAny native bundle (token_of arch) nr told.bytes.items

@@ -1,0 +1,66 @@
+//! Where what is known is cut at one bit of a mask.
+//!
+//! That a word is not one number under a mask, and not another one under the next, may leave no number together, though none of these
+//! contradicts another. So a bit is told that such a mask has and of which nothing is known, and each of them becomes a question of
+//! fewer bits.
+
+use crate::chain::Chain;
+use crate::cuts::Cut;
+use cert_state::{Lit, State};
+
+// The bits of a word that are told, and what they are.
+#[derive(Clone, Copy)]
+struct Told {
+    mask: u32,
+    datum: u32,
+}
+
+// What is told of the bits of a word.
+fn told_bits(known: &Chain<'_>, word: u8) -> Told {
+    let mut told = Told { mask: 0, datum: 0 };
+    let mut at = known.start();
+    while let Some((literal, next)) = known.next(at) {
+        match literal {
+            Lit::Bits(of, mask, datum) if of == word => {
+                told.mask |= mask;
+                told.datum |= datum;
+            }
+            _ => {}
+        }
+        at = next;
+    }
+    told
+}
+
+// The bits that decide whether a word is a number under a mask: none where it is known that it is not, or where no bit is left.
+fn free_bits(told: Told, mask: u32, datum: u32) -> u32 {
+    if told.mask & mask & (told.datum ^ datum) != 0 {
+        return 0;
+    }
+    mask & !told.mask
+}
+
+// The lowest bit of a number.
+fn lowest(bits: u32) -> u32 {
+    bits & bits.wrapping_neg()
+}
+
+/// Where a word is cut at one bit: of the mask of which the fewest bits are left, under which the word is known not to be a number.
+pub(crate) fn cut_of_mask(known: &Chain<'_>) -> Option<Cut> {
+    let mut best: Option<(u8, u32)> = None;
+    let mut at = known.start();
+    while let Some((literal, next)) = known.next(at) {
+        if let Lit::NotBits(word, mask, datum) = literal
+            && mask != u32::MAX
+        {
+            let free = free_bits(told_bits(known, word), mask, datum);
+            let fewest = best.map_or(u32::MAX, |(_, bits)| bits.count_ones());
+            if free != 0 && free.count_ones() < fewest {
+                best = Some((word, free));
+            }
+        }
+        at = next;
+    }
+    let (word, bits) = best?;
+    Cut::bit(word, lowest(bits))
+}

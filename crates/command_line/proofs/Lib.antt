@@ -1,0 +1,6 @@
+pub mod PlainWalks
+pub mod Lists
+pub mod Grammars
+pub mod Leaves
+pub mod Names
+pub mod Readings

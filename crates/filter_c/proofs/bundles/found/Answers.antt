@@ -1,0 +1,19 @@
+use Rattle.std.proofs.Common.{◌≡◌, ap, ◌∙◌, sym, refl, subst, Ok, take, []}
+use Rattle.filter_c.specs.Answer.{IsNoOf}
+use Rattle.filter_c.proofs.AnswerLaws.{is_no, is_yes_found}
+use Rattle.filter_c.proofs.bundles.found.Goals as goal
+
+pub returns-then-is_yes-clause-yes : goal.returns-then-is_yes-clause-yes
+returns-then-is_yes-clause-yes c = λ zero.
+    is_yes_found _ _ c.new-sink.result c.check_line.new.sink c.args.native c.args.bundle.now c.args.filter.now c.args.cert.now []
+    c.check_line.result c.check_line.ensures (c.in-Ok.is ∙ ap Ok c.if-is_yes.true)
+
+pub returns-clause-other : goal.returns-clause-other
+returns-clause-other c = λ one.
+    let items = c.check_line.new.sink.writer.items in
+    let copied : take c.written.new.count c.written.new.out ≡ items = let a = c.written.ensures.put c.if-not-written.false in
+    let b = c.deref.ensures.value in cc in
+    subst (IsNoOf c.args.native c.args.bundle.now c.args.filter.now c.args.cert.now) (sym copied)
+    (is_no _ _ c.new-sink.result c.check_line.new.sink c.args.native c.args.bundle.now c.args.filter.now c.args.cert.now items
+    c.check_line.result c.check_line.ensures (c.in-Ok.is ∙ ap Ok c.if-is_yes.false)
+    (let a = c.new-sink.ensures.writer in let b = c.new.ensures.items in cc) refl)

@@ -1,0 +1,10 @@
+use Rattle.std.proofs.Common.{◌≡◌, ℕ, List, take, sym, subst}
+use Rattle.bpf_insn.specs.Bytes.{insns_of}
+use Rattle.cert_check.specs.Right.{IsRight}
+use Rattle.filter_c.proofs.rules.put_checked.Goals as goal
+
+pub returns-then-written-clause-right : goal.returns-then-written-clause-right
+returns-then-written-clause-right c = λ zero.
+    let copied : take c.written.new.count c.written.new.out ≡ c.args.prepared.now.filter.items = let a = c.written.ensures.put c.if-written.true in
+    let b = c.deref.ensures.value in cc in
+    subst (λ (filter : List ℕ). IsRight c.args.prepared.now.profile (insns_of filter)) (sym copied) c.in-Ok.ensures.yes.right

@@ -1,0 +1,50 @@
+-- What a program in C is told of a bundle, of a filter and of a certificate.
+use Rattle.std.specs.Prelude.{ℕ, ◌≡◌, ◌⊎◌, false, List}
+use Rattle.call_tables.specs.declared.arch.Arch.{Arch}
+use Rattle.cert_check.specs.declared.checked.Checked.{Checked}
+use Rattle.export.specs.Forms.{bytes_in}
+use Rattle.export.specs.declared.form.Form.TheVariants.{Raw}
+use Rattle.pipeline.specs.Certified.{IsConvicted, IsOpen, conviction_line}
+use Rattle.pipeline.specs.Exported.{IsCheckedOf, IsUnready, line_of}
+use Rattle.pipeline.specs.Finding.{IsFinding, is_yes}
+use Rattle.pipeline.specs.Finding as finding
+use Rattle.pipeline.specs.declared.check.Finding.{Finding}
+use Rattle.pipeline.specs.declared.check.Finding.TheVariants.{Yes}
+use Rattle.pipeline.specs.declared.unready.Unready.{Unready}
+
+-- the bytes are those of a filter that the checker said yes to, for this bundle
+pub record IsFilterOf (native : Arch) (bundle bytes : List ℕ) : Type 0 where
+  pub checked : Checked
+  pub is : IsCheckedOf native bundle checked
+  pub written : bytes ≡ bytes_in Raw checked
+
+-- the bytes are the line that says why the bundle has no checked filter
+pub record IsRefusalOf (native : Arch) (bundle bytes : List ℕ) : Type 0 where
+  pub unready : Unready
+  pub is : IsUnready native bundle unready
+  pub written : bytes ≡ line_of unready
+
+-- the bytes are the line of what is found of a bundle, a filter and a certificate, which is no yes
+pub record IsNoOf (native : Arch) (bundle filter cert bytes : List ℕ) : Type 0 where
+  pub found : Finding
+  pub is : IsFinding native bundle filter cert found
+  pub no_yes : is_yes found ≡ false
+  pub written : bytes ≡ finding.line_of found
+
+-- the bytes are the line of a call record that convicts the filter
+pub record IsConvictionOf (native : Arch) (bundle filter bytes : List ℕ) : Type 0 where
+  pub rec : List ℕ
+  pub given : ℕ
+  pub said : ℕ
+  pub is : IsConvicted native bundle filter rec given said
+  pub written : bytes ≡ conviction_line rec given said
+
+-- the bytes are the line that says why there is neither a certificate nor such a record
+pub record IsOpenOf (native : Arch) (bundle filter bytes : List ℕ) : Type 0 where
+  pub unready : Unready
+  pub is : IsOpen native bundle filter unready
+  pub written : bytes ≡ line_of unready
+
+-- the bytes are the line of a call record that convicts the filter, or that says why there is neither
+abbrev pub IsNoCertificateOf : Arch → List ℕ → List ℕ → List ℕ → Type 0
+IsNoCertificateOf native bundle filter bytes = IsConvictionOf native bundle filter bytes ⊎ IsOpenOf native bundle filter bytes

@@ -1,0 +1,148 @@
+//! Bundles: their filters, and certificates of filters.
+ghost use Rattle.std.specs.Prelude.{◌≡◌, ◌≢◌, ◌<◌, ◌⊎◌, Some, take, length};
+ghost use Rattle.call_tables.specs.declared.arch.Arch.{Arch as TheArch};
+ghost use Rattle.added_rules.specs.Machine as spec;
+ghost use Rattle.pipeline.specs.Finding.{IsFinding};
+ghost use Rattle.pipeline.specs.declared.check.Finding.TheVariants.{Yes};
+ghost use Rattle.filter_c.specs.Answer.{IsFilterOf, IsNoCertificateOf, IsNoOf, IsRefusalOf};
+
+use crate::answers::written;
+use crate::status::{DONE, NO_MEMORY, NO_NATIVE, NO_ROOM, REFUSED};
+use added_rules::machine_with;
+use call_tables::Arch;
+use export::Form;
+use pipeline::{certify_bundle, check_line, export_bundle};
+use std::alloc::Global;
+use streams::ToWrite;
+
+// The filter of a bundle, or the line that says why it has none.
+fn filter_for(alloc: Global, native: Arch, bundle: &[u8], out: &mut [u8], count: &mut usize) -> u32
+    ensures made { result ≡ 0 → IsFilterOf native bundle.now (take count.new out.new) }
+    ensures refused { result ≡ 1 → IsRefusalOf native bundle.now (take count.new out.new) }
+    ensures room { result ≡ 2 → length out.old < count.new }
+{
+    let mut sink = ToWrite::new(Vec::new(alloc));
+    let Ok(is_made) = export_bundle(alloc, native, bundle, Form::Raw, &mut sink) else {
+        return NO_MEMORY;
+    };
+    if !written(&sink.writer, out, count) {
+        return NO_ROOM;
+    }
+    if is_made { DONE } else { REFUSED }
+}
+
+// What is found of a bundle, a filter and a certificate.
+fn found(
+    alloc: Global,
+    native: Arch,
+    bundle: &[u8],
+    filter: &[u8],
+    cert: &[u8],
+    out: &mut [u8],
+    count: &mut usize,
+) -> u32
+    ensures yes { result ≡ 0 → IsFinding native bundle.now filter.now cert.now Yes }
+    ensures other { result ≡ 1 → IsNoOf native bundle.now filter.now cert.now (take count.new out.new) }
+    ensures room { result ≡ 2 → length out.old < count.new }
+{
+    let mut sink = ToWrite::new(Vec::new(alloc));
+    let Ok(is_yes) = check_line(alloc, native, bundle, filter, cert, &mut sink) else {
+        return NO_MEMORY;
+    };
+    if !written(&sink.writer, out, count) {
+        return NO_ROOM;
+    }
+    if is_yes { DONE } else { REFUSED }
+}
+
+// A certificate of a filter, or a line that says why there is none.
+fn certified(
+    alloc: Global,
+    native: Arch,
+    bundle: &[u8],
+    filter: &[u8],
+    out: &mut [u8],
+    count: &mut usize,
+) -> u32
+    ensures made { result ≡ 0 → IsFinding native bundle.now filter.now (take count.new out.new) Yes }
+    ensures other { result ≡ 1 → IsNoCertificateOf native bundle.now filter.now (take count.new out.new) }
+    ensures room { result ≡ 2 → length out.old < count.new }
+{
+    let mut sink = ToWrite::new(Vec::new(alloc));
+    let Ok(is_made) = certify_bundle(alloc, native, bundle, filter, &mut sink) else {
+        return NO_MEMORY;
+    };
+    if !written(&sink.writer, out, count) {
+        return NO_ROOM;
+    }
+    if is_made { DONE } else { REFUSED }
+}
+
+/// Writes a filter for a bundle into `out`, and its length into `count`: 0, and the checker said yes to it. 1: the line is
+/// written that says why there is none. 2: there is no room. 3: there is no memory. 4: there is no such machine.
+#[unsafe(no_mangle)]
+pub extern "C" fn ccell_filter_for_bundle(
+    alloc: Global,
+    native: u32,
+    bundle: &[u8],
+    out: &mut [u8],
+    count: &mut usize,
+) -> u32
+    ensures made { (arch : TheArch) → spec.machine_with native ≡ Some arch → result ≡ 0
+        → IsFilterOf arch bundle.now (take count.new out.new) }
+    ensures refused { (arch : TheArch) → spec.machine_with native ≡ Some arch → result ≡ 1
+        → IsRefusalOf arch bundle.now (take count.new out.new) }
+    ensures room { result ≡ 2 → length out.old < count.new }
+{
+    match machine_with(native) {
+        Some(arch) => filter_for(alloc, arch, bundle, out, count),
+        None => NO_NATIVE,
+    }
+}
+
+/// Whether the checker says yes to a filter and a certificate for a bundle: 0. 1: the line is written that says what is wrong.
+/// 2: there is no room. 3: there is no memory. 4: there is no such machine.
+#[unsafe(no_mangle)]
+pub extern "C" fn ccell_check(
+    alloc: Global,
+    native: u32,
+    bundle: &[u8],
+    filter: &[u8],
+    cert: &[u8],
+    out: &mut [u8],
+    count: &mut usize,
+) -> u32
+    ensures yes { (arch : TheArch) → spec.machine_with native ≡ Some arch → result ≡ 0
+        → IsFinding arch bundle.now filter.now cert.now Yes }
+    ensures other { (arch : TheArch) → spec.machine_with native ≡ Some arch → result ≡ 1
+        → IsNoOf arch bundle.now filter.now cert.now (take count.new out.new) }
+    ensures room { result ≡ 2 → length out.old < count.new }
+{
+    match machine_with(native) {
+        Some(arch) => found(alloc, arch, bundle, filter, cert, out, count),
+        None => NO_NATIVE,
+    }
+}
+
+/// Writes a certificate that a filter answers what a bundle says: 0. 1: the line is written of a call record on which it does
+/// not, or that says why neither is found. 2: there is no room. 3: there is no memory. 4: there is no such machine.
+#[unsafe(no_mangle)]
+pub extern "C" fn ccell_certify(
+    alloc: Global,
+    native: u32,
+    bundle: &[u8],
+    filter: &[u8],
+    out: &mut [u8],
+    count: &mut usize,
+) -> u32
+    ensures made { (arch : TheArch) → spec.machine_with native ≡ Some arch → result ≡ 0
+        → IsFinding arch bundle.now filter.now (take count.new out.new) Yes }
+    ensures other { (arch : TheArch) → spec.machine_with native ≡ Some arch → result ≡ 1
+        → IsNoCertificateOf arch bundle.now filter.now (take count.new out.new) }
+    ensures room { result ≡ 2 → length out.old < count.new }
+{
+    match machine_with(native) {
+        Some(arch) => certified(alloc, arch, bundle, filter, out, count),
+        None => NO_NATIVE,
+    }
+}

@@ -1,0 +1,58 @@
+//! Names and numbers of calls.
+ghost use Rattle.std.specs.Prelude.{◌≡◌, Some, None, take, length};
+ghost use Rattle.std.specs.Str.{IsUtf8};
+ghost use Rattle.added_rules.specs.Machine as spec;
+ghost use Rattle.filter_c.specs.Calls.{HasNumber, HasNoNumber, HasName, HasNoName};
+
+use crate::answers::written;
+use crate::status::{DONE, NO_CALL, NO_NATIVE, NO_ROOM, NO_TEXT};
+use added_rules::machine_with;
+
+/// Writes the number of a machine's call into `number`: 0. 15: the machine has no such call. 4: there is no such machine.
+/// 16: the name is no UTF-8.
+#[unsafe(no_mangle)]
+pub extern "C" fn ccell_call_number(machine: u32, name: &[u8], number: &mut u32) -> u32
+    ensures done { result ≡ 0 → HasNumber machine name.now number.new }
+    ensures none { result ≡ 15 → HasNoNumber machine name.now }
+    ensures machine { result ≡ 4 → spec.machine_with machine ≡ None }
+    ensures text { result ≡ 16 → ¬ IsUtf8 name.now }
+{
+    let Some(arch) = machine_with(machine) else {
+        return NO_NATIVE;
+    };
+    let Ok(text) = std::str::from_utf8(name) else {
+        return NO_TEXT;
+    };
+    match arch.number(text) {
+        Some(found) => {
+            *number = found;
+            DONE
+        }
+        None => NO_CALL,
+    }
+}
+
+/// Writes the name of a machine's call into `out`, and its length into `count`: 0. 15: the machine has no such call. 4: there
+/// is no such machine. 2: there is no room.
+#[unsafe(no_mangle)]
+pub extern "C" fn ccell_call_name(
+    machine: u32,
+    number: u32,
+    out: &mut [u8],
+    count: &mut usize,
+) -> u32
+    ensures done { result ≡ 0 → HasName machine number (take count.new out.new) }
+    ensures none { result ≡ 15 → HasNoName machine number }
+{
+    let Some(arch) = machine_with(machine) else {
+        return NO_NATIVE;
+    };
+    let Some(name) = arch.name(number) else {
+        return NO_CALL;
+    };
+    if written(name.as_bytes(), out, count) {
+        DONE
+    } else {
+        NO_ROOM
+    }
+}

@@ -1,0 +1,118 @@
+//! A filter for rules that were added one by one.
+ghost use Rattle.std.specs.Prelude.{◌≡◌, ◌≢◌, ◌⊎◌, ◌<◌, take, length};
+ghost use Rattle.bpf_insn.specs.Bytes.{insns_of};
+ghost use Rattle.kernel_check.specs.Accepted.{IsAccepted};
+ghost use Rattle.cert_check.specs.Right.{IsRight};
+ghost use Rattle.rule_compile.specs.Shape.{IsPlain};
+ghost use Rattle.pipeline.specs.Prepared.{IsUnbroken};
+ghost use Rattle.added_rules.specs.Refusal.{IsCause};
+ghost use Rattle.added_rules.specs.declared.fault.AddedError.TheVariants as error;
+ghost use Rattle.filter_c.specs.Rules.{AnswersWhatWasAdded, AreNotPlain};
+
+use crate::answers::written;
+use crate::status::{
+    DONE, FOREIGN_RULE, NATIVE_MISSING, NO_FILTER, NO_MACHINE, NO_MEMORY, NO_NATIVE, NO_ROOM,
+    NO_RULE, OVERLAP, TOO_MANY, Told,
+};
+use added_rules::{AddedError, AddedRule, profile_of};
+use pipeline::{Prepared, Unready};
+use profile::Profile;
+use std::alloc::Global;
+
+// Writes a filter once the checker has said yes to it.
+fn put_checked(alloc: Global, prepared: &Prepared, out: &mut [u8], told: &mut Told) -> u32
+    requires { IsUnbroken prepared.now.profile prepared.now.filter.items prepared.now.certificate.items }
+    ensures accepted { result ≡ 0 → IsAccepted (insns_of (take told.new.count out.new)) }
+    ensures right { result ≡ 0 → IsRight prepared.now.profile (insns_of (take told.new.count out.new)) }
+    ensures room { result ≡ 2 → length out.old < told.new.count }
+    ensures statuses { (result ≡ 0) ⊎ ((result ≡ 2) ⊎ (result ≡ 3)) }
+{
+    let Ok(_checked) = prepared.checked(alloc) else {
+        return NO_MEMORY;
+    };
+    if written(&prepared.filter, out, &mut told.count) {
+        DONE
+    } else {
+        NO_ROOM
+    }
+}
+
+// Writes the filter of a profile.
+fn put_filter(alloc: Global, profile: Profile, out: &mut [u8], told: &mut Told) -> u32
+    ensures accepted { result ≡ 0 → IsAccepted (insns_of (take told.new.count out.new)) }
+    ensures right { result ≡ 0 → IsRight profile (insns_of (take told.new.count out.new)) }
+    ensures room { result ≡ 2 → length out.old < told.new.count }
+    ensures size { result ≡ 11 → IsPlain profile → ⊥ }
+    ensures statuses { (result ≡ 0) ⊎ ((result ≡ 2) ⊎ ((result ≡ 3) ⊎ (result ≡ 11))) }
+{
+    match Prepared::of_profile(alloc, profile) {
+        Ok(prepared) => put_checked(alloc, &prepared, out, told),
+        Err(Unready::OutOfMemory) => NO_MEMORY,
+        Err(_) => NO_FILTER,
+    }
+}
+
+// The status of a cause, with its places.
+fn tell(cause: AddedError, told: &mut Told) -> u32
+    ensures native { result ≡ 4 → cause ≡ error.NoNative }
+    ensures machine { result ≡ 5 → cause ≡ error.NoMachine told.new.first }
+    ensures rule { result ≡ 6 → cause ≡ error.NoRule told.new.first }
+    ensures missing { result ≡ 7 → cause ≡ error.NativeMissing }
+    ensures foreign { result ≡ 8 → cause ≡ error.ForeignRule told.new.first }
+    ensures many { result ≡ 9 → cause ≡ error.TooMany }
+    ensures overlap { result ≡ 10 → cause ≡ error.Overlap told.new.first told.new.second }
+    ensures others { (result ≢ 0) × ((result ≢ 2) × (result ≢ 11)) }
+{
+    match cause {
+        AddedError::NoNative => NO_NATIVE,
+        AddedError::NoMachine(place) => {
+            told.first = place;
+            NO_MACHINE
+        }
+        AddedError::NoRule(place) => {
+            told.first = place;
+            NO_RULE
+        }
+        AddedError::NativeMissing => NATIVE_MISSING,
+        AddedError::ForeignRule(place) => {
+            told.first = place;
+            FOREIGN_RULE
+        }
+        AddedError::TooMany => TOO_MANY,
+        AddedError::Overlap(first, second) => {
+            told.first = first;
+            told.second = second;
+            OVERLAP
+        }
+        AddedError::OutOfMemory => NO_MEMORY,
+    }
+}
+
+/// Writes a filter for rules into `out`, and its length into `told.count`: 0. On each call record it answers what the rules
+/// say, which the checker has shown. Any other status says why there is none, by the places of `told`: 2 to 11.
+#[unsafe(no_mangle)]
+pub extern "C" fn ccell_filter_for_rules(
+    alloc: Global,
+    native: u32,
+    default_action: u32,
+    machines: &[u32],
+    rules: &[AddedRule],
+    out: &mut [u8],
+    told: &mut Told,
+) -> u32
+    ensures made { result ≡ 0 → AnswersWhatWasAdded machines.now default_action rules.now (take told.new.count out.new) }
+    ensures room { result ≡ 2 → length out.old < told.new.count }
+    ensures native { result ≡ 4 → IsCause native machines.now rules.now error.NoNative }
+    ensures machine { result ≡ 5 → IsCause native machines.now rules.now (error.NoMachine told.new.first) }
+    ensures rule { result ≡ 6 → IsCause native machines.now rules.now (error.NoRule told.new.first) }
+    ensures missing { result ≡ 7 → IsCause native machines.now rules.now error.NativeMissing }
+    ensures foreign { result ≡ 8 → IsCause native machines.now rules.now (error.ForeignRule told.new.first) }
+    ensures many { result ≡ 9 → IsCause native machines.now rules.now error.TooMany }
+    ensures overlap { result ≡ 10 → IsCause native machines.now rules.now (error.Overlap told.new.first told.new.second) }
+    ensures size { result ≡ 11 → AreNotPlain machines.now default_action rules.now }
+{
+    match profile_of(alloc, native, machines, default_action, rules) {
+        Ok(profile) => put_filter(alloc, profile, out, told),
+        Err(cause) => tell(cause, told),
+    }
+}

@@ -1,0 +1,4 @@
+pub mod Lists
+pub mod Learned
+pub mod Replayed
+pub mod inner

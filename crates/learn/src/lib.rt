@@ -1,0 +1,23 @@
+//! Profiles from logs of strace, and logs played through a profile.
+#![tactic(auto)]
+
+mod bundle;
+mod calls;
+mod judging;
+mod keeps;
+mod learning;
+mod lists;
+mod logs;
+mod names;
+mod refusals;
+mod replaying;
+mod telling;
+mod unused;
+mod wish;
+
+pub use keeps::Keep;
+pub use learning::{Learned, learn};
+pub use lists::{Otherwise, Runtime};
+pub use logs::Log;
+pub use replaying::replay;
+pub use wish::{Wish, wish_of};

@@ -1,0 +1,6 @@
+mod RunLaws
+mod SteadyLaws
+mod CauseLaws
+mod ExcessLaws
+mod DecidedLaws
+mod NothingLaws

@@ -1,0 +1,3 @@
+pub mod Order
+pub mod Decided
+pub mod inner

@@ -1,0 +1,2 @@
+-- The filter by which it is decided.
+pub mod Excess

@@ -1,0 +1,2 @@
+pub mod Splits
+mod Spaces

@@ -1,0 +1,102 @@
+/* Filters, loaded and given out. */
+#include "filter.h"
+#include <errno.h>
+#include <linux/filter.h>
+#include <linux/seccomp.h>
+#include <stdio.h>
+#include <stdlib.h>
+#include <string.h>
+#include <sys/prctl.h>
+#include <sys/syscall.h>
+#include <unistd.h>
+
+static int failed(const struct filter *filter) { return filter->now.attributes[ERRORS_OF_SYSTEM] ? -errno : -ECANCELED; }
+
+static int write_all(const struct filter *filter, int fd, const void *bytes, size_t count) {
+    for (size_t written = 0; written < count;) {
+        ssize_t put = write(fd, (const char *)bytes + written, count - written);
+        if (put > 0) written += (size_t)put;
+        else if (put == 0) return filter->now.attributes[ERRORS_OF_SYSTEM] ? -EIO : -ECANCELED;
+        else if (errno != EINTR) return failed(filter);
+    }
+    return 0;
+}
+
+API int seccomp_export_bpf(const scmp_filter_ctx ctx, int fd) {
+    struct filter *filter = take(ctx);
+    if (!filter) return -EINVAL;
+    int error = make(filter);
+    return done(filter, error ? error : write_all(filter, fd, filter->bytes, filter->length));
+}
+
+API int seccomp_export_bpf_mem(const scmp_filter_ctx ctx, void *buffer, size_t *length) {
+    struct filter *filter = length ? take(ctx) : NULL;
+    if (!filter) return -EINVAL;
+    int error = make(filter);
+    if (error) return done(filter, error);
+    if (buffer && *length < filter->length) error = -ERANGE;
+    else if (buffer) memcpy(buffer, filter->bytes, filter->length);
+    *length = filter->length;
+    return done(filter, error);
+}
+
+API int seccomp_precompute(const scmp_filter_ctx ctx) {
+    struct filter *filter = take(ctx);
+    return filter ? done(filter, make(filter)) : -EINVAL;
+}
+
+/* What is read by people: a line for each machine and each rule, as it was added. */
+API int seccomp_export_pfc(const scmp_filter_ctx ctx, int fd) {
+    struct filter *filter = take(ctx);
+    char *text = NULL;
+    size_t length = 0;
+    if (!filter) return -EINVAL;
+    FILE *to = open_memstream(&text, &length);
+    if (!to) return done(filter, -ENOMEM);
+    fprintf(to, "# rules as they were added, for ccell\ndefault %#x\n", filter->now.attributes[DEFAULT_ACTION]);
+    for (int i = 0; i < MACHINES; i++)
+        if (filter->now.machines >> i & 1) fprintf(to, "machine %s\n", MACHINE[i].name);
+    for (size_t i = 0; i < filter->now.count; i++) {
+        const struct rule *rule = &filter->rules[i];
+        fprintf(to, "rule %zu %s %d %#x", i, rule->call < 0 ? "-" : call_name(rule->call), rule->number, rule->action);
+        for (unsigned k = 0; k < rule->count; k++)
+            fprintf(to, " arg%u op%u %#llx %#llx", rule->conditions[k].argument, rule->conditions[k].operator_,
+                    (unsigned long long)rule->conditions[k].value, (unsigned long long)rule->conditions[k].datum);
+        fputc('\n', to);
+    }
+    bool is_whole = !ferror(to);
+    if (fclose(to) || !is_whole) {
+        free(text);
+        return done(filter, -ENOMEM);
+    }
+    int error = write_all(filter, fd, text, length);
+    free(text);
+    return done(filter, error);
+}
+
+/* Once the filter is in the kernel, this makes no further call of the system: the filter may refuse it. */
+API int seccomp_load(const scmp_filter_ctx ctx) {
+    struct filter *filter = take(ctx);
+    if (!filter) return -EINVAL;
+    int error = make(filter);
+    if (error) return done(filter, error);
+    struct sock_fprog whole = {(unsigned short)(filter->length / sizeof *whole.filter), (struct sock_filter *)(void *)filter->bytes};
+    const uint32_t *is_on = filter->now.attributes;
+    unsigned flags = (is_on[ALL_THREADS] ? SECCOMP_FILTER_FLAG_TSYNC : 0) | (is_on[LOG_REFUSED] ? SECCOMP_FILTER_FLAG_LOG : 0) |
+                     (is_on[NO_SSB_MITIGATION] ? SECCOMP_FILTER_FLAG_SPEC_ALLOW : 0);
+    if (is_on[NO_NEW_PRIVS] && prctl(PR_SET_NO_NEW_PRIVS, 1, 0, 0, 0)) return done(filter, failed(filter));
+    long answer = syscall(SYS_seccomp, SECCOMP_SET_MODE_FILTER, flags, &whole);
+    return done(filter, answer < 0 ? failed(filter) : answer > 0 ? -ESRCH : 0); /* above 0: a thread that did not take it */
+}
+
+/* ---- SCMP_ACT_NOTIFY, which there is not */
+
+API int seccomp_notify_alloc(void **request, void **response) { return (void)request, (void)response, -EOPNOTSUPP; }
+API void seccomp_notify_free(void *request, void *response) { free(request), free(response); }
+API int seccomp_notify_receive(int fd, void *request) { return (void)fd, (void)request, -EOPNOTSUPP; }
+API int seccomp_notify_respond(int fd, void *response) { return (void)fd, (void)response, -EOPNOTSUPP; }
+API int seccomp_notify_id_valid(int fd, uint64_t id) { return (void)fd, (void)id, -EOPNOTSUPP; }
+API int seccomp_notify_fd(const scmp_filter_ctx ctx) {
+    struct filter *filter = take(ctx);
+    return filter ? done(filter, -EOPNOTSUPP) : -EINVAL;
+}

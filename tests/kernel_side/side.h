@@ -1,0 +1,52 @@
+/* The real side of tests/kernel: what the parts share. */
+#ifndef SIDE_H
+#define SIDE_H
+
+#include <linux/filter.h>
+#include <stddef.h>
+
+/* A call as it is entered: its number and its six registers. */
+struct call {
+	unsigned long number;
+	unsigned long args[6];
+};
+
+/* The two ways into the kernel, and the addresses behind their instructions, which are the records' instruction pointers. They
+ * return what the kernel leaves in the register of the result: an error is a negative number. */
+long enter_by_syscall(const struct call *call);
+long enter_by_int80(const struct call *call);
+extern const char behind_syscall[], behind_int80[];
+
+/* A call by its number, through the first way. */
+long enter(unsigned long number, unsigned long a, unsigned long b, unsigned long c, unsigned long d);
+
+/* Loads a filter by seccomp(2), and asks for no privilege of this task from now on. */
+long load(const struct sock_filter *insns, unsigned short count);
+long give_up_privileges(void);
+
+/* Limits of a child that carries out a case: time of the processor and of the clock. */
+void limit_child(void);
+
+/* Ends a child, whatever its filters let through. */
+_Noreturn void leave(void);
+
+/* Reads digits of bytes into room for so many; returns how many bytes, or -1. `at` moves behind them. */
+long read_bytes(const char **at, unsigned char *bytes, size_t room);
+
+/* Reads a hexadecimal number; `at` moves behind it. */
+unsigned long read_number(const char **at);
+
+/* Writes how a child ended: `end` if it came to its end, else its signal or its status. */
+void tell_end(int whole, int status);
+
+/* What a line asks: a line of answer each. Cases are answered once `end_cases` is called, or some are under way. */
+void on_case(const char *line);
+void end_cases(void);
+void on_tree(const char *line);
+void on_width(const char *line);
+void on_told(const char *line);
+
+/* What this program is where it was started by execve(2) in a tree. */
+_Noreturn void go_on_in_tree(const char *descriptor);
+
+#endif

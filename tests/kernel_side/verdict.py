@@ -1,0 +1,172 @@
+"""The verdict: what comes of a call under a filter is what the model says of the filter's verdict on its record.
+
+The calls do no harm: numbers that no call has, calls on descriptors that are not open, and questions for one's own number. They come
+by `syscall`, by `int $0x80` and by x32's numbers, with whatever arguments. What comes of a call that is carried out is asked of a
+child without a filter.
+"""
+import glob
+import json
+
+from harness.asked import record
+from harness.calls import TOKENS
+from harness.places import TOP
+from kernel_side.insns import LD, SCRATCH, ST, STX, digits, drawn
+from kernel_side.sides import INT80, SYSCALL, Fault, Tally, case_line
+
+X32 = 0x40000000
+# Calls whose result is the same whatever their arguments are, if the first one is no open descriptor: their names and numbers.
+NAMED = {"read": (0, 3), "write": (1, 4), "close": (3, 6), "lseek": (8, 19), "dup": (32, 41), "getpid": (39, 20), "fcntl": (72, 55),
+         "fchmod": (91, 94), "gettid": (186, 224)}
+NO_CALLS = (500, 1000, 0x3FFFFFFF, 0x80000000, 0xFFFFFFFE, 0xFFFFFFFF)
+X32_CALLS = tuple(X32 | nr for nr in (0, 3, 39, 0x200, 1000, 0x3FFFFFFF))
+BY_SYSCALL = (*(nr for nr, _ in NAMED.values()), *NO_CALLS, *X32_CALLS)
+BY_INT80 = (*(nr for _, nr in NAMED.values()), *NO_CALLS, X32)
+NOT_OPEN = (1000, 1001, 65535, 0x7FFFFFFF, 0x80000000, 0xFFFFFFFF)
+HALVES = (0, 1, 2, 7, 255, 0x7FFFFFFF, 0x80000000, 0xFFFFFFFF)
+SOCKET = 41
+OPERATORS = ("NE", "LT", "LE", "EQ", "GE", "GT", "MASKED_EQ")
+SCMP_ACTIONS = ("ALLOW", "ALLOW", "LOG", "ERRNO", "TRACE", "TRAP", "KILL", "KILL_PROCESS")
+
+
+def drawn_call(dice):
+    """A call: its way, its number and its arguments."""
+    first = dice.pick(HALVES) << 32 | dice.pick(NOT_OPEN)
+    args = [first, *(dice.pick(HALVES) << 32 | dice.pick(HALVES) for _ in range(5))]
+    return (INT80, dice.pick(BY_INT80), args) if dice.below(3) == 0 else (SYSCALL, dice.pick(BY_SYSCALL), args)
+
+
+class Records:
+    """The records that the kernel presents: at which addresses calls are made, and what comes of them where nothing refuses them."""
+
+    def __init__(self, sides):
+        self.sides = sides
+        self.behind = dict(zip((SYSCALL, INT80), (int(part, 16) for part in sides.real(["ways"])[0].split())))
+        asked = [(way, nr) for way, numbers in ((SYSCALL, BY_SYSCALL), (INT80, BY_INT80)) for nr in numbers]
+        told = sides.real([case_line([], [(way, nr, [NOT_OPEN[-1]])]) for way, nr in asked])
+        self.free = {call: line.split()[1] for call, line in zip(asked, told)}
+
+    def has_x86(self):
+        """Whether this kernel has calls of x86."""
+        return self.free[INT80, NAMED["getpid"][1]] == "pid"
+
+    def has_x32(self):
+        """Whether it has calls of x32."""
+        return self.free[SYSCALL, X32 | 39] == "pid"
+
+    def of(self, call):
+        """The record of a call, as `ask` reads it."""
+        way, nr, args = call
+        return record(nr & 0xFFFFFFFF, TOKENS["linux-x86-64" if way == SYSCALL else "linux-x86"], args, self.behind[way])
+
+    def numbers(self):
+        """Numbers that filters compare with: halves, calls, tokens and addresses."""
+        places = [half for place in self.behind.values() for half in (place & 0xFFFFFFFF, place >> 32)]
+        return (*HALVES, *NOT_OPEN, *BY_SYSCALL, *BY_INT80, TOKENS["linux-x86-64"], TOKENS["linux-x86"], *places)
+
+
+def drawn_filter(dice, numbers):
+    """A random filter that the kernel takes. Its two scratch words are written first."""
+    length = dice.below(24) + 2
+    body = [(code, jt, jf, k % 2 if code in SCRATCH else k) for code, jt, jf, k in drawn(dice, length, (*range(16), 0, 1, 4, 4), numbers)]
+    return digits([(LD, 0, 0, 4 * dice.below(16)), (ST, 0, 0, 0), (STX, 0, 0, 1), *body])
+
+
+def drawn_condition(dice, index):
+    """A condition on an argument."""
+    value, op = dice.pick(HALVES) << 32 | dice.pick(HALVES + NOT_OPEN), dice.pick(OPERATORS)
+    datum = {"valueTwo": value & dice.pick(HALVES)} if op == "MASKED_EQ" else {}
+    return {"index": index, "op": f"SCMP_CMP_{op}", "value": value, **datum}
+
+
+def drawn_bundle(dice):
+    """A bundle over the calls, with an entry of at most six conditions for most of them."""
+    entries = []
+    for name in NAMED:
+        if dice.below(3) == 0:
+            continue
+        action = f"SCMP_ACT_{dice.pick(SCMP_ACTIONS)}"
+        entry = {"names": [name], "action": action}
+        if action in ("SCMP_ACT_ERRNO", "SCMP_ACT_TRACE"):
+            entry["errnoRet"] = dice.pick((0, 1, 13, 38, 4095))
+        args = [drawn_condition(dice, index) for index in range(6) if dice.below(4) == 0]
+        entries.append({**entry, **({"args": args} if args else {})})
+    machines = ["SCMP_ARCH_X86_64", *(name for name in ("SCMP_ARCH_X86", "SCMP_ARCH_X32") if dice.below(2))]
+    section = {"defaultAction": f"SCMP_ACT_{dice.pick(SCMP_ACTIONS)}", "architectures": machines, "syscalls": entries}
+    return json.dumps({"ociVersion": "1.0.2", "linux": {"seccomp": section}})
+
+
+def of_others():
+    """Filters that libseccomp and engines made, in digits."""
+    with open(f"{TOP}/tests/libseccomp.pairs", encoding="utf-8") as file:
+        made = [line.split()[1] for line in file if line.startswith("filter ")]
+    for path in sorted(glob.glob(f"{TOP}/examples/*/*.bpf")):
+        with open(path, "rb") as file:
+            made.append(file.read().hex())
+    return made
+
+
+def compare(records, tally, cases):
+    """Has cases carried out, each a filter and its calls."""
+    sides = records.sides
+    asked = []
+    for filtered, calls in cases:
+        asked += [f"filter bytes {filtered}", *(f"filter run {records.of(call)}" for call in calls)]
+    said, came = iter(sides.modelled(asked)), sides.real([case_line([filtered], calls) for filtered, calls in cases])
+    for (filtered, calls), told in zip(cases, came):
+        next(said)
+        words = [next(said) for _ in calls]
+        loads, results, end = told.split(" ", 2)
+        right, right_end = [], "end"
+        for (way, nr, args), (word, *_) in zip(calls, words):
+            if not word.startswith("0x"):
+                raise Fault(f"no filter that the model takes: {filtered}, {word}")
+            free = records.free.get((way, nr)) or sockets_free(records, nr, args)
+            result = sides.came_of(int(word, 16), free)
+            tally.see("the task ends" if result is None else "carried out" if result == free else "answers an error")
+            if result is None:
+                right_end = "signal 31"
+                break
+            right.append(result)
+        is_right = (loads, results, end) == ("0", ",".join(right) or "-", right_end)
+        tally.count(is_right, lambda: f"{case_line([filtered], calls)}: the model: {words}, {right}, {right_end}; the kernel: {told}")
+
+
+def sockets_free(records, nr, args):
+    """What comes of a call of `socket` that nothing refuses."""
+    key = SYSCALL, nr, tuple(args)
+    if key not in records.free:
+        records.free[key] = records.sides.real([case_line([], [(SYSCALL, nr, args)])])[0].split()[1]
+    return records.free[key]
+
+
+def drawn_case(dice, filtered):
+    """A filter with some calls."""
+    return filtered, [drawn_call(dice) for _ in range(dice.below(3) + 1)]
+
+
+def others_case(dice, filtered):
+    """A filter of others with a call that opens a socket, or with calls as above."""
+    if dice.below(2):
+        return drawn_case(dice, filtered)
+    return filtered, [(SYSCALL, SOCKET, [dice.pick((0, 0, 1, 3)) << 32 | dice.pick((1, 2, 16, 45, 0xFFFF)) for _ in range(3)])]
+
+
+def run(sides, dice, count):
+    """Tries so many cases: a fifth of them on filters of ours and as many on those of others."""
+    tally = Tally("verdict")
+    records = Records(sides)
+    if not records.has_x86():
+        tally.untried.append("calls of x86 that are carried out: this kernel has none")
+    if not records.has_x32():
+        tally.untried.append("calls of x32 that are carried out: this kernel has none; filters judge them as any other")
+    bundles = (drawn_bundle(dice) for _ in range(min(400, count // 100 + 10)))
+    ours = [made for made in (sides.exported("linux-x86-64", bundle) for bundle in bundles) if made]
+    numbers, others = records.numbers(), of_others()
+    while count > 0:
+        some = min(count, 20000)
+        cases = [drawn_case(dice, dice.pick(ours)) for _ in range(some // 5)]
+        cases += [others_case(dice, dice.pick(others)) for _ in range(some // 5)]
+        cases += [drawn_case(dice, drawn_filter(dice, numbers)) for _ in range(some - len(cases))]
+        compare(records, tally, cases)
+        count -= some
+    return tally

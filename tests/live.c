@@ -1,0 +1,149 @@
+/* Loads filters through the library in libseccomp's place, from threads, in little room, and into descriptors that fail:
+ * cc -o live tests/live.c -pthread FOLDER/libseccomp.so.2; ./live. A line for each thing that is not as it has to be. */
+#define _GNU_SOURCE
+#include "../seccomp/interface.h"
+#include <errno.h>
+#include <fcntl.h>
+#include <pthread.h>
+#include <signal.h>
+#include <stdio.h>
+#include <stdlib.h>
+#include <string.h>
+#include <sys/syscall.h>
+#include <sys/wait.h>
+#include <unistd.h>
+
+scmp_filter_ctx seccomp_init(uint32_t action);
+void seccomp_release(scmp_filter_ctx ctx);
+int seccomp_reset(scmp_filter_ctx ctx, uint32_t action);
+int seccomp_arch_add(scmp_filter_ctx ctx, uint32_t token);
+int seccomp_attr_set(scmp_filter_ctx ctx, int attribute, uint32_t value);
+int seccomp_rule_add_array(scmp_filter_ctx ctx, uint32_t action, int number, unsigned count, const struct scmp_arg_cmp *args);
+int seccomp_export_bpf(const scmp_filter_ctx ctx, int fd);
+int seccomp_export_bpf_mem(const scmp_filter_ctx ctx, void *buffer, size_t *length);
+int seccomp_load(const scmp_filter_ctx ctx);
+
+static int wrong;
+
+static void tell(int came, int wanted, const char *what) {
+    if (came == wanted) return;
+    printf("%s: wanted %d, came %d\n", what, wanted, came);
+    wrong++;
+}
+
+/* How a child ends that loads a filter and then makes a call. */
+static int ended(uint32_t action, uint32_t of_rule, int call, int made) {
+    int status;
+    pid_t child = fork();
+    if (!child) {
+        scmp_filter_ctx ctx = seccomp_init(action);
+        if (call >= 0 && seccomp_rule_add_array(ctx, of_rule, call, 0, NULL)) syscall(SYS_exit_group, 100);
+        if (seccomp_load(ctx)) syscall(SYS_exit_group, 101);
+        errno = 0;
+        if (made >= 0) syscall(made);
+        syscall(SYS_exit_group, errno);
+    }
+    waitpid(child, &status, 0);
+    return WIFSIGNALED(status) ? -WTERMSIG(status) : WEXITSTATUS(status);
+}
+
+static void loads(void) {
+    tell(ended(KILL_PROCESS, ALLOW, SYS_exit_group, -1), 0, "a load with nothing but exit_group"); /* no call after it */
+    tell(ended(ALLOW, KILL_PROCESS, SYS_getppid, SYS_getpid), 0, "a call that is allowed");
+    tell(ended(ALLOW, KILL_PROCESS, SYS_getppid, SYS_getppid), -SIGSYS, "a call that is killed");
+    tell(ended(ALLOW, ERRNO | 77, SYS_getppid, SYS_getppid), 77, "a call that answers 77");
+}
+
+static void descriptors(void) {
+    scmp_filter_ctx ctx = seccomp_init(ALLOW);
+    int full = open("/dev/full", O_WRONLY);
+    tell(seccomp_export_bpf(ctx, -1), -ECANCELED, "no descriptor");
+    tell(seccomp_export_bpf(ctx, full), -ECANCELED, "a full one");
+    seccomp_attr_set(ctx, ERRORS_OF_SYSTEM, 1);
+    tell(seccomp_export_bpf(ctx, -1), -EBADF, "no descriptor, the system's error");
+    tell(seccomp_export_bpf(ctx, full), -ENOSPC, "a full one, the system's error");
+    seccomp_release(ctx);
+}
+
+static uint8_t first[8 * 4096], second[8 * 4096];
+
+static void *adds(void *ctx) {
+    for (int call = 0; call < 300; call++) seccomp_rule_add_array(ctx, ALLOW, call, 0, NULL);
+    return NULL;
+}
+
+/* All machines and 300 calls, from one thread with little stack and from four at once: the same filter. */
+static void threads(void) {
+    pthread_t ids[4];
+    size_t lengths[2] = {sizeof first, sizeof second};
+    for (int round = 0; round < 2; round++) {
+        scmp_filter_ctx ctx = seccomp_init(ERRNO | 1);
+        seccomp_arch_add(ctx, 0x40000003);
+        seccomp_arch_add(ctx, 0x4000003e);
+        for (int i = 0; i < (round ? 4 : 1); i++) pthread_create(&ids[i], NULL, adds, ctx);
+        for (int i = 0; i < (round ? 4 : 1); i++) pthread_join(ids[i], NULL);
+        tell(seccomp_export_bpf_mem(ctx, round ? second : first, &lengths[round]), 0, "an export of many rules");
+        seccomp_release(ctx);
+    }
+    tell(lengths[0] == lengths[1] && !memcmp(first, second, lengths[0]), 1, "four threads add what one does");
+}
+
+/* More rules than there may be are refused, and a context that is reset then has room again. */
+static void many(void) {
+    scmp_filter_ctx ctx = seccomp_init(ERRNO | 1);
+    size_t length = sizeof first;
+    for (uint64_t value = 0; value <= 8192; value++) {
+        struct scmp_arg_cmp is = {0, 4, value, 0};
+        seccomp_rule_add_array(ctx, ALLOW, 1000, 1, &is);
+    }
+    tell(seccomp_export_bpf_mem(ctx, first, &length), -EINVAL, "8193 rules");
+    tell(seccomp_reset(ctx, ALLOW), 0, "a reset");
+    tell(seccomp_export_bpf_mem(ctx, first, &length), 0, "an export after it");
+    seccomp_release(ctx);
+}
+
+/* The least stack on which it was seen to work, in KiB, of docker's profile or so. */
+static void *exports(void *into) {
+    scmp_filter_ctx ctx = seccomp_init(ERRNO | 1);
+    seccomp_arch_add(ctx, 0x40000003);
+    seccomp_arch_add(ctx, 0x4000003e);
+    adds(ctx);
+    struct scmp_arg_cmp is = {0, 4, 0, 0}, mask = {0, MASKED_EQUAL, 0x7e020000, 0};
+    for (unsigned value = 0; value < 5; value++) is.datum_a = value, seccomp_rule_add_array(ctx, ALLOW, 135, 1, &is);
+    seccomp_rule_add_array(ctx, ALLOW, 435, 1, &mask);
+    size_t length = sizeof second;
+    *(int *)into = seccomp_export_bpf_mem(ctx, second, &length);
+    seccomp_release(ctx);
+    return NULL;
+}
+
+static int works_with(size_t stack) {
+    int status;
+    pid_t child = fork();
+    if (!child) {
+        pthread_attr_t small;
+        pthread_t id;
+        int answer = 1;
+        pthread_attr_init(&small);
+        pthread_attr_setstacksize(&small, stack);
+        if (pthread_create(&id, &small, exports, &answer) || pthread_join(id, NULL)) _exit(2);
+        _exit(answer != 0);
+    }
+    waitpid(child, &status, 0);
+    return WIFEXITED(status) && WEXITSTATUS(status) == 0;
+}
+
+int main(int argc, char **argv) {
+    (void)argv;
+    if (argc > 1) { /* ./live stack: measures */
+        for (size_t stack = 32; stack <= 512; stack += 8)
+            if (works_with(stack << 10)) return printf("works with a stack of %zu KiB\n", stack), 0;
+        return 1;
+    }
+    loads();
+    descriptors();
+    threads();
+    many();
+    tell(works_with(96 << 10), 1, "a stack of 96 KiB");
+    return wrong != 0;
+}
