@@ -29,7 +29,7 @@ const PAGES: &[Page] = &[
     Page {
         name: "export",
         purpose: "a checked filter for a bundle",
-        text: "ccell export MACHINE BUNDLE FORM\n\nCompiles a bundle, and writes its filter once the checker said yes: FORM is raw, listing or cert.\nStatus 0, or 1 and a line that begins with 'no' or 'refused'.\n\nExample: ccell export linux-x86-64 web.json raw > web.bpf\n",
+        text: "ccell export MACHINE BUNDLE FORM\n\nCompiles a bundle, and writes its filter once the checker said yes: FORM is raw (eight bytes an\ninstruction), listing (its text) or cert (its certificate).\nStatus 0, or 1 and a line that begins with 'no' or 'refused'.\n\nExample: ccell export linux-x86-64 web.json raw > web.bpf\n",
     },
     Page {
         name: "run",
@@ -39,7 +39,7 @@ const PAGES: &[Page] = &[
     Page {
         name: "explain",
         purpose: "what a bundle says of one call, and why",
-        text: "ccell explain MACHINE BUNDLE WHAT [ARGUMENT..]\nccell explain MACHINE BUNDLE record HEX\n\nTells the call in plain sentences, the verdict that the bundle says, and why: the entry that matches, default or foreign. Under it each\nentry for that call, whether it matches, and which of its conditions hold. WHAT and the arguments are those of a script,\nHEX is what certify tells.\nStatus 0, or 1 and a line that begins with 'refused'.\n\nExample: ccell explain x86-64 web.json write 1 0 0x100000000\n",
+        text: "ccell explain MACHINE BUNDLE CALL [ARGUMENT..]\nccell explain MACHINE BUNDLE CALL any\nccell explain MACHINE BUNDLE record HEX\nccell explain MACHINE BUNDLE audit\n\nTells the call in plain sentences, the verdict that the bundle says, and why: the entry that matches, default or foreign. Under it each\nentry for that call, whether it matches, and which of its conditions hold. CALL is a name, or MACHINE:NUMBER; the\narguments are numbers. With any, it reports what the bundle says of the call whatever its arguments. HEX is what certify reports, 128\ndigits. With audit, it reads the lines that a kernel logs of filters (type=1326) from standard input, and explains each.\nStatus 0, or 1 and a line that begins with 'refused'.\n\nExample: ccell explain x86-64 web.json write 1 0 0x100000000\n",
     },
     Page {
         name: "read",
@@ -47,19 +47,34 @@ const PAGES: &[Page] = &[
         text: "ccell read MACHINE BUNDLE\n\nTells a bundle's machines, what is said of calls that no entry matches, and each entry in a line. Of a bundle that is\nrefused it tells why and, in a second line, the place.\nStatus 0, or 1 and a line that begins with 'refused'.\n\nExample: ccell read linux-x86-64 web.json\n",
     },
     Page {
+        name: "lint",
+        purpose: "the calls that get past a bundle by bits that the kernel does not read",
+        text: "ccell lint MACHINE BUNDLE\n\nReports each call that the bundle lets through, and refuses if the bits that the kernel does not read are 0: with the entry, both\nvalues, and the records. Remarks follow, on conditions that mean little.\nStatus 0 if no call gets past, or 1.\n\nExample: ccell lint linux-x86-64 web.json\n",
+    },
+    Page {
         name: "compare",
-        purpose: "whether two bundles say the same, or the calls of which not",
-        text: "ccell compare MACHINE BUNDLE BUNDLE\n\nTells same where both bundles say the same of every call record, or a line for each call of which they do not: the call,\nwhat the first and what the second says, and a record as explain takes it. The last line is stricter or looser where the\nsecond bundle is that in each line, and undecided is told where neither could be shown.\nStatus 0 for same, or 1.\n\nExample: ccell compare linux-x86-64 old.json new.json\n",
+        purpose: "whether a new bundle says the same as an old one, or allows no more",
+        text: "ccell compare MACHINE OLD NEW\nccell compare MACHINE OLD NEW atmost\n\nReports a line for each call of which the two say unlike things, and last what is proved: same, allows no more, allows no less, or\nallows more and less. It is undecided only for a size.\nStatus 0 for same, or 1. With atmost, status 0 if the new bundle allows no more, or 1.\n\nExample: ccell compare linux-x86-64 old.json new.json atmost\n",
     },
     Page {
         name: "adapt",
         purpose: "a bundle of what an engine hands to its runtime",
-        text: "ccell adapt MACHINE CONFIG [widen]\n\nMakes a bundle, as the other commands read it, of an engine's config.json, or of a section linux.seccomp by itself, and tells\neach change on standard error, with its place. Where a change widens the profile nothing is written, unless widen stands\nbehind the file.\nStatus 0, or 1 and the reason on standard error, or a line that begins with 'refused'.\n\nExample: ccell adapt linux-x86-64 config.json > web.json\n",
+        text: "ccell adapt MACHINE CONFIG [WORD..]\n\nMakes a bundle, as the other commands read it, of an engine's config.json, of its own profile file, of a section linux.seccomp by\nitself or of a Kubernetes object, and reports each change on standard error, with its place.\nWords, in any order, each once: widen (write it though it lets more through); first, looser, stricter or like-libseccomp (which of\ntwo entries counts that say unlike things of one call); narrow (compare only the bits that the kernel reads); log (log what would be\nrefused); for docker|podman|containerd (work out an engine's own profile), cap CAP.. or cap all, kernel 6.12.\nStatus 0, or 1 and the reason on standard error, or a line that begins with 'refused'.\n\nExample: ccell adapt linux-x86-64 config.json first > web.json\n",
+    },
+    Page {
+        name: "learn",
+        purpose: "a bundle that allows what logs of strace show",
+        text: "ccell learn MACHINE LOG.. [keep CALL:ARG[,ARG]].. [for crun|runc|bwrap] [else errno|enosys|log|kill]\n\nWrites a bundle that allows each call of logs of 'strace -f -n -e raw=all -o LOG'. Standard error reports what was read, and what was\nadded and why. keep compares arguments with the values seen, for adds the calls that a runtime makes behind the load, else is\nthe answer to all other calls.\nStatus 0, or 1 and a line that begins with 'refused'.\n\nExample: ccell learn linux-x86-64 web.log for crun > web.json\n",
+    },
+    Page {
+        name: "replay",
+        purpose: "the calls of logs of strace that a bundle refuses",
+        text: "ccell replay MACHINE BUNDLE LOG..\nccell replay MACHINE BUNDLE LOG.. unused\n\nReports each call of logs that the bundle refuses: why, how often, and where first. With unused, it reports each entry that no\ncall of the logs matches.\nStatus 0 if nothing is refused, or 1.\n\nExample: ccell replay linux-x86-64 web.json web.log unused\n",
     },
     Page {
         name: "record",
         purpose: "the call record of a call",
-        text: "ccell record MACHINE WHAT [ARGUMENT..]\n\nWrites the 64 bytes of a call record, as verdict takes it. WHAT and the arguments are those of a script.\nStatus 0, or 1 and the line 'refused call'.\n\nExample: ccell record x86-64 write 1 0 4097 > write.rec\n",
+        text: "ccell record MACHINE CALL [ARGUMENT..]\n\nWrites the 64 bytes of a call record, as verdict takes it. CALL is a name, or MACHINE:NUMBER; the arguments are numbers.\nStatus 0, or 1 and the line 'refused call'.\n\nExample: ccell record x86-64 write 1 0 4097 > write.rec\n",
     },
     Page {
         name: "assemble",
@@ -79,7 +94,7 @@ const PAGES: &[Page] = &[
     Page {
         name: "manual",
         purpose: "how a command is used",
-        text: "ccell manual [COMMAND]\n\nTells how a command is used, or which commands there are.\n\nExample: ccell manual explain\n",
+        text: "ccell manual [COMMAND]\n\nReports how a command is used, or which commands there are.\n\nMACHINE is linux-x86-64 or linux-aarch64, with all calls of Linux 6.18, or x86-64 or aarch64, with a chosen list of about a hundred calls.\nBUNDLE is a file with linux.seccomp of the OCI Runtime Specification, FILTER one with instructions of eight bytes, RECORD one with the\n64 bytes of struct seccomp_data.\n\nExample: ccell manual explain\n",
     },
     Page {
         name: "version",

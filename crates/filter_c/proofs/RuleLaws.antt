@@ -1,5 +1,5 @@
 -- A filter that is right for a profile that says what was added answers what was added.
-use Rattle.std.proofs.Common.{ℕ, List}
+use Rattle.std.proofs.Common.{◌≡◌, ℕ, List}
 use Rattle.bpf_insn.specs.Bytes.{insns_of}
 use Rattle.cert_check.specs.Right.{IsRight}
 use Rattle.kernel_check.specs.Accepted.{IsAccepted}

@@ -1,4 +1,4 @@
-use Rattle.std.proofs.Common.{◌≡◌, take, map}
+use Rattle.std.proofs.Common.{◌≡◌, ℕ, take, map, length}
 use Rattle.added_rules.specs.Parts.{added_condition, kept_condition}
 use Rattle.added_rules.proofs.condition.conditions_of.Given as goal
 

@@ -1,4 +1,4 @@
-use Rattle.std.proofs.Common.{◌≡◌, Some, map, subst, ℕ, List, ap, ◌∙◌}
+use Rattle.std.proofs.Common.{◌≡◌, Some, map, subst, sym, ℕ, List, ap, ◌∙◌}
 use Rattle.call_tables.specs.declared.arch.Arch.{Arch}
 use Rattle.profile.specs.declared.fault.BuildError.{BuildError}
 use Rattle.profile.specs.Build.{IsFirstCause}

@@ -1,4 +1,4 @@
-use Rattle.std.proofs.Common.{◌≡◌, take, map}
+use Rattle.std.proofs.Common.{◌≡◌, ℕ, take, map}
 use Rattle.added_rules.specs.Parts.{added_rule, kept_rule}
 use Rattle.added_rules.proofs.made.rules_of.Given as goal
 

@@ -1,4 +1,4 @@
-use Rattle.std.proofs.Common.{◌≡◌, take, subst}
+use Rattle.std.proofs.Common.{◌≡◌, Some, take, subst}
 use Rattle.std.proofs.lemmas.Option.{same_Some}
 use Rattle.call_tables.specs.declared.arch.Arch.{Arch}
 use Rattle.filter_c.specs.Answer.{IsFilterOf}
