@@ -1,17 +1,15 @@
 -- Calls that get past a profile by bits that nobody reads.
-use Rattle.std.specs.Prelude.{◌≡◌, ◌≢◌, ℕ, List, [], true, false, ⊤}
+use Rattle.std.specs.Prelude.{◌≢◌, ⊤, List, []}
 use Rattle.std.specs.List.{All}
-use Rattle.serde_json.specs.Data.{Data}
 use Rattle.call_record.specs.Record.{words}
 use Rattle.call_record.specs.Verdict.{Through}
-use Rattle.call_record.specs.Words.{IsRecord}
-use Rattle.call_tables.specs.declared.arch.Arch.{Arch}
-use Rattle.explain.specs.declared.told.Told.{Told}
-use Rattle.narrowed.specs.Alike.{Alike, IsCleared}
-use Rattle.order.specs.Order.{LetsThrough}
+use Rattle.narrowed.specs.Alike.{Alike, IsCleared, IsNarrowed}
+use Rattle.order.specs.Decided.{AreTooLong}
+use Rattle.order.specs.Order.{AllowsNoMore}
 use Rattle.profile.specs.Policy.{Policy, Says}
-use Rattle.profile_json.specs.Meaning.{IsText, Means}
 use Rattle.lint.specs.declared.past.Past.{Past}
+use Rattle.lint.specs.declared.past.Size.{Size}
+use Rattle.lint.specs.declared.past.Size.TheVariants.{TooMany, TooLong, TooLarge}
 use Rattle.lint.specs.declared.past.Finding.{Finding}
 use Rattle.lint.specs.declared.past.Finding.TheVariants.{Nothing, GetPast, Undecided}
 
@@ -22,14 +20,28 @@ pub record GetsPast (p : Policy) (past : Past) : Type 0 where
   pub says : Says p (words past.call) past.word
   pub through : Through past.word
   pub says_cleared : Says p (words past.cleared) past.cleared_word
-  pub refused : ¬ Through past.cleared_word
+  pub refused : Through past.cleared_word → ⊥
 
--- each call that the profile lets through it lets through with those bits at 0
-abbrev pub NothingGetsPast : Policy → Type 0
-NothingGetsPast p = (r s : List ℕ) → IsRecord r → IsRecord s → IsCleared r s → LetsThrough p r → LetsThrough p s
+-- the profile allows no more than its narrowed one
+pub record NothingGetsPast (p : Policy) : Type 0 where
+  pub narrowed : Policy
+  pub is : IsNarrowed p narrowed
+  pub no_more : AllowsNoMore p narrowed
 
--- what is found is so. Where it was not decided, nothing is.
+-- the programs that are planned for the profile and for its narrowed one are together longer than a filter may be
+pub record IsTooLong (p : Policy) : Type 0 where
+  pub narrowed : Policy
+  pub is : IsNarrowed p narrowed
+  pub longer : AreTooLong p narrowed
+
+-- a size that was too small: of the narrowed rules and of a certificate nothing is said
+abbrev pub IsTooSmall : Policy → Size → Type 0
+IsTooSmall p TooMany = ⊤
+IsTooSmall p TooLong = IsTooLong p
+IsTooSmall p TooLarge = ⊤
+
+-- what is found is so
 abbrev pub IsFinding : Policy → Finding → Type 0
 IsFinding p Nothing = NothingGetsPast p
 IsFinding p (GetPast list) = All (GetsPast p) list.items × (list.items ≢ [])
-IsFinding p (Undecided size) = ⊤
+IsFinding p (Undecided size) = IsTooSmall p size

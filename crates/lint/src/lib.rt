@@ -3,7 +3,7 @@
 #![tactic(auto)]
 
 mod candidates;
-mod finding;
+mod decided;
 mod past;
 mod places;
 mod remarks;
@@ -11,6 +11,6 @@ mod search;
 mod text;
 mod told;
 
-pub use finding::finding;
+pub use decided::finding;
 pub use past::{Finding, Past, Size};
 pub use told::lint;

@@ -38,6 +38,15 @@ fn is_strict(rule: &Rule) -> bool {
             .any(|cond| asks_unread(rule, cond))
 }
 
+// What an argument or the bits of it are compared with.
+fn compared_with(cond: &Cond) -> u64 {
+    if cond.op == Op::MaskedEq {
+        cond.datum
+    } else {
+        cond.value
+    }
+}
+
 // Why a condition says less than it seems to.
 fn remark_of(rule: &Rule, cond: &Cond) -> Option<&'static str> {
     let reading = reading_of(rule, cond)?;
@@ -47,13 +56,13 @@ fn remark_of(rule: &Rule, cond: &Cond) -> Option<&'static str> {
             Some("a pointer: the address is compared, and not what stands there")
         }
         Reading::Bits16 => {
-            if cond.value >> 16 != 0 {
+            if compared_with(cond) >> 16 != 0 {
                 return Some("16 bits are read, and the argument never has this value");
             }
             Some("16 bits are read")
         }
         Reading::Bits32 => {
-            if cond.value >> 32 != 0 {
+            if compared_with(cond) >> 32 != 0 {
                 return Some("32 bits are read, and the argument never has this value");
             }
             None
@@ -112,8 +121,9 @@ fn put_strict(text: &mut Text, profile: &Profile) {
         .filter(|rule| is_strict(rule))
         .count();
     if count > 0 {
+        let rules = if count == 1 { "rule lets" } else { "rules let" };
         text.put(format_args!(
-            "remark: {count} rules let a call through, and refuse it with a bit set that nobody reads\n"
+            "remark: {count} {rules} a call through, but not with a bit set that nobody reads\n"
         ));
     }
 }

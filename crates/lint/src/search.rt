@@ -100,15 +100,29 @@ fn past_at(
     Ok(first_past(profile, token, rule.nr, &tried))
 }
 
+// Adds the call of a rule, if it gets past and was not found.
+fn add_past(
+    alloc: Global,
+    profile: &Profile,
+    rule: &Rule,
+    found: &mut Vec<Past>,
+) -> Result<(), AllocError>
+    ensures { IfOk result (λ _. All (GetsPast profile.now) found.old.items → All (GetsPast profile.now) found.new.items) }
+{
+    let Some(past) = past_at(alloc, profile, rule, found)? else {
+        return Ok(());
+    };
+    found.push(past)?;
+    Ok(())
+}
+
 /// Calls that get past, one of each machine and number, where some are found.
 pub(crate) fn search(alloc: Global, profile: &Profile) -> Result<Vec<Past>, AllocError>
     ensures { IfOk result (λ list. All (GetsPast profile.now) list.items) }
 {
     let mut list = Vec::new(alloc);
     for rule in profile.rules() {
-        if let Some(past) = past_at(alloc, profile, rule, &list)? {
-            list.push(past)?;
-        }
+        add_past(alloc, profile, rule, &mut list)?;
     }
     Ok(list)
 }

@@ -4,7 +4,7 @@ ghost use Rattle.lint.specs.Linted as spec;
 ghost use Rattle.lint.specs.Past.{IsFinding};
 ghost use Rattle.narrow.specs.Narrow.{IsBundle};
 
-use crate::finding::finding;
+use crate::decided::finding;
 use crate::past::Finding;
 use crate::text::text_of;
 use call_tables::Arch;
