@@ -1,5 +1,5 @@
 -- Calls that get past a profile by bits that nobody reads.
-use Rattle.std.specs.Prelude.{◌≢◌, ⊤, List, []}
+use Rattle.std.specs.Prelude.{◌≢◌, ⊤, []}
 use Rattle.std.specs.List.{All}
 use Rattle.call_record.specs.Record.{words}
 use Rattle.call_record.specs.Verdict.{Through}

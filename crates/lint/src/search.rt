@@ -31,7 +31,7 @@ pub(crate) fn past_of(profile: &Profile, call: Record) -> Option<Past>
     })
 }
 
-// The same for a call with these arguments.
+// A pair of a call with these arguments, if it gets past.
 fn past_with(profile: &Profile, token: u32, nr: u32, args: [u64; 6]) -> Option<Past>
     ensures { IfSome result (GetsPast profile.now) }
 {
@@ -44,7 +44,7 @@ fn past_with(profile: &Profile, token: u32, nr: u32, args: [u64; 6]) -> Option<P
     past_of(profile, call)
 }
 
-// The same with a bit of one of the arguments that is not read.
+// A pair of a call with these arguments and a bit set in one of them that is not read, if it gets past.
 fn past_dirty(profile: &Profile, token: u32, nr: u32, args: &[u64; 6]) -> Option<Past>
     ensures { IfSome result (GetsPast profile.now) }
 {
