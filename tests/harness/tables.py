@@ -221,7 +221,7 @@ def faults_of_files(page, text):
 def faults_of_figures(page, text):
     """A table of figures whose last row is `all`: the sums of its columns. Its rows are the crates'."""
     faults = []
-    crates = re.findall(r"^(\w+):", read("crates.txt"), re.M)
+    crates = re.findall(r"^(\w+)(?: \w+)?:", read("crates.txt"), re.M)
     for head, *rows in tables(text):
         if head[0] == "Crate" and sorted(re.sub("`", "", row[0]) for row in rows if row[0] != "all") != sorted(crates):
             faults.append("a table of crates has not those of crates.txt")
@@ -233,13 +233,14 @@ def faults_of_figures(page, text):
 
 
 def faults_of_commands(page, text):
-    """The table of commands of the first page: those of the program's own list."""
+    """The table of the first page: what it runs are commands of the program's own list."""
     listed = [line.split()[0] for line in told("manual").decode().splitlines()]
     for head, *rows in tables(text):
-        if head == ["Command", "What it answers"]:
-            shown = [form.split()[0] for row in rows for form in spelled(row[:1])]
-            if sorted(shown) != sorted(listed):
-                return [f"its commands are {shown}, and the program's are {listed}"]
+        if head == ["You have", "You run", "You get"]:
+            shown = [form.split()[0] for row in rows for form in spelled(row[1:2])]
+            unknown = [name for name in shown if name.isalpha() and name not in listed]
+            if unknown:
+                return [f"it runs {unknown}, which are no commands of the program"]
     return []
 
 

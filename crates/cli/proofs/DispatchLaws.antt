@@ -12,7 +12,7 @@ use Rattle.pipeline.specs.Certified.{Certifies}
 use Rattle.pipeline.specs.Exported.{Exports}
 use Rattle.pipeline.specs.Finding.{WritesFinding}
 use Rattle.command_line.specs.Arguments.{Given, Reads}
-use Rattle.command_line.specs.Arguments.Given.{Verdict, Check, Certify, Export, Run, Explain, Read as ReadOut, Record, Assemble, Annotate, Draw, Compare, Adapt, Manual, Version}
+use Rattle.command_line.specs.Arguments.Given.{Verdict, Check, Certify, Export, Run, Explain, Read as ReadOut, Record, Assemble, Annotate, Draw, Compare, Adapt, Learn, Replay, Manual, Version}
 use Rattle.command_line.specs.declared.Misuse.{Misuse}
 use Rattle.command_line.specs.declared.Misuse.TheVariants as kind
 use Rattle.cli.specs.declared.stops.Stop.{Stop}
@@ -165,14 +165,16 @@ module _ {I O : Type 0} (left : I → Option (List ℕ)) (given : I → Failures
   not_begun (Certify native bundle filter) = (refl, inl (stops_early folder out (bundle ∷ filter ∷ [])))
   not_begun (Export native bundle form) = (refl, inl (stops_early folder out (bundle ∷ [])))
   not_begun (Run native bundles) = inl (refl, stops_early folder out bundles)
-  not_begun (Explain native bundle call) = refl
+  not_begun (Explain native bundle call) = inr refl
   not_begun (ReadOut native bundle) = refl
   not_begun (Record native call) = refl
   not_begun (Assemble listing) = refl
   not_begun (Annotate native filter) = refl
   not_begun (Draw native filter) = refl
   not_begun (Compare native first second) = refl
-  not_begun (Adapt native config may_widen) = refl
+  not_begun (Adapt native config words) = refl
+  not_begun (Learn native words) = refl
+  not_begun (Replay native bundle words) = refl
   not_begun (Manual name) = refl
   not_begun Version = refl
 

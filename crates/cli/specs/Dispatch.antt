@@ -1,8 +1,9 @@
 -- THE PROGRAM. What it writes and the status that it ends with, of a command, of files, and of what is read on standard input.
-use Rattle.std.specs.Prelude.{ℕ, ◌≡◌, ◌⊎◌, Bool, true, false, List, [], ◌∷◌, Option, Result, Ok, Err}
+use Rattle.std.specs.Prelude.{ℕ, ◌≡◌, ◌⊎◌, Bool, true, false, List, [], ◌∷◌, Option, Result, Ok, Err, codes}
+use Rattle.std.specs.Str.{bytes_eq}
 use Rattle.call_tables.specs.declared.arch.Arch.{Arch}
 use Rattle.command_line.specs.Arguments.{Given}
-use Rattle.command_line.specs.Arguments.Given.{Verdict, Check, Certify, Export, Run, Adapt}
+use Rattle.command_line.specs.Arguments.Given.{Verdict, Check, Certify, Export, Run, Explain, Adapt, Learn}
 use Rattle.streams.specs.Failures.{Failures}
 use Rattle.streams.specs.declared.fault.WriteFault.{WriteFault}
 use Rattle.export.specs.declared.form.Form.{Form}
@@ -41,9 +42,10 @@ exit_status (Ok true) = 0
 exit_status (Ok false) = 1
 exit_status (Err stop) = status_of stop
 
--- `adapt` alone tells on standard error what it changed, also where it was done
+-- `adapt` and `learn` alone tell on standard error what they changed or added, also where it was done
 abbrev pub TellsChanges : Given → Type 0
-TellsChanges (Adapt native config may_widen) = Unit {0}
+TellsChanges (Adapt native config words) = Unit {0}
+TellsChanges (Learn native words) = Unit {0}
 TellsChanges other = ⊥
 
 -- what is on standard error: nothing but changes where the answer is yes, and the line that says why where the program stopped
@@ -92,7 +94,12 @@ module _ {O : Type 0} (held : O → Option (List ℕ)) (failures : O → Failure
       StopsAtFile folder old new (bundle ∷ []) result
       ⊎ ((b : List ℕ) × HasBytes folder bundle b × AnswersBy (Exports held failures old new native b form) result)
 
--- What the program does as a command. `run` alone reads its input. Of commands that tell in plain sentences, nothing is said.
+-- the call that `explain` is asked about stands for the lines of a kernel's log, which are read
+abbrev pub asks_audit : List (List ℕ) → Bool
+asks_audit (word ∷ []) = bytes_eq word (codes "audit")
+asks_audit call = false
+
+-- What the program does as a command. `run` reads its input, and so does `explain` where it is asked about a kernel's log. Of commands that tell in plain sentences, nothing is said.
 module _ {I O : Type 0} (left : I → Option (List ℕ)) (given : I → Failures) (held : O → Option (List ℕ)) (taken : O → Failures)
     (folder : Option Folder) (input input' : I) (out out' : O) where
   abbrev pub AnswersRun : Arch → List (List ℕ) → Result Bool Stop → Type 0
@@ -108,6 +115,7 @@ module _ {I O : Type 0} (left : I → Option (List ℕ)) (given : I → Failures
   Does (Certify native bundle filter) result = (input' ≡ input) × AnswersCertify held taken folder out out' native bundle filter result
   Does (Export native bundle form) result = (input' ≡ input) × AnswersExport held taken folder out out' native bundle form result
   Does (Run native bundles) result = AnswersRun native bundles result
+  Does (Explain native bundle call) result = (asks_audit call ≡ true) ⊎ (input' ≡ input)
   Does other result = input' ≡ input
 
 -- The program did what a command asks for: its outcome, as the exit status and standard error tell it.

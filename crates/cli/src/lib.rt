@@ -2,10 +2,13 @@
 //! judges and makes is `pipeline`'s, whose public names are found here too.
 #![tactic(auto)]
 
+mod adapting;
 mod comparing;
+mod explaining;
 mod fault;
 mod files;
 mod law;
+mod logs;
 mod program;
 mod run;
 mod stops;

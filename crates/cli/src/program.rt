@@ -3,11 +3,13 @@ ghost use Rattle.std.specs.Prelude.{◌≡◌, ◌⊎◌, ◌≤◌, Err, Ok, On
 ghost use Rattle.command_line.specs.Arguments.{Given, IsCommandLine, NoCommandLine, given};
 ghost use Rattle.cli.specs.Dispatch.{Answers, AnswersCertify, AnswersCheck, AnswersExport, AnswersRun, AnswersVerdict, Does, IsMisuse, TellsChanges, TellsMisuse};
 
+use crate::adapting::{Both, adapted};
 use crate::comparing::{compare, tell_conviction};
+use crate::explaining::explain;
 use crate::files::{Files, read, read_certificate, read_each, read_filter, read_record};
+use crate::logs::{learned, replayed};
 use crate::run::run_bundles;
 use crate::stops::{Stop, report};
-use adapt::Wanted;
 use call_tables::Arch;
 use command_line::{Command, Form, read_arguments};
 use describe::{annotated, drawn};
@@ -111,19 +113,6 @@ fn tell<'a>(told: &Told, out: &mut impl Sink) -> Result<bool, Stop<'a>> {
     Ok(told.done)
 }
 
-// Tells what a bundle says of a call record, and why.
-fn explain<'a>(
-    alloc: Global,
-    native: Arch,
-    bundle: &'a str,
-    call: &'a [&'a str],
-    files: &mut impl Files,
-    out: &mut impl Sink,
-) -> Result<bool, Stop<'a>> {
-    let bundle = read(alloc, files, bundle)?;
-    tell(&explain::explain(alloc, native, &bundle, call)?, out)
-}
-
 // Tells what a bundle means, or where it is wrong.
 fn read_out<'a>(
     alloc: Global,
@@ -162,23 +151,17 @@ fn show<'a, T: FnOnce(Global, Arch, &[u8]) -> Result<Told, AllocError>>(
     tell(&told(alloc, native, &filter)?, out)
 }
 
-// Writes the bundle that is made of an engine's configuration, or why there is none, and tells what was changed.
-fn adapt<'a, E: Sink>(
-    alloc: Global,
-    native: Arch,
-    config: &'a str,
-    may_widen: bool,
-    files: &mut impl Files,
+// Writes a bundle that was made, or why there is none, and tells on standard error what was changed or added.
+fn tell_both<'a, E: Sink>(
+    both: Result<Both, Stop<'a>>,
     out: &mut impl Sink,
     err: &mut E,
 ) -> Result<bool, Stop<'a>>
     ensures stopped { OnErr result (err.new ≡ err.old) }
 {
-    let config = read(alloc, files, config)?;
-    let wanted = Wanted::plain(may_widen);
-    let adapted = adapt::adapt(alloc, native, &config, &wanted)?;
-    let done = tell(&adapted.told, out)?;
-    let _ = write_all(adapted.changes.as_bytes(), err);
+    let both = both?;
+    let done = tell(&both.told, out)?;
+    let _ = write_all(both.changes.as_bytes(), err);
     Ok(done)
 }
 
@@ -233,7 +216,7 @@ fn obey<'a, F: Files, I: Source, O: Sink, E: Sink>(
             native,
             bundle,
             call,
-        } => explain(alloc, native, bundle, call, files, out),
+        } => tell(&explain(alloc, native, bundle, call, files, input)?, out),
         Command::Read { native, bundle } => read_out(alloc, native, bundle, files, out),
         Command::Record { native, call } => tell(&explain::record(alloc, native, call)?, out),
         Command::Assemble { listing } => assemble(alloc, listing, files, out),
@@ -247,8 +230,16 @@ fn obey<'a, F: Files, I: Source, O: Sink, E: Sink>(
         Command::Adapt {
             native,
             config,
-            may_widen,
-        } => adapt(alloc, native, config, may_widen, files, out, err),
+            words,
+        } => tell_both(adapted(alloc, native, config, words, files), out, err),
+        Command::Learn { native, words } => {
+            tell_both(learned(alloc, native, words, files), out, err)
+        }
+        Command::Replay {
+            native,
+            bundle,
+            words,
+        } => tell(&replayed(alloc, native, bundle, words, files)?, out),
         Command::Manual { command } => manual(alloc, command, out),
         Command::Version => tell(&explain::version(alloc)?, out),
     }

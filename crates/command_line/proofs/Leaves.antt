@@ -15,7 +15,7 @@ use Rattle.clap.specs.declared.builder.ValueParser.TheVariants as parser
 use Rattle.export.specs.declared.form.Form.{Form}
 use Rattle.command_line.specs.Arguments as given
 use Rattle.command_line.specs.Arguments.{Given, form_called}
-use Rattle.command_line.specs.Arguments.Given.{Run, Explain, Record, Export, Adapt, Manual, Version}
+use Rattle.command_line.specs.Arguments.Given.{Run, Explain, Record, Export, Adapt, Learn, Replay, Manual, Version}
 use Rattle.command_line.specs.inner.Found as found
 use Rattle.command_line.specs.inner.Found.{last_of}
 use Rattle.command_line.specs.inner.Grammar.{Entry, leaf, table, top}
@@ -135,20 +135,6 @@ compare_reading (a ∷ b ∷ c ∷ d ∷ more) = inr (tt, refl)
 
 -- ---- commands with a part that may be left out
 
-adapt_made : (machine config : Text) (widens : Bool)
-    → option_and_then (λ w. option_map (λ native. Adapt native config w) (native_called machine)) (cond widens (Some true) None)
-    ≡ cond widens (option_map (λ native. Adapt native config true) (native_called machine)) None
-adapt_made machine config true = refl
-adapt_made machine config false = refl
-
-pub adapt_reading : (parts : List Text) → Reading (shape_called (codes "adapt")) parts found.adapt_in (given.adapt parts)
-unfolding values_fault defaults_fault
-adapt_reading [] = inr (tt, refl)
-adapt_reading (a ∷ []) = inr (tt, refl)
-adapt_reading (a ∷ b ∷ []) = inl (refl, refl)
-adapt_reading (a ∷ b ∷ c ∷ []) = inl (refl, adapt_made a b (bytes_eq c (codes "widen")))
-adapt_reading (a ∷ b ∷ c ∷ d ∷ more) = inr (tt, refl)
-
 pub manual_reading : (parts : List Text) → Reading (shape_called (codes "manual")) parts found.manual_in (given.manual parts)
 unfolding values_fault defaults_fault
 manual_reading [] = inl (refl, refl)
@@ -267,3 +253,72 @@ explain_reading [] most = inr (tt, refl)
 explain_reading (a ∷ []) most = inr (tt, refl)
 explain_reading (a ∷ b ∷ []) most = inr (tt, refl)
 explain_reading (a ∷ b ∷ c ∷ more) most = explain_taken a b c more (omega arith)
+
+learn_taken : (machine word : Text) (more : List Text) → length (word ∷ more) ≤ usize_max
+    → Reading (shape_called (codes "learn")) (machine ∷ word ∷ more) (λ rows. found.learn_in rows (codes "learn" ∷ machine ∷ word ∷ more))
+    (given.learn (machine ∷ word ∷ more))
+unfolding values_fault defaults_fault list_state
+learn_taken machine word more most =
+    let s = shape_called (codes "learn") in
+    let state = list_state s (machine ∷ word ∷ []) (codes "WORD") in
+    let walk = gathered s state (λ values word. refl) (λ values. refl) (word ∷ []) more in
+    let calm = gathered_fault s state (λ values word. refl) (λ values. refl) (word ∷ []) more in
+    inl (
+      ap₂ (λ (f : Kinds) (w : Walk). ends s f w.held) calm walk ∙ list_calm (word ∷ more) (list_least word more) most,
+      ap (λ (w : Walk). found.learn_in (finished s.rules w.held) (codes "learn" ∷ machine ∷ word ∷ more)) walk
+          ∙ ap (λ (l : List Text). option_map (λ native. Learn native l) (native_called machine)) (last_is (codes "learn" ∷ machine ∷ []) (word ∷ more)),
+    )
+
+pub learn_reading : (parts : List Text) → length parts ≤ usize_max
+    → Reading (shape_called (codes "learn")) parts (λ rows. found.learn_in rows (codes "learn" ∷ parts)) (given.learn parts)
+unfolding values_fault defaults_fault
+learn_reading [] most = inr (tt, refl)
+learn_reading (a ∷ []) most = inr (tt, refl)
+learn_reading (a ∷ b ∷ more) most = learn_taken a b more (omega arith)
+
+replay_taken : (machine bundle word : Text) (more : List Text) → length (word ∷ more) ≤ usize_max
+    → Reading (shape_called (codes "replay")) (machine ∷ bundle ∷ word ∷ more) (λ rows. found.replay_in rows (codes "replay" ∷ machine ∷ bundle ∷ word ∷ more))
+    (given.replay (machine ∷ bundle ∷ word ∷ more))
+unfolding values_fault defaults_fault list_state
+replay_taken machine bundle word more most =
+    let s = shape_called (codes "replay") in
+    let state = list_state s (machine ∷ bundle ∷ word ∷ []) (codes "WORD") in
+    let walk = gathered s state (λ values word. refl) (λ values. refl) (word ∷ []) more in
+    let calm = gathered_fault s state (λ values word. refl) (λ values. refl) (word ∷ []) more in
+    inl (
+      ap₂ (λ (f : Kinds) (w : Walk). ends s f w.held) calm walk ∙ list_calm (word ∷ more) (list_least word more) most,
+      ap (λ (w : Walk). found.replay_in (finished s.rules w.held) (codes "replay" ∷ machine ∷ bundle ∷ word ∷ more)) walk
+          ∙ ap (λ (l : List Text). option_map (λ native. Replay native bundle l) (native_called machine)) (last_is (codes "replay" ∷ machine ∷ bundle ∷ []) (word ∷ more)),
+    )
+
+pub replay_reading : (parts : List Text) → length parts ≤ usize_max
+    → Reading (shape_called (codes "replay")) parts (λ rows. found.replay_in rows (codes "replay" ∷ parts)) (given.replay parts)
+unfolding values_fault defaults_fault
+replay_reading [] most = inr (tt, refl)
+replay_reading (a ∷ []) most = inr (tt, refl)
+replay_reading (a ∷ b ∷ []) most = inr (tt, refl)
+replay_reading (a ∷ b ∷ c ∷ more) most = replay_taken a b c more (omega arith)
+
+adapt_taken : (machine config word : Text) (more : List Text) → length (word ∷ more) ≤ usize_max
+    → Reading (shape_called (codes "adapt")) (machine ∷ config ∷ word ∷ more) (λ rows. found.adapt_in rows (codes "adapt" ∷ machine ∷ config ∷ word ∷ more))
+    (given.adapt (machine ∷ config ∷ word ∷ more))
+unfolding values_fault defaults_fault list_state
+adapt_taken machine config word more most =
+    let s = shape_called (codes "adapt") in
+    let state = list_state s (machine ∷ config ∷ word ∷ []) (codes "WORD") in
+    let walk = gathered s state (λ values word. refl) (λ values. refl) (word ∷ []) more in
+    let calm = gathered_fault s state (λ values word. refl) (λ values. refl) (word ∷ []) more in
+    inl (
+      ap₂ (λ (f : Kinds) (w : Walk). ends s f w.held) calm walk ∙ list_calm (word ∷ more) (list_least word more) most,
+      ap (λ (w : Walk). found.adapt_in (finished s.rules w.held) (codes "adapt" ∷ machine ∷ config ∷ word ∷ more)) walk
+          ∙ ap (λ (l : List Text). option_map (λ native. Adapt native config l) (native_called machine)) (last_is (codes "adapt" ∷ machine ∷ config ∷ []) (word ∷ more)),
+    )
+
+pub adapt_reading : (parts : List Text) → length parts ≤ usize_max
+    → Reading (shape_called (codes "adapt")) parts (λ rows. found.adapt_in rows (codes "adapt" ∷ parts)) (given.adapt parts)
+unfolding values_fault defaults_fault
+adapt_reading [] most = inr (tt, refl)
+adapt_reading (a ∷ []) most = inr (tt, refl)
+adapt_reading (a ∷ b ∷ []) most =
+    inl (refl, ap (λ (l : List Text). option_map (λ native. Adapt native b l) (native_called a)) (last_is (codes "adapt" ∷ a ∷ b ∷ []) []))
+adapt_reading (a ∷ b ∷ c ∷ more) most = adapt_taken a b c more (omega arith)

@@ -17,7 +17,7 @@ use Rattle.command_line.specs.inner.Found.{command_in, judging_in, named_in, tel
 use Rattle.command_line.specs.inner.Grammar.{table, top}
 use Rattle.command_line.proofs.PlainWalks.{ArePlain, IsPlain, no_hyphen, no_mark}
 use Rattle.command_line.proofs.Leaves.{IsFault, Reading, leaf_fault, leaf_fault_is, leaf_rows_is, ready, shape_called, start}
-use Rattle.command_line.proofs.Leaves.{verdict_reading, check_reading, certify_reading, export_reading, run_reading, explain_reading, read_reading, record_reading, assemble_reading, annotate_reading, draw_reading, compare_reading, adapt_reading, manual_reading, version_reading}
+use Rattle.command_line.proofs.Leaves.{verdict_reading, check_reading, certify_reading, export_reading, run_reading, explain_reading, read_reading, record_reading, assemble_reading, annotate_reading, draw_reading, compare_reading, adapt_reading, learn_reading, replay_reading, manual_reading, version_reading}
 use Rattle.std.proofs.lemmas.Bool.{false_from_ne_true}
 use Rattle.std.proofs.lemmas.Slice.Eq.{bytes_eq-Decides}
 
@@ -214,9 +214,25 @@ adapt_named : IsName (codes "adapt") (shape_called (codes "adapt"))
 unfolding shapes
 adapt_named = (refl, refl)
 
-adapt_answer : (parts : List Text) → ArePlain parts → Answer (codes "adapt" ∷ parts)
+adapt_answer : (parts : List Text) → ArePlain parts → length parts ≤ usize_max → Answer (codes "adapt" ∷ parts)
 unfolding judging telling judging_in telling_in
-adapt_answer parts plain = answer (codes "adapt") parts (shape_called (codes "adapt")) adapt_named refl plain found.adapt_in (given.adapt parts) (adapt_reading parts) (λ rows. refl) refl
+adapt_answer parts plain most = answer (codes "adapt") parts (shape_called (codes "adapt")) adapt_named refl plain (λ rows. found.adapt_in rows (codes "adapt" ∷ parts)) (given.adapt parts) (adapt_reading parts most) (λ rows. refl) refl
+
+learn_named : IsName (codes "learn") (shape_called (codes "learn"))
+unfolding shapes
+learn_named = (refl, refl)
+
+learn_answer : (parts : List Text) → ArePlain parts → length parts ≤ usize_max → Answer (codes "learn" ∷ parts)
+unfolding judging telling judging_in telling_in
+learn_answer parts plain most = answer (codes "learn") parts (shape_called (codes "learn")) learn_named refl plain (λ rows. found.learn_in rows (codes "learn" ∷ parts)) (given.learn parts) (learn_reading parts most) (λ rows. refl) refl
+
+replay_named : IsName (codes "replay") (shape_called (codes "replay"))
+unfolding shapes
+replay_named = (refl, refl)
+
+replay_answer : (parts : List Text) → ArePlain parts → length parts ≤ usize_max → Answer (codes "replay" ∷ parts)
+unfolding judging telling judging_in telling_in
+replay_answer parts plain most = answer (codes "replay") parts (shape_called (codes "replay")) replay_named refl plain (λ rows. found.replay_in rows (codes "replay" ∷ parts)) (given.replay parts) (replay_reading parts most) (λ rows. refl) refl
 
 manual_named : IsName (codes "manual") (shape_called (codes "manual"))
 unfolding shapes
@@ -248,20 +264,17 @@ tell a b = go (bytes_eq a b) refl
     )
 
 -- a word that is no name of a command
-no_name : (word : Text) → bytes_eq (codes "verdict") word ≡ false → bytes_eq (codes "check") word ≡ false → bytes_eq (codes "certify") word ≡ false → bytes_eq (codes "export") word ≡ false → bytes_eq (codes "run") word ≡ false → bytes_eq (codes "explain") word ≡ false → bytes_eq (codes "read") word ≡ false → bytes_eq (codes "record") word ≡ false → bytes_eq (codes "assemble") word ≡ false → bytes_eq (codes "annotate") word ≡ false → bytes_eq (codes "draw") word ≡ false → bytes_eq (codes "compare") word ≡ false → bytes_eq (codes "adapt") word ≡ false → bytes_eq (codes "manual") word ≡ false → bytes_eq (codes "version") word ≡ false → find (answers_to word) names ≡ None
+no_name : (word : Text) → bytes_eq (codes "verdict") word ≡ false → bytes_eq (codes "check") word ≡ false → bytes_eq (codes "certify") word ≡ false → bytes_eq (codes "export") word ≡ false → bytes_eq (codes "run") word ≡ false → bytes_eq (codes "explain") word ≡ false → bytes_eq (codes "read") word ≡ false → bytes_eq (codes "record") word ≡ false → bytes_eq (codes "assemble") word ≡ false → bytes_eq (codes "annotate") word ≡ false → bytes_eq (codes "draw") word ≡ false → bytes_eq (codes "compare") word ≡ false → bytes_eq (codes "adapt") word ≡ false → bytes_eq (codes "learn") word ≡ false → bytes_eq (codes "replay") word ≡ false → bytes_eq (codes "manual") word ≡ false → bytes_eq (codes "version") word ≡ false → find (answers_to word) names ≡ None
 unfolding shapes
-no_name word n0 n1 n2 n3 n4 n5 n6 n7 n8 n9 n10 n11 n12 n13 n14 = rw (n0, n1, n2, n3, n4, n5, n6, n7, n8, n9, n10, n11, n12, n13, n14) refl
+no_name word n0 n1 n2 n3 n4 n5 n6 n7 n8 n9 n10 n11 n12 n13 n14 n15 n16 = rw (n0, n1, n2, n3, n4, n5, n6, n7, n8, n9, n10, n11, n12, n13, n14, n15, n16) refl
 
-no_command : (word : Text) (parts : List Text) → bytes_eq word (codes "verdict") ≡ false → bytes_eq word (codes "check") ≡ false → bytes_eq word (codes "certify") ≡ false → bytes_eq word (codes "export") ≡ false → bytes_eq word (codes "run") ≡ false → bytes_eq word (codes "explain") ≡ false → bytes_eq word (codes "read") ≡ false → bytes_eq word (codes "record") ≡ false → bytes_eq word (codes "assemble") ≡ false → bytes_eq word (codes "annotate") ≡ false → bytes_eq word (codes "draw") ≡ false → bytes_eq word (codes "compare") ≡ false → bytes_eq word (codes "adapt") ≡ false → bytes_eq word (codes "manual") ≡ false → bytes_eq word (codes "version") ≡ false → command_of (word ∷ parts) ≡ None
+no_command : (word : Text) (parts : List Text) → bytes_eq word (codes "verdict") ≡ false → bytes_eq word (codes "check") ≡ false → bytes_eq word (codes "certify") ≡ false → bytes_eq word (codes "export") ≡ false → bytes_eq word (codes "run") ≡ false → bytes_eq word (codes "explain") ≡ false → bytes_eq word (codes "read") ≡ false → bytes_eq word (codes "record") ≡ false → bytes_eq word (codes "assemble") ≡ false → bytes_eq word (codes "annotate") ≡ false → bytes_eq word (codes "draw") ≡ false → bytes_eq word (codes "compare") ≡ false → bytes_eq word (codes "adapt") ≡ false → bytes_eq word (codes "learn") ≡ false → bytes_eq word (codes "replay") ≡ false → bytes_eq word (codes "manual") ≡ false → bytes_eq word (codes "version") ≡ false → command_of (word ∷ parts) ≡ None
 unfolding judging telling
-no_command word parts n0 n1 n2 n3 n4 n5 n6 n7 n8 n9 n10 n11 n12 n13 n14 = rw (n0, n1, n2, n3, n4, n5, n6, n7, n8, n9, n10, n11, n12, n13, n14) refl
-
-no_words : Answer []
-unfolding walk_fault defaults_fault
-no_words = inr (tt, refl)
+no_command word parts n0 n1 n2 n3 n4 n5 n6 n7 n8 n9 n10 n11 n12 n13 n14 n15 n16 = rw (n0, n1, n2, n3, n4, n5, n6, n7, n8, n9, n10, n11, n12, n13, n14, n15, n16) refl
 
 pub each_answer : (words : List Text) → ArePlain words → length words ≤ usize_max → Answer words
-each_answer [] plain most = no_words
+unfolding walk_fault defaults_fault
+each_answer [] plain most = inr (tt, refl)
 each_answer (word ∷ parts) plain most =
     elim (tell word (codes "verdict")) [
       | inl e ↦ subst (λ w. Answer (w ∷ parts)) (sym e) (verdict_answer parts plain.1)
@@ -300,15 +313,23 @@ each_answer (word ∷ parts) plain most =
                                                                         | inl e ↦ subst (λ w. Answer (w ∷ parts)) (sym e) (compare_answer parts plain.1)
                                                                         | inr n11 ↦
                                                                             elim (tell word (codes "adapt")) [
-                                                                              | inl e ↦ subst (λ w. Answer (w ∷ parts)) (sym e) (adapt_answer parts plain.1)
+                                                                              | inl e ↦ subst (λ w. Answer (w ∷ parts)) (sym e) (adapt_answer parts plain.1 (omega arith))
                                                                               | inr n12 ↦
-                                                                                  elim (tell word (codes "manual")) [
-                                                                                    | inl e ↦ subst (λ w. Answer (w ∷ parts)) (sym e) (manual_answer parts plain.1)
+                                                                                  elim (tell word (codes "learn")) [
+                                                                                    | inl e ↦ subst (λ w. Answer (w ∷ parts)) (sym e) (learn_answer parts plain.1 (omega arith))
                                                                                     | inr n13 ↦
-                                                                                        elim (tell word (codes "version")) [
-                                                                                          | inl e ↦ subst (λ w. Answer (w ∷ parts)) (sym e) (version_answer parts plain.1)
+                                                                                        elim (tell word (codes "replay")) [
+                                                                                          | inl e ↦ subst (λ w. Answer (w ∷ parts)) (sym e) (replay_answer parts plain.1 (omega arith))
                                                                                           | inr n14 ↦
-                                                                                              stray word parts plain.0 (no_name word n0.1 n1.1 n2.1 n3.1 n4.1 n5.1 n6.1 n7.1 n8.1 n9.1 n10.1 n11.1 n12.1 n13.1 n14.1) (no_command word parts n0.0 n1.0 n2.0 n3.0 n4.0 n5.0 n6.0 n7.0 n8.0 n9.0 n10.0 n11.0 n12.0 n13.0 n14.0)
+                                                                                              elim (tell word (codes "manual")) [
+                                                                                                | inl e ↦ subst (λ w. Answer (w ∷ parts)) (sym e) (manual_answer parts plain.1)
+                                                                                                | inr n15 ↦
+                                                                                                    elim (tell word (codes "version")) [
+                                                                                                      | inl e ↦ subst (λ w. Answer (w ∷ parts)) (sym e) (version_answer parts plain.1)
+                                                                                                      | inr n16 ↦
+                                                                                                          stray word parts plain.0 (no_name word n0.1 n1.1 n2.1 n3.1 n4.1 n5.1 n6.1 n7.1 n8.1 n9.1 n10.1 n11.1 n12.1 n13.1 n14.1 n15.1 n16.1) (no_command word parts n0.0 n1.0 n2.0 n3.0 n4.0 n5.0 n6.0 n7.0 n8.0 n9.0 n10.0 n11.0 n12.0 n13.0 n14.0 n15.0 n16.0)
+                                                                                                    ]
+                                                                                              ]
                                                                                         ]
                                                                                   ]
                                                                             ]

@@ -42,7 +42,9 @@ pub data Given : Type 0 where
   Annotate : (native : Arch) → (filter : List ℕ) → Given
   Draw : (native : Arch) → (filter : List ℕ) → Given
   Compare : (native : Arch) → (first second : List ℕ) → Given
-  Adapt : (native : Arch) → (config : List ℕ) → (may_widen : Bool) → Given
+  Adapt : (native : Arch) → (config : List ℕ) → (words : List (List ℕ)) → Given
+  Learn : (native : Arch) → (words : List (List ℕ)) → Given
+  Replay : (native : Arch) → (bundle : List ℕ) → (words : List (List ℕ)) → Given
   Manual : (name : Option (List ℕ)) → Given
   Version : Given
 
@@ -59,7 +61,9 @@ given (command.Assemble listing) = Assemble listing.now
 given (command.Annotate native filter) = Annotate native filter.now
 given (command.Draw native filter) = Draw native filter.now
 given (command.Compare native first second) = Compare native first.now second.now
-given (command.Adapt native config may_widen) = Adapt native config.now may_widen
+given (command.Adapt native config words) = Adapt native config.now (map (λ w. w.now) words.now)
+given (command.Learn native words) = Learn native (map (λ w. w.now) words.now)
+given (command.Replay native bundle words) = Replay native bundle.now (map (λ w. w.now) words.now)
 given (command.Manual name) = Manual (option_map (λ n. n.now) name)
 given command.Version = Version
 
@@ -124,12 +128,20 @@ abbrev pub compare : List (List ℕ) → Option Given
 compare (machine ∷ first ∷ second ∷ []) = option_map (λ native. Compare native first second) (native_called machine)
 compare _ = None
 
--- the argument `widen` may stand behind the file
+-- words may stand behind the file
 abbrev pub adapt : List (List ℕ) → Option Given
-adapt (machine ∷ config ∷ []) = option_map (λ native. Adapt native config false) (native_called machine)
-adapt (machine ∷ config ∷ last ∷ []) =
-    if bytes_eq last (codes "widen") then option_map (λ native. Adapt native config true) (native_called machine) else None
+adapt (machine ∷ config ∷ words) = option_map (λ native. Adapt native config words) (native_called machine)
 adapt _ = None
+
+-- one word at least
+abbrev pub learn : List (List ℕ) → Option Given
+learn (machine ∷ word ∷ words) = option_map (λ native. Learn native (word ∷ words)) (native_called machine)
+learn _ = None
+
+-- one word at least
+abbrev pub replay : List (List ℕ) → Option Given
+replay (machine ∷ bundle ∷ word ∷ words) = option_map (λ native. Replay native bundle (word ∷ words)) (native_called machine)
+replay _ = None
 
 abbrev pub manual : List (List ℕ) → Option Given
 manual [] = Some (Manual None)
@@ -160,6 +172,8 @@ telling name parts =
     else if bytes_eq name (codes "draw") then draw parts
     else if bytes_eq name (codes "compare") then compare parts
     else if bytes_eq name (codes "adapt") then adapt parts
+    else if bytes_eq name (codes "learn") then learn parts
+    else if bytes_eq name (codes "replay") then replay parts
     else if bytes_eq name (codes "manual") then manual parts
     else if bytes_eq name (codes "version") then version parts
     else None

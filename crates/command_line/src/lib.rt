@@ -14,8 +14,8 @@ mod table;
 
 use crate::grammar::{commands, grammar};
 use crate::parts::{
-    adapt, annotate, assemble, certify, check, compare, draw, explain, export, manual, read,
-    record_for, run, verdict,
+    adapt, annotate, assemble, certify, check, compare, draw, explain, export, learn, manual, read,
+    record_for, replay, run, verdict,
 };
 pub use crate::table::{COMMANDS, Entry, Part};
 use call_tables::Arch;
@@ -91,12 +91,25 @@ pub enum Command<'a> {
         first: &'a str,
         second: &'a str,
     },
-    /// The bundle that is made of an engine's configuration, to be read for a native machine, and whether it may say less
-    /// strict verdicts. The configuration is given as the name of a file.
+    /// The bundle that is made of an engine's configuration, to be read for a native machine, as words ask for it. The
+    /// configuration is given as the name of a file.
     Adapt {
         native: Arch,
         config: &'a str,
-        may_widen: bool,
+        words: &'a [&'a str],
+    },
+    /// The bundle, to be read for a native machine, that allows what logs show: words name the files, one at least, and say
+    /// what is asked.
+    Learn {
+        native: Arch,
+        words: &'a [&'a str],
+    },
+    /// The calls of logs that a bundle, read for a native machine, refuses. It is given as the name of a file, and words name
+    /// the logs, one at least.
+    Replay {
+        native: Arch,
+        bundle: &'a str,
+        words: &'a [&'a str],
     },
     /// The page of a command by its name, or the list of them.
     Manual {
@@ -155,7 +168,9 @@ fn telling<'a>(name: &str, parts: &ArgMatches<'a>, arguments: &'a [&'a str]) -> 
         "annotate" => annotate(parts),
         "draw" => draw(parts),
         "compare" => compare(parts),
-        "adapt" => adapt(parts),
+        "adapt" => adapt(parts, arguments),
+        "learn" => learn(parts, arguments),
+        "replay" => replay(parts, arguments),
         "manual" => manual(parts),
         "version" => Some(Command::Version),
         _ => None,

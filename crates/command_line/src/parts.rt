@@ -3,7 +3,7 @@ ghost use Rattle.std.specs.Prelude.{◌≡◌, map, option_map};
 ghost use Rattle.clap.specs.Words.{first_of, found_of, rows_of};
 ghost use Rattle.command_line.specs.Arguments.{given, texts};
 ghost use Rattle.command_line.specs.inner.Found as spec;
-ghost use Rattle.command_line.specs.inner.Found.{form_in, list_in, native_in, widens};
+ghost use Rattle.command_line.specs.inner.Found.{form_in, list_in, native_in};
 
 use crate::{Command, form_named};
 use call_tables::Arch;
@@ -166,26 +166,37 @@ pub(crate) fn compare<'a>(found: &ArgMatches<'a>) -> Option<Command<'a>>
     })
 }
 
-// Whether the part that may stand last is `widen`.
-fn may_widen(last: Option<&str>) -> Option<bool>
-    ensures { result ≡ widens (option_map (λ s. s.now) last.entry) }
-{
-    match last {
-        None => Some(false),
-        Some(last) => { if last == "widen" { Some(true) } else { None } }
-    }
-}
-
-pub(crate) fn adapt<'a>(found: &ArgMatches<'a>) -> Option<Command<'a>>
-    ensures { option_map given result ≡ spec.adapt_in (rows_of (found_of found.now)) }
+pub(crate) fn adapt<'a>(found: &ArgMatches<'a>, arguments: &'a [&'a str]) -> Option<Command<'a>>
+    ensures { option_map given result ≡ spec.adapt_in (rows_of (found_of found.now)) (texts arguments.entry.now) }
 {
     let config = part(found, "CONFIG")?;
-    let may_widen = may_widen(part(found, "widen"))?;
     let native = native(found)?;
+    let words = list(found, "WORD", arguments);
     Some(Command::Adapt {
         native,
         config,
-        may_widen,
+        words,
+    })
+}
+
+pub(crate) fn learn<'a>(found: &ArgMatches<'a>, arguments: &'a [&'a str]) -> Option<Command<'a>>
+    ensures { option_map given result ≡ spec.learn_in (rows_of (found_of found.now)) (texts arguments.entry.now) }
+{
+    let native = native(found)?;
+    let words = list(found, "WORD", arguments);
+    Some(Command::Learn { native, words })
+}
+
+pub(crate) fn replay<'a>(found: &ArgMatches<'a>, arguments: &'a [&'a str]) -> Option<Command<'a>>
+    ensures { option_map given result ≡ spec.replay_in (rows_of (found_of found.now)) (texts arguments.entry.now) }
+{
+    let bundle = part(found, "BUNDLE")?;
+    let native = native(found)?;
+    let words = list(found, "WORD", arguments);
+    Some(Command::Replay {
+        native,
+        bundle,
+        words,
     })
 }
 

@@ -58,8 +58,18 @@ pub const COMMANDS: &[Entry] = &[
     ),
     (
         "adapt",
-        &[("MACHINE", 1, 1), ("CONFIG", 1, 1), ("widen", 0, 1)],
+        &[("MACHINE", 1, 1), ("CONFIG", 1, 1), ("WORD", 0, MANY)],
         "a bundle of what an engine hands to its runtime",
+    ),
+    (
+        "learn",
+        &[("MACHINE", 1, 1), ("WORD", 1, MANY)],
+        "a bundle that allows what logs of strace show",
+    ),
+    (
+        "replay",
+        &[("MACHINE", 1, 1), ("BUNDLE", 1, 1), ("WORD", 1, MANY)],
+        "which calls of logs of strace a bundle refuses",
     ),
     (
         "record",

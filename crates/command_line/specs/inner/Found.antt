@@ -9,7 +9,7 @@ use Rattle.clap.specs.Words.{Row, Text, all_of, first_of}
 use Rattle.export.specs.declared.form.Form.{Form}
 use Rattle.command_line.specs.Arguments.{Given, form_called}
 use Rattle.command_line.specs.Arguments.Given.{Verdict, Check, Certify, Export, Run, Explain, Read, Record}
-use Rattle.command_line.specs.Arguments.Given.{Assemble, Annotate, Draw, Compare, Adapt, Manual, Version}
+use Rattle.command_line.specs.Arguments.Given.{Assemble, Annotate, Draw, Compare, Adapt, Learn, Replay, Manual, Version}
 
 -- the machine that the part MACHINE calls
 abbrev pub native_in : List Row → Option Arch
@@ -77,14 +77,16 @@ abbrev pub compare_in : List Row → Option Given
 compare_in rows = with_part (codes "FIRST") rows (λ first. with_part (codes "SECOND") rows (λ second.
     with_native rows (λ native. Compare native first second)))
 
--- whether the part that may stand last is `widen`; none where it is another
-abbrev pub widens : Option Text → Option Bool
-widens None = Some false
-widens (Some last) = if bytes_eq last (codes "widen") then Some true else None
+abbrev pub adapt_in : List Row → List Text → Option Given
+adapt_in rows arguments = with_part (codes "CONFIG") rows (λ config.
+    with_native rows (λ native. Adapt native config (list_in (codes "WORD") rows arguments)))
 
-abbrev pub adapt_in : List Row → Option Given
-adapt_in rows = with_part (codes "CONFIG") rows (λ config. option_and_then (λ may_widen.
-    with_native rows (λ native. Adapt native config may_widen)) (widens (first_of (codes "widen") rows)))
+abbrev pub learn_in : List Row → List Text → Option Given
+learn_in rows arguments = with_native rows (λ native. Learn native (list_in (codes "WORD") rows arguments))
+
+abbrev pub replay_in : List Row → List Text → Option Given
+replay_in rows arguments = with_part (codes "BUNDLE") rows (λ bundle.
+    with_native rows (λ native. Replay native bundle (list_in (codes "WORD") rows arguments)))
 
 abbrev pub manual_in : List Row → Option Given
 manual_in rows = Some (Manual (first_of (codes "COMMAND") rows))
@@ -108,7 +110,9 @@ telling_in name rows arguments =
     else if bytes_eq name (codes "annotate") then annotate_in rows
     else if bytes_eq name (codes "draw") then draw_in rows
     else if bytes_eq name (codes "compare") then compare_in rows
-    else if bytes_eq name (codes "adapt") then adapt_in rows
+    else if bytes_eq name (codes "adapt") then adapt_in rows arguments
+    else if bytes_eq name (codes "learn") then learn_in rows arguments
+    else if bytes_eq name (codes "replay") then replay_in rows arguments
     else if bytes_eq name (codes "manual") then manual_in rows
     else if bytes_eq name (codes "version") then Some Version
     else None
