@@ -1,0 +1,2 @@
+mod PastLaws
+mod ToldLaws

@@ -1,0 +1,17 @@
+//! Which entry says what is said of a call.
+use call_record::Record;
+use profile_json::EntryRules;
+
+// The first entry with a rule that matches a call.
+fn entry_of(all: &EntryRules, call: &Record) -> Option<usize> {
+    let place = all.rules.iter().position(|rule| rule.matches(call))?;
+    all.entry_of(place)
+}
+
+/// The entry that lets a call through, or else the one that refuses the same with the bits at 0 that are not read.
+pub(crate) fn place_of(all: &EntryRules, call: &Record, cleared: &Record) -> Option<usize> {
+    match entry_of(all, call) {
+        Some(entry) => Some(entry),
+        None => entry_of(all, cleared),
+    }
+}
