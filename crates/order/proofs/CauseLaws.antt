@@ -16,7 +16,7 @@ use Rattle.kernel_check.specs.Accepted.{CauseAt, HasCause, LeadsOut}
 use Rattle.kernel_check.specs.Paths.{LeadsTo, Unwritten}
 use Rattle.kernel_check.specs.Paths.Unwritten.{at_first, handed_on}
 use Rattle.call_record.specs.Verdict.{is_through, kill_thread}
-use Rattle.cert_paths.proofs.EndLaws.{steady_at}
+use Rattle.order.proofs.PlaceLaws.{steady_at}
 use Rattle.rule_compile.specs.Steady.{Held, IsSteady, Nothing, Part, Whole, steady_by}
 use Rattle.order.specs.inner.Excess.{asked, asking, asking_by, excess_of, jumping, opposite, turned, turned_by, with_number}
 use Rattle.order.proofs.RunLaws.{jump_code, length_asked}

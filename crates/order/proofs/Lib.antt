@@ -1,5 +1,6 @@
 mod RunLaws
 mod SteadyLaws
+mod PlaceLaws
 mod CauseLaws
 mod ExcessLaws
 mod DecidedLaws
