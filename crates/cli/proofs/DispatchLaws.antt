@@ -12,7 +12,7 @@ use Rattle.pipeline.specs.Certified.{Certifies}
 use Rattle.pipeline.specs.Exported.{Exports}
 use Rattle.pipeline.specs.Finding.{WritesFinding}
 use Rattle.command_line.specs.Arguments.{Given, Reads}
-use Rattle.command_line.specs.Arguments.Given.{Verdict, Check, Certify, Export, Run, Explain, Read as ReadOut, Record, Assemble, Annotate, Draw, Compare, Adapt, Learn, Replay, Manual, Version}
+use Rattle.command_line.specs.Arguments.Given.{Verdict, Check, Certify, Export, Run, Explain, Read as ReadOut, Record, Assemble, Annotate, Draw, Lint, Compare, Adapt, Learn, Replay, Manual, Version}
 use Rattle.command_line.specs.declared.Misuse.{Misuse}
 use Rattle.command_line.specs.declared.Misuse.TheVariants as kind
 use Rattle.cli.specs.declared.stops.Stop.{Stop}
@@ -171,6 +171,7 @@ module _ {I O : Type 0} (left : I → Option (List ℕ)) (given : I → Failures
   not_begun (Assemble listing) = refl
   not_begun (Annotate native filter) = refl
   not_begun (Draw native filter) = refl
+  not_begun (Lint native bundle) = refl
   not_begun (Compare native first second) = refl
   not_begun (Adapt native config words) = refl
   not_begun (Learn native words) = refl

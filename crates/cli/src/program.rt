@@ -151,6 +151,18 @@ fn show<'a, T: FnOnce(Global, Arch, &[u8]) -> Result<Told, AllocError>>(
     tell(&told(alloc, native, &filter)?, out)
 }
 
+// Tells which calls get past a bundle by bits that the kernel does not read.
+fn lint<'a>(
+    alloc: Global,
+    native: Arch,
+    bundle: &'a str,
+    files: &mut impl Files,
+    out: &mut impl Sink,
+) -> Result<bool, Stop<'a>> {
+    let bundle = read(alloc, files, bundle)?;
+    tell(&lint::lint(alloc, native, &bundle)?, out)
+}
+
 // Writes a bundle that was made, or why there is none, and tells on standard error what was changed or added.
 fn tell_both<'a, E: Sink>(
     both: Result<Both, Stop<'a>>,
@@ -222,6 +234,7 @@ fn obey<'a, F: Files, I: Source, O: Sink, E: Sink>(
         Command::Assemble { listing } => assemble(alloc, listing, files, out),
         Command::Annotate { native, filter } => show(alloc, native, filter, annotated, files, out),
         Command::Draw { native, filter } => show(alloc, native, filter, drawn, files, out),
+        Command::Lint { native, bundle } => lint(alloc, native, bundle, files, out),
         Command::Compare {
             native,
             first,

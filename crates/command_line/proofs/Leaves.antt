@@ -125,6 +125,13 @@ draw_reading (a ∷ []) = inr (tt, refl)
 draw_reading (a ∷ b ∷ []) = inl (refl, refl)
 draw_reading (a ∷ b ∷ c ∷ more) = inr (tt, refl)
 
+pub lint_reading : (parts : List Text) → Reading (shape_called (codes "lint")) parts found.lint_in (given.lint parts)
+unfolding values_fault defaults_fault
+lint_reading [] = inr (tt, refl)
+lint_reading (a ∷ []) = inr (tt, refl)
+lint_reading (a ∷ b ∷ []) = inl (refl, refl)
+lint_reading (a ∷ b ∷ c ∷ more) = inr (tt, refl)
+
 pub compare_reading : (parts : List Text) → Reading (shape_called (codes "compare")) parts found.compare_in (given.compare parts)
 unfolding values_fault defaults_fault
 compare_reading [] = inr (tt, refl)

@@ -17,7 +17,7 @@ use Rattle.command_line.specs.inner.Found.{command_in, judging_in, named_in, tel
 use Rattle.command_line.specs.inner.Grammar.{table, top}
 use Rattle.command_line.proofs.PlainWalks.{ArePlain, IsPlain, no_hyphen, no_mark}
 use Rattle.command_line.proofs.Leaves.{IsFault, Reading, leaf_fault, leaf_fault_is, leaf_rows_is, ready, shape_called, start}
-use Rattle.command_line.proofs.Leaves.{verdict_reading, check_reading, certify_reading, export_reading, run_reading, explain_reading, read_reading, record_reading, assemble_reading, annotate_reading, draw_reading, compare_reading, adapt_reading, learn_reading, replay_reading, manual_reading, version_reading}
+use Rattle.command_line.proofs.Leaves.{verdict_reading, check_reading, certify_reading, export_reading, run_reading, explain_reading, read_reading, record_reading, assemble_reading, annotate_reading, draw_reading, lint_reading, compare_reading, adapt_reading, learn_reading, replay_reading, manual_reading, version_reading}
 use Rattle.std.proofs.lemmas.Bool.{false_from_ne_true}
 use Rattle.std.proofs.lemmas.Slice.Eq.{bytes_eq-Decides}
 
@@ -202,6 +202,14 @@ draw_answer : (parts : List Text) → ArePlain parts → Answer (codes "draw" �
 unfolding judging telling judging_in telling_in
 draw_answer parts plain = answer (codes "draw") parts (shape_called (codes "draw")) draw_named refl plain found.draw_in (given.draw parts) (draw_reading parts) (λ rows. refl) refl
 
+lint_named : IsName (codes "lint") (shape_called (codes "lint"))
+unfolding shapes
+lint_named = (refl, refl)
+
+lint_answer : (parts : List Text) → ArePlain parts → Answer (codes "lint" ∷ parts)
+unfolding judging telling judging_in telling_in
+lint_answer parts plain = answer (codes "lint") parts (shape_called (codes "lint")) lint_named refl plain found.lint_in (given.lint parts) (lint_reading parts) (λ rows. refl) refl
+
 compare_named : IsName (codes "compare") (shape_called (codes "compare"))
 unfolding shapes
 compare_named = (refl, refl)
@@ -264,13 +272,13 @@ tell a b = go (bytes_eq a b) refl
     )
 
 -- a word that is no name of a command
-no_name : (word : Text) → bytes_eq (codes "verdict") word ≡ false → bytes_eq (codes "check") word ≡ false → bytes_eq (codes "certify") word ≡ false → bytes_eq (codes "export") word ≡ false → bytes_eq (codes "run") word ≡ false → bytes_eq (codes "explain") word ≡ false → bytes_eq (codes "read") word ≡ false → bytes_eq (codes "record") word ≡ false → bytes_eq (codes "assemble") word ≡ false → bytes_eq (codes "annotate") word ≡ false → bytes_eq (codes "draw") word ≡ false → bytes_eq (codes "compare") word ≡ false → bytes_eq (codes "adapt") word ≡ false → bytes_eq (codes "learn") word ≡ false → bytes_eq (codes "replay") word ≡ false → bytes_eq (codes "manual") word ≡ false → bytes_eq (codes "version") word ≡ false → find (answers_to word) names ≡ None
+no_name : (word : Text) → bytes_eq (codes "verdict") word ≡ false → bytes_eq (codes "check") word ≡ false → bytes_eq (codes "certify") word ≡ false → bytes_eq (codes "export") word ≡ false → bytes_eq (codes "run") word ≡ false → bytes_eq (codes "explain") word ≡ false → bytes_eq (codes "read") word ≡ false → bytes_eq (codes "record") word ≡ false → bytes_eq (codes "assemble") word ≡ false → bytes_eq (codes "annotate") word ≡ false → bytes_eq (codes "draw") word ≡ false → bytes_eq (codes "lint") word ≡ false → bytes_eq (codes "compare") word ≡ false → bytes_eq (codes "adapt") word ≡ false → bytes_eq (codes "learn") word ≡ false → bytes_eq (codes "replay") word ≡ false → bytes_eq (codes "manual") word ≡ false → bytes_eq (codes "version") word ≡ false → find (answers_to word) names ≡ None
 unfolding shapes
-no_name word n0 n1 n2 n3 n4 n5 n6 n7 n8 n9 n10 n11 n12 n13 n14 n15 n16 = rw (n0, n1, n2, n3, n4, n5, n6, n7, n8, n9, n10, n11, n12, n13, n14, n15, n16) refl
+no_name word n0 n1 n2 n3 n4 n5 n6 n7 n8 n9 n10 n11 n12 n13 n14 n15 n16 n17 = rw (n0, n1, n2, n3, n4, n5, n6, n7, n8, n9, n10, n11, n12, n13, n14, n15, n16, n17) refl
 
-no_command : (word : Text) (parts : List Text) → bytes_eq word (codes "verdict") ≡ false → bytes_eq word (codes "check") ≡ false → bytes_eq word (codes "certify") ≡ false → bytes_eq word (codes "export") ≡ false → bytes_eq word (codes "run") ≡ false → bytes_eq word (codes "explain") ≡ false → bytes_eq word (codes "read") ≡ false → bytes_eq word (codes "record") ≡ false → bytes_eq word (codes "assemble") ≡ false → bytes_eq word (codes "annotate") ≡ false → bytes_eq word (codes "draw") ≡ false → bytes_eq word (codes "compare") ≡ false → bytes_eq word (codes "adapt") ≡ false → bytes_eq word (codes "learn") ≡ false → bytes_eq word (codes "replay") ≡ false → bytes_eq word (codes "manual") ≡ false → bytes_eq word (codes "version") ≡ false → command_of (word ∷ parts) ≡ None
+no_command : (word : Text) (parts : List Text) → bytes_eq word (codes "verdict") ≡ false → bytes_eq word (codes "check") ≡ false → bytes_eq word (codes "certify") ≡ false → bytes_eq word (codes "export") ≡ false → bytes_eq word (codes "run") ≡ false → bytes_eq word (codes "explain") ≡ false → bytes_eq word (codes "read") ≡ false → bytes_eq word (codes "record") ≡ false → bytes_eq word (codes "assemble") ≡ false → bytes_eq word (codes "annotate") ≡ false → bytes_eq word (codes "draw") ≡ false → bytes_eq word (codes "lint") ≡ false → bytes_eq word (codes "compare") ≡ false → bytes_eq word (codes "adapt") ≡ false → bytes_eq word (codes "learn") ≡ false → bytes_eq word (codes "replay") ≡ false → bytes_eq word (codes "manual") ≡ false → bytes_eq word (codes "version") ≡ false → command_of (word ∷ parts) ≡ None
 unfolding judging telling
-no_command word parts n0 n1 n2 n3 n4 n5 n6 n7 n8 n9 n10 n11 n12 n13 n14 n15 n16 = rw (n0, n1, n2, n3, n4, n5, n6, n7, n8, n9, n10, n11, n12, n13, n14, n15, n16) refl
+no_command word parts n0 n1 n2 n3 n4 n5 n6 n7 n8 n9 n10 n11 n12 n13 n14 n15 n16 n17 = rw (n0, n1, n2, n3, n4, n5, n6, n7, n8, n9, n10, n11, n12, n13, n14, n15, n16, n17) refl
 
 pub each_answer : (words : List Text) → ArePlain words → length words ≤ usize_max → Answer words
 unfolding walk_fault defaults_fault
@@ -309,25 +317,29 @@ each_answer (word ∷ parts) plain most =
                                                                 elim (tell word (codes "draw")) [
                                                                   | inl e ↦ subst (λ w. Answer (w ∷ parts)) (sym e) (draw_answer parts plain.1)
                                                                   | inr n10 ↦
-                                                                      elim (tell word (codes "compare")) [
-                                                                        | inl e ↦ subst (λ w. Answer (w ∷ parts)) (sym e) (compare_answer parts plain.1)
+                                                                      elim (tell word (codes "lint")) [
+                                                                        | inl e ↦ subst (λ w. Answer (w ∷ parts)) (sym e) (lint_answer parts plain.1)
                                                                         | inr n11 ↦
-                                                                            elim (tell word (codes "adapt")) [
-                                                                              | inl e ↦ subst (λ w. Answer (w ∷ parts)) (sym e) (adapt_answer parts plain.1 (omega arith))
+                                                                            elim (tell word (codes "compare")) [
+                                                                              | inl e ↦ subst (λ w. Answer (w ∷ parts)) (sym e) (compare_answer parts plain.1)
                                                                               | inr n12 ↦
-                                                                                  elim (tell word (codes "learn")) [
-                                                                                    | inl e ↦ subst (λ w. Answer (w ∷ parts)) (sym e) (learn_answer parts plain.1 (omega arith))
+                                                                                  elim (tell word (codes "adapt")) [
+                                                                                    | inl e ↦ subst (λ w. Answer (w ∷ parts)) (sym e) (adapt_answer parts plain.1 (omega arith))
                                                                                     | inr n13 ↦
-                                                                                        elim (tell word (codes "replay")) [
-                                                                                          | inl e ↦ subst (λ w. Answer (w ∷ parts)) (sym e) (replay_answer parts plain.1 (omega arith))
+                                                                                        elim (tell word (codes "learn")) [
+                                                                                          | inl e ↦ subst (λ w. Answer (w ∷ parts)) (sym e) (learn_answer parts plain.1 (omega arith))
                                                                                           | inr n14 ↦
-                                                                                              elim (tell word (codes "manual")) [
-                                                                                                | inl e ↦ subst (λ w. Answer (w ∷ parts)) (sym e) (manual_answer parts plain.1)
+                                                                                              elim (tell word (codes "replay")) [
+                                                                                                | inl e ↦ subst (λ w. Answer (w ∷ parts)) (sym e) (replay_answer parts plain.1 (omega arith))
                                                                                                 | inr n15 ↦
-                                                                                                    elim (tell word (codes "version")) [
-                                                                                                      | inl e ↦ subst (λ w. Answer (w ∷ parts)) (sym e) (version_answer parts plain.1)
+                                                                                                    elim (tell word (codes "manual")) [
+                                                                                                      | inl e ↦ subst (λ w. Answer (w ∷ parts)) (sym e) (manual_answer parts plain.1)
                                                                                                       | inr n16 ↦
-                                                                                                          stray word parts plain.0 (no_name word n0.1 n1.1 n2.1 n3.1 n4.1 n5.1 n6.1 n7.1 n8.1 n9.1 n10.1 n11.1 n12.1 n13.1 n14.1 n15.1 n16.1) (no_command word parts n0.0 n1.0 n2.0 n3.0 n4.0 n5.0 n6.0 n7.0 n8.0 n9.0 n10.0 n11.0 n12.0 n13.0 n14.0 n15.0 n16.0)
+                                                                                                          elim (tell word (codes "version")) [
+                                                                                                            | inl e ↦ subst (λ w. Answer (w ∷ parts)) (sym e) (version_answer parts plain.1)
+                                                                                                            | inr n17 ↦
+                                                                                                                stray word parts plain.0 (no_name word n0.1 n1.1 n2.1 n3.1 n4.1 n5.1 n6.1 n7.1 n8.1 n9.1 n10.1 n11.1 n12.1 n13.1 n14.1 n15.1 n16.1 n17.1) (no_command word parts n0.0 n1.0 n2.0 n3.0 n4.0 n5.0 n6.0 n7.0 n8.0 n9.0 n10.0 n11.0 n12.0 n13.0 n14.0 n15.0 n16.0 n17.0)
+                                                                                                          ]
                                                                                                     ]
                                                                                               ]
                                                                                         ]

@@ -41,6 +41,7 @@ pub data Given : Type 0 where
   Assemble : (listing : List ℕ) → Given
   Annotate : (native : Arch) → (filter : List ℕ) → Given
   Draw : (native : Arch) → (filter : List ℕ) → Given
+  Lint : (native : Arch) → (bundle : List ℕ) → Given
   Compare : (native : Arch) → (first second : List ℕ) → Given
   Adapt : (native : Arch) → (config : List ℕ) → (words : List (List ℕ)) → Given
   Learn : (native : Arch) → (words : List (List ℕ)) → Given
@@ -60,6 +61,7 @@ given (command.Record native call) = Record native (map (λ c. c.now) call.now)
 given (command.Assemble listing) = Assemble listing.now
 given (command.Annotate native filter) = Annotate native filter.now
 given (command.Draw native filter) = Draw native filter.now
+given (command.Lint native bundle) = Lint native bundle.now
 given (command.Compare native first second) = Compare native first.now second.now
 given (command.Adapt native config words) = Adapt native config.now (map (λ w. w.now) words.now)
 given (command.Learn native words) = Learn native (map (λ w. w.now) words.now)
@@ -124,6 +126,10 @@ abbrev pub draw : List (List ℕ) → Option Given
 draw (machine ∷ filter ∷ []) = option_map (λ native. Draw native filter) (native_called machine)
 draw _ = None
 
+abbrev pub lint : List (List ℕ) → Option Given
+lint (machine ∷ bundle ∷ []) = option_map (λ native. Lint native bundle) (native_called machine)
+lint _ = None
+
 abbrev pub compare : List (List ℕ) → Option Given
 compare (machine ∷ first ∷ second ∷ []) = option_map (λ native. Compare native first second) (native_called machine)
 compare _ = None
@@ -170,6 +176,7 @@ telling name parts =
     else if bytes_eq name (codes "assemble") then assemble parts
     else if bytes_eq name (codes "annotate") then annotate parts
     else if bytes_eq name (codes "draw") then draw parts
+    else if bytes_eq name (codes "lint") then lint parts
     else if bytes_eq name (codes "compare") then compare parts
     else if bytes_eq name (codes "adapt") then adapt parts
     else if bytes_eq name (codes "learn") then learn parts

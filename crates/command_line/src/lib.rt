@@ -14,8 +14,8 @@ mod table;
 
 use crate::grammar::{commands, grammar};
 use crate::parts::{
-    adapt, annotate, assemble, certify, check, compare, draw, explain, export, learn, manual, read,
-    record_for, replay, run, verdict,
+    adapt, annotate, assemble, certify, check, compare, draw, explain, export, learn, lint, manual,
+    read, record_for, replay, run, verdict,
 };
 pub use crate::table::{COMMANDS, Entry, Part};
 use call_tables::Arch;
@@ -84,6 +84,12 @@ pub enum Command<'a> {
     Draw {
         native: Arch,
         filter: &'a str,
+    },
+    /// Which calls get past a bundle, read for a native machine, by bits that the kernel does not read. It is given as the name
+    /// of a file.
+    Lint {
+        native: Arch,
+        bundle: &'a str,
     },
     /// How two bundles, read for a native machine, compare. They are given as names of files.
     Compare {
@@ -167,6 +173,7 @@ fn telling<'a>(name: &str, parts: &ArgMatches<'a>, arguments: &'a [&'a str]) -> 
         "assemble" => assemble(parts),
         "annotate" => annotate(parts),
         "draw" => draw(parts),
+        "lint" => lint(parts),
         "compare" => compare(parts),
         "adapt" => adapt(parts, arguments),
         "learn" => learn(parts, arguments),

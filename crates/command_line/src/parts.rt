@@ -153,6 +153,14 @@ pub(crate) fn draw<'a>(found: &ArgMatches<'a>) -> Option<Command<'a>>
     Some(Command::Draw { native, filter })
 }
 
+pub(crate) fn lint<'a>(found: &ArgMatches<'a>) -> Option<Command<'a>>
+    ensures { option_map given result ≡ spec.lint_in (rows_of (found_of found.now)) }
+{
+    let bundle = part(found, "BUNDLE")?;
+    let native = native(found)?;
+    Some(Command::Lint { native, bundle })
+}
+
 pub(crate) fn compare<'a>(found: &ArgMatches<'a>) -> Option<Command<'a>>
     ensures { option_map given result ≡ spec.compare_in (rows_of (found_of found.now)) }
 {

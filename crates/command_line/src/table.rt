@@ -52,6 +52,11 @@ pub const COMMANDS: &[Entry] = &[
         "what a bundle means, or where it is wrong",
     ),
     (
+        "lint",
+        &[("MACHINE", 1, 1), ("BUNDLE", 1, 1)],
+        "which calls get past a bundle by bits that the kernel does not read",
+    ),
+    (
         "compare",
         &[("MACHINE", 1, 1), ("FIRST", 1, 1), ("SECOND", 1, 1)],
         "whether two bundles say the same, or the calls of which not",

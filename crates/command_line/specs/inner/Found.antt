@@ -9,7 +9,7 @@ use Rattle.clap.specs.Words.{Row, Text, all_of, first_of}
 use Rattle.export.specs.declared.form.Form.{Form}
 use Rattle.command_line.specs.Arguments.{Given, form_called}
 use Rattle.command_line.specs.Arguments.Given.{Verdict, Check, Certify, Export, Run, Explain, Read, Record}
-use Rattle.command_line.specs.Arguments.Given.{Assemble, Annotate, Draw, Compare, Adapt, Learn, Replay, Manual, Version}
+use Rattle.command_line.specs.Arguments.Given.{Assemble, Annotate, Draw, Lint, Compare, Adapt, Learn, Replay, Manual, Version}
 
 -- the machine that the part MACHINE calls
 abbrev pub native_in : List Row → Option Arch
@@ -73,6 +73,9 @@ annotate_in rows = with_part (codes "FILTER") rows (λ filter. with_native rows 
 abbrev pub draw_in : List Row → Option Given
 draw_in rows = with_part (codes "FILTER") rows (λ filter. with_native rows (λ native. Draw native filter))
 
+abbrev pub lint_in : List Row → Option Given
+lint_in rows = with_part (codes "BUNDLE") rows (λ bundle. with_native rows (λ native. Lint native bundle))
+
 abbrev pub compare_in : List Row → Option Given
 compare_in rows = with_part (codes "FIRST") rows (λ first. with_part (codes "SECOND") rows (λ second.
     with_native rows (λ native. Compare native first second)))
@@ -109,6 +112,7 @@ telling_in name rows arguments =
     else if bytes_eq name (codes "assemble") then assemble_in rows
     else if bytes_eq name (codes "annotate") then annotate_in rows
     else if bytes_eq name (codes "draw") then draw_in rows
+    else if bytes_eq name (codes "lint") then lint_in rows
     else if bytes_eq name (codes "compare") then compare_in rows
     else if bytes_eq name (codes "adapt") then adapt_in rows arguments
     else if bytes_eq name (codes "learn") then learn_in rows arguments
