@@ -6,7 +6,10 @@ use Rattle.std.proofs.lemmas.List.Elements.{All-nil, All-push}
 use Rattle.call_record.specs.Verdict.{Through, is_through}
 use Rattle.call_record.specs.Words.{IsRecord}
 use Rattle.call_tables.specs.Arch.{token_of}
-use Rattle.order.specs.Order.{Exceeds}
+use Rattle.order.specs.Decided.{IsDecided}
+use Rattle.order.specs.Order.{AllowsNoMore}
+use Rattle.order.specs.declared.decided.AtMost.{AtMost}
+use Rattle.order.specs.declared.decided.AtMost.TheVariants.{Yes}
 use Rattle.profile.specs.Policy.{Policy, Says}
 use Rattle.compare.specs.Difference.{IsChange, IsDifference, IsLike, record_of}
 use Rattle.compare.specs.Order.{TellsLess, TellsMore, is_less, is_more}
@@ -83,3 +86,8 @@ one_more p q changes c d same none all is =
     let Other : Difference → Type 0 = λ e. IsDifference p q e × IsLike c.first e in
     All-push (IsChange p q) changes c all
     (record { first = subst (IsDifference p q) (sym same) is; others = subst (All Other) (sym none) (All-nil Other) })
+
+-- ---- what was decided
+
+pub yes_means : (p q : Policy) (told : AtMost) → told ≡ Yes → IsDecided p q told → AllowsNoMore p q
+yes_means p q told is decided = subst (IsDecided p q) is decided

@@ -1,5 +1,5 @@
 //! Calls of some machines, of which two profiles say the same unlike verdicts.
-ghost use Rattle.std.specs.Prelude.{◌≡◌, IfOk, All, IsTrue};
+ghost use Rattle.std.specs.Prelude.{◌≡◌, false, IfOk, All, IsTrue};
 ghost use Rattle.profile.specs.Policy.{Policy};
 ghost use Rattle.compare.specs.Difference.{IsChange, IsDifference, IsLike};
 
@@ -15,11 +15,14 @@ pub struct Change {
     pub others: Vec<Difference>,
 }
 
-// Whether two numbers are of calls of one name, or of one number without a name.
+// Whether two numbers of different machines are of calls of one name, or of one number without a name.
 fn has_name_of(one: &Difference, other: &Difference) -> bool {
     let (Some(arch), Some(machine)) = (one.arch, other.arch) else {
         return false;
     };
+    if arch == machine {
+        return false;
+    }
     match (arch.name(one.nr), machine.name(other.nr)) {
         (Some(name), Some(same)) => name == same,
         (None, None) => one.nr == other.nr,
@@ -40,19 +43,35 @@ fn is_like(one: &Difference, other: &Difference) -> bool
     other.second.0 == one.second.0
 }
 
-// Whether a difference is told in the line of another.
-fn is_told_with(one: &Difference, other: &Difference) -> bool
-    ensures { IsTrue result → IsLike one.now other.now }
+// Whether a difference is not told in the line of another.
+fn is_apart(one: &Difference, other: &Difference) -> bool
+    ensures { result ≡ false → IsLike one.now other.now }
 {
     if !has_name_of(one, other) {
-        return false;
+        return true;
     }
-    is_like(one, other)
+    !is_like(one, other)
 }
 
 // Whether a difference is told in the line of one of these.
-fn is_told(list: &[Difference], found: &Difference) -> bool {
-    list.iter().any(|one| is_told_with(one, found))
+fn is_told(changes: &[Change], found: &Difference) -> bool {
+    changes.iter().any(|change| !is_apart(&change.first, found))
+}
+
+// Adds a difference, if it is told in the line of the first one.
+fn add_like(
+    like: &mut Vec<Difference>,
+    first: &Difference,
+    other: &Difference,
+) -> Result<(), AllocError>
+    ensures { (p q : Policy) → All (λ d. IsDifference p q d × IsLike first.now d) like.old.items → IsDifference p q other.now
+        → IfOk result (λ _. All (λ d. IsDifference p q d × IsLike first.now d) like.new.items) }
+{
+    if is_apart(first, other) {
+        return Ok(());
+    }
+    like.push(*other)?;
+    Ok(())
 }
 
 // A difference, and those of the others that are told with it.
@@ -61,9 +80,7 @@ fn change_of(alloc: Global, first: &Difference, others: &[Difference]) -> Result
 {
     let mut like = Vec::new(alloc);
     for other in others {
-        if is_told_with(first, other) {
-            like.push(*other)?;
-        }
+        add_like(&mut like, first, other)?;
     }
     Ok(Change {
         first: *first,
@@ -71,16 +88,31 @@ fn change_of(alloc: Global, first: &Difference, others: &[Difference]) -> Result
     })
 }
 
+// Adds a difference with those of the list that are told with it, if it is not told yet.
+fn add_change(
+    alloc: Global,
+    list: &[Difference],
+    found: &Difference,
+    changes: &mut Vec<Change>,
+) -> Result<(), AllocError>
+    ensures { (p q : Policy) → All (IsDifference p q) list.now → IsDifference p q found.now → All (IsChange p q) changes.old.items
+        → IfOk result (λ _. All (IsChange p q) changes.new.items) }
+{
+    if is_told(changes, found) {
+        return Ok(());
+    }
+    let change = change_of(alloc, found, list)?;
+    changes.push(change)?;
+    Ok(())
+}
+
 /// Differences, those of one name together that differ in nothing but the machine.
 pub(crate) fn changes_of(alloc: Global, list: &[Difference]) -> Result<Vec<Change>, AllocError>
     ensures { (p q : Policy) → All (IsDifference p q) list.now → IfOk result (λ changes. All (IsChange p q) changes.items) }
 {
     let mut changes = Vec::new(alloc);
-    for place in 0..list.len() {
-        let found = &list[place];
-        if !is_told(&list[..place], found) {
-            changes.push(change_of(alloc, found, &list[place + 1..])?)?;
-        }
+    for found in list {
+        add_change(alloc, list, found, &mut changes)?;
     }
     Ok(changes)
 }

@@ -19,7 +19,7 @@ ghost use Rattle.compare.specs.Sameness.{AreUnlikeOn};
 use crate::change::{Change, changes_of};
 use crate::difference::{Difference, difference_on};
 use crate::records::{asked_by, conditions_on};
-use crate::same::{Sameness, sameness};
+use crate::same::{Sameness, compare_sameness};
 use crate::search::differences;
 use crate::sides::Sides;
 use bpf_insn::Program;
@@ -228,7 +228,7 @@ fn by_filter(
     requires steady { IsSteady (accepted_insns filter.now) 0 Nothing }
     ensures { IfOk result (IsComparison first.now second.now) }
 {
-    match sameness(alloc, second, filter)? {
+    match compare_sameness(alloc, second, filter)? {
         Sameness::Same => Ok(Comparison::Same),
         Sameness::Unlike(found) => with_conviction(alloc, family, first, second, &found),
         Sameness::TooLarge => Ok(Comparison::Undecided(Size::TooLarge)),

@@ -182,16 +182,6 @@ pub(crate) fn conditions_on(
     Ok(conds)
 }
 
-/// Which arguments of a call the rules of two profiles ask for.
-pub(crate) fn asked_of(
-    alloc: Global,
-    first: &Profile,
-    second: &Profile,
-    call: (Arch, u32),
-) -> Result<[bool; 6], AllocError> {
-    Ok(asked_by(&conditions_on(alloc, first, second, call)?))
-}
-
 /// The arguments of the records that are tried for a call: all combinations of values at which a condition of the profiles for
 /// it begins or ceases to hold, up to a limit.
 pub(crate) fn records(

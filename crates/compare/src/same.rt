@@ -63,7 +63,7 @@ fn unlike(alloc: Global, second: &Profile, filter: &Accepted<'_>) -> Result<Same
 }
 
 /// Whether two profiles say the same, by a right filter of the first.
-pub(crate) fn sameness(
+pub(crate) fn compare_sameness(
     alloc: Global,
     second: &Profile,
     filter: &Accepted<'_>,

@@ -36,6 +36,16 @@ fn is_of(kind: Kind, found: &Difference) -> bool {
     }
 }
 
+// The record of a call.
+fn record_of(arch: Arch, nr: u32, args: [u64; 6]) -> Record {
+    Record {
+        nr,
+        arch: arch.token(),
+        ip: 0,
+        args,
+    }
+}
+
 // The first of the records that are tried for a call of which the profiles say unlike verdicts of a kind.
 fn first_difference(
     first: &Profile,
@@ -47,12 +57,7 @@ fn first_difference(
     ensures { IfSome result (IsDifference first.now second.now) }
 {
     for args in tried {
-        let rec = Record {
-            nr: call.nr,
-            arch: call.arch.token(),
-            ip: 0,
-            args: *args,
-        };
+        let rec = record_of(call.arch, call.nr, *args);
         if let Some(found) = unlike_verdicts(call.family, first, second, &rec, call.asked) {
             if is_of(kind, &found) {
                 return Some(found);
@@ -62,18 +67,29 @@ fn first_difference(
     None
 }
 
+// Adds a record.
+fn add(list: &mut Vec<Difference>, found: Difference) -> Result<(), AllocError>
+    ensures { (p q : Policy) → All (IsDifference p q) list.old.items → IsDifference p q found
+        → IfOk result (λ _. All (IsDifference p q) list.new.items) }
+{
+    list.push(found)?;
+    Ok(())
+}
+
 // Adds a record, if there is one.
-fn add(list: &mut Vec<Difference>, found: Option<Difference>) -> Result<(), AllocError>
+fn add_found(list: &mut Vec<Difference>, found: Option<Difference>) -> Result<(), AllocError>
     ensures { (p q : Policy) → All (IsDifference p q) list.old.items → IfSome found (IsDifference p q)
         → IfOk result (λ _. All (IsDifference p q) list.new.items) }
 {
     match found {
-        Some(found) => {
-            list.push(found)?;
-            Ok(())
-        }
+        Some(found) => add(list, found),
         None => Ok(()),
     }
+}
+
+// Whether neither is there.
+fn are_none(less: &Option<Difference>, more: &Option<Difference>) -> bool {
+    less.is_none() && more.is_none()
 }
 
 // Adds a record for a call of which two profiles say unlike verdicts, or one for each direction in which they differ, where
@@ -82,12 +98,13 @@ fn add_differences(
     alloc: Global,
     first: &Profile,
     second: &Profile,
-    (family, arch, nr): (Family, Arch, u32),
+    named: (Family, Arch, u32),
     list: &mut Vec<Difference>,
 ) -> Result<(), AllocError>
     requires { All (IsDifference first.now second.now) list.old.items }
     ensures { IfOk result (λ _. All (IsDifference first.now second.now) list.new.items) }
 {
+    let (family, arch, nr) = named;
     let conds = conditions_on(alloc, first, second, (arch, nr))?;
     let tried = records(alloc, &conds, arch)?;
     let call = Call {
@@ -102,11 +119,11 @@ fn add_differences(
     }
     let less = first_difference(first, second, call, &tried, Kind::Less);
     let more = first_difference(first, second, call, &tried, Kind::More);
-    if less.is_none() && more.is_none() {
-        return add(list, any);
+    if are_none(&less, &more) {
+        return add_found(list, any);
     }
-    add(list, less)?;
-    add(list, more)
+    add_found(list, less)?;
+    add_found(list, more)
 }
 
 /// Records for the calls of which two profiles say unlike verdicts, where some are found: those of the tables of a family come

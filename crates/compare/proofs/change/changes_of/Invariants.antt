@@ -4,5 +4,5 @@ use Rattle.profile.specs.Policy.{Policy}
 use Rattle.compare.specs.Difference.{IsChange, IsDifference}
 use Rattle.compare.proofs.change.changes_of.Given as goal
 
-abbrev pub invariant-loop-place : goal.invariant-loop-place
-invariant-loop-place l = (p q : Policy) → All (IsDifference p q) l.list → All (IsChange p q) l.changes.items
+abbrev pub invariant-loop-found : goal.invariant-loop-found
+invariant-loop-found l = (p q : Policy) → All (IsDifference p q) l.list → All (IsChange p q) l.changes.items
