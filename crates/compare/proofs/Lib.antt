@@ -1,3 +1,4 @@
 mod SameLaws
+mod SidesLaws
 mod ToldLaws
 mod LineLaws

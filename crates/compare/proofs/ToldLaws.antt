@@ -1,5 +1,5 @@
 -- What is told of two bundles, by what is told of its parts.
-use Rattle.std.proofs.Common.{ℕ, List, inl, inr}
+use Rattle.std.proofs.Common.{ℕ, Bool, List, inl, inr}
 use Rattle.std.specs.Prelude.{IfOk, IfSome, Result, Ok, Err}
 use Rattle.call_tables.specs.declared.arch.Arch.{Arch}
 use Rattle.explain.specs.declared.told.Told.{Told}
@@ -11,27 +11,27 @@ use Rattle.compare.specs.Outcome.{IsComparison}
 use Rattle.compare.specs.Told.{AreTold, IsBundle, IsCompared, TellsComparison, TellsRefusal}
 use Rattle.compare.specs.declared.outcome.Comparison.{Comparison}
 
-module _ {E : Type 0} (native : Arch) (first second : List ℕ) where
+module _ {E : Type 0} (atmost : Bool) (native : Arch) (first second : List ℕ) where
   -- a bundle is refused
   pub first_refused : (e : ProfileError) (r : Result Told E) → IfSome (fault_of e) (Breaks first native) → IfOk r (TellsRefusal 1 e)
-      → IfOk r (IsCompared native first second)
+      → IfOk r (IsCompared atmost native first second)
   first_refused e (Ok told) stands h = inl (record { fault = e; stands = stands; tells = h })
   first_refused e (Err x) stands h = h
 
   pub second_refused : (e : ProfileError) (r : Result Told E) → IfSome (fault_of e) (Breaks second native) → IfOk r (TellsRefusal 2 e)
-      → IfOk r (IsCompared native first second)
+      → IfOk r (IsCompared atmost native first second)
   second_refused e (Ok told) stands h = inr (inl (record { fault = e; stands = stands; tells = h }))
   second_refused e (Err x) stands h = h
 
   -- both mean profiles, which are compared
   pub both_compared : (one other : Policy) (r : Result Told E) → IsBundle native first one → IsBundle native second other
-      → IfOk r (AreTold one other) → IfOk r (IsCompared native first second)
+      → IfOk r (AreTold atmost one other) → IfOk r (IsCompared atmost native first second)
   both_compared one other (Ok told) means_one means_other h =
       inr (inr (record { one = one; other = other; means_one = means_one; means_other = means_other; compared = h }))
   both_compared one other (Err x) means_one means_other h = h
 
 -- how profiles compare is told
-pub are_told : {E : Type 0} (p q : Policy) (comparison : Comparison) (r : Result Told E) → IsComparison p q comparison
-    → IfOk r (TellsComparison comparison) → IfOk r (AreTold p q)
-are_told p q comparison (Ok told) is h = record { comparison = comparison; is = is; tells = h }
-are_told p q comparison (Err x) is h = h
+pub are_told : {E : Type 0} (atmost : Bool) (p q : Policy) (comparison : Comparison) (r : Result Told E) → IsComparison p q comparison
+    → IfOk r (TellsComparison atmost comparison) → IfOk r (AreTold atmost p q)
+are_told atmost p q comparison (Ok told) is h = record { comparison = comparison; is = is; tells = h }
+are_told atmost p q comparison (Err x) is h = h

@@ -1,4 +1,6 @@
 pub mod Difference
+pub mod Sameness
+pub mod Order
 pub mod Outcome
 pub mod Told
 pub mod Conviction

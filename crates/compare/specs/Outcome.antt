@@ -1,63 +1,106 @@
 -- How two profiles compare, and the text that tells it.
-use Rattle.std.specs.Prelude.{ℕ, ◌≢◌, Bool, true, false, if◌then◌else◌, List, [], ◌∷◌, ◌++◌, Option, Some, None, ⊤, codes}
+use Rattle.std.specs.Prelude.{ℕ, suc, ◌≢◌, ◌==◌, ◌||◌, not, Bool, true, false, if◌then◌else◌, List, [], ◌∷◌, ◌++◌, Option, Some, None, ⊤, codes}
 use Rattle.std.specs.Fmt.{decimal}
-use Rattle.std.specs.List.{All, flat_map, list_all}
-use Rattle.hex.specs.Hex.{encode_lower}
+use Rattle.std.specs.List.{All, flat_map}
 use Rattle.texts.specs.Lines.{line_feed}
-use Rattle.call_record.specs.Verdict.{is_stricter}
 use Rattle.call_tables.specs.declared.arch.Arch.{Arch}
 use Rattle.call_tables.specs.Arch.{table_of, machine_name}
 use Rattle.call_tables.specs.Table.{name_in}
 use Rattle.explain.specs.Phrases.{action_text}
+use Rattle.order.specs.declared.decided.Size.{Size}
+use Rattle.order.specs.declared.decided.Size.TheVariants.{TooLong, TooLarge}
 use Rattle.profile.specs.Policy.{Policy}
-use Rattle.compare.specs.Difference.{IsDifference, SayTheSame}
+use Rattle.compare.specs.Difference.{IsChange, SayTheSame}
+use Rattle.compare.specs.Order.{IsSides}
+use Rattle.compare.specs.declared.change.Change.{Change}
 use Rattle.compare.specs.declared.difference.Difference.{Difference}
 use Rattle.compare.specs.declared.outcome.Comparison.{Comparison}
 use Rattle.compare.specs.declared.outcome.Comparison.TheVariants.{Same, Differ, Undecided}
+use Rattle.compare.specs.declared.sides.Sides.{Sides}
+use Rattle.compare.specs.declared.sides.Sides.TheVariants.{Alike, NoMore, NoLess, MoreAndLess}
 
 -- what is so of two profiles. Where it was not decided, nothing is.
 abbrev pub IsComparison : Policy → Policy → Comparison → Type 0
 IsComparison p q Same = SayTheSame p q
-IsComparison p q (Differ list) = All (IsDifference p q) list.items × (list.items ≢ [])
-IsComparison p q Undecided = ⊤
+IsComparison p q (Differ changes sides) = All (IsChange p q) changes.items × IsSides p q changes.items sides
+IsComparison p q (Undecided size) = ⊤
 
--- a call by its name, or else by its number, and its machine
+-- ---- the text
+
+-- a call by its name, or else by its number
 abbrev pub named : Option (List ℕ) → ℕ → List ℕ
 named (Some name) nr = name
 named None nr = decimal nr
 
-abbrev pub call_text : Arch → ℕ → List ℕ
-call_text arch nr = named (name_in (table_of arch) nr) nr ++ codes " of " ++ machine_name arch
+abbrev pub name_of : Option Arch → ℕ → List ℕ
+name_of (Some arch) nr = named (name_in (table_of arch) nr) nr
+name_of None nr = decimal nr
 
--- both verdicts and the digits of a record
-abbrev pub verdicts_text : ℕ → ℕ → List ℕ → List ℕ
-verdicts_text first second digits =
-    codes ": " ++ action_text first ++ codes ", " ++ action_text second ++ codes ", record " ++ digits ++ line_feed ∷ []
+-- its machine
+abbrev pub machine_of : Option Arch → List ℕ
+machine_of (Some arch) = machine_name arch
+machine_of None = codes "no machine"
 
--- the call, both verdicts, and two hexadecimal digits for each byte of the record
-abbrev pub line_of : Difference → List ℕ
-line_of d = call_text d.arch d.nr ++ verdicts_text d.first d.second (encode_lower d.bytes)
+abbrev pub machine_after : Difference → List ℕ
+machine_after d = codes ", " ++ machine_of d.arch
 
--- the second profile is stricter, or looser, than the first in each of the differences
-abbrev pub are_stricter : List Difference → Bool
-are_stricter list = list_all (λ d. is_stricter d.second d.first) list
+-- the word in front of an argument: of the first one that is told, and of others
+abbrev pub word_of : Bool → List ℕ
+word_of begun = if begun then codes " and" else codes " where"
 
-abbrev pub are_looser : List Difference → Bool
-are_looser list = list_all (λ d. is_stricter d.first d.second) list
+abbrev pub argument_text : Bool → ℕ → ℕ → List ℕ
+argument_text begun j u = word_of begun ++ codes " arg" ++ decimal j ++ codes " = " ++ decimal u
 
-abbrev pub direction : List Difference → List ℕ
-direction list =
-    if are_stricter list then codes "stricter\n"
-    else if are_looser list then codes "looser\n"
-    else []
+-- the arguments from this one on that are asked for, or are not 0: the others are 0
+abbrev pub arguments_from : Bool → ℕ → List Bool → List ℕ → List ℕ
+arguments_from begun j (asked ∷ rest) (u ∷ args) =
+    if asked || not (u == 0)
+    then argument_text begun j u ++ arguments_from true (suc j) rest args
+    else arguments_from begun (suc j) rest args
+arguments_from begun j rest args = []
+
+abbrev pub arguments_text : Difference → List ℕ
+arguments_text d = arguments_from false 0 d.asked d.args
+
+-- the call and its machines
+abbrev pub calls_text : Change → List ℕ
+calls_text c = name_of c.first.arch c.first.nr ++ codes " of " ++ machine_of c.first.arch ++ flat_map machine_after c.others.items
+
+-- both verdicts
+abbrev pub verdicts_text : ℕ → ℕ → List ℕ
+verdicts_text first second = codes ": " ++ action_text first ++ codes ", " ++ action_text second ++ line_feed ∷ []
+
+-- the calls, the arguments and both verdicts
+abbrev pub line_of : Change → List ℕ
+line_of c = calls_text c ++ arguments_text c.first ++ verdicts_text c.first.first c.first.second
+
+abbrev pub sides_text : Sides → List ℕ
+sides_text Alike = codes "allows no more and no less\n"
+sides_text NoMore = codes "allows no more\n"
+sides_text NoLess = codes "allows no less\n"
+sides_text MoreAndLess = codes "allows more and less\n"
+
+abbrev pub size_text : Size → List ℕ
+size_text TooLong = codes "undecided 1 TooLong\n"
+size_text TooLarge = codes "undecided 2 TooLarge\n"
 
 -- the text that says it
 abbrev pub text_of : Comparison → List ℕ
 text_of Same = codes "same\n"
-text_of (Differ list) = flat_map line_of list.items ++ direction list.items
-text_of Undecided = codes "undecided\n"
+text_of (Differ changes sides) = flat_map line_of changes.items ++ sides_text sides
+text_of (Undecided size) = size_text size
 
-abbrev pub is_same : Comparison → Bool
-is_same Same = true
-is_same (Differ list) = false
-is_same Undecided = false
+-- ---- the status
+
+-- nothing is let through that was refused
+abbrev pub is_no_more : Sides → Bool
+is_no_more Alike = true
+is_no_more NoMore = true
+is_no_more NoLess = false
+is_no_more MoreAndLess = false
+
+-- the second profile says the same, or, where that is asked, allows no more
+abbrev pub is_done : Bool → Comparison → Bool
+is_done atmost Same = true
+is_done atmost (Differ changes sides) = if atmost then is_no_more sides else false
+is_done atmost (Undecided size) = false

@@ -1,5 +1,5 @@
 -- What `ccell compare` tells of two bundles.
-use Rattle.std.specs.Prelude.{ℕ, ◌≡◌, ◌⊎◌, false, List, [], ◌∷◌, ◌++◌, IfSome, codes}
+use Rattle.std.specs.Prelude.{ℕ, ◌≡◌, ◌⊎◌, Bool, false, List, [], ◌∷◌, ◌++◌, IfSome, codes}
 use Rattle.std.specs.Fmt.{decimal}
 use Rattle.serde_json.specs.Data.{Data}
 use Rattle.texts.specs.Lines.{line_feed}
@@ -10,7 +10,7 @@ use Rattle.profile_json.specs.Breaks.{Breaks}
 use Rattle.profile_json.specs.Fault.{fault_of, text_of as refusal_text}
 use Rattle.profile_json.specs.Meaning.{IsText, Means}
 use Rattle.profile_json.specs.declared.fault.ProfileError.{ProfileError}
-use Rattle.compare.specs.Outcome.{IsComparison, is_same, text_of}
+use Rattle.compare.specs.Outcome.{IsComparison, is_done, text_of}
 use Rattle.compare.specs.declared.outcome.Comparison.{Comparison}
 
 -- the text of these bytes is a bundle that means the profile
@@ -25,9 +25,9 @@ pub record TellsRefusal (place : ℕ) (e : ProfileError) (told : Told) : Type 0 
   pub bytes : told.bytes.items ≡ refusal_line place e
   pub done : told.done ≡ false
 
-pub record TellsComparison (comparison : Comparison) (told : Told) : Type 0 where
+pub record TellsComparison (atmost : Bool) (comparison : Comparison) (told : Told) : Type 0 where
   pub bytes : told.bytes.items ≡ text_of comparison
-  pub done : told.done ≡ is_same comparison
+  pub done : told.done ≡ is_done atmost comparison
 
 -- the bundle is refused for a fault that it has
 pub record IsRefused (native : Arch) (bundle : List ℕ) (place : ℕ) (told : Told) : Type 0 where
@@ -36,19 +36,19 @@ pub record IsRefused (native : Arch) (bundle : List ℕ) (place : ℕ) (told : T
   pub tells : TellsRefusal place fault told
 
 -- what is told of two profiles is so
-pub record AreTold (p q : Policy) (told : Told) : Type 0 where
+pub record AreTold (atmost : Bool) (p q : Policy) (told : Told) : Type 0 where
   pub comparison : Comparison
   pub is : IsComparison p q comparison
-  pub tells : TellsComparison comparison told
+  pub tells : TellsComparison atmost comparison told
 
 -- both bundles mean profiles, of which it is told
-pub record AreCompared (native : Arch) (first second : List ℕ) (told : Told) : Type 0 where
+pub record AreCompared (atmost : Bool) (native : Arch) (first second : List ℕ) (told : Told) : Type 0 where
   pub one : Policy
   pub other : Policy
   pub means_one : IsBundle native first one
   pub means_other : IsBundle native second other
-  pub compared : AreTold one other told
+  pub compared : AreTold atmost one other told
 
-abbrev pub IsCompared : Arch → List ℕ → List ℕ → Told → Type 0
-IsCompared native first second told =
-    IsRefused native first 1 told ⊎ (IsRefused native second 2 told ⊎ AreCompared native first second told)
+abbrev pub IsCompared : Bool → Arch → List ℕ → List ℕ → Told → Type 0
+IsCompared atmost native first second told =
+    IsRefused native first 1 told ⊎ (IsRefused native second 2 told ⊎ AreCompared atmost native first second told)

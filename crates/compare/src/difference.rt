@@ -1,98 +1,113 @@
 //! Call records of which two profiles say unlike verdicts.
 ghost use Rattle.std.specs.Prelude.{◌≡◌, IfSome};
-ghost use Rattle.call_record.specs.Verdict.{is_stricter};
+ghost use Rattle.call_record.specs.Record.{words};
+ghost use Rattle.call_record.specs.Words.{IsRecord};
 ghost use Rattle.call_tables.specs.Arch.{token_of};
-ghost use Rattle.compare.specs.Difference.{IsDifference};
+ghost use Rattle.compare.specs.Difference.{IsDifference, record_of};
 
-use call_record::{Record, Word};
-use call_tables::Arch;
+use call_record::{Record, Word, lets_through, words_are_a_record};
+use call_tables::{Arch, Family};
+use explain::machine_with;
 use profile::Profile;
 
 /// A call record, and the verdicts that a first and a second profile say of it.
 #[derive(Clone, Copy, Debug)]
 pub struct Difference {
     /// The machine of the call.
-    pub arch: Arch,
+    pub arch: Option<Arch>,
+    /// The token of the machine.
+    pub token: u32,
     /// The number of the call.
     pub nr: u32,
-    /// The bytes of the record.
-    pub bytes: [u8; 64],
+    /// The address of the instruction that made the call.
+    pub ip: u64,
+    /// The arguments of the call.
+    pub args: [u64; 6],
+    /// Which of the arguments are asked for.
+    pub asked: [bool; 6],
     /// What the first profile says.
     pub first: Word,
     /// What the second profile says.
     pub second: Word,
 }
 
-// Whether the action of one verdict, as a signed number, is less than that of another: it is stricter.
-fn is_stricter(word: Word, other: Word) -> bool
-    ensures { result ≡ is_stricter word other }
-{
-    word.action().0.cast_signed() < other.action().0.cast_signed()
-}
-
 impl Difference {
     ghost use Rattle.std.specs.Prelude.{◌≡◌};
-    ghost use Rattle.call_record.specs.Verdict.{is_stricter};
+    ghost use Rattle.compare.specs.Order.{is_less, is_more};
 
-    /// Whether the second profile is stricter.
-    pub fn is_stricter(&self) -> bool
-        ensures { result ≡ is_stricter self.now.second self.now.first }
+    /// Whether the first profile lets the call through, and the second refuses it.
+    pub fn is_less(&self) -> bool
+        ensures { result ≡ is_less self.now }
     {
-        is_stricter(self.second, self.first)
+        lets_through(self.first) && !lets_through(self.second)
     }
 
-    /// Whether the second profile is looser.
-    pub fn is_looser(&self) -> bool
-        ensures { result ≡ is_stricter self.now.first self.now.second }
+    /// Whether the second profile lets the call through, and the first refuses it.
+    pub fn is_more(&self) -> bool
+        ensures { result ≡ is_more self.now }
     {
-        is_stricter(self.first, self.second)
+        lets_through(self.second) && !lets_through(self.first)
     }
+}
 
-    // Whether it is told, alone or beside another of the same call, which differs the other way.
-    pub(crate) fn is_told_beside(&self, other: Option<&Difference>) -> bool {
-        match other {
-            None => true,
-            Some(other) => {
-                self.is_stricter() && other.is_looser() || self.is_looser() && other.is_stricter()
+// The machine of a family that has the call, if it is one with the token.
+fn machine_of(family: Family, call: &Record) -> Option<Arch>
+    ensures { IfSome result (λ arch. token_of arch ≡ call.now.arch) }
+{
+    match machine_with(family, call.arch, call.nr) {
+        Some(arch) => {
+            if arch.token() == call.arch {
+                Some(arch)
+            } else {
+                None
             }
         }
+        None => None,
     }
 }
 
-// The record of a call.
-fn record_of(arch: Arch, nr: u32, args: [u64; 6]) -> Record
-    ensures number { result.nr ≡ nr }
-    ensures machine { result.arch ≡ token_of arch }
+/// A call record with the verdicts of two profiles.
+pub(crate) fn difference_on(
+    family: Family,
+    call: &Record,
+    asked: [bool; 6],
+    first: Word,
+    second: Word,
+) -> Difference
+    ensures record_is { record_of result ≡ words call.now }
+    ensures is_record { IsRecord (words call.now) }
+    ensures machine { IfSome result.arch (λ arch. token_of arch ≡ result.token) }
+    ensures first_is { result.first ≡ first }
+    ensures second_is { result.second ≡ second }
 {
-    Record {
+    words_are_a_record(call);
+    let Record { nr, arch, ip, args } = *call;
+    Difference {
+        arch: machine_of(family, call),
+        token: arch,
         nr,
-        arch: arch.token(),
-        ip: 0,
+        ip,
         args,
+        asked,
+        first,
+        second,
     }
 }
 
-/// What two profiles say of a call with these arguments, where it is not the same.
+/// What two profiles say of a call record, where it is not the same.
 pub(crate) fn unlike_verdicts(
+    family: Family,
     first: &Profile,
     second: &Profile,
-    arch: Arch,
-    nr: u32,
-    args: [u64; 6],
+    call: &Record,
+    asked: [bool; 6],
 ) -> Option<Difference>
     ensures { IfSome result (IsDifference first.now second.now) }
 {
-    let call = record_of(arch, nr, args);
-    let one = first.decide(&call);
-    let other = second.decide(&call);
+    let one = first.decide(call);
+    let other = second.decide(call);
     if one.0 == other.0 {
         return None;
     }
-    Some(Difference {
-        arch,
-        nr,
-        bytes: call.to_bytes(),
-        first: one,
-        second: other,
-    })
+    Some(difference_on(family, call, asked, one, other))
 }

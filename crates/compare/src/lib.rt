@@ -3,15 +3,20 @@
 #![tactic(auto)]
 
 mod calls;
+mod change;
 mod convicting;
 mod difference;
 mod outcome;
 mod records;
 mod same;
 mod search;
+mod sides;
+mod text;
 mod told;
 
+pub use change::Change;
 pub use convicting::explain_conviction;
 pub use difference::Difference;
 pub use outcome::Comparison;
+pub use sides::Sides;
 pub use told::compare;

@@ -1,78 +1,285 @@
-//! How two profiles compare, and how that is told.
-ghost use Rattle.std.specs.Prelude.{◌≡◌, ◌++◌, ◌∷◌, [], IfOk, string_bytes};
-ghost use Rattle.std.specs.List.{flat_map};
-ghost use Rattle.call_tables.specs.Arch.{table_of};
-ghost use Rattle.call_tables.specs.Table.{name_in};
-ghost use Rattle.compare.specs.Outcome as spec;
+//! How two profiles compare.
+ghost use Rattle.std.specs.Prelude.{◌≡◌, true, [], IfOk, All, None};
+ghost use Rattle.std.specs.List.{list_any};
+ghost use Rattle.bpf_insn.specs.Bytes.{insns_of, view_fault};
+ghost use Rattle.call_record.specs.Record.{words};
+ghost use Rattle.kernel_check.specs.Lent.{accepted_insns};
+ghost use Rattle.rule_compile.specs.Right.{IsRightFilter};
+ghost use Rattle.rule_compile.specs.Steady.{IsSteady, Nothing};
+ghost use Rattle.cert_check.specs.Right.{IsRight};
+ghost use Rattle.certify.specs.Right.{CompiledIsRight};
+ghost use Rattle.order.specs.Decided.{IsDecided};
+ghost use Rattle.order.specs.Order.{Exceeds};
+ghost use Rattle.profile.specs.Policy.{IsClear, Policy};
+ghost use Rattle.compare.specs.Difference.{IsChange, IsDifference};
+ghost use Rattle.compare.specs.Order.{TellsLess, TellsMore, is_less, is_more};
+ghost use Rattle.compare.specs.Outcome.{IsComparison};
+ghost use Rattle.compare.specs.Sameness.{AreUnlikeOn};
 
-use crate::difference::Difference;
-use crate::same::{are_same, hunted};
+use crate::change::{Change, changes_of};
+use crate::difference::{Difference, difference_on};
+use crate::records::{asked_by, conditions_on};
+use crate::same::{Sameness, compare_sameness};
 use crate::search::differences;
+use crate::sides::Sides;
 use bpf_insn::Program;
-use call_record::Word;
-use call_tables::{Arch, Family};
-use explain::ActionText;
+use call_record::Record;
+use call_tables::Family;
+use certify::{Conviction, compiled_is_right};
+use explain::machine_with;
 use kernel_check::{Accepted, accept};
+use order::{AtMost, Excess, Size, allows_no_more};
 use profile::Profile;
 use rule_compile::{CompileError, compile};
 use std::alloc::{AllocError, Global};
-use std::fmt::Write;
 
 /// How two profiles compare.
 #[derive(Drop)]
 pub enum Comparison {
     /// They say the same of every call record.
     Same,
-    /// Call records of which they say unlike verdicts, one at least.
-    Differ(Vec<Difference>),
-    /// Neither was shown.
-    Undecided,
+    /// Calls of which they say unlike verdicts, and what the second allows beside the first.
+    Differ(Vec<Change>, Sides),
+    /// It was not decided, for a size.
+    Undecided(Size),
 }
 
-// A list of one difference.
-fn alone(alloc: Global, found: Difference) -> Result<Vec<Difference>, AllocError>
-    ensures { IfOk result (λ list. list.items ≡ found ∷ []) }
-{
-    let mut list = Vec::new(alloc);
-    list.push(found)?;
-    Ok(list)
-}
-
-// Compares two profiles of which no difference was found, by a filter of the first.
-fn by_program(
+// Which arguments of a call the rules of two profiles ask for.
+fn asked_on(
     alloc: Global,
     family: Family,
     first: &Profile,
     second: &Profile,
-    program: &Accepted<'_>,
-) -> Result<Comparison, AllocError>
-    ensures { IfOk result (spec.IsComparison first.now second.now) }
-{
-    if are_same(alloc, first, second, program)? {
-        return Ok(Comparison::Same);
-    }
-    match hunted(alloc, family, first, second, program) {
-        Some(found) => Ok(Comparison::Differ(alone(alloc, found)?)),
-        None => Ok(Comparison::Undecided),
+    call: &Record,
+) -> Result<[bool; 6], AllocError> {
+    match machine_with(family, call.arch, call.nr) {
+        Some(arch) => Ok(asked_by(&conditions_on(alloc, first, second, (arch, call.nr))?)),
+        None => Ok([false; 6]),
     }
 }
 
-// The same by the bytes of the filter.
+// A change of a call that is told alone.
+fn alone(alloc: Global, first: Difference) -> Change
+    ensures first_is { result.first ≡ first }
+    ensures no_other { result.others.items ≡ [] }
+{
+    Change {
+        first,
+        others: Vec::new(alloc),
+    }
+}
+
+// Whether a call is told that is let through no more.
+fn tells_less(changes: &[Change]) -> bool
+    ensures { result ≡ list_any (λ c. is_less c.first) changes.now }
+{
+    changes.iter().any(|change| change.first.is_less())
+}
+
+// Whether a call is told that is let through only now.
+fn tells_more(changes: &[Change]) -> bool
+    ensures { result ≡ list_any (λ c. is_more c.first) changes.now }
+{
+    changes.iter().any(|change| change.first.is_more())
+}
+
+// Tells a call that the first profile lets through and the second refuses, if none is told.
+fn add_less(alloc: Global, changes: &mut Vec<Change>, found: Difference) -> Result<(), AllocError>
+    requires { is_less found ≡ true }
+    ensures all { (p q : Policy) → All (IsChange p q) changes.old.items → IsDifference p q found
+        → IfOk result (λ _. All (IsChange p q) changes.new.items) }
+    ensures less { IfOk result (λ _. TellsLess changes.new.items) }
+    ensures more { TellsMore changes.old.items → IfOk result (λ _. TellsMore changes.new.items) }
+{
+    if tells_less(changes) {
+        return Ok(());
+    }
+    changes.push(alone(alloc, found))?;
+    Ok(())
+}
+
+// Tells a call that the second profile lets through and the first refuses, if none is told.
+fn add_more(alloc: Global, changes: &mut Vec<Change>, found: Difference) -> Result<(), AllocError>
+    requires { is_more found ≡ true }
+    ensures all { (p q : Policy) → All (IsChange p q) changes.old.items → IsDifference p q found
+        → IfOk result (λ _. All (IsChange p q) changes.new.items) }
+    ensures more { IfOk result (λ _. TellsMore changes.new.items) }
+{
+    if tells_more(changes) {
+        return Ok(());
+    }
+    changes.push(alone(alloc, found))?;
+    Ok(())
+}
+
+// The difference of a call that the first profile lets through and the second refuses.
+fn lost(
+    alloc: Global,
+    family: Family,
+    first: &Profile,
+    second: &Profile,
+    found: &Excess,
+) -> Result<Difference, AllocError>
+    requires { Exceeds first.now second.now (words found.now.call) found.now.new found.now.old }
+    ensures is { IfOk result (IsDifference first.now second.now) }
+    ensures less { IfOk result (λ found. is_less found ≡ true) }
+{
+    let asked = asked_on(alloc, family, first, second, &found.call)?;
+    Ok(difference_on(family, &found.call, asked, found.new, found.old))
+}
+
+// The difference of a call that the second profile lets through and the first refuses.
+fn gained(
+    alloc: Global,
+    family: Family,
+    first: &Profile,
+    second: &Profile,
+    found: &Excess,
+) -> Result<Difference, AllocError>
+    requires { Exceeds second.now first.now (words found.now.call) found.now.new found.now.old }
+    ensures is { IfOk result (IsDifference first.now second.now) }
+    ensures more { IfOk result (λ found. is_more found ≡ true) }
+{
+    let asked = asked_on(alloc, family, first, second, &found.call)?;
+    Ok(difference_on(family, &found.call, asked, found.old, found.new))
+}
+
+// Two profiles of which some calls differ, by what the second allows more and less.
+fn by_sides(
+    alloc: Global,
+    family: Family,
+    first: &Profile,
+    second: &Profile,
+    mut changes: Vec<Change>,
+    more: &AtMost,
+    less: &AtMost,
+) -> Result<Comparison, AllocError>
+    requires changes { All (IsChange first.now second.now) changes.items }
+    requires more { IsDecided second.now first.now more.now }
+    requires less { IsDecided first.now second.now less.now }
+    ensures { IfOk result (IsComparison first.now second.now) }
+{
+    match (more, less) {
+        (AtMost::Undecided(size), _) => Ok(Comparison::Undecided(*size)),
+        (_, AtMost::Undecided(size)) => Ok(Comparison::Undecided(*size)),
+        (AtMost::Yes, AtMost::Yes) => Ok(Comparison::Differ(changes, Sides::Alike)),
+        (AtMost::Yes, AtMost::No(found)) => {
+            let lost = lost(alloc, family, first, second, found)?;
+            add_less(alloc, &mut changes, lost)?;
+            Ok(Comparison::Differ(changes, Sides::NoMore))
+        }
+        (AtMost::No(found), AtMost::Yes) => {
+            let gained = gained(alloc, family, first, second, found)?;
+            add_more(alloc, &mut changes, gained)?;
+            Ok(Comparison::Differ(changes, Sides::NoLess))
+        }
+        (AtMost::No(added), AtMost::No(found)) => {
+            let gained = gained(alloc, family, first, second, added)?;
+            let lost = lost(alloc, family, first, second, found)?;
+            add_more(alloc, &mut changes, gained)?;
+            add_less(alloc, &mut changes, lost)?;
+            Ok(Comparison::Differ(changes, Sides::MoreAndLess))
+        }
+    }
+}
+
+// Two profiles of which some calls differ.
+fn with_differences(
+    alloc: Global,
+    family: Family,
+    first: &Profile,
+    second: &Profile,
+    list: &[Difference],
+) -> Result<Comparison, AllocError>
+    requires { All (IsDifference first.now second.now) list.now }
+    ensures { IfOk result (IsComparison first.now second.now) }
+{
+    let changes = changes_of(alloc, list)?;
+    let more = allows_no_more(alloc, second, first)?;
+    let less = allows_no_more(alloc, first, second)?;
+    by_sides(alloc, family, first, second, changes, &more, &less)
+}
+
+// Two profiles that say unlike verdicts of a record.
+fn with_conviction(
+    alloc: Global,
+    family: Family,
+    first: &Profile,
+    second: &Profile,
+    found: &Conviction,
+) -> Result<Comparison, AllocError>
+    requires { AreUnlikeOn first.now second.now (words found.now.call) found.now.given found.now.said }
+    ensures { IfOk result (IsComparison first.now second.now) }
+{
+    let asked = asked_on(alloc, family, first, second, &found.call)?;
+    let list = [difference_on(family, &found.call, asked, found.given, found.said)];
+    with_differences(alloc, family, first, second, &list)
+}
+
+// Two profiles, by a filter that answers what the first one says.
 fn by_filter(
+    alloc: Global,
+    family: Family,
+    first: &Profile,
+    second: &Profile,
+    filter: &Accepted<'_>,
+) -> Result<Comparison, AllocError>
+    requires right { IsRight first.now (accepted_insns filter.now) }
+    requires steady { IsSteady (accepted_insns filter.now) 0 Nothing }
+    ensures { IfOk result (IsComparison first.now second.now) }
+{
+    match compare_sameness(alloc, second, filter)? {
+        Sameness::Same => Ok(Comparison::Same),
+        Sameness::Unlike(found) => with_conviction(alloc, family, first, second, &found),
+        Sameness::TooLarge => Ok(Comparison::Undecided(Size::TooLarge)),
+    }
+}
+
+// A filter of the compiler is right.
+fn is_right(profile: &Profile)
+    ensures law { CompiledIsRight }
+    ensures clear { IsClear profile.now.rules }
+{
+    compiled_is_right();
+    profile.rules();
+}
+
+// The same by the bytes of the filter.
+fn by_bytes(
     alloc: Global,
     family: Family,
     first: &Profile,
     second: &Profile,
     filter: &[u8],
 ) -> Result<Comparison, AllocError>
-    ensures { IfOk result (spec.IsComparison first.now second.now) }
+    requires program { view_fault filter.now ≡ None }
+    requires right { IsRightFilter first.now (insns_of filter.now) }
+    requires steady { IsSteady (insns_of filter.now) 0 Nothing }
+    ensures { IfOk result (IsComparison first.now second.now) }
 {
+    is_right(first);
     let Ok(program) = Program::view(filter) else {
-        return Ok(Comparison::Undecided);
+        unreachable!();
     };
     match accept(&program) {
-        Ok(accepted) => by_program(alloc, family, first, second, &accepted),
-        Err(_) => Ok(Comparison::Undecided),
+        Ok(accepted) => by_filter(alloc, family, first, second, &accepted),
+        Err(_) => unreachable!(),
+    }
+}
+
+// Two profiles of which no difference was found.
+fn without_difference(
+    alloc: Global,
+    family: Family,
+    first: &Profile,
+    second: &Profile,
+) -> Result<Comparison, AllocError>
+    ensures { IfOk result (IsComparison first.now second.now) }
+{
+    match compile(alloc, first) {
+        Ok(filter) => by_bytes(alloc, family, first, second, &filter),
+        Err(CompileError::OutOfMemory) => Err(AllocError),
+        Err(CompileError::TooLong) => Ok(Comparison::Undecided(Size::TooLong)),
     }
 }
 
@@ -83,132 +290,11 @@ pub(crate) fn compared(
     first: &Profile,
     second: &Profile,
 ) -> Result<Comparison, AllocError>
-    ensures { IfOk result (spec.IsComparison first.now second.now) }
+    ensures { IfOk result (IsComparison first.now second.now) }
 {
     let list = differences(alloc, family, first, second)?;
-    if !list.is_empty() {
-        return Ok(Comparison::Differ(list));
+    if list.is_empty() {
+        return without_difference(alloc, family, first, second);
     }
-    match compile(alloc, first) {
-        Ok(filter) => by_filter(alloc, family, first, second, &filter),
-        Err(CompileError::OutOfMemory) => Err(AllocError),
-        Err(_) => Ok(Comparison::Undecided),
-    }
-}
-
-// Adds the name of a call, or else its number.
-fn put_name(text: &mut String, arch: Arch, nr: u32) -> Result<(), AllocError>
-    ensures { IfOk result (λ _. string_bytes text.new ≡ string_bytes text.old ++ spec.named (name_in (table_of arch) nr) nr) }
-{
-    match arch.name(nr) {
-        Some(name) => text.push_str(name),
-        None => write!(text, "{nr}"),
-    }
-}
-
-// Adds a call and its machine.
-fn put_call(text: &mut String, arch: Arch, nr: u32) -> Result<(), AllocError>
-    ensures { IfOk result (λ _. string_bytes text.new ≡ string_bytes text.old ++ spec.call_text arch nr) }
-{
-    put_name(text, arch, nr)?;
-    let machine = arch.machine_name();
-    write!(text, " of {machine}")
-}
-
-// Adds what is said of a record, and the record by its digits.
-fn put_verdicts(
-    text: &mut String,
-    first: Word,
-    second: Word,
-    digits: &str,
-) -> Result<(), AllocError>
-    ensures { IfOk result (λ _. string_bytes text.new ≡ string_bytes text.old ++ spec.verdicts_text first second digits.now) }
-{
-    let first = ActionText(first);
-    let second = ActionText(second);
-    writeln!(text, ": {first}, {second}, record {digits}")
-}
-
-// Adds the line of a difference.
-fn put_difference(
-    text: &mut String,
-    alloc: Global,
-    difference: &Difference,
-) -> Result<(), AllocError>
-    ensures { IfOk result (λ _. string_bytes text.new ≡ string_bytes text.old ++ spec.line_of difference.now) }
-{
-    let bytes: &[u8] = &difference.bytes;
-    let digits = hex::encode(alloc, bytes)?;
-    put_call(text, difference.arch, difference.nr)?;
-    put_verdicts(text, difference.first, difference.second, digits.as_str())
-}
-
-// Adds the lines of differences.
-fn put_differences(text: &mut String, alloc: Global, list: &[Difference]) -> Result<(), AllocError>
-    ensures { IfOk result (λ _. string_bytes text.new ≡ string_bytes text.old ++ flat_map spec.line_of list.now) }
-{
-    for difference in list {
-        put_difference(text, alloc, difference)?;
-    }
-    Ok(())
-}
-
-// Whether the second profile is stricter in each of the differences.
-fn are_stricter(list: &[Difference]) -> bool
-    ensures { result ≡ spec.are_stricter list.now }
-{
-    list.iter().all(|difference| difference.is_stricter())
-}
-
-// Whether it is looser in each.
-fn are_looser(list: &[Difference]) -> bool
-    ensures { result ≡ spec.are_looser list.now }
-{
-    list.iter().all(|difference| difference.is_looser())
-}
-
-// The line that says so.
-fn direction(list: &[Difference]) -> &'static str
-    ensures { result.now ≡ spec.direction list.now }
-{
-    if are_stricter(list) {
-        return "stricter\n";
-    }
-    if are_looser(list) {
-        return "looser\n";
-    }
-    ""
-}
-
-// Adds the lines of differences, and whether the second profile is stricter, or looser, in each.
-fn put_list(text: &mut String, alloc: Global, list: &[Difference]) -> Result<(), AllocError>
-    ensures { IfOk result (λ _. string_bytes text.new ≡ string_bytes text.old
-        ++ flat_map spec.line_of list.now ++ spec.direction list.now) }
-{
-    put_differences(text, alloc, list)?;
-    text.push_str(direction(list))
-}
-
-// Adds how two profiles compare.
-fn put_comparison(
-    text: &mut String,
-    alloc: Global,
-    comparison: &Comparison,
-) -> Result<(), AllocError>
-    ensures { IfOk result (λ _. string_bytes text.new ≡ string_bytes text.old ++ spec.text_of comparison.now) }
-{
-    match comparison {
-        Comparison::Same => text.push_str("same\n"),
-        Comparison::Differ(list) => put_list(text, alloc, list),
-        Comparison::Undecided => text.push_str("undecided\n"),
-    }
-}
-
-/// How two profiles compare, as a text.
-pub(crate) fn text_of(alloc: Global, comparison: &Comparison) -> Result<String, AllocError>
-    ensures { IfOk result (λ text. string_bytes text ≡ spec.text_of comparison.now) }
-{
-    let mut text = String::new(alloc);
-    put_comparison(&mut text, alloc, comparison)?;
-    Ok(text)
+    with_differences(alloc, family, first, second, &list)
 }

@@ -159,21 +159,40 @@ fn with_values(
     Ok(more)
 }
 
-/// The arguments of the records that are tried for a call: all combinations of values at which a condition of the profiles for
-/// it begins or ceases to hold, up to a limit.
-pub(crate) fn records(
+/// Which arguments the conditions are on.
+pub(crate) fn asked_by(conds: &[Cond]) -> [bool; 6] {
+    let mut asked = [false; 6];
+    for cond in conds {
+        let index = cond.index as usize;
+        asked[index] = true;
+    }
+    asked
+}
+
+/// The conditions of the rules of two profiles for a call.
+pub(crate) fn conditions_on(
     alloc: Global,
     first: &Profile,
     second: &Profile,
     call: (Arch, u32),
-) -> Result<Vec<[u64; 6]>, AllocError> {
+) -> Result<Vec<Cond>, AllocError> {
     let mut conds = Vec::new(alloc);
     add_conds(first, call, &mut conds)?;
     add_conds(second, call, &mut conds)?;
-    let narrow = is_narrow(call.0.token());
+    Ok(conds)
+}
+
+/// The arguments of the records that are tried for a call: all combinations of values at which a condition of the profiles for
+/// it begins or ceases to hold, up to a limit.
+pub(crate) fn records(
+    alloc: Global,
+    conds: &[Cond],
+    arch: Arch,
+) -> Result<Vec<[u64; 6]>, AllocError> {
+    let narrow = is_narrow(arch.token());
     let mut records: Vec<[u64; 6]> = vec![in alloc; [0; 6]]?;
     for index in 0..6 {
-        let values = values_of(alloc, narrow, &conds, index)?;
+        let values = values_of(alloc, narrow, conds, index)?;
         records = with_values(alloc, &records, index, &values)?;
     }
     Ok(records)

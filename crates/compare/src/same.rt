@@ -1,15 +1,15 @@
-//! What is shown of two profiles by a filter of the first.
-ghost use Rattle.std.specs.Prelude.{◌≡◌, ℕ, List, IfOk, IfSome, true};
+//! Whether two profiles say the same, by a filter of the first.
+ghost use Rattle.std.specs.Prelude.{◌≡◌, ℕ, List, IfOk, true};
 ghost use Rattle.kernel_check.specs.Lent.{accepted_insns};
 ghost use Rattle.cert_check.specs.Right.{IsRight};
 ghost use Rattle.cert_check.specs.Valid.{IsValidCertificate};
-ghost use Rattle.compare.specs.Difference.{IsDifference, SayTheSame};
+ghost use Rattle.profile.specs.Policy.{Policy};
+ghost use Rattle.rule_compile.specs.Steady.{IsSteady, Nothing};
+ghost use Rattle.compare.specs.Sameness.{IsSameness};
 
-use crate::difference::{Difference, unlike_verdicts};
-use call_tables::Family;
+use call_record::words_are_a_record;
 use cert_check::valid_is_right;
-use certify::{CertifyError, certify_accepted, convict};
-use explain::machine_with;
+use certify::{CertifyError, Conviction, certify_accepted, convict};
 use kernel_check::Accepted;
 use profile::Profile;
 use std::alloc::{AllocError, Global};
@@ -36,33 +36,43 @@ fn is_right(alloc: Global, profile: &Profile, program: &Accepted<'_>) -> Result<
     }
 }
 
-/// Whether a filter is shown to answer what a first and what a second profile says.
-pub(crate) fn are_same(
-    alloc: Global,
-    first: &Profile,
-    second: &Profile,
-    program: &Accepted<'_>,
-) -> Result<bool, AllocError>
-    ensures { IfOk result (λ same. same ≡ true → SayTheSame first.now second.now) }
-{
-    if !is_right(alloc, first, program)? {
-        return Ok(false);
-    }
-    is_right(alloc, second, program)
+/// Whether two profiles say the same, where a filter answers what the first one says.
+#[derive(Clone, Copy, Debug)]
+pub(crate) enum Sameness {
+    Same,
+    /// They say unlike verdicts of this record: what the first says is what the filter gives.
+    Unlike(Conviction),
+    /// The certificate has no room.
+    TooLarge,
 }
 
-/// A record on which a filter of the first profile gives another verdict than the second says, if it is one of which the two
-/// say unlike verdicts.
-pub(crate) fn hunted(
-    alloc: Global,
-    family: Family,
-    first: &Profile,
-    second: &Profile,
-    program: &Accepted<'_>,
-) -> Option<Difference>
-    ensures { IfSome result (IsDifference first.now second.now) }
+// A record on which a right filter of the first profile gives another verdict than the second says, if there is one.
+fn unlike(alloc: Global, second: &Profile, filter: &Accepted<'_>) -> Result<Sameness, AllocError>
+    requires { IsSteady (accepted_insns filter.now) 0 Nothing }
+    ensures { (p : Policy) → IsRight p (accepted_insns filter.now) → IfOk result (IsSameness p second.now) }
 {
-    let call = convict(alloc, second, program).ok()??.call;
-    let arch = machine_with(family, call.arch, call.nr)?;
-    unlike_verdicts(first, second, arch, call.nr, call.args)
+    match convict(alloc, second, filter) {
+        Ok(None) => Ok(Sameness::Same),
+        Ok(Some(found)) => {
+            words_are_a_record(&found.call);
+            Ok(Sameness::Unlike(found))
+        }
+        Err(CertifyError::OutOfMemory) => Err(AllocError),
+        Err(_) => Ok(Sameness::TooLarge),
+    }
+}
+
+/// Whether two profiles say the same, by a right filter of the first.
+pub(crate) fn compare_sameness(
+    alloc: Global,
+    second: &Profile,
+    filter: &Accepted<'_>,
+) -> Result<Sameness, AllocError>
+    requires { IsSteady (accepted_insns filter.now) 0 Nothing }
+    ensures { (p : Policy) → IsRight p (accepted_insns filter.now) → IfOk result (IsSameness p second.now) }
+{
+    if is_right(alloc, second, filter)? {
+        return Ok(Sameness::Same);
+    }
+    unlike(alloc, second, filter)
 }

@@ -2,7 +2,8 @@
 ghost use Rattle.std.specs.Prelude.{◌≡◌, ℕ, List, IfOk, string_bytes};
 ghost use Rattle.compare.specs.Told as spec;
 
-use crate::outcome::{Comparison, compared, text_of};
+use crate::outcome::{Comparison, compared};
+use crate::text::{is_done, text_of};
 use call_tables::Arch;
 use explain::Told;
 use profile::Profile;
@@ -30,14 +31,14 @@ fn refused(alloc: Global, error: ProfileError, place: u32) -> Result<Told, Alloc
     })
 }
 
-// The text of a comparison. It was done where the profiles are the same.
-fn told(alloc: Global, comparison: &Comparison) -> Result<Told, AllocError>
-    ensures { IfOk result (λ told. spec.TellsComparison comparison.now told) }
+// The text of a comparison, and whether it is what was asked for.
+fn told(alloc: Global, comparison: &Comparison, atmost: bool) -> Result<Told, AllocError>
+    ensures { IfOk result (λ told. spec.TellsComparison atmost comparison.now told) }
 {
     let text = text_of(alloc, comparison)?;
     Ok(Told {
         bytes: text.into_bytes(),
-        done: matches!(comparison, Comparison::Same),
+        done: is_done(atmost, comparison),
     })
 }
 
@@ -47,11 +48,12 @@ fn compare_profiles(
     native: Arch,
     one: &Profile,
     other: &Profile,
+    atmost: bool,
 ) -> Result<Told, AllocError>
-    ensures { IfOk result (spec.AreTold one.now other.now) }
+    ensures { IfOk result (spec.AreTold atmost one.now other.now) }
 {
     let comparison = compared(alloc, native.family(), one, other)?;
-    told(alloc, &comparison)
+    told(alloc, &comparison, atmost)
 }
 
 // Compares what a profile and a bundle say, of which the profile is the first bundle's.
@@ -60,21 +62,30 @@ fn compare_with(
     native: Arch,
     one: &Profile,
     second: &[u8],
+    atmost: bool,
 ) -> Result<Told, AllocError>
-    ensures { (first : List ℕ) → spec.IsBundle native first one.now → IfOk result (spec.IsCompared native first second.now) }
+    ensures { (first : List ℕ) → spec.IsBundle native first one.now
+        → IfOk result (spec.IsCompared atmost native first second.now) }
 {
     match read_bundle(alloc, second, native) {
-        Ok(other) => compare_profiles(alloc, native, one, &other.profile),
+        Ok(other) => compare_profiles(alloc, native, one, &other.profile, atmost),
         Err(error) => refused(alloc, error, 2),
     }
 }
 
-/// Compares what two bundles, which are read for a native machine, say of call records.
-pub fn compare(alloc: Global, native: Arch, first: &[u8], second: &[u8]) -> Result<Told, AllocError>
-    ensures { IfOk result (spec.IsCompared native first.now second.now) }
+/// Compares what two bundles, which are read for a native machine, say of call records. It was done where they say the same;
+/// with `atmost`, where the second one allows no more than the first.
+pub fn compare(
+    alloc: Global,
+    native: Arch,
+    first: &[u8],
+    second: &[u8],
+    atmost: bool,
+) -> Result<Told, AllocError>
+    ensures { IfOk result (spec.IsCompared atmost native first.now second.now) }
 {
     match read_bundle(alloc, first, native) {
-        Ok(one) => compare_with(alloc, native, &one.profile, second),
+        Ok(one) => compare_with(alloc, native, &one.profile, second, atmost),
         Err(error) => refused(alloc, error, 1),
     }
 }

@@ -3,5 +3,5 @@ use Rattle.std.specs.List.{All}
 use Rattle.compare.specs.Difference.{IsDifference}
 use Rattle.compare.proofs.search.differences.Given as goal
 
-abbrev pub invariant-loop-call : goal.invariant-loop-call
-invariant-loop-call l = All (IsDifference l.first l.second) l.list.items
+abbrev pub invariant-loop-arch : goal.invariant-loop-arch
+invariant-loop-arch l = All (IsDifference l.first l.second) l.list.items

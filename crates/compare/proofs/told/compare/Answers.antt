@@ -6,4 +6,4 @@ returns-in-Ok c = c.compare_with.ensures c.args.first.now c.in-Ok.ensures.ok
 
 pub returns-in-Err : goal.returns-in-Err
 returns-in-Err c =
-    first_refused c.args.native c.args.first.now c.args.second.now c.in-Err.error c.refused.result c.in-Err.ensures.err c.refused.ensures
+    first_refused c.args.atmost c.args.native c.args.first.now c.args.second.now c.in-Err.error c.refused.result c.in-Err.ensures.err c.refused.ensures

@@ -1,0 +1,12 @@
+use Rattle.std.proofs.Common.{List, subst, sym}
+use Rattle.std.proofs.lemmas.List.Elements.{All-push}
+use Rattle.std.specs.List.{All}
+use Rattle.compare.specs.Difference.{IsDifference, IsLike}
+use Rattle.compare.specs.declared.difference.Difference.{Difference}
+use Rattle.compare.proofs.change.add_like.Goals as goal
+
+pub returns : goal.returns
+returns c = λ p q all is.
+    let Told : Difference → Type 0 = λ d. IsDifference p q d × IsLike c.args.first.now d in
+    subst (λ (list : List Difference). All Told list) (sym c.in_ok-push.ensures.items)
+    (All-push Told c.args.like.now.items c.args.other.now all (is, c.is_apart.ensures c.if-is_apart.false))

@@ -1,0 +1,17 @@
+#!/usr/bin/env bash
+# gate.sh CCELL MACHINE OLD NEW: compares each bundle of the folder NEW with the one of that name in the folder OLD. Status 0 where
+# each of them lets nothing through that its old one refuses.
+set -u
+status=0
+for new in "$4"/*.json; do
+    old=$3/${new##*/}
+    if [ ! -e "$old" ]; then
+        echo "$new: no old one"
+        status=1
+        continue
+    fi
+    told=$("$1" compare "$2" "$old" "$new" atmost) || status=1
+    echo "$new: $(tail -n 1 <<<"$told")"
+    sed '$d; s/^/  /' <<<"$told"
+done
+exit $status
