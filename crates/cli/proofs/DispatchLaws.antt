@@ -172,7 +172,7 @@ module _ {I O : Type 0} (left : I → Option (List ℕ)) (given : I → Failures
   not_begun (Annotate native filter) = refl
   not_begun (Draw native filter) = refl
   not_begun (Lint native bundle) = refl
-  not_begun (Compare native first second) = refl
+  not_begun (Compare native old new at_most) = refl
   not_begun (Adapt native config words) = refl
   not_begun (Learn native words) = refl
   not_begun (Replay native bundle words) = refl

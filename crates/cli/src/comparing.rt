@@ -6,16 +6,17 @@ use explain::Told;
 use std::alloc::Global;
 use streams::{Sink, write_all};
 
-/// Compares what two bundles say.
+/// Compares what a new bundle says with what an old one says, or tells whether it allows no more.
 pub fn compare<'a>(
     alloc: Global,
     native: Arch,
-    [first, second]: [&'a str; 2],
+    [old, new]: [&'a str; 2],
+    at_most: bool,
     files: &mut impl Files,
 ) -> Result<Told, Stop<'a>> {
-    let first = read(alloc, files, first)?;
-    let second = read(alloc, files, second)?;
-    Ok(compare::compare(alloc, native, &first, &second)?)
+    let old = read(alloc, files, old)?;
+    let new = read(alloc, files, new)?;
+    Ok(compare::compare(alloc, native, &old, &new, at_most)?)
 }
 
 /// Explains the record that convicts a filter, if there is one. Nothing depends on whether it can be written.

@@ -237,9 +237,10 @@ fn obey<'a, F: Files, I: Source, O: Sink, E: Sink>(
         Command::Lint { native, bundle } => lint(alloc, native, bundle, files, out),
         Command::Compare {
             native,
-            first,
-            second,
-        } => tell(&compare(alloc, native, [first, second], files)?, out),
+            old,
+            new,
+            at_most,
+        } => tell(&compare(alloc, native, [old, new], at_most, files)?, out),
         Command::Adapt {
             native,
             config,

@@ -15,7 +15,7 @@ use Rattle.clap.specs.declared.builder.ValueParser.TheVariants as parser
 use Rattle.export.specs.declared.form.Form.{Form}
 use Rattle.command_line.specs.Arguments as given
 use Rattle.command_line.specs.Arguments.{Given, form_called}
-use Rattle.command_line.specs.Arguments.Given.{Run, Explain, Record, Export, Adapt, Learn, Replay, Manual, Version}
+use Rattle.command_line.specs.Arguments.Given.{Run, Explain, Record, Export, Compare, Adapt, Learn, Replay, Manual, Version}
 use Rattle.command_line.specs.inner.Found as found
 use Rattle.command_line.specs.inner.Found.{last_of}
 use Rattle.command_line.specs.inner.Grammar.{Entry, leaf, table, top}
@@ -132,15 +132,22 @@ lint_reading (a ∷ []) = inr (tt, refl)
 lint_reading (a ∷ b ∷ []) = inl (refl, refl)
 lint_reading (a ∷ b ∷ c ∷ more) = inr (tt, refl)
 
+-- ---- commands with a part that may be left out
+
+compare_made : (machine old new : Text) (at_most : Bool)
+    → option_and_then (λ m. option_map (λ native. Compare native old new m) (native_called machine)) (cond at_most (Some true) None)
+    ≡ cond at_most (option_map (λ native. Compare native old new true) (native_called machine)) None
+compare_made machine old new true = refl
+compare_made machine old new false = refl
+
 pub compare_reading : (parts : List Text) → Reading (shape_called (codes "compare")) parts found.compare_in (given.compare parts)
 unfolding values_fault defaults_fault
 compare_reading [] = inr (tt, refl)
 compare_reading (a ∷ []) = inr (tt, refl)
 compare_reading (a ∷ b ∷ []) = inr (tt, refl)
 compare_reading (a ∷ b ∷ c ∷ []) = inl (refl, refl)
-compare_reading (a ∷ b ∷ c ∷ d ∷ more) = inr (tt, refl)
-
--- ---- commands with a part that may be left out
+compare_reading (a ∷ b ∷ c ∷ d ∷ []) = inl (refl, compare_made a b c (bytes_eq d (codes "atmost")))
+compare_reading (a ∷ b ∷ c ∷ d ∷ e ∷ more) = inr (tt, refl)
 
 pub manual_reading : (parts : List Text) → Reading (shape_called (codes "manual")) parts found.manual_in (given.manual parts)
 unfolding values_fault defaults_fault

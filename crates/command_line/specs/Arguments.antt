@@ -42,7 +42,7 @@ pub data Given : Type 0 where
   Annotate : (native : Arch) → (filter : List ℕ) → Given
   Draw : (native : Arch) → (filter : List ℕ) → Given
   Lint : (native : Arch) → (bundle : List ℕ) → Given
-  Compare : (native : Arch) → (first second : List ℕ) → Given
+  Compare : (native : Arch) → (old new : List ℕ) → (at_most : Bool) → Given
   Adapt : (native : Arch) → (config : List ℕ) → (words : List (List ℕ)) → Given
   Learn : (native : Arch) → (words : List (List ℕ)) → Given
   Replay : (native : Arch) → (bundle : List ℕ) → (words : List (List ℕ)) → Given
@@ -62,7 +62,7 @@ given (command.Assemble listing) = Assemble listing.now
 given (command.Annotate native filter) = Annotate native filter.now
 given (command.Draw native filter) = Draw native filter.now
 given (command.Lint native bundle) = Lint native bundle.now
-given (command.Compare native first second) = Compare native first.now second.now
+given (command.Compare native old new at_most) = Compare native old.now new.now at_most
 given (command.Adapt native config words) = Adapt native config.now (map (λ w. w.now) words.now)
 given (command.Learn native words) = Learn native (map (λ w. w.now) words.now)
 given (command.Replay native bundle words) = Replay native bundle.now (map (λ w. w.now) words.now)
@@ -130,8 +130,11 @@ abbrev pub lint : List (List ℕ) → Option Given
 lint (machine ∷ bundle ∷ []) = option_map (λ native. Lint native bundle) (native_called machine)
 lint _ = None
 
+-- the argument `atmost` may stand behind the files
 abbrev pub compare : List (List ℕ) → Option Given
-compare (machine ∷ first ∷ second ∷ []) = option_map (λ native. Compare native first second) (native_called machine)
+compare (machine ∷ old ∷ new ∷ []) = option_map (λ native. Compare native old new false) (native_called machine)
+compare (machine ∷ old ∷ new ∷ last ∷ []) =
+    if bytes_eq last (codes "atmost") then option_map (λ native. Compare native old new true) (native_called machine) else None
 compare _ = None
 
 -- words may stand behind the file

@@ -91,11 +91,13 @@ pub enum Command<'a> {
         native: Arch,
         bundle: &'a str,
     },
-    /// How two bundles, read for a native machine, compare. They are given as names of files.
+    /// How two bundles, read for a native machine, compare, and whether all that is asked is that the new one allows no more.
+    /// They are given as names of files.
     Compare {
         native: Arch,
-        first: &'a str,
-        second: &'a str,
+        old: &'a str,
+        new: &'a str,
+        at_most: bool,
     },
     /// The bundle that is made of an engine's configuration, to be read for a native machine, as words ask for it. The
     /// configuration is given as the name of a file.

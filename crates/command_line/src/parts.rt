@@ -3,7 +3,7 @@ ghost use Rattle.std.specs.Prelude.{◌≡◌, map, option_map};
 ghost use Rattle.clap.specs.Words.{first_of, found_of, rows_of};
 ghost use Rattle.command_line.specs.Arguments.{given, texts};
 ghost use Rattle.command_line.specs.inner.Found as spec;
-ghost use Rattle.command_line.specs.inner.Found.{form_in, list_in, native_in};
+ghost use Rattle.command_line.specs.inner.Found.{asks_at_most, form_in, list_in, native_in};
 
 use crate::{Command, form_named};
 use call_tables::Arch;
@@ -161,16 +161,28 @@ pub(crate) fn lint<'a>(found: &ArgMatches<'a>) -> Option<Command<'a>>
     Some(Command::Lint { native, bundle })
 }
 
+// Whether the part that may stand last is `atmost`.
+fn at_most(last: Option<&str>) -> Option<bool>
+    ensures { result ≡ asks_at_most (option_map (λ s. s.now) last.entry) }
+{
+    match last {
+        None => Some(false),
+        Some(last) => { if last == "atmost" { Some(true) } else { None } }
+    }
+}
+
 pub(crate) fn compare<'a>(found: &ArgMatches<'a>) -> Option<Command<'a>>
     ensures { option_map given result ≡ spec.compare_in (rows_of (found_of found.now)) }
 {
-    let first = part(found, "FIRST")?;
-    let second = part(found, "SECOND")?;
+    let old = part(found, "OLD")?;
+    let new = part(found, "NEW")?;
+    let at_most = at_most(part(found, "atmost"))?;
     let native = native(found)?;
     Some(Command::Compare {
         native,
-        first,
-        second,
+        old,
+        new,
+        at_most,
     })
 }
 

@@ -58,8 +58,13 @@ pub const COMMANDS: &[Entry] = &[
     ),
     (
         "compare",
-        &[("MACHINE", 1, 1), ("FIRST", 1, 1), ("SECOND", 1, 1)],
-        "whether two bundles say the same, or the calls of which not",
+        &[
+            ("MACHINE", 1, 1),
+            ("OLD", 1, 1),
+            ("NEW", 1, 1),
+            ("atmost", 0, 1),
+        ],
+        "whether a new bundle says the same as an old one, or allows no more",
     ),
     (
         "adapt",

@@ -76,9 +76,14 @@ draw_in rows = with_part (codes "FILTER") rows (λ filter. with_native rows (λ 
 abbrev pub lint_in : List Row → Option Given
 lint_in rows = with_part (codes "BUNDLE") rows (λ bundle. with_native rows (λ native. Lint native bundle))
 
+-- whether the part that may stand last is `atmost`; none where it is another
+abbrev pub asks_at_most : Option Text → Option Bool
+asks_at_most None = Some false
+asks_at_most (Some last) = if bytes_eq last (codes "atmost") then Some true else None
+
 abbrev pub compare_in : List Row → Option Given
-compare_in rows = with_part (codes "FIRST") rows (λ first. with_part (codes "SECOND") rows (λ second.
-    with_native rows (λ native. Compare native first second)))
+compare_in rows = with_part (codes "OLD") rows (λ old. with_part (codes "NEW") rows (λ new. option_and_then (λ at_most.
+    with_native rows (λ native. Compare native old new at_most)) (asks_at_most (first_of (codes "atmost") rows))))
 
 abbrev pub adapt_in : List Row → List Text → Option Given
 adapt_in rows arguments = with_part (codes "CONFIG") rows (λ config.
