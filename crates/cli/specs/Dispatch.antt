@@ -99,7 +99,8 @@ abbrev pub asks_audit : List (List ℕ) → Bool
 asks_audit (word ∷ []) = bytes_eq word (codes "audit")
 asks_audit call = false
 
--- What the program does as a command. `run` reads its input, and so does `explain` where it is asked about a kernel's log. Of commands that tell in plain sentences, nothing is said.
+-- What the program does as a command. `run` reads its input, and so does `explain` where it is asked about a kernel's log. Of commands
+-- that tell in plain sentences, nothing more is said.
 module _ {I O : Type 0} (left : I → Option (List ℕ)) (given : I → Failures) (held : O → Option (List ℕ)) (taken : O → Failures)
     (folder : Option Folder) (input input' : I) (out out' : O) where
   abbrev pub AnswersRun : Arch → List (List ℕ) → Result Bool Stop → Type 0
@@ -136,4 +137,5 @@ IsMisuse other = ⊥
 -- it ends as a fault of the command line, or of memory, and standard error says so
 abbrev pub TellsMisuse : {E : Type 0} → (E → Option (List ℕ)) → (E → Failures) → E → E → ℕ → Type 0
 TellsMisuse held failures old new status =
-    ((status ≡ 2) × Reports held failures old new (line_of Usage)) ⊎ ((status ≡ 3) × Reports held failures old new (line_of OutOfMemory))
+    ((status ≡ 2) × Reports held failures old new (line_of Usage))
+    ⊎ ((status ≡ 3) × Reports held failures old new (line_of OutOfMemory))

@@ -57,8 +57,14 @@ pub(crate) fn of_first_edition(
     text: &mut String,
     bundle: &[u8],
 ) -> Result<Option<Vec<u8>>, AllocError> {
-    let Ok(value) = Value::from_slice(alloc, bundle) else {
-        return Ok(None);
+    let value = match Value::from_slice(alloc, bundle) {
+        Ok(value) => value,
+        Err(error) => {
+            if error.is_memory() {
+                return Err(AllocError);
+            }
+            return Ok(None);
+        }
     };
     if !put_edition(text, &value)? {
         return Ok(None);
