@@ -2,8 +2,8 @@
 ghost use Rattle.bpf_asm.specs.declared.fault.AsmError.TheVariants.{OutOfMemory};
 
 use std::alloc::{AllocError, AllocFailed};
-use std::error::Error;
 use std::fmt;
+use thiserror::Error;
 
 /// What is wrong with a line.
 ///
@@ -23,7 +23,7 @@ pub enum LineFault {
 }
 
 /// Why a text is not assembled.
-#[derive(Clone, Copy, Debug, PartialEq, Eq)]
+#[derive(Clone, Copy, Debug, PartialEq, Eq, Error)]
 pub enum AsmError {
     /// The first line with a fault, counted from 1, and its fault.
     Line { line: usize, fault: LineFault },
@@ -66,8 +66,6 @@ impl fmt::Display for AsmError {
         }
     }
 }
-
-impl Error for AsmError {}
 
 impl From<AllocError> for AsmError {
     ghost use Rattle.std.specs.Prelude.{◌≡◌};

@@ -1,9 +1,9 @@
 //! Why bytes are no program.
-use std::error::Error;
 use std::fmt;
+use thiserror::Error;
 
 /// Why bytes are no program. The causes are looked for in this order.
-#[derive(Clone, Copy, Debug, PartialEq, Eq)]
+#[derive(Clone, Copy, Debug, PartialEq, Eq, Error)]
 pub enum ViewError {
     /// The length is no multiple of 8.
     NotMultipleOf8,
@@ -41,5 +41,3 @@ impl fmt::Display for ViewError {
         write!(f, "{number} {name}")
     }
 }
-
-impl Error for ViewError {}

@@ -2,12 +2,12 @@
 use bpf_insn::ViewError;
 use cert_form::FormError;
 use kernel_check::Refused;
-use std::error::Error;
 use std::fmt;
+use thiserror::Error;
 
 /// The first rule that is broken: of the filter's bytes, the kernel's check, the certificate's form and its root, and
 /// then of the nodes from 0, at one node in the order Edge, Split, Entail, Return.
-#[derive(Clone, Copy, Debug, PartialEq, Eq)]
+#[derive(Clone, Copy, Debug, PartialEq, Eq, Error)]
 pub enum CheckError {
     /// The filter's bytes are no program.
     View(ViewError),
@@ -73,5 +73,3 @@ impl fmt::Display for CheckError {
         }
     }
 }
-
-impl Error for CheckError {}

@@ -2,11 +2,11 @@
 ghost use Rattle.cert_form.specs.declared.fault.FormError.TheVariants.{OutOfMemory};
 
 use std::alloc::{AllocError, AllocFailed};
-use std::error::Error;
 use std::fmt;
+use thiserror::Error;
 
 /// A fault of the bytes, a limit that what is written would break, or memory.
-#[derive(Clone, Copy, Debug, PartialEq, Eq)]
+#[derive(Clone, Copy, Debug, PartialEq, Eq, Error)]
 pub enum FormError {
     /// The first four bytes are others.
     BadMagic,
@@ -56,8 +56,6 @@ impl fmt::Display for FormError {
         write!(f, "{number} {name}")
     }
 }
-
-impl Error for FormError {}
 
 impl From<AllocError> for FormError {
     ghost use Rattle.std.specs.Prelude.{◌≡◌};

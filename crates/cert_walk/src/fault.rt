@@ -2,11 +2,11 @@
 
 use cert_form::FormError;
 use std::alloc::{AllocError, AllocFailed};
-use std::error::Error;
 use std::fmt;
+use thiserror::Error;
 
 /// Why no certificate is made.
-#[derive(Clone, Copy, Debug, PartialEq, Eq)]
+#[derive(Clone, Copy, Debug, PartialEq, Eq, Error)]
 pub enum CertifyError {
     /// The kernel refuses the filter at this position, or it was not found that the return there gives the profile's verdict.
     Undecided(u32),
@@ -48,8 +48,6 @@ impl fmt::Display for CertifyError {
         }
     }
 }
-
-impl Error for CertifyError {}
 
 impl From<AllocError> for CertifyError {
     ghost use Rattle.std.specs.Prelude.{◌≡◌};

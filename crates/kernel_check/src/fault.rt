@@ -1,12 +1,12 @@
 //! Why the kernel refuses a program.
-use std::error::Error;
 use std::fmt;
+use thiserror::Error;
 
 /// What is wrong with a program.
 ///
 /// Of two causes at one position the earlier is told, and the last is told only where none of the
 /// others stands anywhere.
-#[derive(Clone, Copy, Debug, PartialEq, Eq)]
+#[derive(Clone, Copy, Debug, PartialEq, Eq, Error)]
 pub enum Cause {
     /// The code is not listed.
     Code,
@@ -54,10 +54,8 @@ impl fmt::Display for Cause {
     }
 }
 
-impl Error for Cause {}
-
 /// The cause that a program is refused for, and the position where it stands.
-#[derive(Clone, Copy, Debug, PartialEq, Eq)]
+#[derive(Clone, Copy, Debug, PartialEq, Eq, Error)]
 pub struct Refused {
     pub cause: Cause,
     /// The position of the instruction, from 0.
@@ -75,5 +73,3 @@ impl fmt::Display for Refused {
         write!(f, "{cause} pc {pc}")
     }
 }
-
-impl Error for Refused {}

@@ -1,10 +1,10 @@
 //! Why a command is refused.
 use call_record::Word;
-use std::error::Error;
 use std::fmt;
+use thiserror::Error;
 
 /// Why a command is refused.
-#[derive(Clone, Copy, Debug, PartialEq, Eq)]
+#[derive(Clone, Copy, Debug, PartialEq, Eq, Error)]
 pub enum Refusal {
     /// A container of this id is there already.
     IdTaken,
@@ -60,5 +60,3 @@ impl fmt::Display for Refusal {
         }
     }
 }
-
-impl Error for Refusal {}

@@ -11,12 +11,12 @@ use certify::CertifyError;
 use profile_json::ProfileError;
 use rule_compile::CompileError;
 use std::alloc::Global;
-use std::error::Error;
 use std::fmt;
 use streams::{Sink, WriteFault, write_all};
+use thiserror::Error;
 
 /// Why a bundle has no checked filter. Its text is the line that says so.
-#[derive(Clone, Copy, Debug)]
+#[derive(Clone, Copy, Debug, Error)]
 pub enum Unready {
     /// The bundle is refused.
     Profile(ProfileError),
@@ -46,8 +46,6 @@ impl fmt::Display for Unready {
         }
     }
 }
-
-impl Error for Unready {}
 
 impl From<ProfileError> for Unready {
     ghost from_gives = { IsToldAs Profile refusal.OutOfMemory };

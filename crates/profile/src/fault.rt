@@ -1,10 +1,10 @@
 //! Why no profile is built.
 use std::alloc::{AllocError, AllocFailed};
-use std::error::Error;
 use std::fmt;
+use thiserror::Error;
 
 /// Why no profile is built. A place counts from 0 in the list of rules that was given.
-#[derive(Clone, Copy, Debug, PartialEq, Eq)]
+#[derive(Clone, Copy, Debug, PartialEq, Eq, Error)]
 pub enum BuildError {
     /// The native machine is not listed.
     NativeMissing,
@@ -56,8 +56,6 @@ impl fmt::Display for BuildError {
         }
     }
 }
-
-impl Error for BuildError {}
 
 impl From<AllocError> for BuildError {
     ghost use Rattle.std.specs.Prelude.{◌≡◌};

@@ -7,11 +7,11 @@ ghost use Rattle.profile_json.specs.declared.fault.ProfileError.TheVariants.{Out
 
 use arrayvec::ArrayString;
 use std::alloc::{AllocError, AllocFailed};
-use std::error::Error;
 use std::fmt;
+use thiserror::Error;
 
 /// Why a bundle was refused.
-#[derive(Clone, Copy, Debug, PartialEq, Eq)]
+#[derive(Clone, Copy, Debug, PartialEq, Eq, Error)]
 pub enum ProfileError {
     /// The text is no JSON.
     Syntax,
@@ -134,8 +134,6 @@ impl fmt::Display for ProfileError {
         }
     }
 }
-
-impl Error for ProfileError {}
 
 impl From<AllocError> for ProfileError {
     ghost from_gives = { λ _ e. e ≡ OutOfMemory };

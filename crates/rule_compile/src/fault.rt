@@ -1,11 +1,11 @@
 //! Why there is no filter.
 
 use std::alloc::{AllocError, AllocFailed};
-use std::error::Error;
 use std::fmt;
+use thiserror::Error;
 
 /// Why a profile is not compiled.
-#[derive(Clone, Copy, Debug, PartialEq, Eq)]
+#[derive(Clone, Copy, Debug, PartialEq, Eq, Error)]
 pub enum CompileError {
     /// The filter has more than 4096 instructions.
     TooLong,
@@ -40,8 +40,6 @@ impl fmt::Display for CompileError {
         write!(f, "{number} {name}")
     }
 }
-
-impl Error for CompileError {}
 
 impl From<AllocError> for CompileError {
     ghost use Rattle.std.specs.Prelude.{◌≡◌};

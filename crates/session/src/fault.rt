@@ -1,9 +1,9 @@
 //! Why a script stops.
-use std::error::Error;
 use std::fmt;
+use thiserror::Error;
 
 /// Why a script stops before its end.
-#[derive(Clone, Copy, Debug, PartialEq, Eq)]
+#[derive(Clone, Copy, Debug, PartialEq, Eq, Error)]
 pub enum ScriptFault {
     /// The source failed while it gave this line, counted from 1.
     Read { line: u64 },
@@ -45,5 +45,3 @@ impl fmt::Display for ScriptFault {
         }
     }
 }
-
-impl Error for ScriptFault {}

@@ -2,15 +2,15 @@
 ghost use Rattle.streams.specs.declared.fault.WriteFault.TheVariants.{OutOfMemory};
 
 use std::alloc::AllocError;
-use std::error::Error;
 use std::fmt;
+use thiserror::Error;
 
 /// A read or a write that failed.
 #[derive(Clone, Copy, Debug, PartialEq, Eq)]
 pub struct Failed;
 
 /// Why bytes were not all written.
-#[derive(Clone, Copy, Debug, PartialEq, Eq)]
+#[derive(Clone, Copy, Debug, PartialEq, Eq, Error)]
 pub enum WriteFault {
     /// The sink failed after it took so many bytes.
     Write { out: u64 },
@@ -48,8 +48,6 @@ impl fmt::Display for WriteFault {
         }
     }
 }
-
-impl Error for WriteFault {}
 
 impl From<AllocError> for WriteFault {
     ghost use Rattle.std.specs.Prelude.{◌≡◌};
