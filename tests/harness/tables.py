@@ -21,7 +21,7 @@ KINDS = {
     "refused kernel": "kernel_check",
     "refused profile": "profile_json",
     "refused compile": "rule_compile",
-    "refused certify": "cert_walk",
+    "refused certify": "cert_search",
     "refused listing": "bpf_asm",
     "no": "cert_check",
 }
@@ -32,7 +32,7 @@ FAULTS = {
     "LISTING.md": ["bpf_asm"],
     "PROFILES.md": ["profile", "profile_json"],
     "COMPILER.md": ["rule_compile"],
-    "CERTIFICATES.md": ["cert_walk", "cert_form"],
+    "CERTIFICATES.md": ["cert_search", "cert_form"],
 }
 
 

@@ -15,7 +15,7 @@ use Rattle.cert_form.specs.declared.node.Kind.TheVariants.{Dead}
 use Rattle.cert_form.specs.Nodes.{PlainNode, literals, said_plainly}
 use Rattle.cert_form.specs.Writing.{IsChainMeant}
 use Rattle.cert_check.specs.Rules.{Keeps}
-use Rattle.cert_walk.specs.declared.fault.CertifyError.{CertifyError}
+use Rattle.cert_search.specs.declared.fault.CertifyError.{CertifyError}
 use Rattle.certify.specs.declared.plain.place.Place.{Place}
 use Rattle.certify.specs.declared.plain.place.Fork.{Fork}
 use Rattle.certify.specs.declared.plain.store.Store.{Store}

@@ -19,3 +19,4 @@ pub mod TokenLaws
 pub mod UnlikeLaws
 pub mod ShapeLaws
 pub mod CompiledLaws
+pub mod RightLaws

@@ -22,7 +22,7 @@ use Rattle.cert_state.proofs.BitLaws.{and_all}
 use Rattle.cert_form.specs.declared.node.Kind.TheVariants.{Dead}
 use Rattle.rule_compile.specs.Moves.{Forks, move_at}
 use Rattle.rule_compile.specs.Shape.{depth, tokens}
-use Rattle.cert_walk.specs.declared.fault.CertifyError.{CertifyError}
+use Rattle.cert_search.specs.declared.fault.CertifyError.{CertifyError}
 use Rattle.certify.specs.declared.plain.place.Place.{Place}
 use Rattle.certify.specs.declared.plain.place.Fork.{Fork}
 use Rattle.certify.specs.declared.plain.store.Store.{Store}

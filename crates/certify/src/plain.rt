@@ -8,7 +8,7 @@ ghost use Rattle.profile.specs.Policy.{IsProfile};
 ghost use Rattle.kernel_check.specs.Lent.{accepted_insns};
 ghost use Rattle.rule_compile.specs.Shape.{IsCallFilter, IsPlain};
 ghost use Rattle.cert_check.specs.Valid.{IsValidCertificate};
-ghost use Rattle.cert_walk.specs.declared.fault.CertifyError.TheVariants.{OutOfMemory};
+ghost use Rattle.cert_search.specs.declared.fault.CertifyError.TheVariants.{OutOfMemory};
 
 mod moves;
 mod place;
@@ -18,7 +18,7 @@ mod unlike;
 mod ways;
 
 use cert_form::write_chained;
-use cert_walk::CertifyError;
+use cert_search::CertifyError;
 use kernel_check::Accepted;
 use place::Place;
 use profile::Profile;

@@ -17,7 +17,7 @@ use Rattle.command_line.specs.declared.Misuse.{Misuse}
 use Rattle.command_line.specs.declared.Misuse.TheVariants as kind
 use Rattle.cli.specs.declared.stops.Stop.{Stop}
 use Rattle.cli.specs.declared.stops.Stop.TheVariants.{Usage, CannotRead, Read, Write, OutOfMemory}
-use Rattle.cli.specs.Dispatch.{AnswersCertify, AnswersCheck, AnswersExport, AnswersVerdict, Does, FirstUnread, HaveBytes, IsMisuse, StopsAt, StopsAtFile, TellsMisuse}
+use Rattle.cli.specs.Dispatch.{AnswersCertify, AnswersCheck, AnswersExport, AnswersVerdict, Does, FirstUnread, HaveBytes, IsExplained, IsMisuse, StopsAt, StopsAtFile, TellsMisuse}
 use Rattle.cli.specs.Stop.{Reports, line_of, status_of, stop_at_misuse}
 use Rattle.cli.specs.Files.{Folder, HasBytes, HasEnough}
 use Rattle.cli.specs.Running.{told_line}
@@ -184,6 +184,29 @@ module _ {I O : Type 0} (left : I → Option (List ℕ)) (given : I → Failures
   unread_arguments command kind.OutOfMemory result memory e =
       subst (λ r. Does left given held taken folder input input out out command r) (sym e) (not_begun command)
   unread_arguments command kind.Usage result memory e = absurd memory
+
+-- where the program stops no record is told
+module _ {O E : Type 0} (held : O → Option (List ℕ)) (taken : O → Failures) (shown : E → Option (List ℕ)) (dropped : E → Failures)
+    (folder : Option Folder) (out out' : O) (err err' : E) where
+  pub explained_stop : (command : Given) (stop : Stop) → IsExplained held taken shown dropped folder out out' err err' command (Err stop)
+  explained_stop (Verdict filter rec) stop = tt
+  explained_stop (Check native bundle filter cert) stop = tt
+  explained_stop (Certify native bundle filter) stop = tt
+  explained_stop (Export native bundle form) stop = tt
+  explained_stop (Run native bundles) stop = tt
+  explained_stop (Explain native bundle call) stop = tt
+  explained_stop (ReadOut native bundle) stop = tt
+  explained_stop (Record native call) stop = tt
+  explained_stop (Assemble listing) stop = tt
+  explained_stop (Annotate native filter) stop = tt
+  explained_stop (Draw native filter) stop = tt
+  explained_stop (Lint native bundle) stop = tt
+  explained_stop (Compare native old new at_most) stop = tt
+  explained_stop (Adapt native config words) stop = tt
+  explained_stop (Learn native words) stop = tt
+  explained_stop (Replay native bundle words) stop = tt
+  explained_stop (Manual name) stop = tt
+  explained_stop Version stop = tt
 
 pub is_misuse : (misuse : Misuse) (result : Result Bool Stop) → result ≡ Err (stop_at_misuse misuse) → IsMisuse result
 is_misuse kind.Usage result e = subst IsMisuse (sym e) tt

@@ -13,6 +13,7 @@ use Rattle.pipeline.specs.Exported.{Exports}
 use Rattle.pipeline.specs.Finding.{WritesFinding}
 use Rattle.cli.specs.declared.stops.Stop.{Stop}
 use Rattle.cli.specs.declared.stops.Stop.TheVariants.{CannotRead, OutOfMemory, Usage}
+use Rattle.cli.specs.Explained.{TellsRecord}
 use Rattle.cli.specs.Files.{CannotBeRead, Folder, HasBytes, HasEnough}
 use Rattle.cli.specs.Running.{RunsBundles, told_line}
 use Rattle.cli.specs.Stop.{Reports, line_of, status_of}
@@ -119,6 +120,20 @@ module _ {I O : Type 0} (left : I → Option (List ℕ)) (given : I → Failures
   Does (Explain native bundle call) result = (asks_audit call ≡ true) ⊎ (input' ≡ input)
   Does other result = input' ≡ input
 
+-- What `certify` tells where its answer is no: nothing on standard error, or on standard output the line of a call record and on
+-- standard error an explanation of this very record.
+module _ {O E : Type 0} (held : O → Option (List ℕ)) (taken : O → Failures) (shown : E → Option (List ℕ)) (dropped : E → Failures)
+    (folder : Option Folder) (out out' : O) (err err' : E) where
+  abbrev pub ExplainsRecord : Arch → List ℕ → Result Bool Stop → Type 0
+  ExplainsRecord native bundle (Ok false) =
+      (err' ≡ err)
+      ⊎ ((b : List ℕ) × HasBytes folder bundle b × TellsRecord held taken out out' shown dropped err err' native b)
+  ExplainsRecord native bundle other = Unit {0}
+
+  abbrev pub IsExplained : Given → Result Bool Stop → Type 0
+  IsExplained (Certify native bundle filter) result = ExplainsRecord native bundle result
+  IsExplained other result = Unit {0}
+
 -- The program did what a command asks for: its outcome, as the exit status and standard error tell it.
 pub record Answers {I O E : Type 0} (left : I → Option (List ℕ)) (given : I → Failures) (held : O → Option (List ℕ))
     (taken : O → Failures) (shown : E → Option (List ℕ)) (dropped : E → Failures) (folder : Option Folder)
@@ -127,6 +142,7 @@ pub record Answers {I O E : Type 0} (left : I → Option (List ℕ)) (given : I 
   pub does : Does left given held taken folder input input' out out' command outcome
   pub ends : status ≡ exit_status outcome
   pub tells : Tells shown dropped err err' command outcome
+  pub explained : IsExplained held taken shown dropped folder out out' err err' command outcome
 
 -- the program stops at arguments that are no command: since they are none, or for want of memory
 abbrev pub IsMisuse : Result Bool Stop → Type 0

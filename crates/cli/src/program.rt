@@ -1,10 +1,11 @@
 //! The whole program, from the arguments after its name to its exit status.
 ghost use Rattle.std.specs.Prelude.{◌≡◌, ◌⊎◌, ◌≤◌, Err, Ok, OnErr, true, map};
 ghost use Rattle.command_line.specs.Arguments.{Given, IsCommandLine, NoCommandLine, given};
-ghost use Rattle.cli.specs.Dispatch.{Answers, AnswersCertify, AnswersCheck, AnswersExport, AnswersRun, AnswersVerdict, Does, IsMisuse, TellsChanges, TellsMisuse};
+ghost use Rattle.cli.specs.Dispatch.{Answers, AnswersCertify, AnswersCheck, AnswersExport, AnswersRun, AnswersVerdict, Does, ExplainsRecord, IsExplained, IsMisuse};
+ghost use Rattle.cli.specs.Dispatch.{TellsChanges, TellsMisuse};
 
 use crate::adapting::{Both, adapted};
-use crate::comparing::{compare, tell_conviction};
+use crate::comparing::{self, compare};
 use crate::explaining::explain;
 use crate::files::{Files, read, read_certificate, read_each, read_filter, read_record};
 use crate::logs::{learned, replayed};
@@ -14,7 +15,7 @@ use call_tables::Arch;
 use command_line::{Command, Form, read_arguments};
 use describe::{annotated, drawn};
 use explain::Told;
-use pipeline::{certify_bundle, check_line, export_bundle, verdict_line};
+use pipeline::{check_line, export_bundle, verdict_line};
 use std::alloc::{AllocError, Global};
 use streams::{Sink, Source, write_all};
 
@@ -65,15 +66,13 @@ fn certify<'a, F: Files, O: Sink, E: Sink>(
     ensures answers { AnswersCertify O.held O.failures (F.folder files.old) out.old out.new native bundle.entry.now filter.entry.now result }
     ensures stopped { OnErr result (err.new ≡ err.old) }
     ensures quiet { result ≡ Ok true → err.new ≡ err.old }
+    // The record that is explained is the one that was told.
+    ensures explained { ExplainsRecord O.held O.failures E.held E.failures (F.folder files.old) out.old out.new err.old err.new
+        native bundle.entry.now result }
 {
     let bundle = read(alloc, files, bundle)?;
     let filter = read_filter(alloc, files, filter)?;
-    let done = certify_bundle(alloc, native, &bundle, &filter, out)?;
-    if done {
-        return Ok(true);
-    }
-    tell_conviction(alloc, native, &bundle, &filter, err);
-    Ok(false)
+    Ok(comparing::certify(alloc, native, &bundle, &filter, out, err)?)
 }
 
 // Writes the filter of a bundle in a form, once it is checked, or why it has none.
@@ -204,6 +203,9 @@ fn obey<'a, F: Files, I: Source, O: Sink, E: Sink>(
     // Nothing is told on standard error but of a filter that is convicted, and of what was changed.
     ensures stopped { OnErr result (err.new ≡ err.old) }
     ensures quiet { result ≡ Ok true → TellsChanges (given command.entry) ⊎ (err.new ≡ err.old) }
+    // Of a filter that is convicted the record is explained that was told.
+    ensures explained { IsExplained O.held O.failures E.held E.failures (F.folder files.old) out.old out.new err.old err.new
+        (given command.entry) result }
 {
     match command {
         Command::Verdict { filter, record } => verdict(alloc, filter, record, files, out),
@@ -272,6 +274,8 @@ fn carry_out<'a, F: Files, I: Source, O: Sink, E: Sink>(
         → Does I.left I.failures O.held O.failures (F.folder files.old) input.old input.new out.old out.new command result }
     ensures stopped { OnErr result (err.new ≡ err.old) }
     ensures quiet { (command : Given) → IsCommandLine arguments.entry.now command → result ≡ Ok true → TellsChanges command ⊎ (err.new ≡ err.old) }
+    ensures explained { (command : Given) → IsCommandLine arguments.entry.now command
+        → IsExplained O.held O.failures E.held E.failures (F.folder files.old) out.old out.new err.old err.new command result }
     ensures misuse { NoCommandLine arguments.entry.now → IsMisuse result }
     ensures unread { NoCommandLine arguments.entry.now → input.new ≡ input.old }
     ensures unwritten { NoCommandLine arguments.entry.now → out.new ≡ out.old }

@@ -15,7 +15,7 @@ mod text;
 mod told;
 
 pub use change::Change;
-pub use convicting::explain_conviction;
+pub use convicting::explain_found;
 pub use difference::Difference;
 pub use outcome::Comparison;
 pub use sides::Sides;

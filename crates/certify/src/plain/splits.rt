@@ -3,7 +3,7 @@ ghost use Rattle.std.specs.Prelude.{◌≡◌, ◌≤◌, ◌<◌, ◌+◌, ◌-
 ghost use Rattle.bpf_insn.specs.Program.{insns};
 ghost use Rattle.cert_check.specs.Agree.{Agrees};
 ghost use Rattle.cert_state.specs.Entailment.{IsDead};
-ghost use Rattle.cert_walk.specs.declared.fault.CertifyError.TheVariants.{OutOfMemory};
+ghost use Rattle.cert_search.specs.declared.fault.CertifyError.TheVariants.{OutOfMemory};
 ghost use Rattle.certify.specs.inner.Counts.{HasRoom, halves_cost, inside, return_cost};
 ghost use Rattle.certify.specs.inner.Leaf.{BeginsWithin, LieIn, SaysThere};
 ghost use Rattle.certify.specs.inner.Meant.{IsMeant};
@@ -16,8 +16,8 @@ use crate::plain::unlike::is_unlike;
 use bpf_insn::Program;
 use call_tables::{Arch, Numbers};
 use cert_form::Kind;
+use cert_search::CertifyError;
 use cert_state::Lit;
-use cert_walk::CertifyError;
 use profile::{Profile, foreign_numbers};
 
 // So many halvings tell any two numbers of a table that are below 512 apart, once the foreign ones are apart.

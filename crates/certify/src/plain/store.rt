@@ -6,7 +6,7 @@ ghost use Rattle.cert_state.specs.declared.literal.Lit.TheVariants.{NotBits};
 ghost use Rattle.cert_state.specs.Entailment.{Entails, IsDead};
 ghost use Rattle.cert_state.specs.Literals.{IsLit};
 ghost use Rattle.cert_state.specs.Points.{HasNoPoint, IsPoint, IsRange};
-ghost use Rattle.cert_walk.specs.declared.fault.CertifyError.TheVariants.{OutOfMemory};
+ghost use Rattle.cert_search.specs.declared.fault.CertifyError.TheVariants.{OutOfMemory};
 ghost use Rattle.certify.specs.inner.Leaf.{IsOfCalls};
 ghost use Rattle.certify.specs.inner.Made.{regs_of};
 ghost use Rattle.certify.specs.inner.Path.{HoldsCall};
@@ -15,8 +15,8 @@ ghost use Rattle.certify.specs.inner.Store.{IsForked, IsStore, chain_node_of, kn
 use crate::plain::place::{Fork, Place};
 use cert_form::{ChainNode, Kind};
 use cert_paths::Chain;
+use cert_search::CertifyError;
 use cert_state::{AVal, Lit, Regs, entails, range};
-use cert_walk::CertifyError;
 use std::alloc::{AllocError, Global};
 
 /// The entries of the chains and the nodes that are made so far.

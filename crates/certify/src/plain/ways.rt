@@ -3,7 +3,7 @@ ghost use Rattle.std.specs.Prelude.{◌≡◌, ◌+◌, ◌<◌, ◌^◌, IfErr,
 ghost use Rattle.bpf_insn.specs.Program.{insns};
 ghost use Rattle.cert_state.specs.Literals.{IsLit};
 ghost use Rattle.rule_compile.specs.Shape.{depth};
-ghost use Rattle.cert_walk.specs.declared.fault.CertifyError.TheVariants.{OutOfMemory};
+ghost use Rattle.cert_search.specs.declared.fault.CertifyError.TheVariants.{OutOfMemory};
 ghost use Rattle.certify.specs.inner.Counts.{HasRoom, inside, path_cost};
 ghost use Rattle.certify.specs.inner.Leaf.{IsOfCalls};
 ghost use Rattle.certify.specs.inner.Meant.{IsMeant};
@@ -18,8 +18,8 @@ use crate::plain::splits::{dead, tokens};
 use crate::plain::store::Store;
 use bpf_insn::{Insn, Program};
 use cert_form::Kind;
+use cert_search::CertifyError;
 use cert_state::Lit;
-use cert_walk::CertifyError;
 use profile::Profile;
 
 // The position after so many instructions are skipped, which is in the program.

@@ -7,7 +7,7 @@ use Rattle.cert_form.specs.declared.node.Kind.TheVariants.{Step}
 use Rattle.cert_form.specs.Nodes.{literals}
 use Rattle.rule_compile.specs.Moves.{Goes, Forks, move_at}
 use Rattle.rule_compile.specs.Shape.{depth, weight}
-use Rattle.cert_walk.specs.declared.fault.CertifyError.TheVariants.{OutOfMemory}
+use Rattle.cert_search.specs.declared.fault.CertifyError.TheVariants.{OutOfMemory}
 use Rattle.certify.specs.declared.plain.place.Place.{Place}
 use Rattle.certify.specs.inner.Counts.{inside, path_cost, return_cost}
 use Rattle.certify.specs.inner.Made.{StandsAt}
