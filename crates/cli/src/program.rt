@@ -183,10 +183,11 @@ fn manual<'a>(
     command: Option<&'a str>,
     out: &mut impl Sink,
 ) -> Result<bool, Stop<'a>> {
-    match describe::manual(alloc, command)? {
-        Some(told) => tell(&told, out),
-        None => Err(Stop::Usage),
-    }
+    let Some(told) = command_line::manual(alloc, command)? else {
+        return Err(Stop::Usage);
+    };
+    write_all(told.as_bytes(), out)?;
+    Ok(true)
 }
 
 // Carries a command out: true where it answered a verdict or yes, wrote what was asked for or ran a script, false where it
