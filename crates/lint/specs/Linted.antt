@@ -7,8 +7,9 @@ use Rattle.profile.specs.Policy.{Policy}
 use Rattle.profile_json.specs.Breaks.{Breaks}
 use Rattle.profile_json.specs.Fault.{fault_of}
 use Rattle.profile_json.specs.declared.fault.ProfileError.{ProfileError}
-use Rattle.lint.specs.Past.{IsFinding}
+use Rattle.lint.specs.Past.{GetsPast, IsFinding}
 use Rattle.lint.specs.declared.past.Finding.{Finding}
+use Rattle.lint.specs.declared.past.Past.{Past}
 use Rattle.lint.specs.declared.past.Finding.TheVariants.{Nothing, GetPast, Undecided}
 
 abbrev pub is_nothing : Finding → Bool
@@ -32,3 +33,7 @@ pub record IsJudged (native : Arch) (bundle : List ℕ) (told : Told) : Type 0 w
 
 abbrev pub IsLinted : Arch → List ℕ → Told → Type 0
 IsLinted native bundle told = IsRefused native bundle told ⊎ IsJudged native bundle told
+
+-- some call gets past the profile that the bundle means
+abbrev pub SomeGetPast : Arch → List ℕ → Type 0
+SomeGetPast native bundle = (p : Policy) × IsBundle native bundle p × (past : Past) × GetsPast p past
