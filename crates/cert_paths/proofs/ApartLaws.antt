@@ -1,5 +1,5 @@
 -- Where a comparison tells all that it asks, the facts of its two edges are true of no record together.
-use Rattle.std.proofs.Common.{◌≡◌, ℕ, ◌+◌, ◌-◌, ◌^◌, ◌≤◌, Bool, true, false, not, cond, eqb, List, sym, ap, ◌∙◌, subst, ⊎_elim, arith}
+use Rattle.std.proofs.Common.{◌≡◌, ℕ, ◌+◌, ◌-◌, ◌≤◌, Bool, true, false, not, cond, eqb, List, sym, ◌∙◌, subst, ⊎_elim, arith}
 use Rattle.std.specs.Prelude.{bit_and, bit_or, IfSome, Option, Some, None}
 use Rattle.std.specs.Int.{w32, trailing_zeros}
 use Rattle.std.proofs.lemmas.Bool.{cases_Bool, eqb-true}
@@ -9,7 +9,7 @@ use Rattle.bpf_insn.specs.declared.code.Test.{Test}
 use Rattle.bpf_insn.specs.declared.code.Test.TheVariants.{Equal, Greater, AtLeast, AnyBit}
 use Rattle.bpf_insn.specs.Machine.{holds}
 use Rattle.cert_state.specs.declared.literal.AVal.{AVal}
-use Rattle.cert_state.specs.declared.literal.AVal.TheVariants.{Unknown, Const, Masked}
+use Rattle.cert_state.specs.declared.literal.AVal.TheVariants.{Const, Masked}
 use Rattle.cert_state.specs.declared.literal.Lit.{Lit}
 use Rattle.cert_state.specs.declared.literal.Lit.TheVariants.{In, Bits, NotBits}
 use Rattle.cert_state.specs.Literals.{Holds, all_bits, false_literal}
