@@ -2,11 +2,12 @@
 use Rattle.std.proofs.Common.{◌≡◌, ℕ, ◌+◌, ◌<◌, inl, inr, List, [], ◌∷◌, ◌++◌, ap, drop, get_or, length, map, refl, subst, sym, take, ◌∙◌}
 use Rattle.std.proofs.lemmas.List.{get_or_default, map-append, take_more}
 use denote.Ref.{Bor}
-use Rattle.std.specs.Prelude.{Bool, Option, Result, Err}
+use Rattle.std.specs.Prelude.{Bool, Option, Result, Ok, Err}
 use Rattle.call_tables.specs.declared.arch.Arch.{Arch}
 use Rattle.streams.specs.Failures.{Failures}
 use Rattle.streams.specs.declared.fault.WriteFault.{WriteFault}
 use Rattle.export.specs.declared.form.Form.{Form}
+use Rattle.explain.specs.declared.told.Told.{Told}
 use Rattle.pipeline.specs.Answer.{WritesAnswer}
 use Rattle.pipeline.specs.Certified.{Certifies}
 use Rattle.pipeline.specs.Exported.{Exports}
@@ -17,7 +18,9 @@ use Rattle.command_line.specs.declared.Misuse.{Misuse}
 use Rattle.command_line.specs.declared.Misuse.TheVariants as kind
 use Rattle.cli.specs.declared.stops.Stop.{Stop}
 use Rattle.cli.specs.declared.stops.Stop.TheVariants.{Usage, CannotRead, Read, Write, OutOfMemory}
-use Rattle.cli.specs.Dispatch.{AnswersCertify, AnswersCheck, AnswersExport, AnswersVerdict, Does, FirstUnread, HaveBytes, IsMisuse, StopsAt, StopsAtFile, TellsMisuse}
+use Rattle.cli.specs.Dispatch.{AnswersCertify, AnswersCheck, AnswersExport, AnswersTold, AnswersVerdict, Does}
+use Rattle.cli.specs.Dispatch.{FirstUnread, HaveBytes, IsMisuse, StopsAt, StopsAtFile, TellsMisuse}
+use Rattle.cli.specs.inner.Telling.{IsToldOf, TellsOn}
 use Rattle.cli.specs.Stop.{Reports, line_of, status_of, stop_at_misuse}
 use Rattle.cli.specs.Files.{Folder, HasBytes, HasEnough}
 use Rattle.cli.specs.Running.{told_line}
@@ -146,6 +149,14 @@ module _ {O : Type 0} (held : O → Option (List ℕ)) (failures : O → Failure
                   },
                 )
 
+-- what is told of files is written
+module _ {O : Type 0} (held : O → Option (List ℕ)) (failures : O → Failures) (folder : Option Folder) (names : List (List ℕ))
+    (Is : List (List ℕ) → Told → Type 0) (old new : O) (result : Result Bool Stop) where
+  pub answers_told : (told : Result Told Stop) → IsToldOf folder names Is told → TellsOn held failures old new told result
+      → AnswersTold held failures folder old new names Is result
+  answers_told (Ok told) is h = inr (is.0, told, is.1, is.2, h)
+  answers_told (Err stop) at h = inl (record { stop = stop; at = at; told = h.0; unwritten = h.1 })
+
 -- ---- arguments that were not read
 
 -- memory is refused before any file is read
@@ -165,14 +176,14 @@ module _ {I O : Type 0} (left : I → Option (List ℕ)) (given : I → Failures
   not_begun (Certify native bundle filter) = (refl, inl (stops_early folder out (bundle ∷ filter ∷ [])))
   not_begun (Export native bundle form) = (refl, inl (stops_early folder out (bundle ∷ [])))
   not_begun (Run native bundles) = inl (refl, stops_early folder out bundles)
-  not_begun (Explain native bundle call) = inr refl
+  not_begun (Explain native bundle call) = inr (refl, inl (stops_early folder out (bundle ∷ [])))
   not_begun (ReadOut native bundle) = refl
-  not_begun (Record native call) = refl
-  not_begun (Assemble listing) = refl
+  not_begun (Record native call) = (refl, inl (stops_early folder out []))
+  not_begun (Assemble listing) = (refl, inl (stops_early folder out (listing ∷ [])))
   not_begun (Annotate native filter) = refl
   not_begun (Draw native filter) = refl
-  not_begun (Lint native bundle) = refl
-  not_begun (Compare native old new at_most) = refl
+  not_begun (Lint native bundle) = (refl, inl (stops_early folder out (bundle ∷ [])))
+  not_begun (Compare native old new at_most) = (refl, inl (stops_early folder out (old ∷ new ∷ [])))
   not_begun (Adapt native config words) = refl
   not_begun (Learn native words) = refl
   not_begun (Replay native bundle words) = refl
