@@ -20,7 +20,7 @@ use Rattle.cert_check.specs.declared.fault.CheckError.TheVariants.{Kernel, Form,
 use Rattle.cert_check.specs.Certified.{IsCertificate, Kept}
 use Rattle.cert_check.specs.Right.{IsRight}
 use Rattle.cert_check.specs.Rules.{IsValid}
-use Rattle.cert_check.proofs.Right.{valid_is_right}
+use Rattle.cert_check.proofs.Right.{right as valid_is_right}
 use Rattle.cert_form.specs.declared.fault.FormError.TheVariants.{BadMagic}
 use Rattle.cert_form.specs.Nodes.{PlainNode}
 use Rattle.cert_form.specs.Spelling.{Spells}
