@@ -212,7 +212,7 @@ fn obey<'a, F: Files, I: Source, O: Sink, E: Sink>(
             old,
             new,
             at_most,
-        } => tell(compared(alloc, native, [old, new], at_most, files), out),
+        } => tell(compared(alloc, native, old, new, at_most, files), out),
         Command::Adapt {
             native,
             config,

@@ -96,7 +96,8 @@ fn compared_with<'a, F: Files>(
 pub(crate) fn compared<'a, F: Files>(
     alloc: Global,
     native: Arch,
-    [old, new]: [&'a str; 2],
+    old: &'a str,
+    new: &'a str,
     at_most: bool,
     files: &mut F,
 ) -> Result<Told, Stop<'a>>
