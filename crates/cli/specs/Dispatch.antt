@@ -75,6 +75,12 @@ pub record AnswersBy (Writes : Result Bool WriteFault → Type 0) (result : Resu
   pub written : Writes answer
   pub told : result ≡ told_line answer
 
+-- What is told is written, and the program says whether it was done; or a call of the sink failed.
+abbrev pub WritesTold : {O : Type 0} → (O → Option (List ℕ)) → (O → Failures) → O → O → Told → Result Bool Stop → Type 0
+WritesTold held failures old new told (Ok done) = Wrote held failures old new told.bytes.items × (done ≡ told.done)
+WritesTold held failures old new told (Err (Write out)) = StopsWriting held failures old new told.bytes.items out
+WritesTold held failures old new told (Err other) = ⊥
+
 -- what the commands write that judge the bytes of files
 module _ {O : Type 0} (held : O → Option (List ℕ)) (failures : O → Failures) (folder : Option Folder) (old new : O) where
   abbrev pub AnswersVerdict : List ℕ → List ℕ → Result Bool Stop → Type 0
@@ -101,17 +107,11 @@ module _ {O : Type 0} (held : O → Option (List ℕ)) (failures : O → Failure
       StopsAtFile folder old new (bundle ∷ []) result
       ⊎ ((b : List ℕ) × HasBytes folder bundle b × AnswersBy (Exports held failures old new native b form) result)
 
-  -- What is told is written, and the program says whether it was done; or a call of the sink failed.
-  abbrev pub WritesTold : Told → Result Bool Stop → Type 0
-  WritesTold told (Ok done) = Wrote held failures old new told.bytes.items × (done ≡ told.done)
-  WritesTold told (Err (Write out)) = StopsWriting held failures old new told.bytes.items out
-  WritesTold told (Err other) = ⊥
-
   -- A command that tells: its files are read, and what is so of their bytes is told and written.
   abbrev pub AnswersTold : List (List ℕ) → (List (List ℕ) → Told → Type 0) → Result Bool Stop → Type 0
   AnswersTold names Is result =
       StopsAtFile folder old new names result
-      ⊎ ((texts : List (List ℕ)) × (told : Told) × HaveBytes folder names texts × Is texts told × WritesTold told result)
+      ⊎ ((texts : List (List ℕ)) × (told : Told) × HaveBytes folder names texts × Is texts told × WritesTold held failures old new told result)
 
 -- what is so of the text of one file, of two, and of none
 abbrev pub of_one : (List ℕ → Told → Type 0) → List (List ℕ) → Told → Type 0

@@ -1,5 +1,6 @@
 //! What `ccell explain` does.
 ghost use Rattle.std.specs.Prelude.{◌≡◌, ◌⊎◌, ◌∷◌, [], IfOk, true, map};
+ghost use Rattle.std.specs.Option.{option_map};
 ghost use Rattle.cli.specs.Dispatch as spec;
 ghost use Rattle.cli.specs.inner.Telling.{IsToldOf, TellsText};
 
@@ -59,18 +60,28 @@ fn audited<'a>(
     Ok(audit(alloc, native, bundle, &lines)?)
 }
 
-// Tells what a bundle says of a call, by its arguments or whatever they are.
-fn explained(alloc: Global, native: Arch, bundle: &[u8], call: &[&str]) -> Result<Told, AllocError>
-    ensures { IfOk result (spec.explained_as native (map (λ c. c.now) call.now) (spec.any_call (map (λ c. c.now) call.now)) bundle.now) }
+// The call that is asked about whatever its arguments are.
+fn any_of<'a>(call: &[&'a str]) -> Option<&'a str>
+    ensures { option_map (λ what. what.now) result ≡ spec.any_call (map (λ c. c.now) call.now) }
 {
     match call {
         [what, last] => {
             if *last == "any" {
-                return explain_any(alloc, native, bundle, *what);
+                return Some(*what);
             }
-            explain::explain(alloc, native, bundle, call)
+            None
         }
-        _ => explain::explain(alloc, native, bundle, call),
+        _ => None,
+    }
+}
+
+// Tells what a bundle says of a call, by its arguments or whatever they are.
+fn explained(alloc: Global, native: Arch, bundle: &[u8], call: &[&str]) -> Result<Told, AllocError>
+    ensures { IfOk result (spec.explained_as native (map (λ c. c.now) call.now) (spec.any_call (map (λ c. c.now) call.now)) bundle.now) }
+{
+    match any_of(call) {
+        Some(what) => explain_any(alloc, native, bundle, what),
+        None => explain::explain(alloc, native, bundle, call),
     }
 }
 
