@@ -1,6 +1,7 @@
 -- Sharp facts: what is known on an edge of a jump in certificates of form 4. They tell more than `edge_fact` of a word
 -- under a mask, by the lowest bit of the mask, by the mask itself, or by what is known of the bits outside.
-use Rattle.std.specs.Prelude.{ℕ, ◌+◌, ◌-◌, ◌^◌, ◌==◌, ◌&&◌, nat_le, nat_lt, Bool, true, false, if◌then◌else◌, List, Option, Some, None, min, bit_and, bit_or, bit_xor}
+use Rattle.std.specs.Prelude.{ℕ, ◌+◌, ◌-◌, ◌^◌, ◌==◌, nat_le, nat_lt, min, bit_and, bit_or, bit_xor}
+use Rattle.std.specs.Prelude.{◌&&◌, Bool, true, false, if◌then◌else◌, List, Option, Some, None}
 use Rattle.std.specs.Int.{w32, trailing_zeros}
 use Rattle.bpf_insn.specs.declared.code.Test.{Test}
 use Rattle.bpf_insn.specs.declared.code.Test.TheVariants.{Greater, AtLeast, AnyBit}

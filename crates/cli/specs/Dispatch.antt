@@ -1,5 +1,6 @@
 -- THE PROGRAM. What it writes and the status that it ends with, of a command, of files, and of what is read on standard input.
-use Rattle.std.specs.Prelude.{ℕ, ◌≡◌, ◌⊎◌, Bool, true, false, List, [], ◌∷◌, if◌then◌else◌, map, Option, Some, None, Result, Ok, Err, codes}
+use Rattle.std.specs.Prelude.{ℕ, ◌≡◌, ◌⊎◌, Bool, true, false, List, [], ◌∷◌, map, codes}
+use Rattle.std.specs.Prelude.{if◌then◌else◌, Option, Some, None, Result, Ok, Err}
 use Rattle.std.specs.Str.{bytes_eq}
 use denote.Ref.{Bor}
 use Rattle.call_tables.specs.declared.arch.Arch.{Arch}
@@ -111,7 +112,8 @@ module _ {O : Type 0} (held : O → Option (List ℕ)) (failures : O → Failure
   abbrev pub AnswersTold : List (List ℕ) → (List (List ℕ) → Told → Type 0) → Result Bool Stop → Type 0
   AnswersTold names Is result =
       StopsAtFile folder old new names result
-      ⊎ ((texts : List (List ℕ)) × (told : Told) × HaveBytes folder names texts × Is texts told × WritesTold held failures old new told result)
+      ⊎ ((texts : List (List ℕ)) × (told : Told) × HaveBytes folder names texts × Is texts told
+      × WritesTold held failures old new told result)
 
 -- what is so of the text of one file, of two, and of none
 abbrev pub of_one : (List ℕ → Told → Type 0) → List (List ℕ) → Told → Type 0

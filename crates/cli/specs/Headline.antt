@@ -3,8 +3,9 @@
 -- events, the replies are those of the kernel machine whose first judge for each container is its profile, and no call that
 -- the profile refuses is carried out.
 --
--- It begins at the rules of the checker, and at what calls tell. `IsFinding`, of Yes, is told by `check_line` where it writes that line, and by `certify_bundle`
--- where it writes a certificate; `IsRun`, by programs, by `Runtime::run`; `HasAnswered` by `run_bundles` where it answers true.
+-- It begins at the rules of the checker, and at what calls tell. `IsFinding`, of Yes, is told by `check_line` where it writes that line,
+-- and by `certify_bundle` where it writes a certificate; `IsRun`, by programs, by `Runtime::run`; `HasAnswered` by `run_bundles` where it
+-- answers true.
 use Rattle.std.specs.Prelude.{ℕ, ◌≡◌, ◌≢◌, ◌+◌, ◌<◌, ◌++◌, List, Option, Some, None, length, slice_get}
 use Rattle.call_record.specs.Words.{IsRecord}
 use Rattle.call_tables.specs.declared.arch.Arch.{Arch}
