@@ -1,31 +1,15 @@
-//! What `ccell compare` does, and what `ccell certify` says of a record on standard error.
+//! What `ccell certify` writes, and what it says of a record on standard error.
 ghost use Rattle.std.specs.Prelude.{◌≡◌, ◌⊎◌, Ok, OnErr, false, true};
 ghost use Rattle.cli.specs.Explained.{TellsRecord, WritesWhy};
 ghost use Rattle.certify.specs.declared.evidence.Conviction.{Conviction as TheConviction};
 ghost use Rattle.certify.specs.declared.evidence.Evidence.TheVariants.{Convicting};
 ghost use Rattle.pipeline.specs.Certified.{Certifies};
 
-use crate::files::{Files, read};
-use crate::stops::Stop;
 use call_tables::Arch;
 use compare::explain_found;
-use explain::Told;
 use pipeline::{Conviction, Evidence, Unready, judge_bundle, write_judged};
 use std::alloc::Global;
 use streams::{Sink, WriteFault, write_all};
-
-/// Compares what a new bundle says with what an old one says, or tells whether it allows no more.
-pub fn compare<'a>(
-    alloc: Global,
-    native: Arch,
-    [old, new]: [&'a str; 2],
-    at_most: bool,
-    files: &mut impl Files,
-) -> Result<Told, Stop<'a>> {
-    let old = read(alloc, files, old)?;
-    let new = read(alloc, files, new)?;
-    Ok(compare::compare(alloc, native, &old, &new, at_most)?)
-}
 
 // Explains a record that convicts a filter. Nothing depends on whether it can be written.
 fn tell_why<E: Sink>(

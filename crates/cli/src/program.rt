@@ -1,16 +1,17 @@
 //! The whole program, from the arguments after its name to its exit status.
 ghost use Rattle.std.specs.Prelude.{◌≡◌, ◌⊎◌, ◌≤◌, Err, Ok, OnErr, true, map};
 ghost use Rattle.command_line.specs.Arguments.{Given, IsCommandLine, NoCommandLine, given};
-ghost use Rattle.cli.specs.Dispatch.{Answers, AnswersCertify, AnswersCheck, AnswersExport, AnswersRun, AnswersVerdict, Does, ExplainsRecord, IsExplained, IsMisuse};
+ghost use Rattle.cli.specs.Dispatch.{Answers, AnswersCertify, AnswersCheck, AnswersExport, AnswersRun, AnswersVerdict, Does, ExplainsRecord, ExplainsWhy, IsMisuse};
 ghost use Rattle.cli.specs.Dispatch.{TellsChanges, TellsMisuse};
 
 use crate::adapting::{Both, adapted};
-use crate::comparing::{self, compare};
+use crate::comparing;
 use crate::explaining::explain;
 use crate::files::{Files, read, read_certificate, read_each, read_filter, read_record};
 use crate::logs::{learned, replayed};
 use crate::run::run_bundles;
 use crate::stops::{Stop, report};
+use crate::telling::{assembled, compared, linted, record, tell};
 use call_tables::Arch;
 use command_line::{Command, Form, read_arguments};
 use describe::{annotated, drawn};
@@ -106,12 +107,6 @@ fn run<'a, F: Files, I: Source, O: Sink>(
     run_bundles(alloc, native, &texts, input, out)
 }
 
-// Writes what a command tells.
-fn tell<'a>(told: &Told, out: &mut impl Sink) -> Result<bool, Stop<'a>> {
-    write_all(&told.bytes, out)?;
-    Ok(told.done)
-}
-
 // Tells what a bundle means, or where it is wrong.
 fn read_out<'a>(
     alloc: Global,
@@ -121,18 +116,7 @@ fn read_out<'a>(
     out: &mut impl Sink,
 ) -> Result<bool, Stop<'a>> {
     let bundle = read(alloc, files, bundle)?;
-    tell(&describe::read_out(alloc, native, &bundle)?, out)
-}
-
-// Writes the bytes of the filter of a listing.
-fn assemble<'a>(
-    alloc: Global,
-    listing: &'a str,
-    files: &mut impl Files,
-    out: &mut impl Sink,
-) -> Result<bool, Stop<'a>> {
-    let listing = read(alloc, files, listing)?;
-    tell(&explain::assembled(alloc, &listing)?, out)
+    tell(Ok(describe::read_out(alloc, native, &bundle)?), out)
 }
 
 // Shows a filter: tells what the lines of its listing mean, or its graph.
@@ -147,19 +131,7 @@ fn show<'a, T: FnOnce(Global, Arch, &[u8]) -> Result<Told, AllocError>>(
     requires { T.IsAlwaysCallable told }
 {
     let filter = read_filter(alloc, files, filter)?;
-    tell(&told(alloc, native, &filter)?, out)
-}
-
-// Tells which calls get past a bundle by bits that the kernel does not read.
-fn lint<'a>(
-    alloc: Global,
-    native: Arch,
-    bundle: &'a str,
-    files: &mut impl Files,
-    out: &mut impl Sink,
-) -> Result<bool, Stop<'a>> {
-    let bundle = read(alloc, files, bundle)?;
-    tell(&lint::lint(alloc, native, &bundle)?, out)
+    tell(Ok(told(alloc, native, &filter)?), out)
 }
 
 // Writes a bundle that was made, or why there is none, and tells on standard error what was changed or added.
@@ -170,9 +142,9 @@ fn tell_both<'a, E: Sink>(
 ) -> Result<bool, Stop<'a>>
     ensures stopped { OnErr result (err.new ≡ err.old) }
 {
-    let both = both?;
-    let done = tell(&both.told, out)?;
-    let _ = write_all(both.changes.as_bytes(), err);
+    let Both { told, changes } = both?;
+    let done = tell(Ok(told), out)?;
+    let _ = write_all(changes.as_bytes(), err);
     Ok(done)
 }
 
@@ -182,10 +154,11 @@ fn manual<'a>(
     command: Option<&'a str>,
     out: &mut impl Sink,
 ) -> Result<bool, Stop<'a>> {
-    match describe::manual(alloc, command)? {
-        Some(told) => tell(&told, out),
-        None => Err(Stop::Usage),
-    }
+    let Some(told) = command_line::manual(alloc, command)? else {
+        return Err(Stop::Usage);
+    };
+    write_all(told.as_bytes(), out)?;
+    Ok(true)
 }
 
 // Carries a command out: true where it answered a verdict or yes, wrote what was asked for or ran a script, false where it
@@ -204,7 +177,7 @@ fn obey<'a, F: Files, I: Source, O: Sink, E: Sink>(
     ensures stopped { OnErr result (err.new ≡ err.old) }
     ensures quiet { result ≡ Ok true → TellsChanges (given command.entry) ⊎ (err.new ≡ err.old) }
     // Of a filter that is convicted the record is explained that was told.
-    ensures explained { IsExplained O.held O.failures E.held E.failures (F.folder files.old) out.old out.new err.old err.new
+    ensures explained { ExplainsWhy O.held O.failures E.held E.failures (F.folder files.old) out.old out.new err.old err.new
         (given command.entry) result }
 {
     match command {
@@ -230,19 +203,19 @@ fn obey<'a, F: Files, I: Source, O: Sink, E: Sink>(
             native,
             bundle,
             call,
-        } => tell(&explain(alloc, native, bundle, call, files, input)?, out),
+        } => tell(explain(alloc, native, bundle, call, files, input), out),
         Command::Read { native, bundle } => read_out(alloc, native, bundle, files, out),
-        Command::Record { native, call } => tell(&explain::record(alloc, native, call)?, out),
-        Command::Assemble { listing } => assemble(alloc, listing, files, out),
+        Command::Record { native, call } => tell(record(alloc, native, call), out),
+        Command::Assemble { listing } => tell(assembled(alloc, listing, files), out),
         Command::Annotate { native, filter } => show(alloc, native, filter, annotated, files, out),
         Command::Draw { native, filter } => show(alloc, native, filter, drawn, files, out),
-        Command::Lint { native, bundle } => lint(alloc, native, bundle, files, out),
+        Command::Lint { native, bundle } => tell(linted(alloc, native, bundle, files), out),
         Command::Compare {
             native,
             old,
             new,
             at_most,
-        } => tell(&compare(alloc, native, [old, new], at_most, files)?, out),
+        } => tell(compared(alloc, native, old, new, at_most, files), out),
         Command::Adapt {
             native,
             config,
@@ -255,9 +228,9 @@ fn obey<'a, F: Files, I: Source, O: Sink, E: Sink>(
             native,
             bundle,
             words,
-        } => tell(&replayed(alloc, native, bundle, words, files)?, out),
+        } => tell(replayed(alloc, native, bundle, words, files), out),
         Command::Manual { command } => manual(alloc, command, out),
-        Command::Version => tell(&explain::version(alloc)?, out),
+        Command::Version => tell(Ok(explain::version(alloc)?), out),
     }
 }
 
@@ -275,7 +248,7 @@ fn carry_out<'a, F: Files, I: Source, O: Sink, E: Sink>(
     ensures stopped { OnErr result (err.new ≡ err.old) }
     ensures quiet { (command : Given) → IsCommandLine arguments.entry.now command → result ≡ Ok true → TellsChanges command ⊎ (err.new ≡ err.old) }
     ensures explained { (command : Given) → IsCommandLine arguments.entry.now command
-        → IsExplained O.held O.failures E.held E.failures (F.folder files.old) out.old out.new err.old err.new command result }
+        → ExplainsWhy O.held O.failures E.held E.failures (F.folder files.old) out.old out.new err.old err.new command result }
     ensures misuse { NoCommandLine arguments.entry.now → IsMisuse result }
     ensures unread { NoCommandLine arguments.entry.now → input.new ≡ input.old }
     ensures unwritten { NoCommandLine arguments.entry.now → out.new ≡ out.old }

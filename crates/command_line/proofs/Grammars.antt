@@ -4,10 +4,12 @@ use Rattle.std.proofs.lemmas.List.{map-append, take_more}
 use Rattle.std.proofs.lemmas.List.Sums.{fold_push}
 use Rattle.std.specs.Borrow.{Bor}
 use Rattle.clap.specs.Words.{Text}
+use Rattle.command_line.specs.declared.meanings.Meaning.{Meaning}
+use Rattle.command_line.specs.declared.prose.Page.{Page}
 use Rattle.command_line.specs.inner.Grammar.{grammar_of, lent, lent_part, part_rule, top, with_entry}
 
 -- one more part
-pub rules_more : (parts : List (Bor Text × ℕ × ℕ)) (i : ℕ) (d : Bor Text × ℕ × ℕ) → i < length parts
+pub rules_more : (parts : List (Bor Text × ℕ × ℕ × Meaning)) (i : ℕ) (d : Bor Text × ℕ × ℕ × Meaning) → i < length parts
     → map part_rule (map lent_part (take (i + 1) parts)) ≡ map part_rule (map lent_part (take i parts)) ++ part_rule (lent_part (get_or parts i d)) ∷ []
 rules_more parts i d lt =
     ap (λ ps. map part_rule (map lent_part ps)) (take_more parts i d lt)
@@ -15,7 +17,7 @@ rules_more parts i d lt =
     ∙ map-append part_rule (map lent_part (take i parts)) (lent_part (get_or parts i d) ∷ [])
 
 -- one more command
-pub entries_more : (entries : List (Bor Text × Bor (List (Bor Text × ℕ × ℕ)) × Bor Text)) (i : ℕ) (d : Bor Text × Bor (List (Bor Text × ℕ × ℕ)) × Bor Text)
+pub entries_more : (entries : List (Bor Text × Bor (List (Bor Text × ℕ × ℕ × Meaning)) × Bor Text × Page)) (i : ℕ) (d : Bor Text × Bor (List (Bor Text × ℕ × ℕ × Meaning)) × Bor Text × Page)
     → i < length entries → grammar_of (map lent (take (i + 1) entries)) ≡ with_entry (grammar_of (map lent (take i entries))) (lent (get_or entries i d))
 entries_more entries i d lt =
     ap (λ es. grammar_of (map lent es)) (take_more entries i d lt)

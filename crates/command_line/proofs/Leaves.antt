@@ -274,7 +274,7 @@ learn_taken : (machine word : Text) (more : List Text) → length (word ∷ more
 unfolding values_fault defaults_fault list_state
 learn_taken machine word more most =
     let s = shape_called (codes "learn") in
-    let state = list_state s (machine ∷ word ∷ []) (codes "WORD") in
+    let state = list_state s (machine ∷ word ∷ []) (codes "LOG") in
     let walk = gathered s state (λ values word. refl) (λ values. refl) (word ∷ []) more in
     let calm = gathered_fault s state (λ values word. refl) (λ values. refl) (word ∷ []) more in
     inl (
@@ -296,7 +296,7 @@ replay_taken : (machine bundle word : Text) (more : List Text) → length (word 
 unfolding values_fault defaults_fault list_state
 replay_taken machine bundle word more most =
     let s = shape_called (codes "replay") in
-    let state = list_state s (machine ∷ bundle ∷ word ∷ []) (codes "WORD") in
+    let state = list_state s (machine ∷ bundle ∷ word ∷ []) (codes "LOG") in
     let walk = gathered s state (λ values word. refl) (λ values. refl) (word ∷ []) more in
     let calm = gathered_fault s state (λ values word. refl) (λ values. refl) (word ∷ []) more in
     inl (

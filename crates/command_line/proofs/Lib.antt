@@ -4,3 +4,4 @@ pub mod Grammars
 pub mod Leaves
 pub mod Names
 pub mod Readings
+pub mod Told

@@ -1,2 +1,4 @@
 pub mod Arguments
+pub mod Manual
+pub mod Prose
 pub mod inner

@@ -2,6 +2,7 @@
 ghost use Rattle.std.specs.Prelude.{◌≡◌, false, IfOk, map};
 ghost use Rattle.clap.specs.Words.{app_of, rule_of};
 ghost use Rattle.clap.specs.declared.builder.command.Command.TheViews.{out-Command as fields_of};
+ghost use Rattle.command_line.specs.Manual.{row, rows};
 ghost use Rattle.command_line.specs.inner.Grammar.{IsGrammarOf, IsLeafOf, lent, lent_part, part_rule, table, top};
 
 use crate::table::{COMMANDS, Entry, Part};
@@ -14,12 +15,13 @@ fn part_of<'a>(alloc: Global, part: &'a Part) -> Arg<'a>
     ensures own { result.global ≡ false }
 {
     Arg::new(alloc, part.0)
+        .help(part.3.text())
         .required(part.1 > 0)
         .num_args(1..=part.2)
 }
 
 // The grammar of one command.
-fn command_of<'a>(alloc: Global, entry: &'a Entry) -> Result<Command<'a>, AllocError>
+pub(crate) fn command_of<'a>(alloc: Global, entry: &'a Entry) -> Result<Command<'a>, AllocError>
     ensures { IfOk result (IsLeafOf (lent entry.entry.now)) }
 {
     let mut command = Command::new(alloc, entry.0).about(entry.2);
@@ -54,8 +56,10 @@ pub fn grammar<'a>(alloc: Global, entries: &'a [Entry]) -> Result<Command<'a>, A
 }
 
 /// The commands of the table.
+#[tactic(auto, unfolding(crate::specs::Manual::rows))]
 pub fn commands() -> &'static [Entry]
-    ensures { map lent result.now ≡ table }
+    ensures table { map lent result.now ≡ table }
+    ensures rows { map row result.now ≡ rows }
 {
     COMMANDS
 }

@@ -1,4 +1,4 @@
-//! The command line of `ccell`: which command its arguments are, as clap reads them by one table.
+//! The command line of `ccell`: which command its arguments are, as clap reads them by one table, and how its commands are used.
 #![tactic(auto)]
 
 ghost use Rattle.std.specs.Prelude.{◌≡◌, ◌↔◌, Any, Err, IsErr, IsTrue, option_map};
@@ -9,14 +9,20 @@ ghost use Rattle.command_line.specs.declared.Misuse.TheVariants.{Usage};
 ghost use Rattle.command_line.specs.inner.Found as found;
 
 mod grammar;
+mod meanings;
+mod pages;
 mod parts;
+mod prose;
 mod table;
 
 use crate::grammar::{commands, grammar};
+pub use crate::meanings::Meaning;
+pub use crate::pages::manual;
 use crate::parts::{
-    adapt, annotate, assemble, certify, check, compare, draw, explain, export, learn, lint, manual,
-    read, record_for, replay, run, verdict,
+    adapt, annotate, assemble, certify, check, compare, draw, explain, export, learn, lint,
+    manual_for, read, record_for, replay, run, verdict,
 };
+pub use crate::prose::Page;
 pub use crate::table::{COMMANDS, Entry, Part};
 use call_tables::Arch;
 use clap::ArgMatches;
@@ -180,7 +186,7 @@ fn telling<'a>(name: &str, parts: &ArgMatches<'a>, arguments: &'a [&'a str]) -> 
         "adapt" => adapt(parts, arguments),
         "learn" => learn(parts, arguments),
         "replay" => replay(parts, arguments),
-        "manual" => manual(parts),
+        "manual" => manual_for(parts),
         "version" => Some(Command::Version),
         _ => None,
     }

@@ -203,7 +203,7 @@ pub(crate) fn learn<'a>(found: &ArgMatches<'a>, arguments: &'a [&'a str]) -> Opt
     ensures { option_map given result ≡ spec.learn_in (rows_of (found_of found.now)) (texts arguments.entry.now) }
 {
     let native = native(found)?;
-    let words = list(found, "WORD", arguments);
+    let words = list(found, "LOG", arguments);
     Some(Command::Learn { native, words })
 }
 
@@ -212,7 +212,7 @@ pub(crate) fn replay<'a>(found: &ArgMatches<'a>, arguments: &'a [&'a str]) -> Op
 {
     let bundle = part(found, "BUNDLE")?;
     let native = native(found)?;
-    let words = list(found, "WORD", arguments);
+    let words = list(found, "LOG", arguments);
     Some(Command::Replay {
         native,
         bundle,
@@ -220,7 +220,7 @@ pub(crate) fn replay<'a>(found: &ArgMatches<'a>, arguments: &'a [&'a str]) -> Op
     })
 }
 
-pub(crate) fn manual<'a>(found: &ArgMatches<'a>) -> Option<Command<'a>>
+pub(crate) fn manual_for<'a>(found: &ArgMatches<'a>) -> Option<Command<'a>>
     ensures { option_map given result ≡ spec.manual_in (rows_of (found_of found.now)) }
 {
     let command = part(found, "COMMAND");

@@ -1,102 +1,151 @@
-//! The one table of commands: their names, their parts in order, and what each is for.
+//! The one table of commands: their names, their parts in order, what each is for, and the prose of its page.
+use crate::meanings::Meaning;
+use crate::prose::Page;
 
-/// A part of a command: its name, and how many arguments it is at least and at most.
-pub type Part = (&'static str, usize, usize);
+/// A part of a command: its name, how many arguments it is at least and at most, and what they are.
+pub type Part = (&'static str, usize, usize, Meaning);
 
-/// A command: its name, its parts, and what it is for.
-pub type Entry = (&'static str, &'static [Part], &'static str);
+/// A command: its name, its parts, what it is for, and what else its page says.
+pub type Entry = (&'static str, &'static [Part], &'static str, Page);
 
 // As many arguments as there are.
 const MANY: usize = usize::MAX;
+
+// The parts, each with what it is.
+const MACHINE: Part = ("MACHINE", 1, 1, Meaning::Machine);
+
+const BUNDLE: Part = ("BUNDLE", 1, 1, Meaning::Bundle);
+
+const BUNDLES: Part = ("BUNDLE", 1, MANY, Meaning::Bundles);
+
+const OLD: Part = ("OLD", 1, 1, Meaning::Old);
+
+const NEW: Part = ("NEW", 1, 1, Meaning::New);
+
+const AT_MOST: Part = ("atmost", 0, 1, Meaning::AtMost);
+
+const FILTER: Part = ("FILTER", 1, 1, Meaning::Filter);
+
+const RECORD: Part = ("RECORD", 1, 1, Meaning::Record);
+
+const CERTIFICATE: Part = ("CERTIFICATE", 1, 1, Meaning::Certificate);
+
+const LISTING: Part = ("LISTING", 1, 1, Meaning::Listing);
+
+const FORM: Part = ("FORM", 1, 1, Meaning::Form);
+
+const CALL: Part = ("CALL", 1, MANY, Meaning::Call);
+
+const ASKED_CALL: Part = ("CALL", 1, MANY, Meaning::AskedCall);
+
+const CONFIG: Part = ("CONFIG", 1, 1, Meaning::Config);
+
+const WORD: Part = ("WORD", 0, MANY, Meaning::Word);
+
+const LEARNED_LOG: Part = ("LOG", 1, MANY, Meaning::LearnedLog);
+
+const REPLAYED_LOG: Part = ("LOG", 1, MANY, Meaning::ReplayedLog);
+
+const COMMAND: Part = ("COMMAND", 0, 1, Meaning::Command);
 
 /// The commands of the program.
 pub const COMMANDS: &[Entry] = &[
     (
         "verdict",
-        &[("FILTER", 1, 1), ("RECORD", 1, 1)],
+        &[FILTER, RECORD],
         "what a filter answers to one call",
+        Page::Verdict,
     ),
     (
         "check",
-        &[
-            ("MACHINE", 1, 1),
-            ("BUNDLE", 1, 1),
-            ("FILTER", 1, 1),
-            ("CERTIFICATE", 1, 1),
-        ],
+        &[MACHINE, BUNDLE, FILTER, CERTIFICATE],
         "whether a filter does what a bundle says, by a certificate",
+        Page::Check,
     ),
     (
         "certify",
-        &[("MACHINE", 1, 1), ("BUNDLE", 1, 1), ("FILTER", 1, 1)],
+        &[MACHINE, BUNDLE, FILTER],
         "a certificate for any filter, or a call that convicts it",
+        Page::Certify,
     ),
     (
         "export",
-        &[("MACHINE", 1, 1), ("BUNDLE", 1, 1), ("FORM", 1, 1)],
+        &[MACHINE, BUNDLE, FORM],
         "a checked filter for a bundle",
+        Page::Export,
     ),
     (
         "run",
-        &[("MACHINE", 1, 1), ("BUNDLE", 1, MANY)],
+        &[MACHINE, BUNDLES],
         "containers on the modelled kernel, by a script",
+        Page::Run,
     ),
     (
         "explain",
-        &[("MACHINE", 1, 1), ("BUNDLE", 1, 1), ("CALL", 1, MANY)],
+        &[MACHINE, BUNDLE, ASKED_CALL],
         "what a bundle says of one call, and why",
+        Page::Explain,
     ),
     (
         "read",
-        &[("MACHINE", 1, 1), ("BUNDLE", 1, 1)],
+        &[MACHINE, BUNDLE],
         "what a bundle means, or where it is wrong",
+        Page::Read,
     ),
     (
         "lint",
-        &[("MACHINE", 1, 1), ("BUNDLE", 1, 1)],
-        "which calls get past a bundle by bits that the kernel does not read",
+        &[MACHINE, BUNDLE],
+        "the calls that get past a bundle by bits that the kernel does not read",
+        Page::Lint,
     ),
     (
         "compare",
-        &[
-            ("MACHINE", 1, 1),
-            ("OLD", 1, 1),
-            ("NEW", 1, 1),
-            ("atmost", 0, 1),
-        ],
+        &[MACHINE, OLD, NEW, AT_MOST],
         "whether a new bundle says the same as an old one, or allows no more",
+        Page::Compare,
     ),
     (
         "adapt",
-        &[("MACHINE", 1, 1), ("CONFIG", 1, 1), ("WORD", 0, MANY)],
+        &[MACHINE, CONFIG, WORD],
         "a bundle of what an engine hands to its runtime",
+        Page::Adapt,
     ),
     (
         "learn",
-        &[("MACHINE", 1, 1), ("WORD", 1, MANY)],
+        &[MACHINE, LEARNED_LOG],
         "a bundle that allows what logs of strace show",
+        Page::Learn,
     ),
     (
         "replay",
-        &[("MACHINE", 1, 1), ("BUNDLE", 1, 1), ("WORD", 1, MANY)],
-        "which calls of logs of strace a bundle refuses",
+        &[MACHINE, BUNDLE, REPLAYED_LOG],
+        "the calls of logs of strace that a bundle refuses",
+        Page::Replay,
     ),
     (
         "record",
-        &[("MACHINE", 1, 1), ("CALL", 1, MANY)],
+        &[MACHINE, CALL],
         "the call record of a call",
+        Page::Record,
     ),
-    ("assemble", &[("LISTING", 1, 1)], "the bytes of a listing"),
+    (
+        "assemble",
+        &[LISTING],
+        "the bytes of a listing",
+        Page::Assemble,
+    ),
     (
         "annotate",
-        &[("MACHINE", 1, 1), ("FILTER", 1, 1)],
+        &[MACHINE, FILTER],
         "the listing of any filter, with what its lines mean",
+        Page::Annotate,
     ),
     (
         "draw",
-        &[("MACHINE", 1, 1), ("FILTER", 1, 1)],
+        &[MACHINE, FILTER],
         "the graph of any filter, in the language of Graphviz",
+        Page::Draw,
     ),
-    ("manual", &[("COMMAND", 0, 1)], "how a command is used"),
-    ("version", &[], "the edition of the program"),
+    ("manual", &[COMMAND], "how a command is used", Page::Manual),
+    ("version", &[], "the edition of the program", Page::Version),
 ];

@@ -1,5 +1,4 @@
-//! Bundles and filters described: what a bundle means or where it is wrong, what the lines of a filter mean, and how the
-//! commands of the program are used.
+//! Bundles and filters described: what a bundle means or where it is wrong, and what the lines of a filter mean.
 #![tactic(auto)]
 
 mod annotating;
@@ -9,12 +8,10 @@ mod entries;
 mod flow;
 mod lines;
 mod near;
-mod pages;
 mod place;
 mod reading;
 mod search;
 
 pub use annotating::annotated;
 pub use drawing::drawn;
-pub use pages::manual;
 pub use reading::{Configuration, fault_in, read_out};

@@ -13,7 +13,7 @@ returns-in-Some-clause-command c =
     let words = c.args.arguments.now in
     let plain = λ (any : Any (λ w. IsDashed w.now) words). true≢false (sym (c.if-has_dashed.ensures.1 any)) in
     let few : length words ≤ usize_max = first_of (omega (arith, c.well_formed), omega arith, search rules) in
-    let is : app_of c.in-Ok.grammar ≡ grammar = c.in-Ok.ensures.0 ∙ ap grammar_of c.commands.ensures in
+    let is : app_of c.in-Ok.grammar ≡ grammar = c.in-Ok.ensures.0 ∙ ap grammar_of c.commands.ensures.table in
     let taken = c.in-Ok-try_get_matches_from in
     let read = found words plain few (app_of c.in-Ok.grammar) is taken.matches (Some (given c.in-Some.command)) taken.ensures.kinds taken.ensures.matches c.in-Some.ensures in
     read_is words c.in-Some.command read
@@ -23,7 +23,7 @@ returns-in-Some-clause-none c none =
     let words = c.args.arguments.now in
     let plain = λ (any : Any (λ w. IsDashed w.now) words). true≢false (sym (c.if-has_dashed.ensures.1 any)) in
     let few : length words ≤ usize_max = first_of (omega (arith, c.well_formed), omega arith, search rules) in
-    let is : app_of c.in-Ok.grammar ≡ grammar = c.in-Ok.ensures.0 ∙ ap grammar_of c.commands.ensures in
+    let is : app_of c.in-Ok.grammar ≡ grammar = c.in-Ok.ensures.0 ∙ ap grammar_of c.commands.ensures.table in
     let taken = c.in-Ok-try_get_matches_from in
     let read = found words plain few (app_of c.in-Ok.grammar) is taken.matches (Some (given c.in-Some.command)) taken.ensures.kinds taken.ensures.matches c.in-Some.ensures in
     absurd (read_is_one words c.in-Some.command plain read none)
@@ -33,7 +33,7 @@ returns-in-Ok-try_get_matches_from-clause-command c =
     let words = c.args.arguments.now in
     let plain = λ (any : Any (λ w. IsDashed w.now) words). true≢false (sym (c.if-has_dashed.ensures.1 any)) in
     let few : length words ≤ usize_max = first_of (omega (arith, c.well_formed), omega arith, search rules) in
-    let is : app_of c.in-Ok.grammar ≡ grammar = c.in-Ok.ensures.0 ∙ ap grammar_of c.commands.ensures in
+    let is : app_of c.in-Ok.grammar ≡ grammar = c.in-Ok.ensures.0 ∙ ap grammar_of c.commands.ensures.table in
     let taken = c.in-Ok-try_get_matches_from in
     let read = found words plain few (app_of c.in-Ok.grammar) is taken.matches None taken.ensures.kinds taken.ensures.matches c.in-None.ensures in
     none_is words read
@@ -43,7 +43,7 @@ returns-clause-command c g line =
     let words = c.args.arguments.now in
     let plain = λ (any : Any (λ w. IsDashed w.now) words). true≢false (sym (c.if-has_dashed.ensures.1 any)) in
     let few : length words ≤ usize_max = first_of (omega (arith, c.well_formed), omega arith, search rules) in
-    let is : app_of c.in-Ok.grammar ≡ grammar = c.in-Ok.ensures.0 ∙ ap grammar_of c.commands.ensures in
+    let is : app_of c.in-Ok.grammar ≡ grammar = c.in-Ok.ensures.0 ∙ ap grammar_of c.commands.ensures.table in
     let error = c.in-Err.error in
     let why = refused words plain few (app_of c.in-Ok.grammar) is error c.in-Err.ensures.kinds in
     subst (λ m. Reads g (Err m)) (sym (c.misuse_of.ensures ∙ ap misuse_by c.kind.ensures)) (refused_is words (kind_of error) why g line)

@@ -90,11 +90,11 @@ adapt_in rows arguments = with_part (codes "CONFIG") rows (λ config.
     with_native rows (λ native. Adapt native config (list_in (codes "WORD") rows arguments)))
 
 abbrev pub learn_in : List Row → List Text → Option Given
-learn_in rows arguments = with_native rows (λ native. Learn native (list_in (codes "WORD") rows arguments))
+learn_in rows arguments = with_native rows (λ native. Learn native (list_in (codes "LOG") rows arguments))
 
 abbrev pub replay_in : List Row → List Text → Option Given
 replay_in rows arguments = with_part (codes "BUNDLE") rows (λ bundle.
-    with_native rows (λ native. Replay native bundle (list_in (codes "WORD") rows arguments)))
+    with_native rows (λ native. Replay native bundle (list_in (codes "LOG") rows arguments)))
 
 abbrev pub manual_in : List Row → Option Given
 manual_in rows = Some (Manual (first_of (codes "COMMAND") rows))

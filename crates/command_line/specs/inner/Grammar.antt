@@ -6,6 +6,8 @@ use Rattle.clap.specs.Words.{App, Rule, Shape, Text, app_of, new_app, new_rule, 
 use Rattle.clap.specs.Simple.{new_shape}
 use Rattle.clap.specs.declared.builder.command.Command.{Command}
 use Rattle.clap.specs.declared.builder.command.Command.TheViews.{out-Command as fields_of}
+use Rattle.command_line.specs.declared.meanings.Meaning.{Meaning}
+use Rattle.command_line.specs.declared.prose.Page.{Page}
 use Rattle.command_line.specs.declared.table.TheConstants.{COMMANDS}
 
 -- a part: its name, and how many arguments it is at least and at most
@@ -16,11 +18,11 @@ Part = Text × ℕ × ℕ
 abbrev pub Entry : Type 0
 Entry = Text × List Part × Text
 
--- the same, without where the texts lie in memory
-abbrev pub lent_part : Bor Text × ℕ × ℕ → Part
+-- the same, without where the texts lie in memory and what the manual tells of it
+abbrev pub lent_part : Bor Text × ℕ × ℕ × Meaning → Part
 lent_part part = (part.0.now, part.1, part.2)
 
-abbrev pub lent : Bor Text × Bor (List (Bor Text × ℕ × ℕ)) × Bor Text → Entry
+abbrev pub lent : Bor Text × Bor (List (Bor Text × ℕ × ℕ × Meaning)) × Bor Text × Page → Entry
 lent entry = (entry.0.now, map lent_part entry.1.now, entry.2.now)
 
 abbrev pub table : List Entry

@@ -1,7 +1,7 @@
 use Rattle.std.proofs.Common.{◌≡◌, ◌⊎◌, ap, subst}
 use Rattle.std.specs.Prelude.{Err}
 use Rattle.command_line.specs.Arguments.{given}
-use Rattle.cli.specs.Dispatch.{IsExplained, TellsChanges}
+use Rattle.cli.specs.Dispatch.{ExplainsWhy, TellsChanges}
 use Rattle.cli.proofs.DispatchLaws.{explained_stop, is_misuse, unread_arguments}
 use Rattle.cli.proofs.program.carry_out.Goals as goal
 
@@ -20,7 +20,7 @@ returns-in-Err-clause-misuse g c none = is_misuse c.in-Err.misuse (Err c.from.re
 
 pub returns-in-Ok-clause-explained : goal.returns-in-Ok-clause-explained
 returns-in-Ok-clause-explained g c command is =
-    subst (λ k. IsExplained g.O.Sink.held g.O.Sink.failures g.E.Sink.held g.E.Sink.failures (g.F.Files.folder c.args.files.now)
+    subst (λ k. ExplainsWhy g.O.Sink.held g.O.Sink.failures g.E.Sink.held g.E.Sink.failures (g.F.Files.folder c.args.files.now)
     c.args.out.now c.obey.new.out c.args.err.now c.obey.new.err k c.obey.result)
     (c.in-Ok.ensures.command command is) c.obey.ensures.explained
 

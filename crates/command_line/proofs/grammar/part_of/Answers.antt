@@ -16,7 +16,7 @@ returns-clause-rule c =
     let part = c.args.part.now in
     let required = nat_lt 0 part.1 in
     let asked : rule_of c.required.result ≡ record (new_rule part.0.now) { required = required } =
-    ap rule_of c.required.ensures ∙ ap (λ (r : Rule). record r { required = required }) c.new.ensures.rule in
+    ap rule_of c.required.ensures ∙ ap (λ (r : Rule). record r { required = required }) (ap rule_of c.help.ensures ∙ c.new.ensures.rule) in
     let range = range_is c.num_args.result.num_vals _ _ part.2 c.num_args.ensures.1 c.new-2.ensures.start c.new-2.ensures.end in
     ap rule_of c.num_args.ensures.0 ∙ ap (λ (r : Rule). record r { range = c.num_args.result.num_vals }) asked
     ∙ ap (λ (n : Option ValueRange). record (new_rule part.0.now) { required = required; range = n }) range
