@@ -10,7 +10,6 @@ ghost use Rattle.certify.specs.Certificates.{HasOwnValid, IsValidOne, MakesOwnVa
 ghost use Rattle.certify.specs.Fault.{IsOfSize};
 
 use crate::own::by_outline;
-use crate::plain::plain_certificate;
 use bpf_insn::Program;
 use cert_check::{CheckError, check_accepted};
 use cert_paths::{PathsError, by_paths};
@@ -27,8 +26,8 @@ fn are_plain(rules: &[Rule]) -> bool
     rules.iter().all(|rule| rule.conds.is_empty())
 }
 
-// A certificate that is at hand, of a profile without conditions and its filter, or by the outline of a filter that the compiler
-// made: the checker was not asked. None, where there is no such one.
+// A certificate that is at hand: of a profile without conditions it follows each path, if each is right; else it is written by the
+// outline of a filter that the compiler made, of which the checker was not asked. None, where there is no such one.
 pub(crate) fn at_hand(
     alloc: Global,
     profile: &Profile,
@@ -41,9 +40,9 @@ pub(crate) fn at_hand(
     if !are_plain(profile.rules()) {
         return by_outline(alloc, profile, *program, outline);
     }
-    match plain_certificate(alloc, profile, program) {
+    match by_paths(alloc, profile, program) {
         Ok(bytes) => Ok(Some(bytes)),
-        Err(CertifyError::OutOfMemory) => Err(CertifyError::OutOfMemory),
+        Err(PathsError::OutOfMemory) => Err(CertifyError::OutOfMemory),
         // A filter of another shape.
         Err(_) => by_outline(alloc, profile, *program, outline),
     }
