@@ -1,7 +1,7 @@
 //! The chains of a certificate: lists of claims that share their beginnings.
 
-use crate::marks::Marks;
-use crate::table::{Item, Table, mixed};
+use super::marks::Marks;
+use super::table::{Item, Table, mixed};
 use cert_form::{ChainNode, Claim, FormError, MAX_ENTRIES, MAX_LITERALS, write_claims};
 use cert_state::Lit;
 use std::alloc::{AllocError, Global};
