@@ -16,7 +16,8 @@ mod told;
 
 pub use change::Change;
 pub use convicting::explain_found;
-pub use difference::Difference;
+pub use difference::{Difference, difference_on};
 pub use outcome::Comparison;
 pub use sides::Sides;
+pub use text::lines_of;
 pub use told::compare;
