@@ -5,7 +5,8 @@ use Rattle.std.specs.Str.{bytes_eq}
 use denote.Ref.{Bor}
 use Rattle.call_tables.specs.declared.arch.Arch.{Arch}
 use Rattle.command_line.specs.Arguments.{Given}
-use Rattle.command_line.specs.Arguments.Given.{Verdict, Check, Certify, Export, Run, Explain, Record, Assemble, Lint, Compare, Adapt, Learn}
+use Rattle.command_line.specs.Arguments.Given.{Verdict, Check, Certify, CertifyBehind, Export, Run, Explain, Record, Assemble}
+use Rattle.command_line.specs.Arguments.Given.{Lint, Compare, CompareFilters, Adapt, Learn}
 use Rattle.streams.specs.Failures.{Failures}
 use Rattle.streams.specs.Sink.{StopsAt as StopsWriting, Wrote}
 use Rattle.streams.specs.declared.fault.WriteFault.{WriteFault}
@@ -14,7 +15,9 @@ use Rattle.explain.specs.Told.{IsAssembled, IsExplained, IsRecorded}
 use Rattle.explain.specs.declared.told.Told.{Told}
 use Rattle.audit.specs.Any.{IsExplained as IsExplainedAny}
 use Rattle.lint.specs.Linted.{IsLinted}
+use Rattle.behind_runc.specs.Behind.{CertifiesBehind}
 use Rattle.compare.specs.Told.{IsCompared}
+use Rattle.differ.specs.Told.{IsTold}
 use Rattle.pipeline.specs.Answer.{WritesAnswer}
 use Rattle.pipeline.specs.Certified.{Certifies}
 use Rattle.pipeline.specs.Exported.{Exports}
@@ -51,8 +54,10 @@ exit_status (Ok true) = 0
 exit_status (Ok false) = 1
 exit_status (Err stop) = status_of stop
 
--- `adapt` and `learn` alone tell on standard error what they changed or added, also where it was done
+-- `adapt` and `learn` tell on standard error what they changed or added, and `certify` with `runc` what the stub answers, also where it
+-- was done; no other command does
 abbrev pub TellsChanges : Given → Type 0
+TellsChanges (CertifyBehind native bundle filter) = Unit {0}
 TellsChanges (Adapt native config words) = Unit {0}
 TellsChanges (Learn native words) = Unit {0}
 TellsChanges other = ⊥
@@ -103,6 +108,12 @@ module _ {O : Type 0} (held : O → Option (List ℕ)) (failures : O → Failure
       StopsAtFile folder old new (bundle ∷ filter ∷ []) result
       ⊎ ((b : List ℕ) × (f : List ℕ) × HasBytes folder bundle b × HasBytes folder filter f
       × AnswersBy (Certifies held failures old new native b f) result)
+
+  abbrev pub AnswersBehind : Arch → List ℕ → List ℕ → Result Bool Stop → Type 0
+  AnswersBehind native bundle filter result =
+      StopsAtFile folder old new (bundle ∷ filter ∷ []) result
+      ⊎ ((b : List ℕ) × (f : List ℕ) × HasBytes folder bundle b × HasBytes folder filter f
+      × AnswersBy (CertifiesBehind held failures old new native b f) result)
 
   abbrev pub AnswersExport : Arch → List ℕ → Form → Result Bool Stop → Type 0
   AnswersExport native bundle form result =
@@ -165,6 +176,8 @@ module _ {I O : Type 0} (left : I → Option (List ℕ)) (given : I → Failures
   Does (Check native bundle filter cert) result =
       (input' ≡ input) × AnswersCheck held taken folder out out' native bundle filter cert result
   Does (Certify native bundle filter) result = (input' ≡ input) × AnswersCertify held taken folder out out' native bundle filter result
+  Does (CertifyBehind native bundle filter) result =
+      (input' ≡ input) × AnswersBehind held taken folder out out' native bundle filter result
   Does (Export native bundle form) result = (input' ≡ input) × AnswersExport held taken folder out out' native bundle form result
   Does (Run native bundles) result = AnswersRun native bundles result
   Does (Explain native bundle call) result =
@@ -176,6 +189,8 @@ module _ {I O : Type 0} (left : I → Option (List ℕ)) (given : I → Failures
   Does (Lint native bundle) result = (input' ≡ input) × AnswersTold held taken folder out out' (bundle ∷ []) (of_one (IsLinted native)) result
   Does (Compare native old new at_most) result =
       (input' ≡ input) × AnswersTold held taken folder out out' (old ∷ new ∷ []) (of_two (IsCompared at_most native)) result
+  Does (CompareFilters native old new) result =
+      (input' ≡ input) × AnswersTold held taken folder out out' (old ∷ new ∷ []) (of_two IsTold) result
   Does other result = input' ≡ input
 
 -- What `certify` tells where its answer is no: nothing on standard error, or on standard output the line of a call record and on

@@ -5,13 +5,14 @@ ghost use Rattle.cli.specs.Dispatch.{Answers, AnswersCertify, AnswersCheck, Answ
 ghost use Rattle.cli.specs.Dispatch.{TellsChanges, TellsMisuse};
 
 use crate::adapting::{Both, adapted};
+use crate::behind::certify_behind;
 use crate::comparing;
 use crate::explaining::explain;
 use crate::files::{Files, read, read_certificate, read_each, read_filter, read_record};
 use crate::logs::{learned, replayed};
 use crate::run::run_bundles;
 use crate::stops::{Stop, report};
-use crate::telling::{assembled, compared, linted, record, tell};
+use crate::telling::{assembled, compared, filters_compared, linted, record, tell};
 use call_tables::Arch;
 use command_line::{Command, Form, read_arguments};
 use describe::{annotated, drawn};
@@ -173,7 +174,7 @@ fn obey<'a, F: Files, I: Source, O: Sink, E: Sink>(
 ) -> Result<bool, Stop<'a>>
     ensures does { Does I.left I.failures O.held O.failures (F.folder files.old) input.old input.new out.old out.new
         (given command.entry) result }
-    // Nothing is told on standard error but of a filter that is convicted, and of what was changed.
+    // Nothing is told on standard error but of a filter that is convicted, of a stub, and of what was changed.
     ensures stopped { OnErr result (err.new ≡ err.old) }
     ensures quiet { result ≡ Ok true → TellsChanges (given command.entry) ⊎ (err.new ≡ err.old) }
     // Of a filter that is convicted the record is explained that was told.
@@ -193,6 +194,11 @@ fn obey<'a, F: Files, I: Source, O: Sink, E: Sink>(
             bundle,
             filter,
         } => certify(alloc, native, bundle, filter, files, out, err),
+        Command::CertifyBehind {
+            native,
+            bundle,
+            filter,
+        } => certify_behind(alloc, native, bundle, filter, files, out, err),
         Command::Export {
             native,
             bundle,
@@ -216,6 +222,9 @@ fn obey<'a, F: Files, I: Source, O: Sink, E: Sink>(
             new,
             at_most,
         } => tell(compared(alloc, native, old, new, at_most, files), out),
+        Command::CompareFilters { native, old, new } => {
+            tell(filters_compared(alloc, native, old, new, files), out)
+        }
         Command::Adapt {
             native,
             config,

@@ -1,6 +1,7 @@
 //! Commands that tell: what the library tells of arguments and of files, and how it is written.
 ghost use Rattle.std.specs.Prelude.{Option, [], ◌∷◌, map};
 ghost use Rattle.compare.specs.Told.{IsCompared};
+ghost use Rattle.differ.specs.Told.{IsTold};
 ghost use Rattle.explain.specs.Told.{IsAssembled, IsRecorded};
 ghost use Rattle.lint.specs.Linted.{IsLinted};
 ghost use Rattle.cli.specs.Files.{Folder};
@@ -105,6 +106,41 @@ pub(crate) fn compared<'a, F: Files>(
 {
     match read(alloc, files, old) {
         Ok(first) => compared_with(alloc, native, &first, new, at_most, files),
+        Err(stop) => Err(stop),
+    }
+}
+
+// Compares two filters, of which the first one was read.
+fn filters_compared_with<'a, F: Files>(
+    alloc: Global,
+    native: Arch,
+    first: &[u8],
+    new: &'a str,
+    files: &mut F,
+) -> Result<Told, Stop<'a>>
+    ensures { IsToldOf (F.folder files.old) (new.entry.now ∷ []) (of_one (IsTold first.now)) result }
+{
+    match read(alloc, files, new) {
+        Ok(second) => match differ::compare_filters(alloc, native, first, &second) {
+            Ok(told) => Ok(told),
+            Err(_no_memory) => Err(Stop::OutOfMemory),
+        },
+        Err(stop) => Err(stop),
+    }
+}
+
+/// Tells calls of which a new filter answers another verdict than an old one.
+pub(crate) fn filters_compared<'a, F: Files>(
+    alloc: Global,
+    native: Arch,
+    old: &'a str,
+    new: &'a str,
+    files: &mut F,
+) -> Result<Told, Stop<'a>>
+    ensures { IsToldOf (F.folder files.old) (old.entry.now ∷ new.entry.now ∷ []) (of_two IsTold) result }
+{
+    match read(alloc, files, old) {
+        Ok(first) => filters_compared_with(alloc, native, &first, new, files),
         Err(stop) => Err(stop),
     }
 }

@@ -33,6 +33,7 @@ pub data Given : Type 0 where
   Verdict : (filter rec : List ℕ) → Given
   Check : (native : Arch) → (bundle filter cert : List ℕ) → Given
   Certify : (native : Arch) → (bundle filter : List ℕ) → Given
+  CertifyBehind : (native : Arch) → (bundle filter : List ℕ) → Given
   Export : (native : Arch) → (bundle : List ℕ) → (form : Form) → Given
   Run : (native : Arch) → (bundles : List (List ℕ)) → Given
   Explain : (native : Arch) → (bundle : List ℕ) → (call : List (List ℕ)) → Given
@@ -43,6 +44,7 @@ pub data Given : Type 0 where
   Draw : (native : Arch) → (filter : List ℕ) → Given
   Lint : (native : Arch) → (bundle : List ℕ) → Given
   Compare : (native : Arch) → (old new : List ℕ) → (at_most : Bool) → Given
+  CompareFilters : (native : Arch) → (old new : List ℕ) → Given
   Adapt : (native : Arch) → (config : List ℕ) → (words : List (List ℕ)) → Given
   Learn : (native : Arch) → (words : List (List ℕ)) → Given
   Replay : (native : Arch) → (bundle : List ℕ) → (words : List (List ℕ)) → Given
@@ -53,6 +55,7 @@ abbrev pub given : Command → Given
 given (command.Verdict filter rec) = Verdict filter.now rec.now
 given (command.Check native bundle filter cert) = Check native bundle.now filter.now cert.now
 given (command.Certify native bundle filter) = Certify native bundle.now filter.now
+given (command.CertifyBehind native bundle filter) = CertifyBehind native bundle.now filter.now
 given (command.Export native bundle form) = Export native bundle.now form
 given (command.Run native bundles) = Run native (map (λ b. b.now) bundles.now)
 given (command.Explain native bundle call) = Explain native bundle.now (map (λ c. c.now) call.now)
@@ -63,6 +66,7 @@ given (command.Annotate native filter) = Annotate native filter.now
 given (command.Draw native filter) = Draw native filter.now
 given (command.Lint native bundle) = Lint native bundle.now
 given (command.Compare native old new at_most) = Compare native old.now new.now at_most
+given (command.CompareFilters native old new) = CompareFilters native old.now new.now
 given (command.Adapt native config words) = Adapt native config.now (map (λ w. w.now) words.now)
 given (command.Learn native words) = Learn native (map (λ w. w.now) words.now)
 given (command.Replay native bundle words) = Replay native bundle.now (map (λ w. w.now) words.now)
@@ -83,8 +87,11 @@ abbrev pub check : List (List ℕ) → Option Given
 check (machine ∷ bundle ∷ filter ∷ cert ∷ []) = option_map (λ native. Check native bundle filter cert) (native_called machine)
 check _ = None
 
+-- the argument `runc` may stand behind the files
 abbrev pub certify : List (List ℕ) → Option Given
 certify (machine ∷ bundle ∷ filter ∷ []) = option_map (λ native. Certify native bundle filter) (native_called machine)
+certify (machine ∷ bundle ∷ filter ∷ last ∷ []) =
+    if bytes_eq last (codes "runc") then option_map (λ native. CertifyBehind native bundle filter) (native_called machine) else None
 certify _ = None
 
 abbrev pub export_in : List ℕ → List ℕ → Option Form → Option Given
@@ -130,11 +137,13 @@ abbrev pub lint : List (List ℕ) → Option Given
 lint (machine ∷ bundle ∷ []) = option_map (λ native. Lint native bundle) (native_called machine)
 lint _ = None
 
--- the argument `atmost` may stand behind the files
+-- the argument `atmost` may stand behind the files of bundles, and `filters` stands behind those of filters
 abbrev pub compare : List (List ℕ) → Option Given
 compare (machine ∷ old ∷ new ∷ []) = option_map (λ native. Compare native old new false) (native_called machine)
 compare (machine ∷ old ∷ new ∷ last ∷ []) =
-    if bytes_eq last (codes "atmost") then option_map (λ native. Compare native old new true) (native_called machine) else None
+    if bytes_eq last (codes "atmost") then option_map (λ native. Compare native old new true) (native_called machine)
+    else if bytes_eq last (codes "filters") then option_map (λ native. CompareFilters native old new) (native_called machine)
+    else None
 compare _ = None
 
 -- words may stand behind the file

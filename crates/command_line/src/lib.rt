@@ -53,6 +53,12 @@ pub enum Command<'a> {
         bundle: &'a str,
         filter: &'a str,
     },
+    /// The same of a filter behind the stub that runc puts in front of it, if there is one.
+    CertifyBehind {
+        native: Arch,
+        bundle: &'a str,
+        filter: &'a str,
+    },
     /// The filter that is compiled for a bundle, read for a native machine, once it is certified and checked. The bundle
     /// is given as the name of a file.
     Export {
@@ -104,6 +110,13 @@ pub enum Command<'a> {
         old: &'a str,
         new: &'a str,
         at_most: bool,
+    },
+    /// Calls of which two filters answer unlike verdicts, by the names that the family of a native machine has. They are given
+    /// as names of files.
+    CompareFilters {
+        native: Arch,
+        old: &'a str,
+        new: &'a str,
     },
     /// The bundle that is made of an engine's configuration, to be read for a native machine, as words ask for it. The
     /// configuration is given as the name of a file.

@@ -8,8 +8,9 @@ pub enum Meaning {
     Bundles,
     Old,
     New,
-    AtMost,
+    Compared,
     Filter,
+    Stub,
     Record,
     Certificate,
     Listing,
@@ -34,10 +35,13 @@ impl Meaning {
             Meaning::Bundles => { "files with linux.seccomp of the OCI Runtime Specification" }
             Meaning::Old => { "a file with the old bundle" }
             Meaning::New => { "a file with the new bundle" }
-            Meaning::AtMost => {
-                "all that is asked is that the new bundle allows no more\n[possible values: atmost]"
+            Meaning::Compared => {
+                "all that is asked is that the new bundle allows no more; or both files are filters\n[possible values: atmost, filters]"
             }
             Meaning::Filter => { "a file with instructions of eight bytes" }
+            Meaning::Stub => {
+                "the filter is of runc, which puts its ENOSYS stub in front\n[possible values: runc]"
+            }
             Meaning::Record => { "a file with the 64 bytes of struct seccomp_data" }
             Meaning::Certificate => { "a file that certify wrote" }
             Meaning::Listing => { "a file with the text of a filter" }

@@ -44,6 +44,8 @@ Example: ccell check x86-64 web.json web.bpf web.cert
 const CERTIFY: &str =
     "Writes a certificate that the filter answers what the bundle says, or tells a call record of which
 it does not, and explains it on standard error.
+With runc, the stub that runc puts in front of a filter is taken for what it is: on standard error
+stand the calls that it answers ENOSYS, and the certificate is of the filter behind it.
 Status 0, or 1 and a line that begins with 'no' or 'refused'.
 
 Example: ccell certify linux-x86-64 web.json web.bpf > web.cert
@@ -98,6 +100,8 @@ const COMPARE: &str =
     "Reports a line for each call of which the two say unlike things, and last what is proved: same,
 allows no more, allows no less, or allows more and less. It is undecided only for a size.
 Status 0 for same, or 1. With atmost, status 0 if the new bundle allows no more, or 1.
+filters: OLD and NEW are filters. A line stands for each call that is found of which they answer
+unlike verdicts. Status 0 if their bytes are the same, or 1.
 
 Example: ccell compare linux-x86-64 old.json new.json atmost
 ";

@@ -22,9 +22,11 @@ const OLD: Part = ("OLD", 1, 1, Meaning::Old);
 
 const NEW: Part = ("NEW", 1, 1, Meaning::New);
 
-const AT_MOST: Part = ("atmost", 0, 1, Meaning::AtMost);
+const COMPARED: Part = ("WORD", 0, 1, Meaning::Compared);
 
 const FILTER: Part = ("FILTER", 1, 1, Meaning::Filter);
+
+const STUB: Part = ("WORD", 0, 1, Meaning::Stub);
 
 const RECORD: Part = ("RECORD", 1, 1, Meaning::Record);
 
@@ -64,7 +66,7 @@ pub const COMMANDS: &[Entry] = &[
     ),
     (
         "certify",
-        &[MACHINE, BUNDLE, FILTER],
+        &[MACHINE, BUNDLE, FILTER, STUB],
         "a certificate for any filter, or a call that convicts it",
         Page::Certify,
     ),
@@ -100,7 +102,7 @@ pub const COMMANDS: &[Entry] = &[
     ),
     (
         "compare",
-        &[MACHINE, OLD, NEW, AT_MOST],
+        &[MACHINE, OLD, NEW, COMPARED],
         "whether a new bundle says the same as an old one, or allows no more",
         Page::Compare,
     ),

@@ -11,4 +11,4 @@ mod unlike;
 
 pub use outcome::{Outcome, outcome_of};
 pub use search::find_differences;
-pub use told::differ;
+pub use told::compare_filters;

@@ -10,6 +10,7 @@ ghost use Rattle.differ.specs.Told.{IsOutcome, IsUnlike, IsWrong};
 
 use crate::search::find_differences;
 use bpf_insn::{Program, ViewError};
+use call_tables::Family;
 use compare::{Change, Difference};
 use kernel_check::{Accepted, Refused, accept};
 use std::alloc::{AllocError, Global};
@@ -51,11 +52,16 @@ fn are_none(changes: &[Change]) -> bool
 }
 
 // What is found of two filters that the kernel accepts.
-fn of_accepted(alloc: Global, old: &Accepted<'_>, new: &Accepted<'_>) -> Result<Outcome, AllocError>
+fn of_accepted(
+    alloc: Global,
+    family: Family,
+    old: &Accepted<'_>,
+    new: &Accepted<'_>,
+) -> Result<Outcome, AllocError>
     ensures { (one other : List ℕ) → accepted_insns old.now ≡ insns_of one → accepted_insns new.now ≡ insns_of other
         → IfOk result (IsOutcome one other) }
 {
-    let all = find_differences(alloc, old, new)?;
+    let all = find_differences(alloc, family, old, new)?;
     let changes = changes_of(alloc, &all)?;
     if are_none(changes.as_slice()) {
         return Ok(Outcome::NoneFound);
@@ -79,8 +85,13 @@ fn read(filter: &[u8], place: u32) -> Result<Accepted<'_>, Outcome>
     }
 }
 
-/// What is found of the bytes of two filters.
-pub fn outcome_of(alloc: Global, old: &[u8], new: &[u8]) -> Result<Outcome, AllocError>
+/// What is found of the bytes of two filters. Calls are those of the machines of a family.
+pub fn outcome_of(
+    alloc: Global,
+    family: Family,
+    old: &[u8],
+    new: &[u8],
+) -> Result<Outcome, AllocError>
     ensures { IfOk result (IsOutcome old.now new.now) }
 {
     if old == new {
@@ -94,5 +105,5 @@ pub fn outcome_of(alloc: Global, old: &[u8], new: &[u8]) -> Result<Outcome, Allo
         Ok(second) => second,
         Err(outcome) => return Ok(outcome),
     };
-    of_accepted(alloc, &first, &second)
+    of_accepted(alloc, family, &first, &second)
 }

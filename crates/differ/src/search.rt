@@ -27,6 +27,7 @@ fn plain_call(token: u32, number: u32) -> Record {
 // The first record on which two filters answer unlike verdicts, of those of one call that they tell apart.
 fn search_call(
     alloc: Global,
+    family: Family,
     old: &Accepted<'_>,
     new: &Accepted<'_>,
     token: u32,
@@ -40,7 +41,7 @@ fn search_call(
         let Some(call) = todo.get(at).copied() else {
             return Ok(None);
         };
-        if let Some(found) = unlike(old, new, &call) {
+        if let Some(found) = unlike(family, old, new, &call) {
             return Ok(Some(found));
         }
         add_candidates(alloc, old, &call, &mut todo)?;
@@ -64,6 +65,7 @@ fn add(found: Option<Difference>, all: &mut Vec<Difference>) -> Result<(), Alloc
 // Adds the differences of the calls with these numbers, of the machines with a token.
 fn add_differences(
     alloc: Global,
+    family: Family,
     old: &Accepted<'_>,
     new: &Accepted<'_>,
     token: u32,
@@ -74,28 +76,29 @@ fn add_differences(
     ensures { IfOk result (λ _. All (AnswerUnlike (accepted_insns old.now) (accepted_insns new.now)) all.new.items) }
 {
     for number in numbers {
-        let found = search_call(alloc, old, new, token, *number)?;
+        let found = search_call(alloc, family, old, new, token, *number)?;
         add(found, all)?;
     }
     Ok(())
 }
 
-/// Calls of which two filters answer unlike verdicts, one record for each number of a call that is tried. A record that is told was
-/// tried with both filters.
+/// Calls of the machines of a family of which two filters answer unlike verdicts: one record for each number of a call that is tried. A
+/// record that is told was tried with both filters.
 pub fn find_differences(
     alloc: Global,
+    family: Family,
     old: &Accepted<'_>,
     new: &Accepted<'_>,
 ) -> Result<Vec<Difference>, AllocError>
     ensures { IfOk result (λ all. All (AnswerUnlike (accepted_insns old.now) (accepted_insns new.now)) all.items) }
 {
     let mut all = Vec::new(alloc);
-    let numbers = numbers_of(alloc, Family::Whole.machines(), old, new)?;
+    let numbers = numbers_of(alloc, family.machines(), old, new)?;
     let mut before = 0;
-    for machine in Family::Whole.machines() {
+    for machine in family.machines() {
         let token = machine.token();
         if token != before {
-            add_differences(alloc, old, new, token, &numbers, &mut all)?;
+            add_differences(alloc, family, old, new, token, &numbers, &mut all)?;
         }
         before = token;
     }

@@ -1,4 +1,4 @@
-//! What `ccell differ` tells.
+//! What `ccell compare` tells of two filters.
 ghost use Rattle.std.specs.Prelude.{◌≡◌, ◌++◌, IfOk, codes, string_bytes};
 ghost use Rattle.std.specs.List.{flat_map};
 ghost use Rattle.compare.specs.Outcome.{line_of};
@@ -6,6 +6,7 @@ ghost use Rattle.differ.specs.Told as spec;
 
 use crate::outcome::{Outcome, outcome_of};
 use bpf_insn::ViewError;
+use call_tables::Arch;
 use compare::{Change, lines_of};
 use explain::Told;
 use kernel_check::Refused;
@@ -56,11 +57,17 @@ fn is_done(outcome: &Outcome) -> bool
     }
 }
 
-/// Tells calls of which two filters answer unlike verdicts. It was done where their bytes are the same.
-pub fn differ(alloc: Global, old: &[u8], new: &[u8]) -> Result<Told, AllocError>
+/// Tells calls of which two filters answer unlike verdicts, by the names that a native machine's family has. It was done where their
+/// bytes are the same.
+pub fn compare_filters(
+    alloc: Global,
+    native: Arch,
+    old: &[u8],
+    new: &[u8],
+) -> Result<Told, AllocError>
     ensures { IfOk result (spec.IsTold old.now new.now) }
 {
-    let outcome = outcome_of(alloc, old, new)?;
+    let outcome = outcome_of(alloc, native.family(), old, new)?;
     let text = text_of(alloc, &outcome)?;
     Ok(Told {
         bytes: text.into_bytes(),

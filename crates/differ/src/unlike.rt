@@ -9,8 +9,13 @@ use call_tables::Family;
 use compare::{Difference, difference_on};
 use kernel_check::Accepted;
 
-/// The verdicts of two filters on a call record, where they are unlike.
-pub(crate) fn unlike(old: &Accepted<'_>, new: &Accepted<'_>, call: &Record) -> Option<Difference>
+/// The verdicts of two filters on a call record, where they are unlike. The machine is told as one of a family.
+pub(crate) fn unlike(
+    family: Family,
+    old: &Accepted<'_>,
+    new: &Accepted<'_>,
+    call: &Record,
+) -> Option<Difference>
     ensures { IfSome result (AnswerUnlike (accepted_insns old.now) (accepted_insns new.now)) }
 {
     let one = verdict(old, call);
@@ -18,5 +23,5 @@ pub(crate) fn unlike(old: &Accepted<'_>, new: &Accepted<'_>, call: &Record) -> O
     if one.0 == other.0 {
         return None;
     }
-    Some(difference_on(Family::Whole, call, [false; 6], one, other))
+    Some(difference_on(family, call, [false; 6], one, other))
 }

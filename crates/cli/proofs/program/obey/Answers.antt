@@ -1,5 +1,6 @@
 use Rattle.std.proofs.Common.{[], ◌∷◌, inl, inr, map, refl, ⊎_elim}
 use Rattle.compare.specs.Told.{IsCompared}
+use Rattle.differ.specs.Told.{IsTold}
 use Rattle.explain.specs.Told.{IsAssembled, IsRecorded}
 use Rattle.lint.specs.Linted.{IsLinted}
 use Rattle.cli.specs.Dispatch.{OfArguments, any_call, explained_as, of_none, of_one, of_two}
@@ -50,4 +51,13 @@ returns-in-Compare-clause-does g c = rw c.in-Compare.is (
       (g.F.Files.folder c.args.files.now) (c.in-Compare.old.now ∷ c.in-Compare.new.now ∷ [])
       (of_two (IsCompared c.in-Compare.at_most c.in-Compare.native))
       c.args.out.now c.tell-in-Compare.new.out c.tell-in-Compare.result c.compared.result c.compared.ensures c.tell-in-Compare.ensures,
+)
+
+pub returns-in-CompareFilters-clause-does : goal.returns-in-CompareFilters-clause-does
+returns-in-CompareFilters-clause-does g c = rw c.in-CompareFilters.is (
+  refl,
+  answers_told g.O.Sink.held g.O.Sink.failures
+      (g.F.Files.folder c.args.files.now) (c.in-CompareFilters.old.now ∷ c.in-CompareFilters.new.now ∷ []) (of_two IsTold)
+      c.args.out.now c.tell-in-CompareFilters.new.out c.tell-in-CompareFilters.result c.filters_compared.result
+      c.filters_compared.ensures c.tell-in-CompareFilters.ensures,
 )
