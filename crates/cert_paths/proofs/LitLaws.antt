@@ -1,6 +1,6 @@
 -- What is learned is a literal.
 use Rattle.std.proofs.Common.{◌≡◌, ℕ, zero, suc, ◌+◌, ◌-◌, ◌*◌, ◌/◌, ◌%◌, ◌^◌, ◌<◌, ◌≤◌, Bool, true, false, cond, eqb, List, length, ap, sym}
-use Rattle.std.proofs.Common.{arith, subst, ⊎_elim, get_or, refl, ◌∙◌, inl, inr}
+use Rattle.std.proofs.Common.{arith, subst, ⊎_elim, get_or, refl, ◌∙◌, inl, inr, leb, ltb}
 use Rattle.std.specs.Prelude.{All, IfSome, Option, Some, None, bit_and, bit_or, min, slice_get, slice_index_or, slice_set}
 use Rattle.std.specs.Int.{bit_at}
 use Rattle.std.specs.Int.Bits.{and_mask, and_self}
@@ -28,7 +28,7 @@ use Rattle.bpf_insn.proofs.PlainLaws.{plain-loads, plain-reads}
 use Rattle.cert_state.specs.declared.literal.AVal.{AVal}
 use Rattle.cert_state.specs.declared.literal.AVal.TheVariants.{Unknown, Const, Masked}
 use Rattle.cert_state.specs.declared.literal.Lit.{Lit}
-use Rattle.cert_state.specs.declared.literal.Lit.TheVariants.{In, Bits}
+use Rattle.cert_state.specs.declared.literal.Lit.TheVariants.{In, Bits, NotBits}
 use Rattle.cert_state.specs.declared.literal.Regs.{Regs}
 use Rattle.cert_state.specs.Literals.{AreValues, IsLit, IsValue, all_bits, false_literal}
 use Rattle.cert_state.specs.Sharp.{above_fact, any_fact, beside_fact, is_bit, is_high, lowest_bit, outside, part_fact}

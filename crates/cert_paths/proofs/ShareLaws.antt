@@ -24,7 +24,7 @@ use Rattle.cert_state.specs.declared.literal.Regs.{Regs}
 use Rattle.cert_state.specs.Literals.{all_bits}
 use Rattle.cert_state.specs.Entailment.{IsDead}
 use Rattle.cert_state.proofs.BitLaws.{and_all}
-use Rattle.cert_state.specs.Sharp.{is_high, sharp_fact, sharp_fact_by, sharp_masked_fact}
+use Rattle.cert_state.specs.Sharp.{above_fact, is_high, part_fact, sharp_fact, sharp_fact_by, sharp_masked_fact}
 use Rattle.cert_state.specs.Transfer.{masked_fact, transfer, transfer_if}
 use Rattle.rule_compile.specs.Moves.{Move, Ends, Goes, Forks, move_at}
 use Rattle.rule_compile.specs.Shape.{call, depth}
@@ -83,12 +83,12 @@ least_not_zero known w k false small some =
 sharp_least : (known : List Lit) (w k : ℕ) (taken : Bool) → k < 2 ^ 32 → sharp_masked_fact known AtLeast w all_bits k taken ≡ fact AtLeast w k taken
 sharp_least known w k taken small = ⊎_elim
     (λ (z : k ≡ 0).
-    ap (λ b. cond b (masked_fact AtLeast w all_bits 0 taken) (Rattle.cert_state.specs.Sharp.above_fact known w all_bits (k - 1) taken)) (eq-eqb k 0 z)
+    ap (λ b. cond b (masked_fact AtLeast w all_bits 0 taken) (above_fact known w all_bits (k - 1) taken)) (eq-eqb k 0 z)
     ∙ ap (λ n. masked_fact AtLeast w all_bits n taken) (sym z))
     (λ (some : k ≡ 0 → ⊥).
-    ap (λ b. cond b (masked_fact AtLeast w all_bits 0 taken) (Rattle.cert_state.specs.Sharp.above_fact known w all_bits (k - 1) taken)) (ne_eqb k 0 some)
+    ap (λ b. cond b (masked_fact AtLeast w all_bits 0 taken) (above_fact known w all_bits (k - 1) taken)) (ne_eqb k 0 some)
     ∙ ap (λ b. cond b (masked_fact Greater w all_bits (bit_or (k - 1) (all_bits - all_bits)) taken)
-    (Rattle.cert_state.specs.Sharp.beside_fact w (k - 1) (Rattle.cert_state.specs.Sharp.outside known w all_bits) taken)) all_are_high
+    (part_fact known w all_bits (k - 1) taken)) all_are_high
     ∙ least_not_zero known w k taken small some)
     (cases_eq k 0)
 

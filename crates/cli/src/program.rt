@@ -108,7 +108,18 @@ fn run<'a, F: Files, I: Source, O: Sink>(
     run_bundles(alloc, native, &texts, input, out)
 }
 
-// Tells what a bundle means, or where it is wrong.
+// Behind what a bundle means, if a call gets past it.
+const HINT: &str = "ccell lint reports calls that get past this bundle\n";
+
+// Whether a bundle that is told is one that a call is found to get past.
+fn is_passed(alloc: Global, native: Arch, bundle: &[u8], told: &Told) -> Result<bool, AllocError> {
+    if told.done {
+        return lint::hint(alloc, native, bundle);
+    }
+    Ok(false)
+}
+
+// Tells what a bundle means, or where it is wrong, and whether `lint` has a call to report.
 fn read_out<'a>(
     alloc: Global,
     native: Arch,
@@ -117,7 +128,13 @@ fn read_out<'a>(
     out: &mut impl Sink,
 ) -> Result<bool, Stop<'a>> {
     let bundle = read(alloc, files, bundle)?;
-    tell(Ok(describe::read_out(alloc, native, &bundle)?), out)
+    let told = describe::read_out(alloc, native, &bundle)?;
+    let is_passed = is_passed(alloc, native, &bundle, &told)?;
+    let done = tell(Ok(told), out)?;
+    if is_passed {
+        write_all(HINT.as_bytes(), out)?;
+    }
+    Ok(done)
 }
 
 // Shows a filter: tells what the lines of its listing mean, or its graph.
