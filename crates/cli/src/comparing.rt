@@ -12,13 +12,7 @@ use std::alloc::Global;
 use streams::{Sink, WriteFault, write_all};
 
 // Explains a record that convicts a filter. Nothing depends on whether it can be written.
-fn tell_why<E: Sink>(
-    alloc: Global,
-    native: Arch,
-    bundle: &[u8],
-    found: &Conviction,
-    err: &mut E,
-)
+fn tell_why<E: Sink>(alloc: Global, native: Arch, bundle: &[u8], found: &Conviction, err: &mut E)
     ensures { (err.new ≡ err.old) ⊎ WritesWhy E.held E.failures err.old err.new native bundle.now found.now.call }
 {
     if let Some(text) = explain_found(alloc, native, bundle, found) {
