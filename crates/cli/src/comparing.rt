@@ -1,8 +1,9 @@
 //! What `ccell certify` writes, and what it says of a record on standard error.
-ghost use Rattle.std.specs.Prelude.{◌≡◌, ◌⊎◌, Ok, OnErr, false, true};
-ghost use Rattle.cli.specs.Explained.{TellsRecord, WritesWhy};
+ghost use Rattle.std.specs.Prelude.{◌≡◌, ◌⊎◌, Ok, OnErr, false, string_bytes, true};
+ghost use Rattle.cli.specs.Explained.{HasNoRecord, MayTellWhy, TellsRecord, WritesSome};
 ghost use Rattle.certify.specs.declared.evidence.Conviction.{Conviction as TheConviction};
 ghost use Rattle.certify.specs.declared.evidence.Evidence.TheVariants.{Convicting};
+ghost use Rattle.certify.specs.Conviction.{IsCertificate};
 ghost use Rattle.pipeline.specs.Certified.{Certifies};
 
 use call_tables::Arch;
@@ -11,12 +12,20 @@ use pipeline::{Conviction, Evidence, Unready, judge_bundle, write_judged};
 use std::alloc::Global;
 use streams::{Sink, WriteFault, write_all};
 
-// Explains a record that convicts a filter. Nothing depends on whether it can be written.
-fn tell_why<E: Sink>(alloc: Global, native: Arch, bundle: &[u8], found: &Conviction, err: &mut E)
-    ensures { (err.new ≡ err.old) ⊎ WritesWhy E.held E.failures err.old err.new native bundle.now found.now.call }
+// Writes a text. Nothing depends on whether it can be written.
+fn put_text<E: Sink>(text: String, err: &mut E)
+    ensures { WritesSome E.held E.failures err.old err.new (string_bytes text) }
 {
-    if let Some(text) = explain_found(alloc, native, bundle, found) {
-        let _ = write_all(text.as_bytes(), err);
+    let _ = write_all(text.as_bytes(), err);
+}
+
+// Explains a record that convicts a filter, if there is memory.
+fn tell_why<E: Sink>(alloc: Global, native: Arch, bundle: &[u8], found: &Conviction, err: &mut E)
+    ensures { MayTellWhy E.held E.failures err.old err.new native bundle.now found.now.call }
+{
+    match explain_found(alloc, native, bundle, found) {
+        Some(text) => put_text(text, err),
+        None => {}
     }
 }
 
@@ -28,11 +37,13 @@ fn tell_evidence<E: Sink>(
     evidence: &Evidence,
     err: &mut E,
 )
-    ensures { (err.new ≡ err.old) ⊎ ((found : TheConviction) × (evidence.now ≡ Convicting found)
-        × WritesWhy E.held E.failures err.old err.new native bundle.now found.call) }
+    ensures why { (found : TheConviction) → evidence.now ≡ Convicting found
+        → MayTellWhy E.held E.failures err.old err.new native bundle.now found.call }
+    ensures quiet { IsCertificate evidence.now → err.new ≡ err.old }
 {
-    if let Evidence::Convicting(found) = evidence {
-        tell_why(alloc, native, bundle, found, err);
+    match evidence {
+        Evidence::Convicting(found) => tell_why(alloc, native, bundle, found, err),
+        Evidence::Certificate(_) => {}
     }
 }
 
@@ -44,11 +55,13 @@ pub(crate) fn tell_found<E: Sink>(
     judged: &Result<Evidence, Unready>,
     err: &mut E,
 )
-    ensures { (err.new ≡ err.old) ⊎ ((found : TheConviction) × (judged.now ≡ Ok (Convicting found))
-        × WritesWhy E.held E.failures err.old err.new native bundle.now found.call) }
+    ensures why { (found : TheConviction) → judged.now ≡ Ok (Convicting found)
+        → MayTellWhy E.held E.failures err.old err.new native bundle.now found.call }
+    ensures quiet { HasNoRecord judged.now → err.new ≡ err.old }
 {
-    if let Ok(evidence) = judged {
-        tell_evidence(alloc, native, bundle, evidence, err);
+    match judged {
+        Ok(evidence) => tell_evidence(alloc, native, bundle, evidence, err),
+        Err(_) => {}
     }
 }
 
@@ -64,6 +77,7 @@ pub fn certify<O: Sink, E: Sink>(
     ensures found { Certifies O.held O.failures out.old out.new native bundle.now filter.now result }
     ensures stopped { OnErr result (err.new ≡ err.old) }
     ensures quiet { result ≡ Ok true → err.new ≡ err.old }
+    // The record that is explained is the one that was told.
     ensures told { result ≡ Ok false → (err.new ≡ err.old)
         ⊎ TellsRecord O.held O.failures out.old out.new E.held E.failures err.old err.new native bundle.now }
 {

@@ -1,3 +1,4 @@
+use Rattle.std.specs.Prelude.{Ok}
 use Rattle.cli.proofs.ExplainedLaws.{quiet_of, told_of}
 use Rattle.cli.proofs.comparing.certify.Goals as goal
 
@@ -12,9 +13,11 @@ returns-clause-found g c =
 pub returns-clause-quiet : goal.returns-clause-quiet
 returns-clause-quiet g c =
     quiet_of g.O.Sink.held g.O.Sink.failures c.args.out.now c.write_judged.new.sink g.E.Sink.held g.E.Sink.failures c.args.err.now
-    c.tell_found.new.err c.args.native c.args.bundle.now c.judge_bundle-judged.result c.in-Ok.done c.in-Ok.ensures.told c.tell_found.ensures
+    c.tell_found.new.err c.args.native c.args.bundle.now (Ok c.in-Ok.done) c.judge_bundle-judged.result c.in-Ok.ensures.told
+    c.tell_found.ensures.quiet
 
 pub returns-clause-told : goal.returns-clause-told
-returns-clause-told g c = λ is.
+returns-clause-told g c =
     told_of g.O.Sink.held g.O.Sink.failures c.args.out.now c.write_judged.new.sink g.E.Sink.held g.E.Sink.failures c.args.err.now
-    c.tell_found.new.err c.args.native c.args.bundle.now c.judge_bundle-judged.result c.in-Ok.done c.in-Ok.ensures.told c.tell_found.ensures
+    c.tell_found.new.err c.args.native c.args.bundle.now (Ok c.in-Ok.done) c.judge_bundle-judged.result c.in-Ok.ensures.told
+    c.tell_found.ensures.why c.tell_found.ensures.quiet

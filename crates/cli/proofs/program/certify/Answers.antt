@@ -46,4 +46,4 @@ returns-clause-explained g c =
     explained_done g.O.Sink.held g.O.Sink.failures c.args.out.now c.certify.new.out g.E.Sink.held g.E.Sink.failures c.args.err.now
     c.certify.new.err c.args.native c.deref.result.now (g.F.Files.folder c.args.files.now) c.args.bundle.now
     (subst (λ b. HasBytes (g.F.Files.folder c.args.files.now) c.args.bundle.now b) (sym c.deref.ensures.value) c.in_ok-bundle.ensures.ok)
-    c.in_ok-certify.field-0 c.in_ok-certify.ensures.told
+    c.in_ok-certify.field-0 (Ok c.in_ok-certify.field-0) refl c.in_ok-certify.ensures.told
