@@ -25,7 +25,10 @@ fn add_line(calls: &Calls, text: &mut String) -> Result<(), AllocError> {
         Some(machine) => write!(text, "  {first} to {last} of {machine}\n"),
         None => {
             let token = calls.token;
-            write!(text, "  {first} to {last} of the machine with the token {token:#010x}\n")
+            write!(
+                text,
+                "  {first} to {last} of the machine with the token {token:#010x}\n"
+            )
         }
     }
 }
@@ -37,7 +40,9 @@ pub fn told_calls(alloc: Global, answered: &[Calls]) -> Result<String, AllocErro
         text.push_str("the filter does not begin with a stub as runc puts it in front\n")?;
         return Ok(text);
     }
-    text.push_str("runc's stub answers these calls ENOSYS, before the filter behind it is asked:\n")?;
+    text.push_str(
+        "runc's stub answers these calls ENOSYS, before the filter behind it is asked:\n",
+    )?;
     for calls in answered {
         add_line(calls, &mut text)?;
     }
