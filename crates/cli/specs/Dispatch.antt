@@ -5,7 +5,7 @@ use Rattle.std.specs.Str.{bytes_eq}
 use denote.Ref.{Bor}
 use Rattle.call_tables.specs.declared.arch.Arch.{Arch}
 use Rattle.command_line.specs.Arguments.{Given}
-use Rattle.command_line.specs.Arguments.Given.{Verdict, Check, Certify, CertifyBehind, Export, Run, Explain, Record, Assemble}
+use Rattle.command_line.specs.Arguments.Given.{Verdict, Check, Certify, Export, Run, Explain, Record, Assemble}
 use Rattle.command_line.specs.Arguments.Given.{Lint, Compare, CompareFilters, Adapt, Learn}
 use Rattle.streams.specs.Failures.{Failures}
 use Rattle.streams.specs.Sink.{StopsAt as StopsWriting, Wrote}
@@ -15,7 +15,6 @@ use Rattle.explain.specs.Told.{IsAssembled, IsExplained, IsRecorded}
 use Rattle.explain.specs.declared.told.Told.{Told}
 use Rattle.audit.specs.Any.{IsExplained as IsExplainedAny}
 use Rattle.lint.specs.Linted.{IsLinted}
-use Rattle.behind_runc.specs.Behind.{CertifiesBehind}
 use Rattle.compare.specs.Told.{IsCompared}
 use Rattle.differ.specs.Told.{IsTold}
 use Rattle.pipeline.specs.Answer.{WritesAnswer}
@@ -54,10 +53,8 @@ exit_status (Ok true) = 0
 exit_status (Ok false) = 1
 exit_status (Err stop) = status_of stop
 
--- `adapt` and `learn` tell on standard error what they changed or added, and `certify` with `runc` what the stub answers, also where it
--- was done; no other command does
+-- `adapt` and `learn` alone tell on standard error what they changed or added, also where it was done
 abbrev pub TellsChanges : Given → Type 0
-TellsChanges (CertifyBehind native bundle filter) = Unit {0}
 TellsChanges (Adapt native config words) = Unit {0}
 TellsChanges (Learn native words) = Unit {0}
 TellsChanges other = ⊥
@@ -108,12 +105,6 @@ module _ {O : Type 0} (held : O → Option (List ℕ)) (failures : O → Failure
       StopsAtFile folder old new (bundle ∷ filter ∷ []) result
       ⊎ ((b : List ℕ) × (f : List ℕ) × HasBytes folder bundle b × HasBytes folder filter f
       × AnswersBy (Certifies held failures old new native b f) result)
-
-  abbrev pub AnswersBehind : Arch → List ℕ → List ℕ → Result Bool Stop → Type 0
-  AnswersBehind native bundle filter result =
-      StopsAtFile folder old new (bundle ∷ filter ∷ []) result
-      ⊎ ((b : List ℕ) × (f : List ℕ) × HasBytes folder bundle b × HasBytes folder filter f
-      × AnswersBy (CertifiesBehind held failures old new native b f) result)
 
   abbrev pub AnswersExport : Arch → List ℕ → Form → Result Bool Stop → Type 0
   AnswersExport native bundle form result =
@@ -176,8 +167,6 @@ module _ {I O : Type 0} (left : I → Option (List ℕ)) (given : I → Failures
   Does (Check native bundle filter cert) result =
       (input' ≡ input) × AnswersCheck held taken folder out out' native bundle filter cert result
   Does (Certify native bundle filter) result = (input' ≡ input) × AnswersCertify held taken folder out out' native bundle filter result
-  Does (CertifyBehind native bundle filter) result =
-      (input' ≡ input) × AnswersBehind held taken folder out out' native bundle filter result
   Does (Export native bundle form) result = (input' ≡ input) × AnswersExport held taken folder out out' native bundle form result
   Does (Run native bundles) result = AnswersRun native bundles result
   Does (Explain native bundle call) result =

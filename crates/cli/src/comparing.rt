@@ -47,8 +47,8 @@ fn tell_evidence<E: Sink>(
     }
 }
 
-/// Explains the record that was found, if one was.
-pub(crate) fn tell_found<E: Sink>(
+// Explains the record that was found, if one was.
+fn tell_found<E: Sink>(
     alloc: Global,
     native: Arch,
     bundle: &[u8],

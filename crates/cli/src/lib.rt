@@ -3,7 +3,6 @@
 #![tactic(auto)]
 
 mod adapting;
-mod behind;
 mod comparing;
 mod explaining;
 mod fault;
