@@ -1,9 +1,10 @@
-# Read by `source`, at the top of the repository: which sources a program is built of, and where one stands that was built of them.
+# Read by `source`, at the top of the repository: which sources a program or a library is built of, and where a program stands that was
+# built of them.
 
-# Prints the lines of crates.txt for a program and for the crates that it stands on, in order.
+# Prints the lines of crates.txt for a crate and for the crates that it stands on, in order.
 crates_of() {
     awk -F: -v program="$1" '
-        !/^#/ { below[$1] = $2 }
+        !/^#/ { sub(/ .*/, "", $1); below[$1] = $2 }
         function visit(name,    parts, i, n) {
             if (!(name in below) || name in needed) return
             needed[name]
@@ -18,7 +19,7 @@ sources_in() {
     local folders=$1
     shift
     # shellcheck disable=SC2086
-    find $folders -name out -prune -o \( -name '*.rt' -o -name '*.antt' -o -name crates.txt \) "$@"
+    find $folders -name out -prune -o -type f \( -name '*.rt' -o -name '*.antt' -o -name crates.txt -o -path 'seccomp/*' -o -path 'include/*' \) "$@"
 }
 
 # What changes when a source is written, added, renamed or removed: names, sizes and times of change.
@@ -26,9 +27,9 @@ stamp_of() {
     sources_in "crates.txt $1" -printf '%p %s %C@ %i\n'
 }
 
-# Sets `inputs` to a hash of all that a program is built of: the lines of crates.txt for it and the crates that it stands on, and
-# the name and the contents of each of their sources. The hash is kept beside what was built, with the sources' stamp, and
-# is computed again when the stamp differs.
+# Sets `inputs` to a hash of all that a program's crate is built of: the lines of crates.txt for it and the crates that it stands on, and
+# the name and the contents of each of their sources; of filter_c, what the libraries are built of. The hash is kept beside what
+# was built, with the sources' stamp, and is computed again when the stamp differs.
 inputs_of() {
     local kept=crates/$1/out/inputs lines folders stamp
     if [ -r "$kept" ] && { read -r inputs && read -r folders; } <"$kept" && cmp -s "$kept.stamp" <(stamp_of "$folders"); then
@@ -36,6 +37,7 @@ inputs_of() {
     fi
     lines=$(crates_of "$1")
     folders=$(sed 's|:.*||; s|^|crates/|' <<<"$lines" | tr '\n' ' ')
+    [ "$1" != filter_c ] || folders="$folders seccomp include"
     stamp=$(stamp_of "$folders")
     inputs=$({ echo "$lines"; sources_in "$folders" -print0 | LC_ALL=C sort -z | xargs -0 sha256sum; } | sha256sum)
     inputs=${inputs%% *}
@@ -45,7 +47,7 @@ inputs_of() {
     fi 2>/dev/null || true
 }
 
-# Whether the program in a folder was built of the sources at hand, of which `inputs` is the hash.
+# Whether a program or a library was built of the sources at hand, of which `inputs` is the hash.
 is_of_inputs() {
     local hash=
     [ -x "$1" ] && { read -r hash <"$1.inputs"; } 2>/dev/null && [ "$hash" = "$inputs" ]

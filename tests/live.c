@@ -23,6 +23,13 @@ int seccomp_export_bpf(const scmp_filter_ctx ctx, int fd);
 int seccomp_export_bpf_mem(const scmp_filter_ctx ctx, void *buffer, size_t *length);
 int seccomp_load(const scmp_filter_ctx ctx);
 
+/* Machines beside the one that this runs on. */
+#ifdef __aarch64__
+enum { BESIDE = 0x40000028, FURTHER = BESIDE };
+#else
+enum { BESIDE = 0x40000003, FURTHER = 0x4000003e };
+#endif
+
 static int wrong;
 
 static void tell(int came, int wanted, const char *what) {
@@ -78,8 +85,8 @@ static void threads(void) {
     size_t lengths[2] = {sizeof first, sizeof second};
     for (int round = 0; round < 2; round++) {
         scmp_filter_ctx ctx = seccomp_init(ERRNO | 1);
-        seccomp_arch_add(ctx, 0x40000003);
-        seccomp_arch_add(ctx, 0x4000003e);
+        seccomp_arch_add(ctx, BESIDE);
+        seccomp_arch_add(ctx, FURTHER);
         for (int i = 0; i < (round ? 4 : 1); i++) pthread_create(&ids[i], NULL, adds, ctx);
         for (int i = 0; i < (round ? 4 : 1); i++) pthread_join(ids[i], NULL);
         tell(seccomp_export_bpf_mem(ctx, round ? second : first, &lengths[round]), 0, "an export of many rules");
@@ -105,8 +112,8 @@ static void many(void) {
 /* The least stack on which it was seen to work, in KiB, of docker's profile or so. */
 static void *exports(void *into) {
     scmp_filter_ctx ctx = seccomp_init(ERRNO | 1);
-    seccomp_arch_add(ctx, 0x40000003);
-    seccomp_arch_add(ctx, 0x4000003e);
+    seccomp_arch_add(ctx, BESIDE);
+    seccomp_arch_add(ctx, FURTHER);
     adds(ctx);
     struct scmp_arg_cmp is = {0, 4, 0, 0}, mask = {0, MASKED_EQUAL, 0x7e020000, 0};
     for (unsigned value = 0; value < 5; value++) is.datum_a = value, seccomp_rule_add_array(ctx, ALLOW, 135, 1, &is);
@@ -134,13 +141,12 @@ static int works_with(size_t stack) {
 }
 
 int main(int argc, char **argv) {
-    (void)argv;
-    if (argc > 1) { /* ./live stack: measures */
+    if (argc > 1 && !strcmp(argv[1], "stack")) { /* ./live stack: measures */
         for (size_t stack = 32; stack <= 512; stack += 8)
             if (works_with(stack << 10)) return printf("works with a stack of %zu KiB\n", stack), 0;
         return 1;
     }
-    loads();
+    if (argc == 1) loads(); /* ./live rules: all but this, which wants a kernel */
     descriptors();
     threads();
     many();

@@ -1,8 +1,10 @@
-"""Calls of libseccomp's interface, of whichever library has them: ours, or libseccomp itself as a peer."""
+"""Calls of libseccomp's interface, of whichever library has them: ours, or libseccomp itself as a peer; and in this process, or in
+one of another machine under an emulator."""
 import ctypes
 import os
 import re
 import struct
+import subprocess
 import tempfile
 
 ACTIONS = {"KILL": 0, "KILL_PROCESS": 0x80000000, "TRAP": 0x30000, "LOG": 0x7FFC0000, "ALLOW": 0x7FFF0000, "NOTIFY": 0x7FC00000}
@@ -15,12 +17,6 @@ OPERATORS = {"!=": 1, "<": 2, "<=": 3, "==": 4, ">=": 5, ">": 6}
 CONDITION = re.compile(r"a(\d+)(?:&(\w+))?(==|!=|<=|>=|<|>)(\w+)$")
 
 
-class Comparison(ctypes.Structure):
-    """struct scmp_arg_cmp."""
-
-    _fields_ = [("arg", ctypes.c_uint), ("op", ctypes.c_int), ("a", ctypes.c_uint64), ("b", ctypes.c_uint64)]
-
-
 def action(text):
     """The number of an action, as `ERRNO(13)`, or a number."""
     name, _, datum = text.rstrip(")").partition("(")
@@ -30,112 +26,24 @@ def action(text):
 
 
 def condition(text):
-    """A condition, as `a0==1` or `a1&0xff==2`; any other text is one with operator 0."""
+    """A condition, as `a0==1` or `a1&0xff==2`: argument, operator and both values. Any other text is one with operator 0."""
     found = CONDITION.match(text)
     if not found:
-        return Comparison(0, 0, 0, 0)
+        return 0, 0, 0, 0
     index, mask, operator, value = found.groups()
     if mask:
-        return Comparison(int(index), 7, int(mask, 0), int(value, 0))
-    return Comparison(int(index), OPERATORS[operator], int(value, 0), 0)
+        return int(index), 7, int(mask, 0), int(value, 0)
+    return int(index), OPERATORS[operator], int(value, 0), 0
 
 
-class Library:
-    """A library with libseccomp's calls, and one context."""
+class Comparison(ctypes.Structure):
+    """struct scmp_arg_cmp."""
 
-    def __init__(self, path):
-        self.calls = ctypes.CDLL(path)
-        for name in ("seccomp_init", "seccomp_syscall_resolve_num_arch"):
-            getattr(self.calls, name).restype = ctypes.c_void_p
-        self.context = None
-
-    def release(self):
-        """Gives the context back."""
-        if self.context:
-            self.calls.seccomp_release(self.context)
-        self.context = None
-
-    def init(self, default):
-        """A new context: whether there is one."""
-        self.release()
-        made = self.calls.seccomp_init(ctypes.c_uint32(action(default)))
-        self.context = ctypes.c_void_p(made) if made else None
-        return 0 if made else "null"
-
-    def arch(self, what, name):
-        """seccomp_arch_add and so on."""
-        return getattr(self.calls, f"seccomp_arch_{what}")(self.context, ctypes.c_uint32(ARCHS[name]))
-
-    def attr(self, what, name, value="0"):
-        """seccomp_attr_get and seccomp_attr_set; where one is got, its value."""
-        attribute = ATTRIBUTES[name] if name in ATTRIBUTES else int(name, 0)
-        if what == "set":
-            return self.calls.seccomp_attr_set(self.context, attribute, ctypes.c_uint32(action(value)))
-        held = ctypes.c_uint32()
-        error = self.calls.seccomp_attr_get(self.context, attribute, ctypes.byref(held))
-        return error or held.value
-
-    def number(self, text):
-        """A call's number, or that of its name."""
-        if re.fullmatch(r"-?\d+", text):
-            return int(text)
-        return self.calls.seccomp_syscall_resolve_name(text.encode())
-
-    def add(self, verdict, call, *conditions, exact=False):
-        """seccomp_rule_add_array or seccomp_rule_add_exact_array."""
-        made = [condition(text) for text in conditions]
-        call_it = self.calls.seccomp_rule_add_exact_array if exact else self.calls.seccomp_rule_add_array
-        return call_it(self.context, ctypes.c_uint32(action(verdict)), self.number(call), ctypes.c_uint(len(made)),
-                       (Comparison * max(1, len(made)))(*made))
-
-    def exact(self, verdict, call, *conditions):
-        """seccomp_rule_add_exact_array."""
-        return self.add(verdict, call, *conditions, exact=True)
-
-    def resolve(self, arch, name):
-        """seccomp_syscall_resolve_name_arch."""
-        return self.calls.seccomp_syscall_resolve_name_arch(ctypes.c_uint32(ARCHS[arch]), name.encode())
-
-    def rewrite(self, arch, name):
-        """seccomp_syscall_resolve_name_rewrite."""
-        return self.calls.seccomp_syscall_resolve_name_rewrite(ctypes.c_uint32(ARCHS[arch]), name.encode())
-
-    def name(self, arch, number):
-        """seccomp_syscall_resolve_num_arch."""
-        made = self.calls.seccomp_syscall_resolve_num_arch(ctypes.c_uint32(ARCHS[arch]), ctypes.c_int(int(number)))
-        return ctypes.string_at(made).decode() if made else "null"
-
-    def plain(self, call, *numbers):
-        """A call on the context and numbers."""
-        return getattr(self.calls, f"seccomp_{call}")(self.context, *(ctypes.c_uint32(action(n)) for n in numbers))
-
-    def transaction(self, what):
-        """seccomp_transaction_start, commit and reject."""
-        return getattr(self.calls, f"seccomp_transaction_{what}")(self.context) if what != "reject" else (
-            self.calls.seccomp_transaction_reject(self.context) and 0 or 0)
-
-    def export(self, kind="bpf"):
-        """The filter that is exported, or the error."""
-        with tempfile.TemporaryFile() as file:
-            error = getattr(self.calls, f"seccomp_export_{kind}")(self.context, file.fileno())
-            file.seek(0)
-            return error, file.read()
-
-    def memory(self, room):
-        """seccomp_export_bpf_mem with so much room: the error, the bytes and how many are wanted."""
-        held, length = ctypes.create_string_buffer(max(room, 1)), ctypes.c_size_t(room)
-        error = self.calls.seccomp_export_bpf_mem(self.context, held if room else None, ctypes.byref(length))
-        return error, held.raw[: min(room, length.value)], length.value
-
-
-def record(arch, number, *arguments):
-    """The 64 bytes of a call record."""
-    arguments = [int(a, 0) for a in arguments] + [0] * (6 - len(arguments))
-    return struct.pack("<IIQ6Q", int(number, 0) & 0xFFFFFFFF, TOKENS[arch], 0, *arguments)
+    _fields_ = [("arg", ctypes.c_uint), ("op", ctypes.c_int), ("a", ctypes.c_uint64), ("b", ctypes.c_uint64)]
 
 
 class Told:
-    """What is written on standard error while this is open."""
+    """What this process writes on standard error while this is open."""
 
     def __enter__(self):
         self.file, self.kept = tempfile.TemporaryFile(), os.dup(2)
@@ -148,3 +56,231 @@ class Told:
         self.file.seek(0)
         self.text = self.file.read().decode(errors="replace")
         self.file.close()
+
+
+class ToldFar:
+    """What another process writes into a file while this is open."""
+
+    def __init__(self, file):
+        self.file = file
+
+    def __enter__(self):
+        self.before = os.fstat(self.file.fileno()).st_size
+        return self
+
+    def __exit__(self, *_):
+        length = os.fstat(self.file.fileno()).st_size - self.before
+        self.text = os.pread(self.file.fileno(), length, self.before).decode(errors="replace")
+
+
+class Here:
+    """A library in this process, and one context."""
+
+    def __init__(self, path):
+        self.calls = ctypes.CDLL(path)
+        for name in ("seccomp_init", "seccomp_syscall_resolve_num_arch"):
+            getattr(self.calls, name).restype = ctypes.c_void_p
+        self.context = None
+
+    def told(self):
+        """What is told from now on."""
+        return Told()
+
+    def bare(self, name, *arguments):
+        """A call without a context."""
+        made = [a.encode() if isinstance(a, str) else ctypes.c_uint32(a) for a in arguments]
+        return getattr(self.calls, f"seccomp_{name}")(*made)
+
+    def ask(self, name, *arguments):
+        """A call on the context."""
+        return getattr(self.calls, f"seccomp_{name}")(self.context, *(ctypes.c_uint32(a) for a in arguments))
+
+    def init(self, default):
+        """A new context: whether there is one."""
+        self.release()
+        made = self.bare("init", default)
+        self.context = ctypes.c_void_p(made) if made else None
+        return made is not None
+
+    def release(self):
+        """Gives the context back."""
+        if self.context:
+            self.ask("release")
+        self.context = None
+
+    def get(self, attribute):
+        """seccomp_attr_get: the error, or the value."""
+        held = ctypes.c_uint32()
+        error = self.calls.seccomp_attr_get(self.context, attribute, ctypes.byref(held))
+        return error or held.value
+
+    def add(self, name, verdict, number, conditions):
+        """A rule with conditions, by the call of this name."""
+        listed = (Comparison * max(1, len(conditions)))(*(Comparison(*c) for c in conditions))
+        return getattr(self.calls, f"seccomp_{name}")(self.context, ctypes.c_uint32(verdict), number, len(conditions), listed)
+
+    def name(self, token, number):
+        """seccomp_syscall_resolve_num_arch."""
+        made = self.bare("syscall_resolve_num_arch", token, number)
+        return ctypes.string_at(made).decode() if made else "null"
+
+    def export(self):
+        """The error, and what is written into a file."""
+        with tempfile.TemporaryFile() as file:
+            error = self.ask("export_bpf", file.fileno())
+            file.seek(0)
+            return error, file.read()
+
+    def memory(self, room):
+        """seccomp_export_bpf_mem with so much room: the error, the bytes and how many are wanted."""
+        held, length = ctypes.create_string_buffer(max(room, 1)), ctypes.c_size_t(room)
+        error = self.calls.seccomp_export_bpf_mem(self.context, held if room else None, ctypes.byref(length))
+        return error, held.raw[: min(room, length.value)], length.value
+
+
+class Far:
+    """A library of another machine, and one context. tests/asked.c makes the calls there, by a command."""
+
+    def __init__(self, command):
+        self.lines = tempfile.TemporaryFile("ab+", buffering=0)
+        self.asked = subprocess.Popen(command, stdin=subprocess.PIPE, stdout=subprocess.PIPE, stderr=self.lines, text=True)
+        self.context = False
+
+    def told(self):
+        """What is told from now on."""
+        return ToldFar(self.lines)
+
+    def close(self):
+        """Ends the other process."""
+        self.asked.stdin.close()
+        self.asked.wait()
+
+    def line(self, *words):
+        """The answer to a line."""
+        print(*words, file=self.asked.stdin, flush=True)
+        answer = self.asked.stdout.readline()
+        if not answer:
+            raise RuntimeError(f"{words}: no answer, and status {self.asked.wait()}")
+        return answer.split(" ")
+
+    def bare(self, name, *arguments):
+        """A call without a context."""
+        return int(self.line(name, *arguments)[0])
+
+    ask = bare
+
+    def init(self, default):
+        """A new context: whether there is one."""
+        self.context = self.bare("init", default) == 0
+        return self.context
+
+    def release(self):
+        """Gives the context back."""
+        self.bare("release")
+        self.context = False
+
+    def get(self, attribute):
+        """seccomp_attr_get: the error, or the value."""
+        return self.bare("attr_get", attribute)
+
+    def add(self, name, verdict, number, conditions):
+        """A rule with conditions, by the call of this name."""
+        return self.bare(name, verdict, number, *(number for condition in conditions for number in condition))
+
+    def name(self, token, number):
+        """seccomp_syscall_resolve_num_arch."""
+        return self.line("syscall_resolve_num_arch", token, number)[0].strip()
+
+    def export(self):
+        """The error, and what is written into a file."""
+        error, digits = self.line("export_bpf")
+        return int(error), bytes.fromhex(digits)
+
+    def memory(self, room):
+        """seccomp_export_bpf_mem with so much room: the error, the bytes and how many are wanted."""
+        length, error, digits = self.line("export_bpf_mem", room)
+        return int(error), bytes.fromhex(digits), int(length)
+
+
+class Library:
+    """A library with libseccomp's calls, asked by texts, wherever it is."""
+
+    def __init__(self, path):
+        self.at = path if isinstance(path, Far) else Here(path)
+
+    def told(self):
+        """What is told on standard error while this is open."""
+        return self.at.told()
+
+    @property
+    def context(self):
+        """Whether there is a context."""
+        return self.at.context
+
+    def release(self):
+        """Gives the context back."""
+        self.at.release()
+
+    def close(self):
+        """Ends the process of a library that is far away."""
+        self.at.close()
+
+    def init(self, default):
+        """A new context."""
+        return 0 if self.at.init(action(default)) else "null"
+
+    def arch(self, what, name):
+        """seccomp_arch_add and so on."""
+        return self.at.ask(f"arch_{what}", ARCHS[name])
+
+    def attr(self, what, name, value="0"):
+        """seccomp_attr_get and seccomp_attr_set; where one is got, its value."""
+        attribute = ATTRIBUTES[name] if name in ATTRIBUTES else int(name, 0)
+        return self.at.ask("attr_set", attribute, action(value)) if what == "set" else self.at.get(attribute)
+
+    def number(self, text):
+        """A call's number, or that of its name."""
+        return int(text) if re.fullmatch(r"-?\d+", text) else self.at.bare("syscall_resolve_name", text)
+
+    def add(self, verdict, call, *conditions, how="rule_add_array"):
+        """A rule, by seccomp_rule_add_array."""
+        return self.at.add(how, action(verdict), self.number(call), [condition(text) for text in conditions])
+
+    def exact(self, verdict, call, *conditions):
+        """A rule, by seccomp_rule_add_exact_array."""
+        return self.add(verdict, call, *conditions, how="rule_add_exact_array")
+
+    def resolve(self, arch, name):
+        """seccomp_syscall_resolve_name_arch."""
+        return self.at.bare("syscall_resolve_name_arch", ARCHS[arch], name)
+
+    def rewrite(self, arch, name):
+        """seccomp_syscall_resolve_name_rewrite."""
+        return self.at.bare("syscall_resolve_name_rewrite", ARCHS[arch], name)
+
+    def name(self, arch, number):
+        """seccomp_syscall_resolve_num_arch."""
+        return self.at.name(ARCHS[arch], int(number))
+
+    def plain(self, call, *numbers):
+        """A call on the context and numbers."""
+        return self.at.ask(call, *(action(n) for n in numbers))
+
+    def transaction(self, what):
+        """seccomp_transaction_start, commit and reject, of which the last answers nothing."""
+        answer = self.at.ask(f"transaction_{what}")
+        return 0 if what == "reject" else answer
+
+    def export(self):
+        """The filter that is exported, behind the error."""
+        return self.at.export()
+
+    def memory(self, room):
+        """seccomp_export_bpf_mem."""
+        return self.at.memory(room)
+
+
+def record(arch, number, *arguments):
+    """The 64 bytes of a call record."""
+    arguments = [int(a, 0) for a in arguments] + [0] * (6 - len(arguments))
+    return struct.pack("<IIQ6Q", int(number, 0) & 0xFFFFFFFF, TOKENS[arch], 0, *arguments)

@@ -21,18 +21,17 @@ KINDS = {
     "refused kernel": "kernel_check",
     "refused profile": "profile_json",
     "refused compile": "rule_compile",
-    "refused certify": "cert_walk",
+    "refused certify": "cert_search",
     "refused listing": "bpf_asm",
     "no": "cert_check",
 }
 
 # The tables of faults on each page, in order, by the crates that they are of.
 FAULTS = {
-    "FILTERS.md": ["kernel_check"],
-    "LISTING.md": ["bpf_asm"],
+    "FILTERS.md": ["kernel_check", "bpf_asm"],
     "PROFILES.md": ["profile", "profile_json"],
     "COMPILER.md": ["rule_compile"],
-    "CERTIFICATES.md": ["cert_walk", "cert_form"],
+    "CERTIFICATES.md": ["cert_search", "cert_form"],
 }
 
 
@@ -133,7 +132,7 @@ def codes_in(text, head):
 def faults_of_operations(page, text):
     """The table of operations: its codes are those of the lines of listings."""
     shown = codes_in(text, ["Operation", "Code"])
-    unlike = shown ^ codes_in(read("docs/LISTING.md"), ["Code", "Line"]) if shown else set()
+    unlike = shown ^ codes_in(read("docs/FILTERS.md"), ["Code", "Line"]) if shown else set()
     return [f"codes in one of two tables alone: {sorted(unlike)}"] if unlike else []
 
 

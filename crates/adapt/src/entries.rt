@@ -59,7 +59,11 @@ fn is_kept(
     false
 }
 
-/// Adds the entries that are kept, a line each, and where each stood in the configuration.
+// How many entries are written at most: one more than a bundle may have, which is enough for it to be refused.
+const MOST_WRITTEN: usize = 1025;
+
+/// Adds the entries that are kept, a line each, and where each stood in the configuration. Of more than a bundle may have, which
+/// is refused by their number, the last ones are not written.
 pub(crate) fn put_entries(
     text: &mut Text,
     changes: &mut Changes,
@@ -70,7 +74,7 @@ pub(crate) fn put_entries(
 ) {
     for (at, entry) in list.iter().enumerate() {
         let place = place.entry(at);
-        if is_kept(changes, settings, (at, place), entry) {
+        if is_kept(changes, settings, (at, place), entry) && places.len() < MOST_WRITTEN {
             text.separate(",");
             text.put("\n        ");
             put_entry(text, changes, settings, (at, place), entry);

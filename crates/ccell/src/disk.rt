@@ -3,6 +3,7 @@ use cli::{FileFault, Files};
 use std::alloc::Global;
 use std::io::Read;
 use std::{fs, io};
+use streams::FromRead;
 
 fn fault_of(error: io::Error) -> FileFault {
     match error.kind() {
@@ -48,6 +49,13 @@ impl Files for Disk<'_> {
 
     // What the files of a process have is not told.
     ghost folder = { λ _. None };
+
+    type Opened = FromRead<fs::File>;
+
+    fn open(&mut self, name: &str) -> Result<FromRead<fs::File>, FileFault> {
+        let file = fs::open(self.0, name).map_err(fault_of)?;
+        Ok(FromRead::new(file))
+    }
 
     fn read(&mut self, _alloc: Global, name: &str) -> Result<Vec<u8>, FileFault> {
         fs::read(self.0, name).map_err(fault_of)

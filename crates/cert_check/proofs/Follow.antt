@@ -221,7 +221,7 @@ module _ (r : List ℕ) (rec : IsRecord r) (p : List Insn) (accepted : IsAccepte
       elim (cases_eq (bit_and (slice_index r w) m) 0) [
         | inl q ↦ inl (q ∙ sym none)
         | inr q ↦ inr (subst (λ i. (a ≤ slice_index r i) × (slice_index r i ≤ b)) same (
-            let least = above_lowest (slice_index r w) m fits q in
+            let least = above_lowest (slice_index r w) m q in
             let small = rec.words w in
             (omega (arith, least, low), omega (arith, small, high))))
       ]

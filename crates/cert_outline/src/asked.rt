@@ -1,6 +1,6 @@
 //! Of which calls rules ask for arguments, and what is left to ask of one.
 
-use cert_parts::{Item, bits, mixed};
+use crate::parts::{Item, bits, mixed};
 use rule_compile::{Asked, Call, Open, Outline, Part};
 use std::alloc::{AllocError, Global};
 

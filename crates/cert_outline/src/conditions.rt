@@ -4,8 +4,8 @@
 //! compared, and the high one counts as 0.
 ghost use Rattle.std.specs.Prelude.{◌<◌};
 
+use crate::parts::{Cut, cut_below, cut_of_bits, listed};
 use crate::words::{Told, Words};
-use cert_parts::{Cut, cut_below, cut_of_bits, listed};
 use cert_state::{Knowledge, Lit};
 use profile::{Cond, Op};
 

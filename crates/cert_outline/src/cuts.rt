@@ -4,9 +4,9 @@ use crate::asked::{Left, LeftRule};
 use crate::conditions::{cut_of, cut_where_known};
 use crate::fault::OutlineError;
 use crate::maker::Maker;
+use crate::parts::Cut;
 use crate::spot::{Spot, Which};
 use crate::words::Words;
-use cert_parts::Cut;
 
 // Where the words of a record begin that hold arguments, in bytes.
 const ARGUMENTS: u32 = 16;

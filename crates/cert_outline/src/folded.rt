@@ -2,8 +2,8 @@
 
 use crate::maker::Maker;
 use crate::numbers::NUMBER;
+use crate::parts::Cut;
 use crate::spot::Spot;
-use cert_parts::Cut;
 use cert_state::{AVal, Lit, is_bit};
 
 /// A part of the number that A holds, and what is known of the bits outside.

@@ -6,10 +6,10 @@ use crate::fault::OutlineError;
 use crate::listing::Listing;
 use crate::maker::Maker;
 use crate::needs::Needs;
+use crate::parts::{Chains, Marks, NOBODY, listed};
 use crate::spot::Spot;
 use crate::words::{Told, Words};
 use cert_form::{Claim, Kind};
-use cert_parts::{Chains, Marks, NOBODY, listed};
 use cert_state::{AVal, Facts, Knowledge, Lit};
 use std::alloc::AllocError;
 

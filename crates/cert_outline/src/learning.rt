@@ -5,9 +5,9 @@ use crate::conditions::{Answer, bits_of, by_all, by_bits, by_high, by_low, low_w
 use crate::fault::OutlineError;
 use crate::maker::Maker;
 use crate::numbers::NUMBER;
+use crate::parts::listed;
 use crate::spot::{Spot, Which};
 use crate::words::{Told, Words};
-use cert_parts::listed;
 use cert_state::{Facts, Knowledge, Lit};
 use profile::{Cond, Op, Rule};
 use std::alloc::{AllocError, Global};

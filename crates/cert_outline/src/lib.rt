@@ -21,6 +21,7 @@ mod maker;
 mod making;
 mod needs;
 mod numbers;
+mod parts;
 mod reasons;
 mod spot;
 mod stating;

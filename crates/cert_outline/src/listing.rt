@@ -2,9 +2,9 @@
 
 use crate::fault::OutlineError;
 use crate::maker::{Maker, regs_of};
+use crate::parts::{Chains, NOBODY, followers, leading_to};
 use crate::spot::Spot;
 use cert_form::{ChainNode, Kind};
-use cert_parts::{Chains, NOBODY, followers, leading_to};
 use std::alloc::{AllocError, Global};
 
 fn number_at(numbers: &[u32], place: u32) -> u32 {

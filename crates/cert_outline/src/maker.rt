@@ -2,11 +2,11 @@
 
 use crate::asked::{AskedCall, Left, asked_calls};
 use crate::fault::OutlineError;
+use crate::parts::{Cut, NOBODY, Table};
 use crate::spot::{Spot, Which};
 use crate::words::Words;
 use bpf_insn::{Arithmetic, Insn, Operand, Operation, Program, Test};
 use cert_form::{Kind, MAX_NODES};
-use cert_parts::{Cut, NOBODY, Table};
 use cert_state::{AVal, Listed, Lit, Regs, sharp_fact};
 use profile::Profile;
 use rule_compile::Outline;

@@ -4,10 +4,10 @@
 use crate::conditions::{Answer, by_all, low_word};
 use crate::fault::OutlineError;
 use crate::maker::Maker;
+use crate::parts::{NOBODY, listed};
 use crate::spot::{Spot, Which};
 use crate::words::Told;
 use cert_form::{Claim, Kind};
-use cert_parts::{NOBODY, listed};
 use cert_state::{Facts, Knowledge, Lit};
 use std::alloc::{AllocError, Global};
 

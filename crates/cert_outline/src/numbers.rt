@@ -2,10 +2,10 @@
 
 use crate::conditions::{Answer, below, beside, by_all, told_apart};
 use crate::maker::Maker;
+use crate::parts::{Cut, listed};
 use crate::spot::Which;
 use crate::words::{Told, Words};
 use call_tables::Arch;
-use cert_parts::{Cut, listed};
 use cert_state::{Facts, Knowledge, Listed, Lit, range};
 use profile::{Rule, foreign_numbers};
 use std::alloc::{AllocError, Global};

@@ -3,8 +3,8 @@
 use crate::asked::{Left, LeftRule};
 use crate::learning::{all_bits, left_by_all};
 use crate::maker::Maker;
+use crate::parts::listed;
 use crate::words::{Told, Words};
-use cert_parts::listed;
 use cert_state::{Facts, Knowledge};
 use std::alloc::AllocError;
 

@@ -1,6 +1,6 @@
 //! Where a node stands, and what is known there.
 
-use cert_parts::{Item, bits, mixed};
+use crate::parts::{Item, bits, mixed};
 use cert_state::AVal;
 
 /// Which call comes to a spot.

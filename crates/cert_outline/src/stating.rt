@@ -3,10 +3,10 @@
 use crate::asked::{AskedCall, Left, LeftRule};
 use crate::fault::OutlineError;
 use crate::maker::Maker;
+use crate::parts::Stated;
 use crate::spot::{Spot, Which};
 use crate::words::Words;
 use cert_form::Claim;
-use cert_parts::Stated;
 use std::alloc::{AllocError, Global};
 
 /// Claims, one after the other.

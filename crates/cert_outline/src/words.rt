@@ -1,7 +1,7 @@
 //! What is known of some words of a record, as literals.
 
+use crate::parts::{Item, listed, mixed};
 use cert_form::Claim;
-use cert_parts::{Item, listed, mixed};
 use cert_state::{Knowledge, Lit, is_dead_at, range};
 use std::alloc::{AllocError, Global};
 

@@ -1,5 +1,5 @@
 -- Where a comparison tells all that it asks, the facts of its two edges are true of no record together.
-use Rattle.std.proofs.Common.{◌≡◌, ℕ, ◌+◌, ◌-◌, ◌^◌, ◌≤◌, Bool, true, false, not, cond, eqb, List, sym, ap, ◌∙◌, subst, ⊎_elim, arith}
+use Rattle.std.proofs.Common.{◌≡◌, ℕ, ◌+◌, ◌-◌, ◌≤◌, Bool, true, false, not, cond, eqb, List, sym, ◌∙◌, subst, ⊎_elim, arith}
 use Rattle.std.specs.Prelude.{bit_and, bit_or, IfSome, Option, Some, None}
 use Rattle.std.specs.Int.{w32, trailing_zeros}
 use Rattle.std.proofs.lemmas.Bool.{cases_Bool, eqb-true}
@@ -9,11 +9,11 @@ use Rattle.bpf_insn.specs.declared.code.Test.{Test}
 use Rattle.bpf_insn.specs.declared.code.Test.TheVariants.{Equal, Greater, AtLeast, AnyBit}
 use Rattle.bpf_insn.specs.Machine.{holds}
 use Rattle.cert_state.specs.declared.literal.AVal.{AVal}
-use Rattle.cert_state.specs.declared.literal.AVal.TheVariants.{Unknown, Const, Masked}
+use Rattle.cert_state.specs.declared.literal.AVal.TheVariants.{Const, Masked}
 use Rattle.cert_state.specs.declared.literal.Lit.{Lit}
 use Rattle.cert_state.specs.declared.literal.Lit.TheVariants.{In, Bits, NotBits}
 use Rattle.cert_state.specs.Literals.{Holds, all_bits, false_literal}
-use Rattle.cert_state.specs.Sharp.{above_fact, beside_fact, is_bit, is_high, lowest_bit, outside, sharp_test_fact}
+use Rattle.cert_state.specs.Sharp.{above_fact, is_bit, is_high, lowest_bit, part_fact, sharp_test_fact}
 use Rattle.cert_state.specs.Transfer.{certain_fact, masked_fact}
 use Rattle.cert_paths.specs.Telling.{IsTold}
 
@@ -54,8 +54,8 @@ module _ (r : List ℕ) where
   above_apart lits w m c high one other =
       let k : ℕ = bit_or c (all_bits - m) in
       order_apart w k
-      (subst (λ b. Tell (cond b (masked_fact Greater w all_bits k true) (beside_fact w c (outside lits w m) true))) high one)
-      (subst (λ b. Tell (cond b (masked_fact Greater w all_bits k false) (beside_fact w c (outside lits w m) false))) high other)
+      (subst (λ b. Tell (cond b (masked_fact Greater w all_bits k true) (part_fact lits w m c true))) high one)
+      (subst (λ b. Tell (cond b (masked_fact Greater w all_bits k false) (part_fact lits w m c false))) high other)
 
   least_apart : (lits : List Lit) (w m c : ℕ) → is_high m ≡ true
       → Tell (cond (eqb c 0) (masked_fact AtLeast w all_bits 0 true) (above_fact lits w m (c - 1) true))

@@ -1,8 +1,8 @@
 -- What the node of a place does: it keeps the rules, and each place that is added is led to.
-use Rattle.std.proofs.Common.{◌≡◌, ℕ, ◌+◌, ◌^◌, ◌<◌, true, false, List, [], ◌∷◌, ◌++◌, length, get_or, refl, ap, sym, ◌∙◌, arith}
+use Rattle.std.proofs.Common.{◌≡◌, ℕ, ◌+◌, ◌^◌, ◌<◌, true, false, List, [], ◌∷◌, ◌++◌, length, get_or, ap, sym, ◌∙◌, arith}
 use Rattle.std.proofs.Common.{subst}
 use Rattle.std.proofs.Common.{length-append}
-use Rattle.std.specs.Prelude.{All, Option, Some, None, slice_get, option_to_list}
+use Rattle.std.specs.Prelude.{All, Some, None, slice_get, option_to_list}
 use Rattle.std.proofs.lemmas.List.Elements.{All-push}
 use Rattle.std.proofs.lemmas.Option.{slice_get-get_or, slice_get_within}
 use Rattle.bpf_insn.specs.declared.instruction.Insn.{Insn}

@@ -24,7 +24,7 @@ use Rattle.cert_state.proofs.SharpLaws.{follows_sharp_fact}
 use Rattle.cert_state.proofs.StepLaws.{stays_inside}
 use Rattle.cert_check.specs.Rules.{value_verdict, verdict_by}
 use Rattle.cert_paths.specs.declared.action.Action.TheVariants as action
-use Rattle.cert_paths.specs.Telling.{IsTold, TellsFrom, telling_by}
+use Rattle.cert_paths.specs.Telling.{TellsFrom, telling_by}
 use Rattle.cert_paths.specs.inner.Actions.{action_by}
 use Rattle.cert_paths.specs.inner.Follow.{GivesThere}
 use Rattle.cert_paths.specs.inner.Led.{IsLed, RunsTo}

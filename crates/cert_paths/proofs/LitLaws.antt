@@ -1,6 +1,6 @@
 -- What is learned is a literal.
 use Rattle.std.proofs.Common.{◌≡◌, ℕ, zero, suc, ◌+◌, ◌-◌, ◌*◌, ◌/◌, ◌%◌, ◌^◌, ◌<◌, ◌≤◌, Bool, true, false, cond, eqb, List, length, ap, sym}
-use Rattle.std.proofs.Common.{arith, subst, ⊎_elim, get_or, refl, ◌∙◌, inl, inr}
+use Rattle.std.proofs.Common.{arith, subst, ⊎_elim, get_or, refl, ◌∙◌, inl, inr, leb, ltb}
 use Rattle.std.specs.Prelude.{All, IfSome, Option, Some, None, bit_and, bit_or, min, slice_get, slice_index_or, slice_set}
 use Rattle.std.specs.Int.{bit_at}
 use Rattle.std.specs.Int.Bits.{and_mask, and_self}
@@ -28,10 +28,11 @@ use Rattle.bpf_insn.proofs.PlainLaws.{plain-loads, plain-reads}
 use Rattle.cert_state.specs.declared.literal.AVal.{AVal}
 use Rattle.cert_state.specs.declared.literal.AVal.TheVariants.{Unknown, Const, Masked}
 use Rattle.cert_state.specs.declared.literal.Lit.{Lit}
-use Rattle.cert_state.specs.declared.literal.Lit.TheVariants.{In, Bits}
+use Rattle.cert_state.specs.declared.literal.Lit.TheVariants.{In, Bits, NotBits}
 use Rattle.cert_state.specs.declared.literal.Regs.{Regs}
 use Rattle.cert_state.specs.Literals.{AreValues, IsLit, IsValue, all_bits, false_literal}
-use Rattle.cert_state.specs.Sharp.{above_fact, beside_fact, is_bit, is_high, outside, sharp_fact, sharp_fact_by, sharp_masked_fact, sharp_test_fact}
+use Rattle.cert_state.specs.Sharp.{above_fact, any_fact, beside_fact, is_bit, is_high, lowest_bit, outside, part_fact}
+use Rattle.cert_state.specs.Sharp.{sharp_fact, sharp_fact_by, sharp_masked_fact, sharp_test_fact}
 use Rattle.cert_state.specs.Transfer.{certain_fact, combined, computed_value, mapped, masked, masked_fact, operand_value, test_fact, transfer}
 use Rattle.cert_state.specs.Transfer.{transfer_if}
 use Rattle.cert_state.proofs.BitLaws.{and_all}
@@ -119,36 +120,52 @@ test_lit test (Masked w m) (Masked v n) taken is_a is_b = tt
 
 -- ---- sharp facts
 
-module _ (lits : List Lit) (w c : ℕ) (low : w < 16) (fits : c < 2 ^ 32) where
-  beside_lit : (o : Option ℕ) (taken : Bool) → IsFact (beside_fact w c o taken)
+module _ (w : ℕ) (low : w < 16) where
+  any_lit : (m : ℕ) (taken : Bool) → m < 2 ^ 32 → IsFact (any_fact w m taken)
+  any_lit m true small = by_test (is_bit m) where
+    by_test : (b : Bool) → IsFact (cond b (Some (Bits w m m)) (Some (NotBits w m 0)))
+    by_test true = (low, small, and_self m)
+    by_test false = (low, small, zero_and m)
+  any_lit m false small = (low, small, zero_and m)
+
+module _ (lits : List Lit) (w m c : ℕ) (low : w < 16) (small : m < 2 ^ 32) (fits : c < 2 ^ 32) where
+  beside_lit : (o : Option ℕ) (taken : Bool) → IsFact (beside_fact w m c o taken)
   beside_lit (Some d) taken =
       masked_lit w all_bits (min (c + d) all_bits) low (omega arith)
       (let l = min-le_right (c + d) all_bits in omega (arith, l)) Greater taken
-  beside_lit None true = masked_lit w all_bits c low (omega arith) fits Greater true
-  beside_lit None false = tt
+  beside_lit None taken = by_bit (ltb c (lowest_bit m)) where
+    by_way : (taken : Bool) → IsFact (cond taken (masked_fact Greater w all_bits c true) None)
+    by_way true = masked_lit w all_bits c low (omega arith) fits Greater true
+    by_way false = tt
 
-  above_lit : (m : ℕ) (taken : Bool) → IsFact (above_fact lits w m c taken)
-  above_lit m taken = by_test (is_high m) where
+    by_bit : (b : Bool) → IsFact (cond b (any_fact w m taken) (cond taken (masked_fact Greater w all_bits c true) None))
+    by_bit true = any_lit w low m taken small
+    by_bit false = by_way taken
+
+  part_lit : (taken : Bool) → IsFact (part_fact lits w m c taken)
+  part_lit true = by_test (leb m c) where
+    by_test : (b : Bool) → IsFact (cond b (Some false_literal) (beside_fact w m c (outside lits w m) true))
+    by_test true = false_is
+    by_test false = beside_lit (outside lits w m) true
+  part_lit false = beside_lit (outside lits w m) false
+
+  above_lit : (taken : Bool) → IsFact (above_fact lits w m c taken)
+  above_lit taken = by_test (is_high m) where
     by_test : (b : Bool)
-        → IsFact (cond b (masked_fact Greater w all_bits (bit_or c (all_bits - m)) taken) (beside_fact w c (outside lits w m) taken))
+        → IsFact (cond b (masked_fact Greater w all_bits (bit_or c (all_bits - m)) taken) (part_fact lits w m c taken))
     by_test true = masked_lit w all_bits (bit_or c (all_bits - m)) low (omega arith)
         (or_lt 32 c (all_bits - m) fits (omega arith)) Greater taken
-    by_test false = beside_lit (outside lits w m) taken
+    by_test false = part_lit taken
 
 module _ (lits : List Lit) (w m c : ℕ) (low : w < 16) (small : m < 2 ^ 32) (fits : c < 2 ^ 32) where
   least_lit : (b taken : Bool) → IsFact (cond b (masked_fact AtLeast w all_bits 0 taken) (above_fact lits w m (c - 1) taken))
   least_lit true taken = masked_lit w all_bits 0 low (omega arith) (omega arith) AtLeast taken
-  least_lit false taken = above_lit lits w (c - 1) low (omega (arith, fits)) m taken
-
-  any_lit : (b : Bool) → IsFact (cond b (Some (Bits w (bit_and m c) (bit_and m c))) (masked_fact AnyBit w m c true))
-  any_lit true = (low, and_small m c small, and_self (bit_and m c))
-  any_lit false = masked_lit w m c low small fits AnyBit true
+  least_lit false taken = above_lit lits w m (c - 1) low small (omega (arith, fits)) taken
 
   sharp_masked_lit : (test : Test) (taken : Bool) → IsFact (sharp_masked_fact lits test w m c taken)
-  sharp_masked_lit Greater taken = above_lit lits w c low fits m taken
+  sharp_masked_lit Greater taken = above_lit lits w m c low small fits taken
   sharp_masked_lit AtLeast taken = least_lit (eqb c 0) taken
-  sharp_masked_lit AnyBit true = any_lit (is_bit (bit_and m c))
-  sharp_masked_lit AnyBit false = masked_lit w m c low small fits AnyBit false
+  sharp_masked_lit AnyBit taken = any_lit w low (bit_and m c) taken (and_small m c small)
   sharp_masked_lit Equal taken = masked_lit w m c low small fits Equal taken
 
 sharp_test_lit : (lits : List Lit) (test : Test) (a b : AVal) (taken : Bool) → IsValue a → IsValue b

@@ -1,6 +1,6 @@
 -- The nodes of places keep the rules.
 use Rattle.std.proofs.Common.{◌≡◌, ℕ, ◌+◌, ◌<◌, true, false, List, [], ◌∷◌, ◌++◌}
-use Rattle.std.proofs.Common.{refl, ap, subst, ◌∙◌, inl, inr}
+use Rattle.std.proofs.Common.{refl, ap, inl, inr}
 use Rattle.std.specs.Prelude.{Option, Some, None, slice_get, option_to_list, All}
 use Rattle.std.proofs.lemmas.List.Elements.{All-cons, All-nil}
 use Rattle.bpf_insn.specs.declared.code.Operand.{Operand}

@@ -1,5 +1,5 @@
 -- What errors tell of a program.
-use Rattle.std.proofs.Common.{List}
+use Rattle.std.proofs.Common.{ℕ, List}
 use Rattle.std.specs.Prelude.{Result, Ok, Err, IfErr}
 use Rattle.call_record.specs.Record.{words}
 use Rattle.bpf_insn.specs.declared.instruction.Insn.{Insn}
@@ -7,7 +7,7 @@ use Rattle.profile.specs.Policy.{Policy}
 use Rattle.cert_check.specs.Right.{IsRight}
 use Rattle.cert_paths.specs.declared.fault.PathsError.{PathsError}
 use Rattle.cert_paths.specs.declared.fault.PathsError.TheVariants.{Unlike, Unsettled, TooLarge, OutOfMemory}
-use Rattle.cert_paths.specs.Fault.{IsSize, TellsTruly, TellsWrong}
+use Rattle.cert_paths.specs.Fault.{IsSize, IsWrongOn, TellsTruly, TellsWrong}
 
 module _ (policy : Policy) (p : List Insn) where
   size_tells : (e : PathsError) → IsSize e → TellsWrong policy p e
@@ -40,3 +40,7 @@ module _ (policy : Policy) (p : List Insn) where
   pub of_right : {A : Type 0} → IsRight policy p → (result : Result A PathsError) → IfErr result (TellsWrong policy p) → IfErr result IsSize
   of_right right (Ok a) is = tt
   of_right right (Err e) is = right_tells right e is
+
+  -- a right program is wrong on no record
+  pub right_not_wrong : IsRight policy p → (r : List ℕ) → IsWrongOn policy p r → ⊥
+  right_not_wrong right r wrong = wrong.unsaid ((right r wrong.is_record wrong.word).0 wrong.gives)

@@ -3,3 +3,11 @@ pub mod Led
 pub mod Places
 pub mod Actions
 pub mod Follow
+pub mod Inverse
+pub mod Leaf
+pub mod Meant
+pub mod Path
+pub mod Counts
+pub mod Plain
+pub mod Apart
+pub mod Limits

@@ -1,10 +1,12 @@
 //! Where what is known is cut in two.
-ghost use Rattle.std.specs.Prelude.{◌≡◌, ◌≢◌, ◌<◌, ◌≤◌, ◌⊎◌, ℕ, Contains, None, bit_and};
+ghost use Rattle.std.specs.Prelude.{◌≡◌, ◌≢◌, ◌-◌, ◌≤◌, ◌⊎◌, ℕ, IfSome, MatchOption, None, bit_and};
 ghost use Rattle.cert_form.specs.Nodes.{literals};
-ghost use Rattle.cert_state.specs.declared.literal.Lit.TheVariants.{Bits};
+ghost use Rattle.cert_state.specs.declared.literal.Lit.TheVariants.{Bits, In, NotBits};
 ghost use Rattle.cert_state.specs.Literals.{IsLit, all_bits};
+ghost use Rattle.cert_paths.specs.inner.Plain.{IsUnsettled, PartsAtReturn};
 ghost use Rattle.cert_paths.specs.inner.Cuts.{AreHalves, AreHalves-prop, IsLit-prop};
 
+use crate::calls::cut_of_calls;
 use crate::chain::Chain;
 use call_tables::Arch;
 use cert_state::{Facts, Knowledge, Lit, is_bit, range};
@@ -20,15 +22,16 @@ pub(crate) struct Cut {
     ghost covers: { AreHalves one other } by { AreHalves-prop one other },
 }
 
-// The words of a record that hold the call's number and the machine's token.
-const NUMBER: u8 = 0;
+/// The words of a record that hold the call's number and the machine's token.
+pub(crate) const NUMBER: u8 = 0;
 
-const TOKEN: u8 = 1;
+pub(crate) const TOKEN: u8 = 1;
 
 impl Cut {
     /// A word is below a number, or at least this. It is always at least 0.
     pub(crate) fn below(word: u8, number: u32) -> Option<Cut>
-        ensures { (result ≡ None) → (16 ≤ word) ⊎ (number ≡ 0) }
+        ensures none { (result ≡ None) → (16 ≤ word) ⊎ (number ≡ 0) }
+        ensures cut { IfSome result (λ cut. (cut.one ≡ In word 0 (number - 1)) × (cut.other ≡ In word number all_bits)) }
     {
         if word >= 16 || number == 0 {
             return None;
@@ -41,7 +44,8 @@ impl Cut {
 
     /// A word is this under a mask, or is not. No word has a bit outside the mask.
     pub(crate) fn bits(word: u8, mask: u32, datum: u32) -> Option<Cut>
-        ensures { (result ≡ None) → (16 ≤ word) ⊎ (bit_and datum mask ≢ datum) }
+        ensures none { (result ≡ None) → (16 ≤ word) ⊎ (bit_and datum mask ≢ datum) }
+        ensures cut { IfSome result (λ cut. (cut.one ≡ Bits word mask datum) × (cut.other ≡ NotBits word mask datum)) }
     {
         if word >= 16 || datum & mask != datum {
             return None;
@@ -162,10 +166,10 @@ fn cut_of_rule(facts: &Facts<'_, Chain<'_>>, rule: &Rule) -> Option<Cut> {
     None
 }
 
-// Where a machine is cut from others, and foreign numbers with its token from the rest.
-fn cut_of_machine(profile: &Profile, facts: &Facts<'_, Chain<'_>>, machine: Arch) -> Option<Cut> {
-    if let Some(cut) = if_open(Cut::bits(TOKEN, u32::MAX, machine.token()), facts) {
-        return Some(cut);
+// Where foreign numbers with a machine's token are cut from the rest, if a call may be its.
+fn cut_of_foreign(profile: &Profile, facts: &Facts<'_, Chain<'_>>, machine: Arch) -> Option<Cut> {
+    if facts.entails(&Lit::NotBits(TOKEN, u32::MAX, machine.token())) {
+        return None;
     }
     for foreign in foreign_numbers(profile.machines(), machine) {
         if let Some(cut) = if_open(Cut::below(NUMBER, foreign.first), facts) {
@@ -180,11 +184,10 @@ fn cut_of_machine(profile: &Profile, facts: &Facts<'_, Chain<'_>>, machine: Arch
     None
 }
 
-/// Where a profile is cut that is not settled.
-pub(crate) fn cut_of_profile(profile: &Profile, known: &Chain<'_>) -> Option<Cut> {
-    let facts = Facts::of(known);
+// Where foreign numbers are cut from the rest, or a rule that is not settled.
+fn cut_of_rules(profile: &Profile, known: &Chain<'_>, facts: &Facts<'_, Chain<'_>>) -> Option<Cut> {
     for machine in profile.machines() {
-        if let Some(cut) = cut_of_machine(profile, &facts, *machine) {
+        if let Some(cut) = cut_of_foreign(profile, facts, *machine) {
             return Some(cut);
         }
     }
@@ -193,9 +196,21 @@ pub(crate) fn cut_of_profile(profile: &Profile, known: &Chain<'_>) -> Option<Cut
         if rule.nr < least || rule.nr > greatest {
             continue;
         }
-        if let Some(cut) = cut_of_rule(&facts, rule) {
+        if let Some(cut) = cut_of_rule(facts, rule) {
             return Some(cut);
         }
     }
     None
+}
+
+/// Where a profile is cut that is not settled: between calls, then at foreign numbers, and at conditions.
+pub(crate) fn cut_of_profile(profile: &Profile, known: &Chain<'_>) -> Option<Cut>
+    ensures { (word : ℕ) (nodes : ℕ) → IsUnsettled profile.now (literals known.now.entries.now known.now.number) word nodes
+        → MatchOption result ⊥ (λ cut. PartsAtReturn profile.now (literals known.now.entries.now known.now.number) word nodes cut.one cut.other) }
+{
+    let facts = Facts::of(known);
+    match cut_of_calls(profile, &facts) {
+        Some(cut) => Some(cut),
+        None => cut_of_rules(profile, known, &facts),
+    }
 }

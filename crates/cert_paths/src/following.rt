@@ -1,9 +1,10 @@
 //! The paths of a filter, from where it begins on.
-ghost use Rattle.std.specs.Prelude.{◌≡◌, ◌<◌, ◌+◌, ◌^◌, ◌⊎◌, ℕ, Some, false, IfErr, IfOk, IfSome, OnOk, length, slice_get};
+ghost use Rattle.std.specs.Prelude.{◌≡◌, ◌<◌, ◌≤◌, ◌+◌, ◌^◌, ◌⊎◌, ℕ, Some, false, true, IfErr, IfOk, IfSome, OnOk, length, slice_get};
 ghost use Rattle.bpf_insn.specs.Causes.{IsPlain};
 ghost use Rattle.bpf_insn.specs.Code.{operation_of};
 ghost use Rattle.kernel_check.specs.Lent.{accepted_insns};
-ghost use Rattle.profile.specs.Policy.{IsProfile};
+ghost use Rattle.profile.specs.Policy.{IsProfile, Policy};
+ghost use Rattle.rule_compile.specs.Shape.{IsCallFilter, IsPlain as IsPlainProfile};
 ghost use Rattle.rule_compile.specs.Steady.{IsSteady, Nothing};
 ghost use Rattle.cert_state.specs.Entailment.{IsDead};
 ghost use Rattle.cert_state.specs.Literals.{AreValues, IsLit};
@@ -17,7 +18,11 @@ ghost use Rattle.call_record.specs.Record.{words};
 ghost use Rattle.cert_paths.specs.Fault.{IsSize, TellsTruly, TellsWrong};
 ghost use Rattle.cert_paths.specs.Telling.{IsTelling};
 ghost use Rattle.cert_paths.specs.inner.Follow.{AreSound, AreTwo, GivesThere, IsCut, IsFollowed, IsFork, IsReturn, IsStep};
+ghost use Rattle.cert_paths.specs.declared.fault.PathsError.TheVariants.{OutOfMemory};
 ghost use Rattle.cert_paths.specs.inner.Led.{AreLed};
+ghost use Rattle.cert_paths.specs.inner.Limits.{LacksRoom};
+ghost use Rattle.cert_paths.specs.inner.Meant.{IsMeant};
+ghost use Rattle.cert_paths.specs.inner.Plain.{AreShares, HaveRoom, IsParted, PartsAtReturn, TakesAt, TakesAtReturn};
 ghost use Rattle.cert_paths.specs.inner.Places.{AreInside, ArePaths, IsPlace, known_at};
 
 use crate::action::{Action, action_of};
@@ -30,7 +35,7 @@ use crate::unlike::{is_wrong_on, likely_record, tried};
 use bpf_insn::{Insn, Operation};
 use call_record::{Record, Word, words_are_a_record};
 use cert_check::{is_settled, stated_is_settled};
-use cert_form::{Kind, MAX_NODES};
+use cert_form::Kind;
 use cert_state::{AVal, dead};
 use kernel_check::Accepted;
 use profile::Profile;
@@ -78,6 +83,7 @@ fn add_two(paths: &mut Paths, from: Place, one: Next, other: Next) -> Result<(u3
     ensures paths { OnOk result (ArePaths paths.new) }
     ensures two { IfOk result (λ two. AreTwo paths.old paths.new from one other two.0 two.1) }
     ensures size { IfErr result IsSize }
+    ensures refused { IfErr result (LacksRoom paths.old from 2) }
 {
     let first = paths.add(from, one)?;
     let second = paths.add(from, other)?;
@@ -90,7 +96,11 @@ fn split(paths: &mut Paths, from: Place, cut: Cut) -> Result<Kind, PathsError>
     requires from { IsPlace paths.old.entries.items from }
     ensures paths { OnOk result (ArePaths paths.new) }
     ensures cut { IfOk result (IsCut paths.old paths.new from) }
+    ensures parts { (policy : Policy) (word : ℕ) (nodes : ℕ)
+        → PartsAtReturn policy (known_at paths.old.entries.items from) word nodes cut.one cut.other
+        → IfOk result (λ _. IsParted policy paths.old paths.new from word nodes) }
     ensures size { IfErr result IsSize }
+    ensures refused { IfErr result (LacksRoom paths.old from 2) }
 {
     let (one, other) = (cut.one, cut.other);
     let (first, second) = add_two(paths, from, from.knowing(one), from.knowing(other))?;
@@ -114,6 +124,13 @@ fn at_return(
     ensures truly { IfErr result (TellsTruly profile.now (accepted_insns program.now)) }
     ensures wrong { GivesThere (accepted_insns program.now) (known_at paths.old.entries.items from) word
         → IfErr result (TellsWrong profile.now (accepted_insns program.now)) }
+    // Of a profile without conditions and its filter the parts take no more, and only memory is wanting.
+    ensures parts { (nodes : ℕ) → IsMeant profile.now (accepted_insns program.now)
+        → TakesAtReturn profile.now (known_at paths.old.entries.items from) word nodes
+        → IfOk result (λ _. (paths.new ≡ paths.old) ⊎ IsParted profile.now paths.old paths.new from word nodes) }
+    ensures memory { (nodes : ℕ) → IsMeant profile.now (accepted_insns program.now)
+        → TakesAtReturn profile.now (known_at paths.old.entries.items from) word nodes
+        → length paths.old.places.items + nodes ≤ 16385 → IfErr result (λ e. e ≡ OutOfMemory) }
 {
     let known = paths.known(from);
     if is_settled(profile, &known, Word(word)) {
@@ -151,6 +168,7 @@ fn at_branch(paths: &mut Paths, from: Place, insn: Insn) -> Result<Kind, PathsEr
     ensures paths { OnOk result (ArePaths paths.new) }
     ensures fork { IfOk result (IsFork paths.old paths.new from insn) }
     ensures size { IfErr result IsSize }
+    ensures refused { IfErr result (LacksRoom paths.old from 2) }
 {
     let known = paths.known(from);
     let regs = from.after(&insn);
@@ -177,6 +195,7 @@ fn step(paths: &mut Paths, from: Place, insn: Insn, skip: u32) -> Result<Kind, P
     ensures paths { OnOk result (ArePaths paths.new) }
     ensures step { IfOk result (IsStep paths.old paths.new from (from.pc + 1 + skip) (transfer from.regs insn)) }
     ensures size { IfErr result IsSize }
+    ensures refused { IfErr result (LacksRoom paths.old from 1) }
 {
     let regs = from.after(&insn);
     let next = Next {
@@ -205,6 +224,14 @@ fn at_end(
     ensures wrong { (word : ℕ) → verdict_by (operation_of insn.code) from.regs insn ≡ Some word
         → GivesThere (accepted_insns program.now) (known_at paths.old.entries.items from) word
         → IfErr result (TellsWrong profile.now (accepted_insns program.now)) }
+    ensures parts { (word : ℕ) (nodes : ℕ) → verdict_by (operation_of insn.code) from.regs insn ≡ Some word
+        → IsMeant profile.now (accepted_insns program.now)
+        → TakesAtReturn profile.now (known_at paths.old.entries.items from) word nodes
+        → IfOk result (λ _. (paths.new ≡ paths.old) ⊎ IsParted profile.now paths.old paths.new from word nodes) }
+    ensures memory { (word : ℕ) (nodes : ℕ) → verdict_by (operation_of insn.code) from.regs insn ≡ Some word
+        → IsMeant profile.now (accepted_insns program.now)
+        → TakesAtReturn profile.now (known_at paths.old.entries.items from) word nodes
+        → length paths.old.places.items + nodes ≤ 16385 → IfErr result (λ e. e ≡ OutOfMemory) }
 {
     match verdict_at(from, &insn) {
         Some(word) => at_return(paths, profile, program, from, word),
@@ -231,6 +258,13 @@ fn at_insn(
     ensures followed { IfOk result (IsFollowed profile.now (accepted_insns program.now) paths.old paths.new from) }
     ensures truly { IfErr result (TellsTruly profile.now (accepted_insns program.now)) }
     ensures told { AreLed (accepted_insns program.now) paths.old → IfErr result (TellsWrong profile.now (accepted_insns program.now)) }
+    // Of a profile without conditions and its filter the places that are added take no more, and only memory is wanting.
+    ensures shares { (nodes : ℕ) → IsMeant profile.now (accepted_insns program.now)
+        → TakesAt profile.now (accepted_insns program.now) paths.old.entries.items from nodes → 1 ≤ nodes
+        → IfOk result (λ _. AreShares profile.now (accepted_insns program.now) paths.old paths.new nodes) }
+    ensures memory { (nodes : ℕ) → IsMeant profile.now (accepted_insns program.now)
+        → TakesAt profile.now (accepted_insns program.now) paths.old.entries.items from nodes → 1 ≤ nodes
+        → length paths.old.places.items + nodes ≤ 16385 → IfErr result (λ e. e ≡ OutOfMemory) }
 {
     match action_of(&insn) {
         Action::Ends => at_end(paths, profile, program, from, insn),
@@ -253,6 +287,13 @@ fn follow(
     ensures followed { IfOk result (IsFollowed profile.now (accepted_insns program.now) paths.old paths.new from) }
     ensures truly { IfErr result (TellsTruly profile.now (accepted_insns program.now)) }
     ensures told { AreLed (accepted_insns program.now) paths.old → IfErr result (TellsWrong profile.now (accepted_insns program.now)) }
+    // Of a profile without conditions and its filter the places that are added take no more, and only memory is wanting.
+    ensures shares { (nodes : ℕ) → IsMeant profile.now (accepted_insns program.now)
+        → TakesAt profile.now (accepted_insns program.now) paths.old.entries.items from nodes → 1 ≤ nodes
+        → IfOk result (λ _. AreShares profile.now (accepted_insns program.now) paths.old paths.new nodes) }
+    ensures memory { (nodes : ℕ) → IsMeant profile.now (accepted_insns program.now)
+        → TakesAt profile.now (accepted_insns program.now) paths.old.entries.items from nodes → 1 ≤ nodes
+        → length paths.old.places.items + nodes ≤ 16385 → IfErr result (λ e. e ≡ OutOfMemory) }
 {
     if dead(&paths.known(from)) {
         return Ok(Kind::Dead);
@@ -275,6 +316,11 @@ fn follow_next(
     ensures led { AreLed (accepted_insns program.now) paths.old → OnOk result (AreLed (accepted_insns program.now) paths.new) }
     ensures truly { IfErr result (TellsTruly profile.now (accepted_insns program.now)) }
     ensures told { AreLed (accepted_insns program.now) paths.old → IfErr result (TellsWrong profile.now (accepted_insns program.now)) }
+    ensures one_more { IfOk result (λ more. more ≡ true → length paths.new.kinds.items ≡ length paths.old.kinds.items + 1) }
+    ensures room { IsMeant profile.now (accepted_insns program.now) → HaveRoom profile.now (accepted_insns program.now) paths.old
+        → OnOk result (HaveRoom profile.now (accepted_insns program.now) paths.new) }
+    ensures memory { IsMeant profile.now (accepted_insns program.now) → HaveRoom profile.now (accepted_insns program.now) paths.old
+        → IfErr result (λ e. e ≡ OutOfMemory) }
 {
     let Some(from) = paths.next_place() else {
         return Ok(false);
@@ -295,13 +341,14 @@ fn follow_all(
     ensures all { OnOk result (length paths.new.kinds.items ≡ length paths.new.places.items) }
     ensures truly { IfErr result (TellsTruly profile.now (accepted_insns program.now)) }
     ensures told { AreLed (accepted_insns program.now) paths.old → IfErr result (TellsWrong profile.now (accepted_insns program.now)) }
+    ensures memory { IsMeant profile.now (accepted_insns program.now) → HaveRoom profile.now (accepted_insns program.now) paths.old
+        → IfErr result (λ e. e ≡ OutOfMemory) }
 {
-    for _ in 0..=MAX_NODES {
+    loop {
         if !follow_next(paths, profile, program)? {
             return Ok(());
         }
     }
-    Err(PathsError::TooLarge)
 }
 
 /// The certificate that follows each path of a filter: it keeps each rule of the checker. What an error tells is so: a record that
@@ -323,7 +370,13 @@ pub fn by_paths(
         → IfErr result (TellsWrong profile.now (accepted_insns program.now)) }
     ensures never { IsTelling (accepted_insns program.now) → IsRight profile.now (accepted_insns program.now)
         → IfErr result IsSize }
+    // A profile without conditions whose filter has the shape is certified, unless memory is wanting.
+    ensures own { IsPlainProfile profile.now → IsCallFilter profile.now (accepted_insns program.now)
+        → IfOk result (λ bytes. IsValidCertificate profile.now (accepted_insns program.now) bytes.items) }
+    ensures memory { IsPlainProfile profile.now → IsCallFilter profile.now (accepted_insns program.now)
+        → IfErr result (λ e. e ≡ OutOfMemory) }
 {
+    profile.rules();
     let mut paths = Paths::new(alloc)?;
     follow_all(&mut paths, profile, program)?;
     paths.written(alloc)

@@ -11,6 +11,7 @@
 #![tactic(auto)]
 
 mod action;
+mod calls;
 mod chain;
 mod cuts;
 mod fault;

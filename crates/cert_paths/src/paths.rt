@@ -1,11 +1,14 @@
 //! The places of all paths, and what their nodes do.
-ghost use Rattle.std.specs.Prelude.{◌≡◌, ◌<◌, ◌^◌, ◌++◌, ◌∷◌, [], All, IfErr, IfOk, IfSome, OnOk, length, slice_get};
+ghost use Rattle.std.specs.Prelude.{◌≡◌, ◌<◌, ◌≤◌, ◌⊎◌, ◌^◌, ◌++◌, ◌∷◌, [], All, IfErr, IfOk, IfSome, OnOk, length, slice_get};
 ghost use Rattle.bpf_insn.specs.declared.instruction.Insn.{Insn as TheInsn};
 ghost use Rattle.profile.specs.Policy.{Policy};
 ghost use Rattle.cert_state.specs.Literals.{AreValues, IsLit};
 ghost use Rattle.cert_form.specs.Nodes.{literals};
 ghost use Rattle.cert_form.specs.Writing.{all_known};
+ghost use Rattle.cert_form.specs.declared.fault.FormError.TheVariants.{OutOfMemory as NoMemory};
 ghost use Rattle.cert_paths.specs.Fault.{IsSize};
+ghost use Rattle.cert_paths.specs.declared.fault.PathsError.TheVariants.{OutOfMemory};
+ghost use Rattle.cert_paths.specs.inner.Limits.{LacksRoom};
 ghost use Rattle.cert_check.specs.Valid.{IsValidCertificate};
 ghost use Rattle.cert_paths.specs.inner.Follow.{IsGiven};
 ghost use Rattle.cert_paths.specs.inner.Places.{AreInside, AreKept, AreNodes, ArePaths, IsAdded, IsLearned, IsPlace, chain_node_of, known_at};
@@ -29,7 +32,8 @@ pub(crate) struct Paths {
 
 // A certificate that is not written is too large, or memory ran out.
 fn refused(error: FormError) -> PathsError
-    ensures { IsSize result }
+    ensures size { IsSize result }
+    ensures memory { error ≡ NoMemory → result ≡ OutOfMemory }
 {
     match error {
         FormError::OutOfMemory => PathsError::OutOfMemory,
@@ -68,6 +72,7 @@ impl Paths {
         ensures places { IfOk result (λ paths. paths.places.items ≡ Place.FIRST ∷ []) }
         ensures kinds { IfOk result (λ paths. paths.kinds.items ≡ []) }
         ensures size { IfErr result IsSize }
+        ensures memory { IfErr result (λ e. e ≡ OutOfMemory) }
     {
         let mut places = Vec::new(alloc);
         places.push(Place::FIRST)?;
@@ -98,6 +103,8 @@ impl Paths {
         ensures paths { OnOk result (ArePaths self.new) }
         ensures added { IfOk result (IsAdded self.old self.new from next) }
         ensures size { IfErr result IsSize }
+        // Too large is a certificate of more places, or of longer chains, than the format allows.
+        ensures refused { IfErr result (LacksRoom self.old from 1) }
     {
         let number = self.places.len();
         if number >= MAX_NODES {
@@ -121,6 +128,7 @@ impl Paths {
         requires room { length self.old.places.items < 16384 }
         ensures learned { IfOk result (IsLearned self.old self.new from learned) }
         ensures size { IfErr result IsSize }
+        ensures refused { IfErr result (λ e. (e ≡ OutOfMemory) ⊎ (512 ≤ from.depth)) }
     {
         let Some(literal) = learned else {
             return Ok((from.chain, from.depth));
@@ -156,6 +164,7 @@ impl Paths {
     pub(crate) fn give(&mut self, kind: Kind) -> Result<(), PathsError>
         ensures given { OnOk result (IsGiven self.old self.new kind) }
         ensures size { IfErr result IsSize }
+        ensures memory { IfErr result (λ e. e ≡ OutOfMemory) }
     {
         self.kinds.push(kind)?;
         Ok(())
@@ -167,7 +176,9 @@ impl Paths {
         requires all { length self.now.kinds.items ≡ length self.now.places.items }
         ensures valid { (policy : Policy) (p : List TheInsn) → AreInside p self.now → AreKept policy p self.now
             → IfOk result (λ bytes. IsValidCertificate policy p bytes.items) }
+        // So few places and entries always fit.
         ensures size { IfErr result IsSize }
+        ensures memory { IfErr result (λ e. e ≡ OutOfMemory) }
     {
         let claims = as_claims(alloc, &self.entries)?;
         let nodes = self.nodes(alloc)?;

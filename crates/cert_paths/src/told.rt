@@ -1,10 +1,11 @@
 //! What is known until each word of a record is told.
-ghost use Rattle.std.specs.Prelude.{◌≡◌, ◌<◌, ◌+◌, ◌%◌, ◌/◌, ◌^◌, Contains, IfOk, None};
+ghost use Rattle.std.specs.Prelude.{◌≡◌, ◌<◌, ◌+◌, ◌%◌, ◌/◌, ◌^◌, ℕ, Contains, IfErr, IfOk, None};
 ghost use Rattle.call_record.specs.Record.{words};
 ghost use Rattle.cert_state.specs.declared.literal.Lit.TheVariants.{Bits};
 ghost use Rattle.cert_state.specs.Literals.{all_bits};
 ghost use Rattle.cert_form.specs.Nodes.{literals};
 ghost use Rattle.cert_check.specs.Settled.{AreStated};
+ghost use Rattle.cert_paths.specs.inner.Plain.{IsUnsettled, PartsAtReturn};
 
 use crate::chain::Chain;
 use crate::cuts::{Cut, cut_of_profile};
@@ -84,7 +85,12 @@ fn cut_of_point(known: &Chain<'_>) -> Option<Cut> {
 /// Where what is known is cut in two: where a machine, a rule or a condition is not settled, then at a bit of a mask, then where a
 /// word may be one number alone, and else anywhere. There is no such place only where each word of the record is stated, which is given then.
 pub(crate) fn told_or_cut(profile: &Profile, known: &Chain<'_>) -> Result<Record, Cut>
-    ensures { IfOk result (λ call. AreStated (literals known.now.entries.now known.now.number) (words call)) }
+    ensures stated { IfOk result (λ call. AreStated (literals known.now.entries.now known.now.number) (words call)) }
+    // A profile without conditions is cut between calls.
+    ensures plain { (word : ℕ) (nodes : ℕ) → IsUnsettled profile.now (literals known.now.entries.now known.now.number) word nodes
+        → IfErr result (λ cut. PartsAtReturn profile.now (literals known.now.entries.now known.now.number) word nodes cut.one cut.other) }
+    ensures never { (word : ℕ) (nodes : ℕ) → IsUnsettled profile.now (literals known.now.entries.now known.now.number) word nodes
+        → IfOk result (λ _. ⊥) }
 {
     if let Some(cut) = cut_of_profile(profile, known) {
         return Err(cut);

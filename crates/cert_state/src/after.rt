@@ -11,7 +11,7 @@ use crate::state::State;
 use bpf_insn::{Arithmetic, Insn, Operand, Operation, Test};
 
 // A literal that is true of no record.
-const FALSE: Lit = Lit::In(0, 1, 0);
+pub(crate) const FALSE: Lit = Lit::In(0, 1, 0);
 
 // What is known of the second operand.
 fn value(operand: Operand, insn: &Insn, regs: &Regs) -> AVal

@@ -1,10 +1,10 @@
 //! Sharp facts: what certificates of form 4 tell on an edge of a conditional jump.
 ghost use Rattle.std.specs.Prelude.{◌≡◌};
-ghost use Rattle.cert_state.specs.Sharp.{above_fact, outside as bits_outside, sharp_masked_fact};
+ghost use Rattle.cert_state.specs.Sharp.{above_fact, any_fact, beside_fact, outside as bits_outside, sharp_masked_fact};
 ghost use Rattle.cert_state.specs.Sharp.{is_bit as has_one, is_high as has_high, lowest_bit as lowest_of};
 ghost use Rattle.cert_state.specs.Sharp.{sharp_fact as fact_of, sharp_test_fact as fact_of_test};
 
-use crate::after::{compared, masked, test_fact};
+use crate::after::{FALSE, compared, masked, test_fact};
 use crate::literal::{AVal, Lit};
 use crate::state::State;
 use crate::summary::summarize;
@@ -43,6 +43,33 @@ fn outside<S: State>(state: &S, word: u8, mask: u32) -> Option<u32>
     None
 }
 
+// What is known where a word has some bit of a mask, or none.
+fn any_bit(word: u8, mask: u32, taken: bool) -> Option<Lit>
+    ensures { result ≡ any_fact word mask taken }
+{
+    Some(match taken {
+        true if is_bit(mask) => Lit::Bits(word, mask, mask),
+        true => Lit::NotBits(word, mask, 0),
+        false => Lit::Bits(word, mask, 0),
+    })
+}
+
+// What is known where a word under a mask is above a number, or is not, by what the word has outside the mask.
+fn beside(word: u8, mask: u32, c: u32, outside: Option<u32>, taken: bool) -> Option<Lit>
+    ensures { result ≡ beside_fact word mask c outside taken }
+{
+    if let Some(rest) = outside {
+        return masked(Test::Greater, word, u32::MAX, c.saturating_add(rest), taken);
+    }
+    if u64::from(c) < lowest_bit(mask) {
+        return any_bit(word, mask, taken);
+    }
+    if taken {
+        return masked(Test::Greater, word, u32::MAX, c, true);
+    }
+    None
+}
+
 // What is known where a word under a mask is above a number, or is not.
 fn above<S: State>(state: &S, word: u8, mask: u32, c: u32, taken: bool) -> Option<Lit>
     ensures { result ≡ above_fact (S.known state.now) word mask c taken }
@@ -50,13 +77,10 @@ fn above<S: State>(state: &S, word: u8, mask: u32, c: u32, taken: bool) -> Optio
     if is_high(mask) {
         return masked(Test::Greater, word, u32::MAX, c | (u32::MAX - mask), taken);
     }
-    if let Some(rest) = outside(state, word, mask) {
-        return masked(Test::Greater, word, u32::MAX, c.saturating_add(rest), taken);
+    if taken && mask <= c {
+        return Some(FALSE);
     }
-    if taken {
-        return masked(Test::Greater, word, u32::MAX, c, true);
-    }
-    None
+    beside(word, mask, c, outside(state, word, mask), taken)
 }
 
 // What is known where a comparison of a word under a mask came out so.
@@ -67,8 +91,8 @@ fn sharp<S: State>(state: &S, test: Test, word: u8, mask: u32, c: u32, taken: bo
         Test::Greater => above(state, word, mask, c, taken),
         Test::AtLeast if c == 0 => masked(test, word, u32::MAX, 0, taken),
         Test::AtLeast => above(state, word, mask, c - 1, taken),
-        Test::AnyBit if taken && is_bit(mask & c) => Some(Lit::Bits(word, mask & c, mask & c)),
-        Test::AnyBit | Test::Equal => masked(test, word, mask, c, taken),
+        Test::AnyBit => any_bit(word, mask & c, taken),
+        Test::Equal => masked(test, word, mask, c, taken),
     }
 }
 

@@ -5,16 +5,15 @@ ghost use Rattle.kernel_check.specs.Accepted.{IsAccepted};
 ghost use Rattle.kernel_check.specs.Lent.{accepted_insns};
 ghost use Rattle.cert_check.specs.Valid.{IsValidCertificate};
 ghost use Rattle.cert_paths.specs.Fault.{IsSize};
-ghost use Rattle.cert_walk.specs.declared.fault.CertifyError.TheVariants.{OutOfMemory};
-ghost use Rattle.certify.specs.Certificates.{MakesOwnValid, MakesValid, OwnLacksMemory, RightLacksRoom};
+ghost use Rattle.cert_search.specs.declared.fault.CertifyError.TheVariants.{OutOfMemory};
+ghost use Rattle.certify.specs.Certificates.{HasOwnValid, IsValidOne, MakesOwnValid, MakesValid, OwnLacksMemory, RightLacksRoom, TellingLacksRoom};
 ghost use Rattle.certify.specs.Fault.{IsOfSize};
 
-use crate::own::with_conditions;
-use crate::plain::plain_certificate;
+use crate::own::by_outline;
 use bpf_insn::Program;
 use cert_check::{CheckError, check_accepted};
 use cert_paths::{PathsError, by_paths};
-use cert_walk::CertifyError;
+use cert_search::CertifyError;
 use kernel_check::{Accepted, accept};
 use profile::{Profile, Rule};
 use rule_compile::Outline;
@@ -27,29 +26,30 @@ fn are_plain(rules: &[Rule]) -> bool
     rules.iter().all(|rule| rule.conds.is_empty())
 }
 
-// A certificate of a filter, with its outline where the compiler made it.
-fn certified(
+// A certificate that is at hand: of a profile without conditions it follows each path, if each is right; else it is written by the
+// outline of a filter that the compiler made, of which the checker was not asked. None, where there is no such one.
+pub(crate) fn at_hand(
     alloc: Global,
     profile: &Profile,
     program: &Accepted<'_>,
     outline: Option<&Outline>,
-) -> Result<Vec<u8>, CertifyError>
-    ensures own { MakesOwnValid profile.now (accepted_insns program.now) result }
-    ensures never { OwnLacksMemory profile.now (accepted_insns program.now) result }
+) -> Result<Option<Vec<u8>>, CertifyError>
+    ensures own { HasOwnValid profile.now (accepted_insns program.now) result }
+    ensures memory { IfErr result (λ e. e ≡ OutOfMemory) }
 {
     if !are_plain(profile.rules()) {
-        return with_conditions(alloc, profile, *program, outline);
+        return by_outline(alloc, profile, *program, outline);
     }
-    match plain_certificate(alloc, profile, program) {
-        Ok(bytes) => Ok(bytes),
-        Err(CertifyError::OutOfMemory) => Err(CertifyError::OutOfMemory),
+    match by_paths(alloc, profile, program) {
+        Ok(bytes) => Ok(Some(bytes)),
+        Err(PathsError::OutOfMemory) => Err(CertifyError::OutOfMemory),
         // A filter of another shape.
-        Err(_) => with_conditions(alloc, profile, *program, outline),
+        Err(_) => by_outline(alloc, profile, *program, outline),
     }
 }
 
 // The first rule of the checker that a certificate breaks, or that memory was refused.
-fn broken(
+pub(crate) fn broken(
     alloc: Global,
     profile: &Profile,
     program: &Accepted<'_>,
@@ -62,34 +62,31 @@ fn broken(
     check_accepted(alloc, profile, program, bytes).err()
 }
 
-// Why there is no certificate: none follows each path of the filter, and before that a maker may have told why it makes none.
-fn told(error: PathsError, before: Option<CertifyError>) -> CertifyError
-    ensures { IsSize error → IsOfSize result }
+// Why there is no certificate, where none follows each path of the filter.
+fn told(error: PathsError) -> CertifyError
+    ensures size { IsSize error → IsOfSize result }
+    ensures memory { error ≡ PathsError.OutOfMemory → result ≡ OutOfMemory }
 {
-    match (error, before) {
-        (PathsError::Unlike(_, _), Some(error)) => error,
-        (PathsError::Unlike(pc, _), None) => CertifyError::Undecided(pc),
-        (PathsError::Unsettled(_), Some(error)) => error,
-        (PathsError::Unsettled(pc), None) => CertifyError::Undecided(pc),
-        (PathsError::TooLarge, _) => CertifyError::TooLarge,
-        (PathsError::OutOfMemory, _) => CertifyError::OutOfMemory,
+    match error {
+        PathsError::Unlike(pc, _) => CertifyError::Undecided(pc),
+        PathsError::Unsettled(pc) => CertifyError::Undecided(pc),
+        PathsError::TooLarge => CertifyError::TooLarge,
+        PathsError::OutOfMemory => CertifyError::OutOfMemory,
     }
 }
 
-// The certificate that follows each path of a filter, asked for last. Where a path is not settled, it is told what a maker told
-// before, if one told something.
+// The certificate that follows each path of a filter.
 fn followed(
     alloc: Global,
     profile: &Profile,
     program: &Accepted<'_>,
-    before: Option<CertifyError>,
 ) -> Result<Vec<u8>, CertifyError>
     ensures valid { MakesValid profile.now (accepted_insns program.now) result }
-    ensures sure { RightLacksRoom profile.now (accepted_insns program.now) result }
+    ensures telling { TellingLacksRoom profile.now (accepted_insns program.now) result }
 {
     match by_paths(alloc, profile, program) {
         Ok(certificate) => Ok(certificate),
-        Err(error) => Err(told(error, before)),
+        Err(error) => Err(told(error)),
     }
 }
 
@@ -101,17 +98,34 @@ fn once_checked(
     bytes: Vec<u8>,
 ) -> Result<Vec<u8>, CertifyError>
     ensures valid { MakesValid profile.now (accepted_insns program.now) result }
-    ensures sure { RightLacksRoom profile.now (accepted_insns program.now) result }
+    ensures telling { TellingLacksRoom profile.now (accepted_insns program.now) result }
     ensures never { IsValidCertificate profile.now (accepted_insns program.now) bytes.items → IfErr result (λ e. e ≡ OutOfMemory) }
 {
     match broken(alloc, profile, program, &bytes) {
         None => Ok(bytes),
         Some(CheckError::OutOfMemory) => Err(CertifyError::OutOfMemory),
-        Some(_) => followed(alloc, profile, program, None),
+        Some(_) => followed(alloc, profile, program),
     }
 }
 
-// What the makers propose, with the filter's outline where the compiler made it. Each is asked in turn.
+// What is at hand, or else what follows each path.
+fn or_followed(
+    alloc: Global,
+    profile: &Profile,
+    program: &Accepted<'_>,
+    hand: Option<Vec<u8>>,
+) -> Result<Vec<u8>, CertifyError>
+    ensures own { IsValidOne profile.now (accepted_insns program.now) hand → MakesValid profile.now (accepted_insns program.now) result }
+    ensures telling { TellingLacksRoom profile.now (accepted_insns program.now) result }
+    ensures never { IsValidOne profile.now (accepted_insns program.now) hand → IfErr result (λ e. e ≡ OutOfMemory) }
+{
+    match hand {
+        Some(bytes) => Ok(bytes),
+        None => followed(alloc, profile, program),
+    }
+}
+
+// What the makers propose, with the filter's outline where the compiler made it.
 fn proposed(
     alloc: Global,
     profile: &Profile,
@@ -119,21 +133,20 @@ fn proposed(
     outline: Option<&Outline>,
 ) -> Result<Vec<u8>, CertifyError>
     ensures own { MakesOwnValid profile.now (accepted_insns program.now) result }
-    ensures sure { RightLacksRoom profile.now (accepted_insns program.now) result }
+    ensures telling { TellingLacksRoom profile.now (accepted_insns program.now) result }
     ensures never { OwnLacksMemory profile.now (accepted_insns program.now) result }
 {
-    match certified(alloc, profile, program, outline) {
-        Ok(bytes) => Ok(bytes),
-        Err(CertifyError::OutOfMemory) => Err(CertifyError::OutOfMemory),
-        Err(error) => followed(alloc, profile, program, Some(error)),
+    match at_hand(alloc, profile, program, outline) {
+        Ok(hand) => or_followed(alloc, profile, program, hand),
+        Err(error) => Err(error),
     }
 }
 
 /// A certificate that the filter gives each call record the verdict that the profile says. The checker says yes to it.
 ///
-/// That there is none says nothing of the filter, but for two kinds. Of a right filter that compares steadily, as each of the
-/// compiler's is, an error tells of memory or of the format's limits. Where no rule has a condition and the filter has the shape
-/// of such a profile's, memory was refused.
+/// That there is none says nothing of the filter, but for two kinds. Of a right filter of which each comparison tells all that it
+/// asks, as each of the compiler's does, an error tells of memory or of the format's limits. Where no rule has a condition and the
+/// filter has the shape of such a profile's, memory was refused.
 pub fn certify_accepted(
     alloc: Global,
     profile: &Profile,
@@ -141,12 +154,16 @@ pub fn certify_accepted(
 ) -> Result<Vec<u8>, CertifyError>
     // The certificate keeps each rule of the checker.
     ensures valid { MakesValid profile.now (accepted_insns program.now) result }
-    // A right filter that compares steadily is certified, if memory and the format have room for it.
+    // A right filter of which each comparison tells all that it asks is certified, if memory and the format have room for it. Each
+    // that compares steadily is one.
+    ensures telling { TellingLacksRoom profile.now (accepted_insns program.now) result }
     ensures sure { RightLacksRoom profile.now (accepted_insns program.now) result }
     ensures never { OwnLacksMemory profile.now (accepted_insns program.now) result }
 {
-    let bytes = proposed(alloc, profile, program, None)?;
-    once_checked(alloc, profile, program, bytes)
+    match proposed(alloc, profile, program, None) {
+        Ok(bytes) => once_checked(alloc, profile, program, bytes),
+        Err(error) => Err(error),
+    }
 }
 
 /// The same of any program: where the kernel would not accept it, it is undecided.
@@ -158,7 +175,9 @@ pub fn certify(
     ensures accepted { OnOk result (IsAccepted (insns program.now)) }
     // The certificate keeps each rule of the checker.
     ensures valid { MakesValid profile.now (insns program.now) result }
-    // A right filter that the kernel accepts and that compares steadily is certified, if memory and the format have room for it.
+    // A right filter that the kernel accepts, and of which each comparison tells all that it asks, is certified, if memory and the
+    // format have room for it. Each that compares steadily is one.
+    ensures telling { IsAccepted (insns program.now) → TellingLacksRoom profile.now (insns program.now) result }
     ensures sure { IsAccepted (insns program.now) → RightLacksRoom profile.now (insns program.now) result }
     ensures never { OwnLacksMemory profile.now (insns program.now) result }
 {
@@ -191,7 +210,11 @@ pub fn propose_shared(
     program: &Accepted<'_>,
     outline: &Outline,
 ) -> Result<Vec<u8>, CertifyError> {
-    with_conditions(alloc, profile, *program, Some(outline))
+    match by_outline(alloc, profile, *program, Some(outline)) {
+        Ok(Some(bytes)) => Ok(bytes),
+        Ok(None) => Err(CertifyError::TooLarge),
+        Err(error) => Err(error),
+    }
 }
 
 /// The certificate that follows each path of a filter, for one of which what was proposed is refused. The checker says yes to it.
@@ -203,5 +226,5 @@ pub fn follow(
     ensures valid { MakesValid profile.now (accepted_insns program.now) result }
     ensures sure { RightLacksRoom profile.now (accepted_insns program.now) result }
 {
-    followed(alloc, profile, program, None)
+    followed(alloc, profile, program)
 }

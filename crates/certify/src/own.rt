@@ -1,70 +1,79 @@
-//! Certificates of filters of profiles with conditions.
+//! Certificates of the compiler's filters, from their outlines.
+ghost use Rattle.std.specs.Prelude.{◌≡◌, IfErr};
+ghost use Rattle.cert_search.specs.declared.fault.CertifyError.TheVariants.{OutOfMemory};
 
 use cert_outline::{OutlineError, outlined};
-use cert_walk::{CertifyError, walk_through};
+use cert_search::CertifyError;
 use kernel_check::Accepted;
 use profile::Profile;
 use rule_compile::{CompileError, Outline, make, share_searches};
 use std::alloc::Global;
 
-// A certificate of the filter that the compiler made of a profile, from its outline. Where that comes out too large, the filter
-// is walked through as any other.
-fn by_outline(
+// The certificate of a filter that is written from its outline, unless it comes out too large.
+fn written(
     alloc: Global,
     profile: &Profile,
     program: Accepted<'_>,
     outline: &Outline,
-) -> Result<Vec<u8>, CertifyError> {
+) -> Result<Option<Vec<u8>>, CertifyError>
+    ensures { IfErr result (λ e. e ≡ OutOfMemory) }
+{
     match outlined(alloc, profile, &program.program(), outline) {
-        Ok(bytes) => Ok(bytes),
+        Ok(bytes) => Ok(Some(bytes)),
         Err(OutlineError::OutOfMemory) => Err(CertifyError::OutOfMemory),
-        Err(_) => walk_through(alloc, profile, program),
+        Err(_) => Ok(None),
     }
 }
 
-// A certificate of a filter that is not the compiler's first one: from the outline where it is the other one, in which machines
-// share searches.
-fn by_sharing(
+// The same of a filter that is not the compiler's first one, if it is the other one, in which machines share searches.
+fn of_shared(
     alloc: Global,
     profile: &Profile,
     program: Accepted<'_>,
-) -> Result<Vec<u8>, CertifyError> {
+) -> Result<Option<Vec<u8>>, CertifyError>
+    ensures { IfErr result (λ e. e ≡ OutOfMemory) }
+{
     match share_searches(alloc, profile) {
         Ok(Some(made)) if made.bytes.as_slice() == program.program().bytes() => {
-            by_outline(alloc, profile, program, &made.outline)
+            written(alloc, profile, program, &made.outline)
         }
-        Ok(_) => walk_through(alloc, profile, program),
+        Ok(_) => Ok(None),
         Err(_) => Err(CertifyError::OutOfMemory),
     }
 }
 
-// A certificate of a filter that anyone made: from the outline where the compiler makes the same.
-fn by_anyone(
+// The same of a filter that anyone made, if the compiler makes it too.
+fn of_anyone(
     alloc: Global,
     profile: &Profile,
     program: Accepted<'_>,
-) -> Result<Vec<u8>, CertifyError> {
+) -> Result<Option<Vec<u8>>, CertifyError>
+    ensures { IfErr result (λ e. e ≡ OutOfMemory) }
+{
     match make(alloc, profile) {
         Ok(made) => {
             if made.bytes.as_slice() == program.program().bytes() {
-                return by_outline(alloc, profile, program, &made.outline);
+                return written(alloc, profile, program, &made.outline);
             }
-            by_sharing(alloc, profile, program)
+            of_shared(alloc, profile, program)
         }
         Err(CompileError::OutOfMemory) => Err(CertifyError::OutOfMemory),
-        Err(CompileError::TooLong) => by_sharing(alloc, profile, program),
+        Err(CompileError::TooLong) => of_shared(alloc, profile, program),
     }
 }
 
-/// A certificate of a filter of a profile with conditions, with its outline where the compiler made it.
-pub(crate) fn with_conditions(
+/// The certificate that is written from a filter's outline, which is given where the compiler made it: of any other filter there is
+/// one where the compiler makes the same. None, where there is no outline, or the certificate comes out too large.
+pub(crate) fn by_outline(
     alloc: Global,
     profile: &Profile,
     program: Accepted<'_>,
     outline: Option<&Outline>,
-) -> Result<Vec<u8>, CertifyError> {
+) -> Result<Option<Vec<u8>>, CertifyError>
+    ensures { IfErr result (λ e. e ≡ OutOfMemory) }
+{
     match outline {
-        Some(outline) => by_outline(alloc, profile, program, outline),
-        None => by_anyone(alloc, profile, program),
+        Some(outline) => written(alloc, profile, program, outline),
+        None => of_anyone(alloc, profile, program),
     }
 }

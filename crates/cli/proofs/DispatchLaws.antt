@@ -2,22 +2,27 @@
 use Rattle.std.proofs.Common.{◌≡◌, ℕ, ◌+◌, ◌<◌, inl, inr, List, [], ◌∷◌, ◌++◌, ap, drop, get_or, length, map, refl, subst, sym, take, ◌∙◌}
 use Rattle.std.proofs.lemmas.List.{get_or_default, map-append, take_more}
 use denote.Ref.{Bor}
-use Rattle.std.specs.Prelude.{Bool, Option, Result, Err}
+use Rattle.std.specs.Prelude.{Bool, IfOk, Option, None, Some, Result, Ok, Err}
 use Rattle.call_tables.specs.declared.arch.Arch.{Arch}
 use Rattle.streams.specs.Failures.{Failures}
 use Rattle.streams.specs.declared.fault.WriteFault.{WriteFault}
 use Rattle.export.specs.declared.form.Form.{Form}
+use Rattle.audit.specs.Any.{IsExplained as IsExplainedAny}
+use Rattle.explain.specs.Told.{IsExplained}
+use Rattle.explain.specs.declared.told.Told.{Told}
 use Rattle.pipeline.specs.Answer.{WritesAnswer}
 use Rattle.pipeline.specs.Certified.{Certifies}
 use Rattle.pipeline.specs.Exported.{Exports}
 use Rattle.pipeline.specs.Finding.{WritesFinding}
 use Rattle.command_line.specs.Arguments.{Given, Reads}
-use Rattle.command_line.specs.Arguments.Given.{Verdict, Check, Certify, Export, Run, Explain, Read as ReadOut, Record, Assemble, Annotate, Draw, Lint, Compare, Adapt, Learn, Replay, Manual, Version}
+use Rattle.command_line.specs.Arguments.Given.{Verdict, Check, Certify, Export, Run, Explain, Read as ReadOut, Record, Assemble, Annotate, Draw, Lint, Compare, CompareFilters, Adapt, Learn, Replay, Manual, Version}
 use Rattle.command_line.specs.declared.Misuse.{Misuse}
 use Rattle.command_line.specs.declared.Misuse.TheVariants as kind
 use Rattle.cli.specs.declared.stops.Stop.{Stop}
 use Rattle.cli.specs.declared.stops.Stop.TheVariants.{Usage, CannotRead, Read, Write, OutOfMemory}
-use Rattle.cli.specs.Dispatch.{AnswersCertify, AnswersCheck, AnswersExport, AnswersVerdict, Does, FirstUnread, HaveBytes, IsMisuse, StopsAt, StopsAtFile, TellsMisuse}
+use Rattle.cli.specs.Dispatch.{AnswersCertify, AnswersCheck, AnswersExport, AnswersTold, AnswersVerdict, Does}
+use Rattle.cli.specs.Dispatch.{any_call, explained_as, of_one, of_two, ExplainsWhy, FirstUnread, HaveBytes, IsMisuse, StopsAt, StopsAtFile, TellsMisuse}
+use Rattle.cli.specs.inner.Telling.{IsToldOf, TellsOn, TellsText}
 use Rattle.cli.specs.Stop.{Reports, line_of, status_of, stop_at_misuse}
 use Rattle.cli.specs.Files.{Folder, HasBytes, HasEnough}
 use Rattle.cli.specs.Running.{told_line}
@@ -146,6 +151,46 @@ module _ {O : Type 0} (held : O → Option (List ℕ)) (failures : O → Failure
                   },
                 )
 
+-- what is told of files is written
+module _ {O : Type 0} (held : O → Option (List ℕ)) (failures : O → Failures) (folder : Option Folder) (names : List (List ℕ))
+    (Is : List (List ℕ) → Told → Type 0) (old new : O) (result : Result Bool Stop) where
+  pub answers_told : (told : Result Told Stop) → IsToldOf folder names Is told → TellsOn held failures old new told result
+      → AnswersTold held failures folder old new names Is result
+  answers_told (Ok told) is h = inr (is.0, told, is.1, is.2, h)
+  answers_told (Err stop) at h = inl (record { stop = stop; at = at; told = h.0; unwritten = h.1 })
+
+-- the text of one file is told of
+pub told_text : (folder : Option Folder) (name text : List ℕ) (Is : List ℕ → Told → Type 0) → HasBytes folder name text
+    → (told : Result Told Stop) → TellsText (Is text) told → IsToldOf folder (name ∷ []) (of_one Is) told
+told_text folder name text Is has (Ok told) h = (text ∷ [], (has, tt), h)
+told_text folder name text Is has (Err stop) h = subst (λ s. FirstUnread folder (name ∷ []) s) (sym h) (inl tt)
+
+-- so are the texts of two, of which the second one is read last
+pub told_both : (folder later : Option Folder) → later ≡ folder → (old new text : List ℕ) (Is : List ℕ → List ℕ → Told → Type 0)
+    → HasBytes folder old text → (told : Result Told Stop) → IsToldOf later (new ∷ []) (of_one (Is text)) told
+    → IsToldOf folder (old ∷ new ∷ []) (of_two Is) told
+told_both folder later same old new text Is has (Ok told) (texts, read, is) = by texts read is where
+  by : (texts : List (List ℕ)) → HaveBytes later (new ∷ []) texts → of_one (Is text) texts told
+      → IsToldOf folder (old ∷ new ∷ []) (of_two Is) (Ok told)
+  by [] read is = absurd is
+  by (t ∷ []) read is = (text ∷ t ∷ [], (has, (subst (λ d. HasBytes d new t) same read.0, tt)), is)
+  by (t ∷ u ∷ more) read is = absurd is
+told_both folder later same old new text Is has (Err stop) h =
+    behind folder old text (new ∷ []) stop has (subst (λ d. FirstUnread d (new ∷ []) stop) same h)
+
+-- what `explain` tells, by whether it is asked about a call whatever its arguments are
+module _ {E : Type 0} (native : Arch) (bundle : List ℕ) (call : List (Bor (List ℕ))) (told : Result Told E) where
+  pub explained_call : any_call (map now_of call) ≡ None → IfOk told (IsExplained native bundle call)
+      → IfOk told (explained_as native (map now_of call) (any_call (map now_of call)) bundle)
+  explained_call none h = subst (λ o. IfOk told (explained_as native (map now_of call) o bundle)) (sym none) (of told h) where
+    of : (r : Result Told E) → IfOk r (IsExplained native bundle call) → IfOk r (explained_as native (map now_of call) None bundle)
+    of (Ok t) is = record { lying = call; same = refl; is = is }
+    of (Err e) is = tt
+
+  pub explained_any : (what : List ℕ) → any_call (map now_of call) ≡ Some what → IfOk told (IsExplainedAny native bundle what)
+      → IfOk told (explained_as native (map now_of call) (any_call (map now_of call)) bundle)
+  explained_any what some h = subst (λ o. IfOk told (explained_as native (map now_of call) o bundle)) (sym some) h
+
 -- ---- arguments that were not read
 
 -- memory is refused before any file is read
@@ -165,14 +210,15 @@ module _ {I O : Type 0} (left : I → Option (List ℕ)) (given : I → Failures
   not_begun (Certify native bundle filter) = (refl, inl (stops_early folder out (bundle ∷ filter ∷ [])))
   not_begun (Export native bundle form) = (refl, inl (stops_early folder out (bundle ∷ [])))
   not_begun (Run native bundles) = inl (refl, stops_early folder out bundles)
-  not_begun (Explain native bundle call) = inr refl
+  not_begun (Explain native bundle call) = inr (refl, inl (stops_early folder out (bundle ∷ [])))
   not_begun (ReadOut native bundle) = refl
-  not_begun (Record native call) = refl
-  not_begun (Assemble listing) = refl
+  not_begun (Record native call) = (refl, inl (stops_early folder out []))
+  not_begun (Assemble listing) = (refl, inl (stops_early folder out (listing ∷ [])))
   not_begun (Annotate native filter) = refl
   not_begun (Draw native filter) = refl
-  not_begun (Lint native bundle) = refl
-  not_begun (Compare native old new at_most) = refl
+  not_begun (Lint native bundle) = (refl, inl (stops_early folder out (bundle ∷ [])))
+  not_begun (Compare native old new at_most) = (refl, inl (stops_early folder out (old ∷ new ∷ [])))
+  not_begun (CompareFilters native old new) = (refl, inl (stops_early folder out (old ∷ new ∷ [])))
   not_begun (Adapt native config words) = refl
   not_begun (Learn native words) = refl
   not_begun (Replay native bundle words) = refl
@@ -184,6 +230,30 @@ module _ {I O : Type 0} (left : I → Option (List ℕ)) (given : I → Failures
   unread_arguments command kind.OutOfMemory result memory e =
       subst (λ r. Does left given held taken folder input input out out command r) (sym e) (not_begun command)
   unread_arguments command kind.Usage result memory e = absurd memory
+
+-- where the program stops no record is told
+module _ {O E : Type 0} (held : O → Option (List ℕ)) (taken : O → Failures) (shown : E → Option (List ℕ)) (dropped : E → Failures)
+    (folder : Option Folder) (out out' : O) (err err' : E) where
+  pub explained_stop : (command : Given) (stop : Stop) → ExplainsWhy held taken shown dropped folder out out' err err' command (Err stop)
+  explained_stop (Verdict filter rec) stop = tt
+  explained_stop (Check native bundle filter cert) stop = tt
+  explained_stop (Certify native bundle filter) stop = tt
+  explained_stop (Export native bundle form) stop = tt
+  explained_stop (Run native bundles) stop = tt
+  explained_stop (Explain native bundle call) stop = tt
+  explained_stop (ReadOut native bundle) stop = tt
+  explained_stop (Record native call) stop = tt
+  explained_stop (Assemble listing) stop = tt
+  explained_stop (Annotate native filter) stop = tt
+  explained_stop (Draw native filter) stop = tt
+  explained_stop (Lint native bundle) stop = tt
+  explained_stop (Compare native old new at_most) stop = tt
+  explained_stop (CompareFilters native old new) stop = tt
+  explained_stop (Adapt native config words) stop = tt
+  explained_stop (Learn native words) stop = tt
+  explained_stop (Replay native bundle words) stop = tt
+  explained_stop (Manual name) stop = tt
+  explained_stop Version stop = tt
 
 pub is_misuse : (misuse : Misuse) (result : Result Bool Stop) → result ≡ Err (stop_at_misuse misuse) → IsMisuse result
 is_misuse kind.Usage result e = subst IsMisuse (sym e) tt

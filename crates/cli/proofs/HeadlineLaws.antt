@@ -9,12 +9,21 @@ use Rattle.bpf_insn.specs.declared.instruction.Insn.{Insn}
 use Rattle.bpf_insn.specs.Bytes.{insns_of}
 use Rattle.call_tables.specs.declared.arch.Arch.{Arch}
 use Rattle.kernel_check.specs.Accepted.{IsAccepted}
+use Rattle.kernel_check.specs.declared.fault.Cause.TheVariants.{Code}
 use Rattle.profile.specs.Policy.{Policy}
 use Rattle.profile.specs.Said.{said}
 use Rattle.profile.proofs.SaidLaws.{each_record_is_said_one_verdict}
 use Rattle.cert_check.specs.declared.checked.Checked.{Checked}
 use Rattle.cert_check.specs.Checked.{profile_of, program_of}
+use Rattle.cert_check.specs.declared.fault.CheckError.{CheckError}
+use Rattle.cert_check.specs.declared.fault.CheckError.TheVariants.{Kernel, Form, Root, Edge, Split, Entail, Return}
+use Rattle.cert_check.specs.Certified.{IsCertificate, Kept}
 use Rattle.cert_check.specs.Right.{IsRight}
+use Rattle.cert_check.specs.Rules.{IsValid}
+use Rattle.cert_check.proofs.Right.{right as valid_is_right}
+use Rattle.cert_form.specs.declared.fault.FormError.TheVariants.{BadMagic}
+use Rattle.cert_form.specs.Nodes.{PlainNode}
+use Rattle.cert_form.specs.Spelling.{Spells}
 use Rattle.processes.specs.First.{by_profile}
 use Rattle.processes.specs.Views.{same_text}
 use Rattle.lifecycle.specs.Commands.{Command}
@@ -44,6 +53,27 @@ right_for native bundle policy p means accepted right = record {
   accepted = accepted;
   verdict = λ r is. (right r is (said policy r)).1 ((each_record_is_said_one_verdict policy r (said policy r) means.2.calls.clear is).1 refl);
 }
+
+-- the nodes of a certificate of which no rule is broken keep each rule
+valid_nodes : (policy : Policy) (filter cert : List ℕ) (ns : List PlainNode) → Spells cert ns
+    → ((e : CheckError) → Kept policy filter cert e) → IsValid policy (insns_of filter) ns
+valid_nodes policy filter cert ns spells kept = record {
+  root = kept Root ns spells;
+  each = λ i n at. record {
+    edge = kept (Edge i) ns spells n at;
+    split = kept (Split i) ns spells n at;
+    entail = kept (Entail i) ns spells n at;
+    return = kept (Return i) ns spells n at;
+  };
+}
+
+right_of_kept : (native : Arch) (bundle filter cert : List ℕ) (policy : Policy) → IsBundle native bundle policy
+    → ((e : CheckError) → Kept policy filter cert e) → IsRightFor native bundle policy (insns_of filter)
+right_of_kept native bundle filter cert policy means kept =
+    let accepted : IsAccepted (insns_of filter) = kept (Kernel (record { cause = Code; pc = 0 })) in
+    let nodes : IsCertificate cert = kept (Form BadMagic) in
+    right_for native bundle policy (insns_of filter) means accepted
+    (valid_is_right policy (insns_of filter) nodes.0 means.2.calls.clear accepted (valid_nodes policy filter cert nodes.0 nodes.1 kept))
 
 -- ---- the filter of a name
 
@@ -131,6 +161,7 @@ script_read bundles script left commands h = record {
 
 pub headline : Headline
 headline = record {
+  kept = right_of_kept;
   yes = λ native bundle filter cert found.
       (found.0, right_for native bundle found.0 (insns_of filter) found.1 found.2.accepted found.2.right);
   machine = λ commands old new replies is. subst (λ (F : First). IsRun F commands old replies new) same_first is;

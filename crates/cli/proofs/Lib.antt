@@ -5,3 +5,4 @@ mod ReportLaws
 mod EnoughLaws
 mod FileLaws
 mod DispatchLaws
+mod ExplainedLaws

@@ -1,18 +1,29 @@
 -- THE PROGRAM. What it writes and the status that it ends with, of a command, of files, and of what is read on standard input.
-use Rattle.std.specs.Prelude.{ℕ, ◌≡◌, ◌⊎◌, Bool, true, false, List, [], ◌∷◌, Option, Result, Ok, Err, codes}
+use Rattle.std.specs.Prelude.{ℕ, ◌≡◌, ◌⊎◌, Bool, true, false, List, [], ◌∷◌, map, codes}
+use Rattle.std.specs.Prelude.{if◌then◌else◌, Option, Some, None, Result, Ok, Err}
 use Rattle.std.specs.Str.{bytes_eq}
+use denote.Ref.{Bor}
 use Rattle.call_tables.specs.declared.arch.Arch.{Arch}
 use Rattle.command_line.specs.Arguments.{Given}
-use Rattle.command_line.specs.Arguments.Given.{Verdict, Check, Certify, Export, Run, Explain, Adapt, Learn}
+use Rattle.command_line.specs.Arguments.Given.{Verdict, Check, Certify, Export, Run, Explain, Record, Assemble}
+use Rattle.command_line.specs.Arguments.Given.{Lint, Compare, CompareFilters, Adapt, Learn}
 use Rattle.streams.specs.Failures.{Failures}
+use Rattle.streams.specs.Sink.{StopsAt as StopsWriting, Wrote}
 use Rattle.streams.specs.declared.fault.WriteFault.{WriteFault}
 use Rattle.export.specs.declared.form.Form.{Form}
+use Rattle.explain.specs.Told.{IsAssembled, IsExplained, IsRecorded}
+use Rattle.explain.specs.declared.told.Told.{Told}
+use Rattle.audit.specs.Any.{IsExplained as IsExplainedAny}
+use Rattle.lint.specs.Linted.{IsLinted}
+use Rattle.compare.specs.Told.{IsCompared}
+use Rattle.differ.specs.Told.{IsTold}
 use Rattle.pipeline.specs.Answer.{WritesAnswer}
 use Rattle.pipeline.specs.Certified.{Certifies}
 use Rattle.pipeline.specs.Exported.{Exports}
 use Rattle.pipeline.specs.Finding.{WritesFinding}
 use Rattle.cli.specs.declared.stops.Stop.{Stop}
-use Rattle.cli.specs.declared.stops.Stop.TheVariants.{CannotRead, OutOfMemory, Usage}
+use Rattle.cli.specs.declared.stops.Stop.TheVariants.{CannotRead, OutOfMemory, Usage, Write}
+use Rattle.cli.specs.Explained.{TellsRecord}
 use Rattle.cli.specs.Files.{CannotBeRead, Folder, HasBytes, HasEnough}
 use Rattle.cli.specs.Running.{RunsBundles, told_line}
 use Rattle.cli.specs.Stop.{Reports, line_of, status_of}
@@ -68,6 +79,12 @@ pub record AnswersBy (Writes : Result Bool WriteFault → Type 0) (result : Resu
   pub written : Writes answer
   pub told : result ≡ told_line answer
 
+-- What is told is written, and the program says whether it was done; or a call of the sink failed.
+abbrev pub WritesTold : {O : Type 0} → (O → Option (List ℕ)) → (O → Failures) → O → O → Told → Result Bool Stop → Type 0
+WritesTold held failures old new told (Ok done) = Wrote held failures old new told.bytes.items × (done ≡ told.done)
+WritesTold held failures old new told (Err (Write out)) = StopsWriting held failures old new told.bytes.items out
+WritesTold held failures old new told (Err other) = ⊥
+
 -- what the commands write that judge the bytes of files
 module _ {O : Type 0} (held : O → Option (List ℕ)) (failures : O → Failures) (folder : Option Folder) (old new : O) where
   abbrev pub AnswersVerdict : List ℕ → List ℕ → Result Bool Stop → Type 0
@@ -94,13 +111,49 @@ module _ {O : Type 0} (held : O → Option (List ℕ)) (failures : O → Failure
       StopsAtFile folder old new (bundle ∷ []) result
       ⊎ ((b : List ℕ) × HasBytes folder bundle b × AnswersBy (Exports held failures old new native b form) result)
 
+  -- A command that tells: its files are read, and what is so of their bytes is told and written.
+  abbrev pub AnswersTold : List (List ℕ) → (List (List ℕ) → Told → Type 0) → Result Bool Stop → Type 0
+  AnswersTold names Is result =
+      StopsAtFile folder old new names result
+      ⊎ ((texts : List (List ℕ)) × (told : Told) × HaveBytes folder names texts × Is texts told
+      × WritesTold held failures old new told result)
+
+-- what is so of the text of one file, of two, and of none
+abbrev pub of_one : (List ℕ → Told → Type 0) → List (List ℕ) → Told → Type 0
+of_one Is (text ∷ []) told = Is text told
+of_one Is texts told = ⊥
+
+abbrev pub of_two : (List ℕ → List ℕ → Told → Type 0) → List (List ℕ) → Told → Type 0
+of_two Is (first ∷ second ∷ []) told = Is first second told
+of_two Is texts told = ⊥
+
+abbrev pub of_none : (Told → Type 0) → List (List ℕ) → Told → Type 0
+of_none Is [] told = Is told
+of_none Is texts told = ⊥
+
+-- the arguments, wherever they lie in memory
+pub record OfArguments (Is : List (Bor (List ℕ)) → Told → Type 0) (arguments : List (List ℕ)) (told : Told) : Type 0 where
+  pub lying : List (Bor (List ℕ))
+  pub same : map (λ a. a.now) lying ≡ arguments
+  pub is : Is lying told
+
+-- the call that `explain` is asked about whatever its arguments are
+abbrev pub any_call : List (List ℕ) → Option (List ℕ)
+any_call (what ∷ last ∷ []) = if bytes_eq last (codes "any") then Some what else None
+any_call call = None
+
+-- what `explain` tells: what the bundle says of one call, or of a call whatever its arguments are
+abbrev pub explained_as : Arch → List (List ℕ) → Option (List ℕ) → List ℕ → Told → Type 0
+explained_as native call (Some what) bundle told = IsExplainedAny native bundle what told
+explained_as native call None bundle told = OfArguments (IsExplained native bundle) call told
+
 -- the call that `explain` is asked about stands for the lines of a kernel's log, which are read
 abbrev pub asks_audit : List (List ℕ) → Bool
 asks_audit (word ∷ []) = bytes_eq word (codes "audit")
 asks_audit call = false
 
--- What the program does as a command. `run` reads its input, and so does `explain` where it is asked about a kernel's log. Of commands
--- that tell in plain sentences, nothing more is said.
+-- What the program does as a command. `run` reads its input, and so does `explain` where it is asked about a kernel's log. Of what it
+-- tells then, and of the other commands, nothing more is said.
 module _ {I O : Type 0} (left : I → Option (List ℕ)) (given : I → Failures) (held : O → Option (List ℕ)) (taken : O → Failures)
     (folder : Option Folder) (input input' : I) (out out' : O) where
   abbrev pub AnswersRun : Arch → List (List ℕ) → Result Bool Stop → Type 0
@@ -116,8 +169,32 @@ module _ {I O : Type 0} (left : I → Option (List ℕ)) (given : I → Failures
   Does (Certify native bundle filter) result = (input' ≡ input) × AnswersCertify held taken folder out out' native bundle filter result
   Does (Export native bundle form) result = (input' ≡ input) × AnswersExport held taken folder out out' native bundle form result
   Does (Run native bundles) result = AnswersRun native bundles result
-  Does (Explain native bundle call) result = (asks_audit call ≡ true) ⊎ (input' ≡ input)
+  Does (Explain native bundle call) result =
+      (asks_audit call ≡ true)
+      ⊎ ((input' ≡ input) × AnswersTold held taken folder out out' (bundle ∷ []) (of_one (explained_as native call (any_call call))) result)
+  Does (Record native call) result =
+      (input' ≡ input) × AnswersTold held taken folder out out' [] (of_none (OfArguments (IsRecorded native) call)) result
+  Does (Assemble text) result = (input' ≡ input) × AnswersTold held taken folder out out' (text ∷ []) (of_one IsAssembled) result
+  Does (Lint native bundle) result = (input' ≡ input) × AnswersTold held taken folder out out' (bundle ∷ []) (of_one (IsLinted native)) result
+  Does (Compare native old new at_most) result =
+      (input' ≡ input) × AnswersTold held taken folder out out' (old ∷ new ∷ []) (of_two (IsCompared at_most native)) result
+  Does (CompareFilters native old new) result =
+      (input' ≡ input) × AnswersTold held taken folder out out' (old ∷ new ∷ []) (of_two IsTold) result
   Does other result = input' ≡ input
+
+-- What `certify` tells where its answer is no: nothing on standard error, or on standard output the line of a call record and on
+-- standard error an explanation of this very record.
+module _ {O E : Type 0} (held : O → Option (List ℕ)) (taken : O → Failures) (shown : E → Option (List ℕ)) (dropped : E → Failures)
+    (folder : Option Folder) (out out' : O) (err err' : E) where
+  abbrev pub ExplainsRecord : Arch → List ℕ → Result Bool Stop → Type 0
+  ExplainsRecord native bundle (Ok false) =
+      (err' ≡ err)
+      ⊎ ((b : List ℕ) × HasBytes folder bundle b × TellsRecord held taken out out' shown dropped err err' native b)
+  ExplainsRecord native bundle other = Unit {0}
+
+  abbrev pub ExplainsWhy : Given → Result Bool Stop → Type 0
+  ExplainsWhy (Certify native bundle filter) result = ExplainsRecord native bundle result
+  ExplainsWhy other result = Unit {0}
 
 -- The program did what a command asks for: its outcome, as the exit status and standard error tell it.
 pub record Answers {I O E : Type 0} (left : I → Option (List ℕ)) (given : I → Failures) (held : O → Option (List ℕ))
@@ -127,6 +204,7 @@ pub record Answers {I O E : Type 0} (left : I → Option (List ℕ)) (given : I 
   pub does : Does left given held taken folder input input' out out' command outcome
   pub ends : status ≡ exit_status outcome
   pub tells : Tells shown dropped err err' command outcome
+  pub explained : ExplainsWhy held taken shown dropped folder out out' err err' command outcome
 
 -- the program stops at arguments that are no command: since they are none, or for want of memory
 abbrev pub IsMisuse : Result Bool Stop → Type 0

@@ -3,8 +3,9 @@
 -- events, the replies are those of the kernel machine whose first judge for each container is its profile, and no call that
 -- the profile refuses is carried out.
 --
--- It begins at what calls tell. `IsFinding`, of Yes, is told by `check_line` where it writes that line, and by `certify_bundle`
--- where it writes a certificate; `IsRun`, by programs, by `Runtime::run`; `HasAnswered` by `run_bundles` where it answers true.
+-- It begins at the rules of the checker, and at what calls tell. `IsFinding`, of Yes, is told by `check_line` where it writes that line,
+-- and by `certify_bundle` where it writes a certificate; `IsRun`, by programs, by `Runtime::run`; `HasAnswered` by `run_bundles` where it
+-- answers true.
 use Rattle.std.specs.Prelude.{ℕ, ◌≡◌, ◌≢◌, ◌+◌, ◌<◌, ◌++◌, List, Option, Some, None, length, slice_get}
 use Rattle.call_record.specs.Words.{IsRecord}
 use Rattle.call_tables.specs.declared.arch.Arch.{Arch}
@@ -15,6 +16,8 @@ use Rattle.kernel_check.specs.Accepted.{IsAccepted}
 use Rattle.profile.specs.Policy.{Policy}
 use Rattle.profile.specs.Said.{said}
 use Rattle.cert_check.specs.declared.checked.Checked.{Checked}
+use Rattle.cert_check.specs.declared.fault.CheckError.{CheckError}
+use Rattle.cert_check.specs.Certified.{Kept}
 use Rattle.cert_check.specs.Checked.{profile_of, program_of}
 use Rattle.processes.specs.First.{by_profile, by_program}
 use Rattle.lifecycle.specs.declared.command.Reply.{Reply}
@@ -62,6 +65,9 @@ pub record IsAnswerTo (native : Arch) (texts : List (List ℕ)) (script answer :
   pub replies : answer ≡ answer_of by_profile commands
 
 pub record Headline : Type 0 where
+  -- Where a bundle means a profile and no rule that the checker looks for is broken, the filter is right for that profile.
+  pub kept : (native : Arch) (bundle filter cert : List ℕ) (policy : Policy) → IsBundle native bundle policy
+      → ((e : CheckError) → Kept policy filter cert e) → IsRightFor native bundle policy (insns_of filter)
   -- Where the checker says yes, the filter is right for the profile that the bundle means.
   pub yes : (native : Arch) (bundle filter cert : List ℕ) → IsFinding native bundle filter cert Yes
       → (policy : Policy) × IsRightFor native bundle policy (insns_of filter)

@@ -52,6 +52,26 @@ fn narrowed(alloc: Global, native: Arch, made: Adapted) -> Result<Both, AllocErr
     })
 }
 
+// Behind the changes, if a call gets past the bundle that was made.
+const HINT: &str =
+    "ccell: lint reports calls that get past this bundle; narrow behind the file keeps them out\n";
+
+// A bundle that was made, with its changes, and whether `lint` has a call to report.
+fn hinted(alloc: Global, native: Arch, made: Adapted) -> Result<Both, AllocError> {
+    let Adapted {
+        told,
+        draft: _draft,
+        mut changes,
+    } = made;
+    if told.done {
+        let is_passed = lint::hint(alloc, native, &told.bytes)?;
+        if is_passed {
+            changes.push_str(HINT)?;
+        }
+    }
+    Ok(Both { told, changes })
+}
+
 /// Makes a bundle of an engine's configuration, as words ask for it.
 pub fn adapted<'a>(
     alloc: Global,
@@ -71,10 +91,5 @@ pub fn adapted<'a>(
     if rest.len() < words.len() {
         return Ok(narrowed(alloc, native, made)?);
     }
-    let Adapted {
-        told,
-        draft: _draft,
-        changes,
-    } = made;
-    Ok(Both { told, changes })
+    Ok(hinted(alloc, native, made)?)
 }

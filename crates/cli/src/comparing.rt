@@ -1,33 +1,91 @@
-//! What `ccell compare` does, and what `ccell certify` says of a record on standard error.
-use crate::files::{Files, read};
-use crate::stops::Stop;
-use call_tables::Arch;
-use explain::Told;
-use std::alloc::Global;
-use streams::{Sink, write_all};
+//! What `ccell certify` writes, and what it says of a record on standard error.
+ghost use Rattle.std.specs.Prelude.{◌≡◌, ◌⊎◌, Ok, OnErr, false, string_bytes, true};
+ghost use Rattle.cli.specs.Explained.{HasNoRecord, MayTellWhy, TellsRecord, WritesSome};
+ghost use Rattle.certify.specs.declared.evidence.Conviction.{Conviction as TheConviction};
+ghost use Rattle.certify.specs.declared.evidence.Evidence.TheVariants.{Convicting};
+ghost use Rattle.certify.specs.Conviction.{IsCertificate};
+ghost use Rattle.pipeline.specs.Certified.{Certifies};
 
-/// Compares what a new bundle says with what an old one says, or tells whether it allows no more.
-pub fn compare<'a>(
-    alloc: Global,
-    native: Arch,
-    [old, new]: [&'a str; 2],
-    at_most: bool,
-    files: &mut impl Files,
-) -> Result<Told, Stop<'a>> {
-    let old = read(alloc, files, old)?;
-    let new = read(alloc, files, new)?;
-    Ok(compare::compare(alloc, native, &old, &new, at_most)?)
+use call_tables::Arch;
+use compare::explain_found;
+use pipeline::{Conviction, Evidence, Unready, judge_bundle, write_judged};
+use std::alloc::Global;
+use streams::{Sink, WriteFault, write_all};
+
+// Writes a text. Nothing depends on whether it can be written.
+fn put_text<E: Sink>(text: String, err: &mut E)
+    ensures { WritesSome E.held E.failures err.old err.new (string_bytes text) }
+{
+    let _ = write_all(text.as_bytes(), err);
 }
 
-/// Explains the record that convicts a filter, if there is one. Nothing depends on whether it can be written.
-pub fn tell_conviction(
+// Explains a record that convicts a filter, if there is memory.
+fn tell_why<E: Sink>(alloc: Global, native: Arch, bundle: &[u8], found: &Conviction, err: &mut E)
+    ensures { MayTellWhy E.held E.failures err.old err.new native bundle.now found.now.call }
+{
+    match explain_found(alloc, native, bundle, found) {
+        Some(text) => put_text(text, err),
+        None => {}
+    }
+}
+
+// Explains the record of the evidence, if it is one.
+fn tell_evidence<E: Sink>(
+    alloc: Global,
+    native: Arch,
+    bundle: &[u8],
+    evidence: &Evidence,
+    err: &mut E,
+)
+    ensures why { (found : TheConviction) → evidence.now ≡ Convicting found
+        → MayTellWhy E.held E.failures err.old err.new native bundle.now found.call }
+    ensures quiet { IsCertificate evidence.now → err.new ≡ err.old }
+{
+    match evidence {
+        Evidence::Convicting(found) => tell_why(alloc, native, bundle, found, err),
+        Evidence::Certificate(_) => {}
+    }
+}
+
+// Explains the record that was found, if one was.
+fn tell_found<E: Sink>(
+    alloc: Global,
+    native: Arch,
+    bundle: &[u8],
+    judged: &Result<Evidence, Unready>,
+    err: &mut E,
+)
+    ensures why { (found : TheConviction) → judged.now ≡ Ok (Convicting found)
+        → MayTellWhy E.held E.failures err.old err.new native bundle.now found.call }
+    ensures quiet { HasNoRecord judged.now → err.new ≡ err.old }
+{
+    match judged {
+        Ok(evidence) => tell_evidence(alloc, native, bundle, evidence, err),
+        Err(_) => {}
+    }
+}
+
+/// Writes what is judged of a bundle and a filter, and explains on standard error the very record that was told, if one was.
+pub fn certify<O: Sink, E: Sink>(
     alloc: Global,
     native: Arch,
     bundle: &[u8],
     filter: &[u8],
-    err: &mut impl Sink,
-) {
-    if let Some(text) = compare::explain_conviction(alloc, native, bundle, filter) {
-        let _ = write_all(text.as_bytes(), err);
-    }
+    out: &mut O,
+    err: &mut E,
+) -> Result<bool, WriteFault>
+    ensures found { Certifies O.held O.failures out.old out.new native bundle.now filter.now result }
+    ensures stopped { OnErr result (err.new ≡ err.old) }
+    ensures quiet { result ≡ Ok true → err.new ≡ err.old }
+    // The record that is explained is the one that was told.
+    ensures told { result ≡ Ok false → (err.new ≡ err.old)
+        ⊎ TellsRecord O.held O.failures out.old out.new E.held E.failures err.old err.new native bundle.now }
+{
+    let judged = judge_bundle(alloc, native, bundle, filter);
+    let done = match write_judged(alloc, &judged, out) {
+        Ok(done) => done,
+        Err(fault) => return Err(fault),
+    };
+    tell_found(alloc, native, bundle, &judged, err);
+    Ok(done)
 }

@@ -1,6 +1,8 @@
 //! What `ccell explain` does.
-ghost use Rattle.std.specs.Prelude.{◌≡◌, ◌⊎◌, true, map};
+ghost use Rattle.std.specs.Prelude.{◌≡◌, ◌⊎◌, ◌∷◌, [], IfOk, true, map};
+ghost use Rattle.std.specs.Option.{option_map};
 ghost use Rattle.cli.specs.Dispatch as spec;
+ghost use Rattle.cli.specs.inner.Telling.{IsToldOf, TellsText};
 
 use crate::files::{Files, read};
 use crate::stops::Stop;
@@ -47,39 +49,72 @@ fn asks_audit(call: &[&str]) -> bool
     }
 }
 
-// Tells what a bundle says of a call, by its arguments or whatever they are.
-fn explained(
+// Tells what a bundle says of the lines of a kernel's log.
+fn audited<'a>(
     alloc: Global,
     native: Arch,
     bundle: &[u8],
-    call: &[&str],
-) -> Result<Told, AllocError> {
+    input: &mut impl Source,
+) -> Result<Told, Stop<'a>> {
+    let lines = read_all(alloc, input)?;
+    Ok(audit(alloc, native, bundle, &lines)?)
+}
+
+// The call that is asked about whatever its arguments are.
+fn any_of<'a>(call: &[&'a str]) -> Option<&'a str>
+    ensures { option_map (λ what. what.now) result ≡ spec.any_call (map (λ c. c.now) call.now) }
+{
     match call {
         [what, last] => {
             if *last == "any" {
-                return explain_any(alloc, native, bundle, *what);
+                return Some(*what);
             }
-            explain::explain(alloc, native, bundle, call)
+            None
         }
-        _ => explain::explain(alloc, native, bundle, call),
+        _ => None,
+    }
+}
+
+// Tells what a bundle says of a call, by its arguments or whatever they are.
+fn explained(alloc: Global, native: Arch, bundle: &[u8], call: &[&str]) -> Result<Told, AllocError>
+    ensures { IfOk result (spec.explained_as native (map (λ c. c.now) call.now) (spec.any_call (map (λ c. c.now) call.now)) bundle.now) }
+{
+    match any_of(call) {
+        Some(what) => explain_any(alloc, native, bundle, what),
+        None => explain::explain(alloc, native, bundle, call),
+    }
+}
+
+// The same of a bundle that was read, or want of memory.
+fn told<'a>(alloc: Global, native: Arch, bundle: &[u8], call: &[&str]) -> Result<Told, Stop<'a>>
+    ensures { TellsText (spec.explained_as native (map (λ c. c.now) call.now) (spec.any_call (map (λ c. c.now) call.now)) bundle.now) result }
+{
+    match explained(alloc, native, bundle, call) {
+        Ok(told) => Ok(told),
+        Err(_no_memory) => Err(Stop::OutOfMemory),
     }
 }
 
 /// Tells what a bundle says of a call, and why, or the same of the lines of a kernel's log on standard input.
-pub fn explain<'a, I: Source>(
+pub fn explain<'a, F: Files, I: Source>(
     alloc: Global,
     native: Arch,
     bundle: &'a str,
     call: &[&str],
-    files: &mut impl Files,
+    files: &mut F,
     input: &mut I,
 ) -> Result<Told, Stop<'a>>
-    ensures { (spec.asks_audit (map (λ c. c.now) call.now) ≡ true) ⊎ (input.new ≡ input.old) }
+    ensures { (spec.asks_audit (map (λ c. c.now) call.now) ≡ true)
+        ⊎ ((input.new ≡ input.old) × IsToldOf (F.folder files.old) (bundle.entry.now ∷ [])
+        (spec.of_one (spec.explained_as native (map (λ c. c.now) call.now) (spec.any_call (map (λ c. c.now) call.now)))) result) }
 {
-    let bundle = read(alloc, files, bundle)?;
-    if asks_audit(call) {
-        let lines = read_all(alloc, input)?;
-        return Ok(audit(alloc, native, &bundle, &lines)?);
+    match read(alloc, files, bundle) {
+        Ok(text) => {
+            if asks_audit(call) {
+                return audited(alloc, native, &text, input);
+            }
+            told(alloc, native, &text, call)
+        }
+        Err(stop) => Err(stop),
     }
-    Ok(explained(alloc, native, &bundle, call)?)
 }

@@ -8,11 +8,15 @@ use crate::stops::Stop;
 use bpf_insn::MAX_INSNS;
 use cert_form::MAX_BYTES;
 use std::alloc::Global;
+use streams::Source;
 
 /// What reads files by their names.
 pub trait Files {
     ghost use Rattle.std.specs.Prelude.{Option};
     ghost use Rattle.cli.specs.Files.{Folder, IsUnread};
+
+    /// What gives the bytes of a file, a part at a time.
+    type Opened: Source + Drop;
 
     /// The bytes of the file of each name, where they are told.
     ghost folder: { Self → Option Folder };
@@ -22,6 +26,10 @@ pub trait Files {
         ensures same { folder self.new ≡ folder self.old }
         ensures ok { IfOk result (λ bytes. HasBytes (folder self.old) name.now bytes.items) }
         ensures err { IfErr result (λ fault. IsUnread (folder self.old) name.now fault) };
+
+    /// Opens a file, which is then read by its source.
+    fn open(&mut self, name: &str) -> Result<Self::Opened, FileFault>
+        ensures same { folder self.new ≡ folder self.old };
 
     /// The bytes of a file that is refused by its length alone where it has more than so many, a multiple of eight. Of
     /// a longer one it may be the first bytes: more than so many, and as many over a multiple of eight as the file has.

@@ -12,6 +12,7 @@ mod logs;
 mod program;
 mod run;
 mod stops;
+mod telling;
 
 pub use fault::FileFault;
 pub use files::Files;

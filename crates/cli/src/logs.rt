@@ -1,10 +1,11 @@
 //! What `ccell learn` and `ccell replay` do with logs.
 use crate::adapting::Both;
+use crate::fault::FileFault;
 use crate::files::{Files, read};
 use crate::stops::Stop;
 use call_tables::Arch;
 use explain::Told;
-use learn::{Learned, Log, learn, replay, wish_of};
+use learn::{Keep, Learned, Log, LogFault, Shown, learn, replay, wish_of};
 use std::alloc::{AllocError, Global};
 
 // The bytes of the logs of these names, in order.
@@ -40,19 +41,47 @@ fn logs_of<'a>(
     Ok(logs)
 }
 
+// Opens a log.
+fn open<'a, F: Files>(files: &mut F, name: &'a str) -> Result<F::Opened, Stop<'a>> {
+    match files.open(name) {
+        Ok(log) => Ok(log),
+        Err(FileFault::CannotRead) => Err(Stop::CannotRead(name)),
+        Err(FileFault::OutOfMemory) => Err(Stop::OutOfMemory),
+    }
+}
+
+// Reads a log, a part at a time.
+fn show<'a, F: Files>(
+    alloc: Global,
+    native: Arch,
+    keeps: &[Keep<'_>],
+    name: &'a str,
+    files: &mut F,
+    shown: &mut Shown,
+) -> Result<(), Stop<'a>> {
+    let mut log = open(files, name)?;
+    match shown.read_log(alloc, native, keeps, name, &mut log) {
+        Ok(()) => Ok(()),
+        Err(LogFault::CannotRead) => Err(Stop::CannotRead(name)),
+        Err(LogFault::OutOfMemory) => Err(Stop::OutOfMemory),
+    }
+}
+
 /// Makes a bundle that allows what logs show, as words ask for it.
-pub fn learned<'a>(
+pub fn learned<'a, F: Files>(
     alloc: Global,
     native: Arch,
     words: &'a [&'a str],
-    files: &mut impl Files,
+    files: &mut F,
 ) -> Result<Both, Stop<'a>> {
     let Some(wish) = wish_of(alloc, native, words)? else {
         return Err(Stop::Usage);
     };
-    let texts = read_logs(alloc, files, &wish.logs)?;
-    let logs = logs_of(alloc, &wish.logs, &texts)?;
-    let Learned { told, lines } = learn(alloc, native, &logs, &wish)?;
+    let mut shown = Shown::new(alloc);
+    for name in &wish.logs {
+        show(alloc, native, &wish.keeps, *name, files, &mut shown)?;
+    }
+    let Learned { told, lines } = learn(alloc, native, &shown, &wish)?;
     Ok(Both {
         told,
         changes: lines,

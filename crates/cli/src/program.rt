@@ -1,20 +1,22 @@
 //! The whole program, from the arguments after its name to its exit status.
 ghost use Rattle.std.specs.Prelude.{◌≡◌, ◌⊎◌, ◌≤◌, Err, Ok, OnErr, true, map};
 ghost use Rattle.command_line.specs.Arguments.{Given, IsCommandLine, NoCommandLine, given};
-ghost use Rattle.cli.specs.Dispatch.{Answers, AnswersCertify, AnswersCheck, AnswersExport, AnswersRun, AnswersVerdict, Does, IsMisuse, TellsChanges, TellsMisuse};
+ghost use Rattle.cli.specs.Dispatch.{Answers, AnswersCertify, AnswersCheck, AnswersExport, AnswersRun, AnswersVerdict, Does, ExplainsRecord, ExplainsWhy, IsMisuse};
+ghost use Rattle.cli.specs.Dispatch.{TellsChanges, TellsMisuse};
 
 use crate::adapting::{Both, adapted};
-use crate::comparing::{compare, tell_conviction};
+use crate::comparing;
 use crate::explaining::explain;
 use crate::files::{Files, read, read_certificate, read_each, read_filter, read_record};
 use crate::logs::{learned, replayed};
 use crate::run::run_bundles;
 use crate::stops::{Stop, report};
+use crate::telling::{assembled, compared, filters_compared, linted, record, tell};
 use call_tables::Arch;
 use command_line::{Command, Form, read_arguments};
 use describe::{annotated, drawn};
 use explain::Told;
-use pipeline::{certify_bundle, check_line, export_bundle, verdict_line};
+use pipeline::{check_line, export_bundle, verdict_line};
 use std::alloc::{AllocError, Global};
 use streams::{Sink, Source, write_all};
 
@@ -65,15 +67,13 @@ fn certify<'a, F: Files, O: Sink, E: Sink>(
     ensures answers { AnswersCertify O.held O.failures (F.folder files.old) out.old out.new native bundle.entry.now filter.entry.now result }
     ensures stopped { OnErr result (err.new ≡ err.old) }
     ensures quiet { result ≡ Ok true → err.new ≡ err.old }
+    // The record that is explained is the one that was told.
+    ensures explained { ExplainsRecord O.held O.failures E.held E.failures (F.folder files.old) out.old out.new err.old err.new
+        native bundle.entry.now result }
 {
     let bundle = read(alloc, files, bundle)?;
     let filter = read_filter(alloc, files, filter)?;
-    let done = certify_bundle(alloc, native, &bundle, &filter, out)?;
-    if done {
-        return Ok(true);
-    }
-    tell_conviction(alloc, native, &bundle, &filter, err);
-    Ok(false)
+    Ok(comparing::certify(alloc, native, &bundle, &filter, out, err)?)
 }
 
 // Writes the filter of a bundle in a form, once it is checked, or why it has none.
@@ -107,13 +107,18 @@ fn run<'a, F: Files, I: Source, O: Sink>(
     run_bundles(alloc, native, &texts, input, out)
 }
 
-// Writes what a command tells.
-fn tell<'a>(told: &Told, out: &mut impl Sink) -> Result<bool, Stop<'a>> {
-    write_all(&told.bytes, out)?;
-    Ok(told.done)
+// Behind what a bundle means, if a call gets past it.
+const HINT: &str = "ccell lint reports calls that get past this bundle\n";
+
+// Whether a bundle that is told is one that a call is found to get past.
+fn is_passed(alloc: Global, native: Arch, bundle: &[u8], told: &Told) -> Result<bool, AllocError> {
+    if told.done {
+        return lint::hint(alloc, native, bundle);
+    }
+    Ok(false)
 }
 
-// Tells what a bundle means, or where it is wrong.
+// Tells what a bundle means, or where it is wrong, and whether `lint` has a call to report.
 fn read_out<'a>(
     alloc: Global,
     native: Arch,
@@ -122,18 +127,13 @@ fn read_out<'a>(
     out: &mut impl Sink,
 ) -> Result<bool, Stop<'a>> {
     let bundle = read(alloc, files, bundle)?;
-    tell(&describe::read_out(alloc, native, &bundle)?, out)
-}
-
-// Writes the bytes of the filter of a listing.
-fn assemble<'a>(
-    alloc: Global,
-    listing: &'a str,
-    files: &mut impl Files,
-    out: &mut impl Sink,
-) -> Result<bool, Stop<'a>> {
-    let listing = read(alloc, files, listing)?;
-    tell(&explain::assembled(alloc, &listing)?, out)
+    let told = describe::read_out(alloc, native, &bundle)?;
+    let is_passed = is_passed(alloc, native, &bundle, &told)?;
+    let done = tell(Ok(told), out)?;
+    if is_passed {
+        write_all(HINT.as_bytes(), out)?;
+    }
+    Ok(done)
 }
 
 // Shows a filter: tells what the lines of its listing mean, or its graph.
@@ -148,19 +148,7 @@ fn show<'a, T: FnOnce(Global, Arch, &[u8]) -> Result<Told, AllocError>>(
     requires { T.IsAlwaysCallable told }
 {
     let filter = read_filter(alloc, files, filter)?;
-    tell(&told(alloc, native, &filter)?, out)
-}
-
-// Tells which calls get past a bundle by bits that the kernel does not read.
-fn lint<'a>(
-    alloc: Global,
-    native: Arch,
-    bundle: &'a str,
-    files: &mut impl Files,
-    out: &mut impl Sink,
-) -> Result<bool, Stop<'a>> {
-    let bundle = read(alloc, files, bundle)?;
-    tell(&lint::lint(alloc, native, &bundle)?, out)
+    tell(Ok(told(alloc, native, &filter)?), out)
 }
 
 // Writes a bundle that was made, or why there is none, and tells on standard error what was changed or added.
@@ -171,9 +159,9 @@ fn tell_both<'a, E: Sink>(
 ) -> Result<bool, Stop<'a>>
     ensures stopped { OnErr result (err.new ≡ err.old) }
 {
-    let both = both?;
-    let done = tell(&both.told, out)?;
-    let _ = write_all(both.changes.as_bytes(), err);
+    let Both { told, changes } = both?;
+    let done = tell(Ok(told), out)?;
+    let _ = write_all(changes.as_bytes(), err);
     Ok(done)
 }
 
@@ -205,6 +193,9 @@ fn obey<'a, F: Files, I: Source, O: Sink, E: Sink>(
     // Nothing is told on standard error but of a filter that is convicted, and of what was changed.
     ensures stopped { OnErr result (err.new ≡ err.old) }
     ensures quiet { result ≡ Ok true → TellsChanges (given command.entry) ⊎ (err.new ≡ err.old) }
+    // Of a filter that is convicted the record is explained that was told.
+    ensures explained { ExplainsWhy O.held O.failures E.held E.failures (F.folder files.old) out.old out.new err.old err.new
+        (given command.entry) result }
 {
     match command {
         Command::Verdict { filter, record } => verdict(alloc, filter, record, files, out),
@@ -229,19 +220,22 @@ fn obey<'a, F: Files, I: Source, O: Sink, E: Sink>(
             native,
             bundle,
             call,
-        } => tell(&explain(alloc, native, bundle, call, files, input)?, out),
+        } => tell(explain(alloc, native, bundle, call, files, input), out),
         Command::Read { native, bundle } => read_out(alloc, native, bundle, files, out),
-        Command::Record { native, call } => tell(&explain::record(alloc, native, call)?, out),
-        Command::Assemble { listing } => assemble(alloc, listing, files, out),
+        Command::Record { native, call } => tell(record(alloc, native, call), out),
+        Command::Assemble { listing } => tell(assembled(alloc, listing, files), out),
         Command::Annotate { native, filter } => show(alloc, native, filter, annotated, files, out),
         Command::Draw { native, filter } => show(alloc, native, filter, drawn, files, out),
-        Command::Lint { native, bundle } => lint(alloc, native, bundle, files, out),
+        Command::Lint { native, bundle } => tell(linted(alloc, native, bundle, files), out),
         Command::Compare {
             native,
             old,
             new,
             at_most,
-        } => tell(&compare(alloc, native, [old, new], at_most, files)?, out),
+        } => tell(compared(alloc, native, old, new, at_most, files), out),
+        Command::CompareFilters { native, old, new } => {
+            tell(filters_compared(alloc, native, old, new, files), out)
+        }
         Command::Adapt {
             native,
             config,
@@ -254,9 +248,9 @@ fn obey<'a, F: Files, I: Source, O: Sink, E: Sink>(
             native,
             bundle,
             words,
-        } => tell(&replayed(alloc, native, bundle, words, files)?, out),
+        } => tell(replayed(alloc, native, bundle, words, files), out),
         Command::Manual { command } => manual(alloc, command, out),
-        Command::Version => tell(&explain::version(alloc)?, out),
+        Command::Version => tell(Ok(explain::version(alloc)?), out),
     }
 }
 
@@ -273,6 +267,8 @@ fn carry_out<'a, F: Files, I: Source, O: Sink, E: Sink>(
         → Does I.left I.failures O.held O.failures (F.folder files.old) input.old input.new out.old out.new command result }
     ensures stopped { OnErr result (err.new ≡ err.old) }
     ensures quiet { (command : Given) → IsCommandLine arguments.entry.now command → result ≡ Ok true → TellsChanges command ⊎ (err.new ≡ err.old) }
+    ensures explained { (command : Given) → IsCommandLine arguments.entry.now command
+        → ExplainsWhy O.held O.failures E.held E.failures (F.folder files.old) out.old out.new err.old err.new command result }
     ensures misuse { NoCommandLine arguments.entry.now → IsMisuse result }
     ensures unread { NoCommandLine arguments.entry.now → input.new ≡ input.old }
     ensures unwritten { NoCommandLine arguments.entry.now → out.new ≡ out.old }

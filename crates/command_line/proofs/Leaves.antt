@@ -5,6 +5,7 @@ use Rattle.std.specs.List.{fold}
 use Rattle.std.specs.Option.{option_map_or}
 use Rattle.std.specs.Str.{bytes_eq}
 use Rattle.std.proofs.lemmas.Bool.{le-ltb, ne_eqb}
+use Rattle.call_tables.specs.declared.arch.Arch.{Arch}
 use Rattle.call_tables.specs.Arch.{native_called}
 use Rattle.clap.specs.Lexer.{usize_max}
 use Rattle.clap.specs.Kinds.{Kinds, or_else, range_kinds, values_kinds}
@@ -15,7 +16,7 @@ use Rattle.clap.specs.declared.builder.ValueParser.TheVariants as parser
 use Rattle.export.specs.declared.form.Form.{Form}
 use Rattle.command_line.specs.Arguments as given
 use Rattle.command_line.specs.Arguments.{Given, form_called}
-use Rattle.command_line.specs.Arguments.Given.{Run, Explain, Record, Export, Compare, Adapt, Learn, Replay, Manual, Version}
+use Rattle.command_line.specs.Arguments.Given.{Run, Explain, Record, Export, Compare, CompareFilters, Adapt, Learn, Replay, Manual, Version}
 use Rattle.command_line.specs.inner.Found as found
 use Rattle.command_line.specs.inner.Found.{last_of}
 use Rattle.command_line.specs.inner.Grammar.{Entry, leaf, table, top}
@@ -134,19 +135,28 @@ lint_reading (a ∷ b ∷ c ∷ more) = inr (tt, refl)
 
 -- ---- commands with a part that may be left out
 
-compare_made : (machine old new : Text) (at_most : Bool)
-    → option_and_then (λ m. option_map (λ native. Compare native old new m) (native_called machine)) (cond at_most (Some true) None)
-    ≡ cond at_most (option_map (λ native. Compare native old new true) (native_called machine)) None
-compare_made machine old new true = refl
-compare_made machine old new false = refl
+plain_made : (native : Option Arch) (made : Arch → Given) → option_and_then (λ n. Some (made n)) native ≡ option_map made native
+plain_made None made = refl
+plain_made (Some n) made = refl
+
+compare_made : (native : Option Arch) (old new : Text) (at_most filters : Bool)
+    → option_and_then (λ n. cond at_most (Some (Compare n old new true)) (cond filters (Some (CompareFilters n old new)) None)) native
+    ≡ cond at_most (option_map (λ n. Compare n old new true) native) (cond filters (option_map (λ n. CompareFilters n old new) native) None)
+compare_made None old new true filters = refl
+compare_made None old new false true = refl
+compare_made None old new false false = refl
+compare_made (Some n) old new true filters = refl
+compare_made (Some n) old new false true = refl
+compare_made (Some n) old new false false = refl
 
 pub compare_reading : (parts : List Text) → Reading (shape_called (codes "compare")) parts found.compare_in (given.compare parts)
 unfolding values_fault defaults_fault
 compare_reading [] = inr (tt, refl)
 compare_reading (a ∷ []) = inr (tt, refl)
 compare_reading (a ∷ b ∷ []) = inr (tt, refl)
-compare_reading (a ∷ b ∷ c ∷ []) = inl (refl, refl)
-compare_reading (a ∷ b ∷ c ∷ d ∷ []) = inl (refl, compare_made a b c (bytes_eq d (codes "atmost")))
+compare_reading (a ∷ b ∷ c ∷ []) = inl (refl, plain_made (native_called a) (λ n. Compare n b c false))
+compare_reading (a ∷ b ∷ c ∷ d ∷ []) =
+    inl (refl, compare_made (native_called a) b c (bytes_eq d (codes "atmost")) (bytes_eq d (codes "filters")))
 compare_reading (a ∷ b ∷ c ∷ d ∷ e ∷ more) = inr (tt, refl)
 
 pub manual_reading : (parts : List Text) → Reading (shape_called (codes "manual")) parts found.manual_in (given.manual parts)

@@ -43,6 +43,7 @@ pub data Given : Type 0 where
   Draw : (native : Arch) → (filter : List ℕ) → Given
   Lint : (native : Arch) → (bundle : List ℕ) → Given
   Compare : (native : Arch) → (old new : List ℕ) → (at_most : Bool) → Given
+  CompareFilters : (native : Arch) → (old new : List ℕ) → Given
   Adapt : (native : Arch) → (config : List ℕ) → (words : List (List ℕ)) → Given
   Learn : (native : Arch) → (words : List (List ℕ)) → Given
   Replay : (native : Arch) → (bundle : List ℕ) → (words : List (List ℕ)) → Given
@@ -63,6 +64,7 @@ given (command.Annotate native filter) = Annotate native filter.now
 given (command.Draw native filter) = Draw native filter.now
 given (command.Lint native bundle) = Lint native bundle.now
 given (command.Compare native old new at_most) = Compare native old.now new.now at_most
+given (command.CompareFilters native old new) = CompareFilters native old.now new.now
 given (command.Adapt native config words) = Adapt native config.now (map (λ w. w.now) words.now)
 given (command.Learn native words) = Learn native (map (λ w. w.now) words.now)
 given (command.Replay native bundle words) = Replay native bundle.now (map (λ w. w.now) words.now)
@@ -130,11 +132,13 @@ abbrev pub lint : List (List ℕ) → Option Given
 lint (machine ∷ bundle ∷ []) = option_map (λ native. Lint native bundle) (native_called machine)
 lint _ = None
 
--- the argument `atmost` may stand behind the files
+-- the argument `atmost` may stand behind the files of bundles, and `filters` stands behind those of filters
 abbrev pub compare : List (List ℕ) → Option Given
 compare (machine ∷ old ∷ new ∷ []) = option_map (λ native. Compare native old new false) (native_called machine)
 compare (machine ∷ old ∷ new ∷ last ∷ []) =
-    if bytes_eq last (codes "atmost") then option_map (λ native. Compare native old new true) (native_called machine) else None
+    if bytes_eq last (codes "atmost") then option_map (λ native. Compare native old new true) (native_called machine)
+    else if bytes_eq last (codes "filters") then option_map (λ native. CompareFilters native old new) (native_called machine)
+    else None
 compare _ = None
 
 -- words may stand behind the file

@@ -105,6 +105,13 @@ pub enum Command<'a> {
         new: &'a str,
         at_most: bool,
     },
+    /// Calls of which two filters answer unlike verdicts, by the names that the family of a native machine has. They are given
+    /// as names of files.
+    CompareFilters {
+        native: Arch,
+        old: &'a str,
+        new: &'a str,
+    },
     /// The bundle that is made of an engine's configuration, to be read for a native machine, as words ask for it. The
     /// configuration is given as the name of a file.
     Adapt {

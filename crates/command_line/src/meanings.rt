@@ -8,7 +8,7 @@ pub enum Meaning {
     Bundles,
     Old,
     New,
-    AtMost,
+    Compared,
     Filter,
     Record,
     Certificate,
@@ -34,8 +34,8 @@ impl Meaning {
             Meaning::Bundles => { "files with linux.seccomp of the OCI Runtime Specification" }
             Meaning::Old => { "a file with the old bundle" }
             Meaning::New => { "a file with the new bundle" }
-            Meaning::AtMost => {
-                "all that is asked is that the new bundle allows no more\n[possible values: atmost]"
+            Meaning::Compared => {
+                "all that is asked is that the new bundle allows no more; or both files are filters\n[possible values: atmost, filters]"
             }
             Meaning::Filter => { "a file with instructions of eight bytes" }
             Meaning::Record => { "a file with the 64 bytes of struct seccomp_data" }

@@ -3,7 +3,7 @@ ghost use Rattle.std.specs.Prelude.{◌≡◌, map, option_map};
 ghost use Rattle.clap.specs.Words.{first_of, found_of, rows_of};
 ghost use Rattle.command_line.specs.Arguments.{given, texts};
 ghost use Rattle.command_line.specs.inner.Found as spec;
-ghost use Rattle.command_line.specs.inner.Found.{asks_at_most, form_in, list_in, native_in};
+ghost use Rattle.command_line.specs.inner.Found.{form_in, list_in, native_in};
 
 use crate::{Command, form_named};
 use call_tables::Arch;
@@ -161,14 +161,35 @@ pub(crate) fn lint<'a>(found: &ArgMatches<'a>) -> Option<Command<'a>>
     Some(Command::Lint { native, bundle })
 }
 
-// Whether the part that may stand last is `atmost`.
-fn at_most(last: Option<&str>) -> Option<bool>
-    ensures { result ≡ asks_at_most (option_map (λ s. s.now) last.entry) }
+// The command of comparing that the part that may stand last asks for.
+fn compared_as<'a>(
+    last: Option<&str>,
+    native: Arch,
+    old: &'a str,
+    new: &'a str,
+) -> Option<Command<'a>>
+    ensures { option_map given result ≡ spec.compared_as (option_map (λ s. s.now) last.entry) native old.entry.now new.entry.now }
 {
-    match last {
-        None => Some(false),
-        Some(last) => { if last == "atmost" { Some(true) } else { None } }
+    let Some(last) = last else {
+        return Some(Command::Compare {
+            native,
+            old,
+            new,
+            at_most: false,
+        });
+    };
+    if last == "atmost" {
+        return Some(Command::Compare {
+            native,
+            old,
+            new,
+            at_most: true,
+        });
     }
+    if last == "filters" {
+        return Some(Command::CompareFilters { native, old, new });
+    }
+    None
 }
 
 pub(crate) fn compare<'a>(found: &ArgMatches<'a>) -> Option<Command<'a>>
@@ -176,14 +197,8 @@ pub(crate) fn compare<'a>(found: &ArgMatches<'a>) -> Option<Command<'a>>
 {
     let old = part(found, "OLD")?;
     let new = part(found, "NEW")?;
-    let at_most = at_most(part(found, "atmost"))?;
     let native = native(found)?;
-    Some(Command::Compare {
-        native,
-        old,
-        new,
-        at_most,
-    })
+    compared_as(part(found, "WORD"), native, old, new)
 }
 
 pub(crate) fn adapt<'a>(found: &ArgMatches<'a>, arguments: &'a [&'a str]) -> Option<Command<'a>>

@@ -98,6 +98,8 @@ const COMPARE: &str =
     "Reports a line for each call of which the two say unlike things, and last what is proved: same,
 allows no more, allows no less, or allows more and less. It is undecided only for a size.
 Status 0 for same, or 1. With atmost, status 0 if the new bundle allows no more, or 1.
+filters: OLD and NEW are filters. A line stands for each call that is found of which they answer
+unlike verdicts. Status 0 if their bytes are the same, or 1.
 
 Example: ccell compare linux-x86-64 old.json new.json atmost
 ";

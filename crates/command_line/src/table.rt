@@ -22,7 +22,7 @@ const OLD: Part = ("OLD", 1, 1, Meaning::Old);
 
 const NEW: Part = ("NEW", 1, 1, Meaning::New);
 
-const AT_MOST: Part = ("atmost", 0, 1, Meaning::AtMost);
+const COMPARED: Part = ("WORD", 0, 1, Meaning::Compared);
 
 const FILTER: Part = ("FILTER", 1, 1, Meaning::Filter);
 
@@ -100,7 +100,7 @@ pub const COMMANDS: &[Entry] = &[
     ),
     (
         "compare",
-        &[MACHINE, OLD, NEW, AT_MOST],
+        &[MACHINE, OLD, NEW, COMPARED],
         "whether a new bundle says the same as an old one, or allows no more",
         Page::Compare,
     ),

@@ -1,5 +1,5 @@
 -- Two profiles of which one filter is right, or right for the first and convicted for the second.
-use Rattle.std.proofs.Common.{◌≡◌, ◌≢◌, ℕ, List}
+use Rattle.std.proofs.Common.{ℕ, List}
 use Rattle.bpf_insn.specs.declared.instruction.Insn.{Insn}
 use Rattle.call_record.specs.Words.{IsRecord}
 use Rattle.cert_check.specs.Right.{IsRight}

@@ -3,4 +3,3 @@ pub mod Sameness
 pub mod Order
 pub mod Outcome
 pub mod Told
-pub mod Conviction

@@ -1,5 +1,5 @@
 -- Which of two profiles lets more through.
-use Rattle.std.specs.Prelude.{ℕ, ◌≡◌, ◌&&◌, Bool, true, not, List}
+use Rattle.std.specs.Prelude.{◌≡◌, ◌&&◌, Bool, true, not, List}
 use Rattle.std.specs.List.{list_any}
 use Rattle.call_record.specs.Verdict.{is_through}
 use Rattle.order.specs.Order.{AllowsNoMore}

@@ -1,5 +1,5 @@
 -- What `ccell compare` tells of two bundles.
-use Rattle.std.specs.Prelude.{ℕ, ◌≡◌, ◌⊎◌, Bool, false, List, [], ◌∷◌, ◌++◌, IfSome, codes}
+use Rattle.std.specs.Prelude.{ℕ, ◌≡◌, ◌≢◌, ◌⊎◌, Bool, false, List, [], ◌∷◌, ◌++◌, IfSome, codes}
 use Rattle.std.specs.Fmt.{decimal}
 use Rattle.serde_json.specs.Data.{Data}
 use Rattle.texts.specs.Lines.{line_feed}
@@ -10,6 +10,7 @@ use Rattle.profile_json.specs.Breaks.{Breaks}
 use Rattle.profile_json.specs.Fault.{fault_of, text_of as refusal_text}
 use Rattle.profile_json.specs.Meaning.{IsText, Means}
 use Rattle.profile_json.specs.declared.fault.ProfileError.{ProfileError}
+use Rattle.profile_json.specs.declared.fault.ProfileError.TheVariants.{OutOfMemory}
 use Rattle.compare.specs.Outcome.{IsComparison, is_done, text_of}
 use Rattle.compare.specs.declared.outcome.Comparison.{Comparison}
 
@@ -22,6 +23,7 @@ abbrev pub refusal_line : ℕ → ProfileError → List ℕ
 refusal_line place e = codes "refused profile " ++ refusal_text e ++ codes ", bundle " ++ decimal place ++ line_feed ∷ []
 
 pub record TellsRefusal (place : ℕ) (e : ProfileError) (told : Told) : Type 0 where
+  pub is_fault : e ≢ OutOfMemory
   pub bytes : told.bytes.items ≡ refusal_line place e
   pub done : told.done ≡ false
 

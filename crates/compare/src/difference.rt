@@ -66,8 +66,8 @@ fn machine_of(family: Family, call: &Record) -> Option<Arch>
     }
 }
 
-/// A call record with the verdicts of two profiles.
-pub(crate) fn difference_on(
+/// A call record with the verdicts of two profiles or filters.
+pub fn difference_on(
     family: Family,
     call: &Record,
     asked: [bool; 6],

@@ -15,8 +15,9 @@ mod text;
 mod told;
 
 pub use change::Change;
-pub use convicting::explain_conviction;
-pub use difference::Difference;
+pub use convicting::explain_found;
+pub use difference::{Difference, difference_on};
 pub use outcome::Comparison;
 pub use sides::Sides;
+pub use text::lines_of;
 pub use told::compare;

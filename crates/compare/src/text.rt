@@ -133,6 +133,15 @@ fn put_changes(text: &mut String, changes: &[Change]) -> Result<(), AllocError>
     Ok(())
 }
 
+/// The lines of changes.
+pub fn lines_of(alloc: Global, changes: &[Change]) -> Result<String, AllocError>
+    ensures { IfOk result (λ text. string_bytes text ≡ flat_map spec.line_of changes.now) }
+{
+    let mut text = String::new(alloc);
+    put_changes(&mut text, changes)?;
+    Ok(text)
+}
+
 // The line that says what the second profile allows beside the first.
 fn sides_text(sides: Sides) -> &'static str
     ensures { result.now ≡ spec.sides_text sides }

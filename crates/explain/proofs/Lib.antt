@@ -1,2 +1,4 @@
 pub mod Deciding
 pub mod Texts
+mod AskedLaws
+mod ToldLaws

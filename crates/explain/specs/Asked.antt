@@ -1,9 +1,9 @@
 -- Which call record command line arguments ask for: by a call and its arguments, as a line of a script does, or by its bytes.
-use Rattle.std.specs.Prelude.{ℕ, ◌≡◌, ◌==◌, ◌⊎◌, Bool, true, false, List, [], ◌∷◌, ◌++◌, Some, None, Ok, codes}
+use Rattle.std.specs.Prelude.{ℕ, ◌≡◌, ◌==◌, Bool, true, false, List, [], ◌∷◌, ◌++◌, Some, None, Ok, codes}
 use Rattle.std.specs.List.{flat_map, list_any}
 use Rattle.std.specs.Str.{bytes_eq}
 use denote.Ref.{Bor}
-use Rattle.hex.specs.Hex.{decode_of}
+use Rattle.hex.specs.Hex.{decode_sized}
 use Rattle.texts.specs.Lines.{space}
 use Rattle.call_tables.specs.declared.arch.Arch.{Arch}
 use Rattle.call_tables.specs.Arch.{token_of}
@@ -42,10 +42,10 @@ pub record IsAsked (native : Arch) (given : List (Bor (List ℕ))) (r : Record) 
   pub fields : list_any (λ w. has_space w.now) given ≡ false
   pub on_line : IsOnLine native (line_of given) r
 
--- the digits are those of the record's bytes, two for each
+-- the digits are those of the record's 64 bytes, two for each
 pub record IsSpelled (digits : List ℕ) (r : Record) : Type 0 where
   pub bytes : List ℕ
-  pub decoded : decode_of digits ≡ Ok bytes
+  pub decoded : decode_sized digits 64 ≡ Ok bytes
   pub spelled : words_of bytes ≡ words r
 
 -- the command line arguments are `record` and digits
@@ -56,5 +56,14 @@ pub record IsByBytes (given : List (Bor (List ℕ))) (r : Record) : Type 0 where
   pub named : bytes_eq mark.now (codes "record") ≡ true
   pub spelled : IsSpelled digits.now r
 
+-- two arguments, of which the first one is `record`
+abbrev pub are_bytes : List (Bor (List ℕ)) → Bool
+are_bytes (mark ∷ digits ∷ []) = bytes_eq mark.now (codes "record")
+are_bytes given = false
+
+abbrev pub called_by : Bool → Arch → List (Bor (List ℕ)) → Record → Type 0
+called_by true native given r = IsByBytes given r
+called_by false native given r = IsAsked native given r
+
 abbrev pub IsCall : Arch → List (Bor (List ℕ)) → Record → Type 0
-IsCall native given r = IsAsked native given r ⊎ IsByBytes given r
+IsCall native given r = called_by (are_bytes given) native given r

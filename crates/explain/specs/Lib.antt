@@ -3,3 +3,4 @@ pub mod Reason
 pub mod Explanation
 pub mod Asked
 pub mod Told
+pub mod inner

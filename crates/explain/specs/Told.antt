@@ -1,26 +1,82 @@
 -- What commands answer.
-use Rattle.std.specs.Prelude.{ℕ, ◌≡◌, true, List, None}
+use Rattle.std.specs.Prelude.{ℕ, ◌≡◌, ◌≢◌, ◌⊎◌, true, false, List, [], ◌∷◌, ◌++◌, None, IfSome, length, codes}
+use Rattle.std.specs.Str.{IsUtf8}
 use denote.Ref.{Bor}
+use Rattle.texts.specs.Lines.{line_feed}
 use Rattle.call_tables.specs.declared.arch.Arch.{Arch}
 use Rattle.call_record.specs.declared.layout.Record.{Record}
 use Rattle.call_record.specs.Record.{words}
 use Rattle.call_record.specs.Words.{words_of}
 use Rattle.bpf_insn.specs.Bytes.{insns_of, view_fault}
+use Rattle.bpf_asm.specs.Fault.{text_of as asm_text}
+use Rattle.bpf_asm.specs.Faults.{Explains as IsListingFault}
 use Rattle.bpf_asm.specs.Listing.{listing}
+use Rattle.bpf_asm.specs.declared.fault.AsmError.{AsmError}
+use Rattle.bpf_asm.specs.declared.fault.AsmError.TheVariants.{OutOfMemory as NoMemory}
+use Rattle.profile_json.specs.Breaks.{Breaks}
+use Rattle.profile_json.specs.Fault.{fault_of, text_of}
+use Rattle.profile_json.specs.declared.fault.ProfileError.{ProfileError}
+use Rattle.profile_json.specs.declared.fault.ProfileError.TheVariants.{OutOfMemory}
 use Rattle.explain.specs.declared.told.Told.{Told}
 use Rattle.explain.specs.Asked.{IsCall, IsAsked}
 use Rattle.explain.specs.Explanation.{Explains}
 
--- where it was done: a text that explains what the bundle says of the record that the command line arguments ask for
+-- nothing was done, and this line is told
+pub record TellsLine (line : List ℕ) (told : Told) : Type 0 where
+  pub bytes : told.bytes.items ≡ line ++ line_feed ∷ []
+  pub done : told.done ≡ false
+
+-- the bundle is refused for a fault that it has, and the line that says so is told
+pub record RefusesBundle (native : Arch) (bundle : List ℕ) (told : Told) : Type 0 where
+  pub error : ProfileError
+  pub is_fault : error ≢ OutOfMemory
+  pub stands : IfSome (fault_of error) (Breaks bundle native)
+  pub tells : TellsLine (codes "refused profile " ++ text_of error) told
+
+-- there is no record that is asked for, and the line that says so is told
+pub record RefusesCall (Asks : Record → Type 0) (told : Told) : Type 0 where
+  pub none : (r : Record) → Asks r → ⊥
+  pub tells : TellsLine (codes "refused call") told
+
+-- it was done: a text explains what the bundle says of the record that the command line arguments ask for
+pub record ExplainsCall (native : Arch) (bundle : List ℕ) (given : List (Bor (List ℕ))) (told : Told) : Type 0 where
+  pub call : Record
+  pub is_call : IsCall native given call
+  pub explains : Explains native bundle call told.bytes.items
+  pub done : told.done ≡ true
+
 abbrev pub IsExplained : Arch → List ℕ → List (Bor (List ℕ)) → Told → Type 0
 IsExplained native bundle given told =
-    told.done ≡ true → (r : Record) × IsCall native given r × Explains native bundle r told.bytes.items
+    RefusesCall (IsCall native given) told ⊎ (RefusesBundle native bundle told ⊎ ExplainsCall native bundle given told)
 
--- where it was done: the bytes of the record that the command line arguments ask for
+-- it was done: the 64 bytes of the record that the command line arguments ask for
+pub record TellsRecord (native : Arch) (given : List (Bor (List ℕ))) (told : Told) : Type 0 where
+  pub call : Record
+  pub is_asked : IsAsked native given call
+  pub whole : length told.bytes.items ≡ 64
+  pub same : words_of told.bytes.items ≡ words call
+  pub done : told.done ≡ true
+
 abbrev pub IsRecorded : Arch → List (Bor (List ℕ)) → Told → Type 0
-IsRecorded native given told = told.done ≡ true → (r : Record) × IsAsked native given r × (words_of told.bytes.items ≡ words r)
+IsRecorded native given told = RefusesCall (IsAsked native given) told ⊎ TellsRecord native given told
 
--- where it was done: the bytes of a program whose listing the text is
+-- it was done: the bytes of a program whose listing the text is
+pub record TellsProgram (text : List ℕ) (told : Told) : Type 0 where
+  pub program : view_fault told.bytes.items ≡ None
+  pub listed : listing (insns_of told.bytes.items) ≡ text
+  pub done : told.done ≡ true
+
+-- the text has a fault, and the line that names it is told
+pub record RefusesListing (text : List ℕ) (told : Told) : Type 0 where
+  pub error : AsmError
+  pub is_fault : error ≢ NoMemory
+  pub stands : IsListingFault text error
+  pub tells : TellsLine (codes "refused listing " ++ asm_text error) told
+
+-- the bytes are no text in UTF-8, and the line that says so is told
+pub record RefusesBytes (text : List ℕ) (told : Told) : Type 0 where
+  pub no_text : IsUtf8 text → ⊥
+  pub tells : TellsLine (codes "refused listing, which is no UTF-8") told
+
 abbrev pub IsAssembled : List ℕ → Told → Type 0
-IsAssembled text told =
-    told.done ≡ true → (view_fault told.bytes.items ≡ None) × (listing (insns_of told.bytes.items) ≡ text)
+IsAssembled text told = RefusesBytes text told ⊎ (RefusesListing text told ⊎ TellsProgram text told)

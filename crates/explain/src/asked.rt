@@ -1,13 +1,16 @@
 //! The call record that command line arguments ask for.
-ghost use Rattle.std.specs.Prelude.{◌≡◌, ◌++◌, ◌∷◌, IfOk, IfSome, string_bytes};
+ghost use Rattle.std.specs.Prelude.{◌≡◌, ◌++◌, ◌∷◌, IfOk, IfSome, None, string_bytes, true};
 ghost use Rattle.std.specs.List.{flat_map, list_any};
 ghost use Rattle.texts.specs.Lines.{space};
+ghost use Rattle.call_record.specs.declared.layout.Record.{Record as TheRecord};
+ghost use Rattle.script.specs.Requests.{command_of};
 ghost use Rattle.explain.specs.Asked as spec;
+ghost use Rattle.explain.specs.inner.Found.{IsRecordIn};
 
 use call_record::Record;
 use call_tables::Arch;
 use hex::FromHex;
-use script::{Request, read_line};
+use script::{Request, one_command, read_line};
 use std::alloc::{AllocError, Global};
 
 fn has_space(argument: &str) -> bool
@@ -54,21 +57,36 @@ fn record_of(arch: Arch, nr: u32, args: [u64; 6]) -> Record
     }
 }
 
+// The record of what a line of a script asks for, if that is a call without a program.
+fn record_in(request: Request<'_>) -> Option<Record>
+    ensures { IsRecordIn (command_of request.entry) result }
+{
+    match request {
+        Request::Call {
+            arch,
+            nr,
+            args,
+            program: None,
+            ..
+        } => Some(record_of(arch, nr, args)),
+        Request::Call {
+            program: Some(_),
+            ..
+        } => None,
+        Request::Create { .. } | Request::Start { .. } | Request::Delete { .. } => None,
+        Request::State { .. } | Request::Kill { .. } => None,
+    }
+}
+
 // The record of the call that a line of a script is, if it has no program.
 fn call_on(native: Arch, line: &str) -> Option<Record>
-    ensures { IfSome result (λ r. spec.IsOnLine native line.now r) }
+    ensures found { IfSome result (λ r. spec.IsOnLine native line.now r) }
+    ensures none { result ≡ None → (r : TheRecord) → spec.IsOnLine native line.now r → ⊥ }
 {
+    one_command();
     match read_line(native, line.as_bytes()) {
-        Some(
-            Request::Call {
-                arch,
-                nr,
-                args,
-                program: None,
-                ..
-            },
-        ) => Some(record_of(arch, nr, args)),
-        _ => None,
+        Some(request) => record_in(request),
+        None => None,
     }
 }
 
@@ -78,7 +96,8 @@ pub(crate) fn asked(
     native: Arch,
     arguments: &[&str],
 ) -> Result<Option<Record>, AllocError>
-    ensures { IfOk result (λ found. IfSome found (spec.IsAsked native arguments.now)) }
+    ensures found { IfOk result (λ found. IfSome found (spec.IsAsked native arguments.now)) }
+    ensures none { IfOk result (λ found. found ≡ None → (r : TheRecord) → spec.IsAsked native arguments.now r → ⊥) }
 {
     if any_has_space(arguments) {
         return Ok(None);
@@ -89,11 +108,34 @@ pub(crate) fn asked(
 
 // The record whose bytes are spelled by 128 hexadecimal digits.
 fn spelled(digits: &str) -> Option<Record>
-    ensures { IfSome result (spec.IsSpelled digits.now) }
+    ensures found { IfSome result (spec.IsSpelled digits.now) }
+    ensures none { result ≡ None → (r : TheRecord) → spec.IsSpelled digits.now r → ⊥ }
 {
     match <[u8; 64] as FromHex>::from_hex(digits) {
         Ok(bytes) => Some(Record::from_bytes(&bytes)),
         Err(_) => None,
+    }
+}
+
+// Whether the arguments are `record` and digits.
+fn are_bytes(arguments: &[&str]) -> bool
+    ensures { result ≡ spec.are_bytes arguments.now }
+{
+    match arguments {
+        [mark, _digits] => *mark == "record",
+        _ => false,
+    }
+}
+
+// The record that is spelled by the second of two arguments.
+fn spelled_in(arguments: &[&str]) -> Option<Record>
+    requires { spec.are_bytes arguments.now ≡ true }
+    ensures found { IfSome result (spec.IsByBytes arguments.now) }
+    ensures none { result ≡ None → (r : TheRecord) → spec.IsByBytes arguments.now r → ⊥ }
+{
+    match arguments {
+        [_mark, digits] => spelled(digits),
+        _ => None,
     }
 }
 
@@ -103,12 +145,11 @@ pub(crate) fn call_in(
     native: Arch,
     arguments: &[&str],
 ) -> Result<Option<Record>, AllocError>
-    ensures { IfOk result (λ found. IfSome found (spec.IsCall native arguments.now)) }
+    ensures found { IfOk result (λ found. IfSome found (spec.IsCall native arguments.now)) }
+    ensures none { IfOk result (λ found. found ≡ None → (r : TheRecord) → spec.IsCall native arguments.now r → ⊥) }
 {
-    if let [mark, digits] = arguments {
-        if *mark == "record" {
-            return Ok(spelled(digits));
-        }
+    if are_bytes(arguments) {
+        return Ok(spelled_in(arguments));
     }
     asked(alloc, native, arguments)
 }

@@ -1,11 +1,13 @@
 //! What a bundle says of a call record, and why.
-ghost use Rattle.std.specs.Prelude.{◌≡◌, ◌++◌, ℕ, IfOk, string_bytes};
+ghost use Rattle.std.specs.Prelude.{◌≡◌, ◌++◌, ℕ, IfErr, IfOk, IfSome, string_bytes};
 ghost use Rattle.call_record.specs.Record.{words};
 ghost use Rattle.call_tables.specs.Arch.{family_of};
 ghost use Rattle.profile.specs.Policy.{Says};
 ghost use Rattle.explain.specs.Explanation as spec;
 ghost use Rattle.explain.specs.Reason.{reason_of};
 ghost use Rattle.explain.specs.Phrases.{verdict_line};
+ghost use Rattle.profile_json.specs.Breaks.{Breaks};
+ghost use Rattle.profile_json.specs.Fault.{fault_of};
 
 use crate::calls::put_record;
 use crate::phrases::ActionText;
@@ -82,7 +84,9 @@ pub fn explanation(
     bundle: &[u8],
     call: &Record,
 ) -> Result<String, ProfileError>
-    ensures { IfOk result (λ text. spec.Explains native bundle.now call.now (string_bytes text)) }
+    ensures explains { IfOk result (λ text. spec.Explains native bundle.now call.now (string_bytes text)) }
+    // Unless memory ran out, the fault stands in the bundle.
+    ensures fault { IfErr result (λ e. IfSome (fault_of e) (Breaks bundle.now native)) }
 {
     let read = read_bundle(alloc, bundle, native)?;
     let all = rules_by_entry(alloc, bundle, native)?;

@@ -1,8 +1,12 @@
 //! What commands answer.
-ghost use Rattle.std.specs.Prelude.{◌≡◌, IfOk, false};
+ghost use Rattle.std.specs.Prelude.{◌≡◌, ◌≢◌, ◌++◌, IfOk, codes, false, length, true};
+ghost use Rattle.bpf_asm.specs.Fault.{text_of as asm_text};
+ghost use Rattle.bpf_asm.specs.declared.fault.AsmError.TheVariants.{OutOfMemory as NoMemory};
 ghost use Rattle.call_record.specs.Record.{words as words_in};
 ghost use Rattle.call_record.specs.Words.{words_of};
 ghost use Rattle.explain.specs.Told as spec;
+ghost use Rattle.profile_json.specs.Fault.{text_of};
+ghost use Rattle.profile_json.specs.declared.fault.ProfileError.TheVariants.{OutOfMemory};
 
 use crate::asked::{asked, call_in};
 use crate::telling::explanation;
@@ -21,7 +25,7 @@ pub struct Told {
 
 // The line that tells why a command did not do what it was asked for.
 fn refused(alloc: Global, why: &str) -> Result<Told, AllocError>
-    ensures { IfOk result (λ told. told.done ≡ false) }
+    ensures { IfOk result (spec.TellsLine (codes "refused " ++ why.now)) }
 {
     let line = format!(in alloc; "refused {why}\n")?;
     Ok(Told {
@@ -30,9 +34,11 @@ fn refused(alloc: Global, why: &str) -> Result<Told, AllocError>
     })
 }
 
-/// The line that tells why a bundle is refused.
+/// The line that tells why a bundle is refused. Want of memory is no reason, and an error here.
 pub fn refused_profile(alloc: Global, error: ProfileError) -> Result<Told, AllocError>
-    ensures { IfOk result (λ told. told.done ≡ false) }
+    ensures told { IfOk result (spec.TellsLine (codes "refused profile " ++ text_of error)) }
+    ensures fault { IfOk result (λ told. error ≢ OutOfMemory) }
+    ensures done { IfOk result (λ told. told.done ≡ false) }
 {
     if let ProfileError::OutOfMemory = error {
         return Err(AllocError);
@@ -46,7 +52,8 @@ pub fn refused_profile(alloc: Global, error: ProfileError) -> Result<Told, Alloc
 
 // The line that tells why a text is no listing.
 fn refused_listing(alloc: Global, error: AsmError) -> Result<Told, AllocError>
-    ensures { IfOk result (λ told. told.done ≡ false) }
+    ensures told { IfOk result (spec.TellsLine (codes "refused listing " ++ asm_text error)) }
+    ensures fault { IfOk result (λ told. error ≢ NoMemory) }
 {
     if let AsmError::OutOfMemory = error {
         return Err(AllocError);
@@ -82,7 +89,9 @@ pub fn explain(
 
 // The bytes of a record.
 fn recorded(alloc: Global, call: &Record) -> Result<Told, AllocError>
-    ensures { IfOk result (λ told. words_of told.bytes.items ≡ words_in call.now) }
+    ensures same { IfOk result (λ told. words_of told.bytes.items ≡ words_in call.now) }
+    ensures whole { IfOk result (λ told. length told.bytes.items ≡ 64) }
+    ensures done { IfOk result (λ told. told.done ≡ true) }
 {
     let bytes = call.to_bytes();
     let bytes = Vec::from_slice(alloc, &bytes)?;

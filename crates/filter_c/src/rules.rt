@@ -4,7 +4,8 @@ ghost use Rattle.bpf_insn.specs.Bytes.{insns_of};
 ghost use Rattle.kernel_check.specs.Accepted.{IsAccepted};
 ghost use Rattle.cert_check.specs.Right.{IsRight};
 ghost use Rattle.rule_compile.specs.Shape.{IsPlain};
-ghost use Rattle.pipeline.specs.Prepared.{IsUnbroken};
+ghost use Rattle.profile.specs.Policy.{IsClear};
+ghost use Rattle.pipeline.specs.Prepared.{IsTaken, IsUnbroken};
 ghost use Rattle.added_rules.specs.Refusal.{IsCause};
 ghost use Rattle.added_rules.specs.declared.fault.AddedError.TheVariants as error;
 ghost use Rattle.filter_c.specs.Rules.{AnswersWhatWasAdded, AreNotPlain};
@@ -19,17 +20,16 @@ use pipeline::{Prepared, Unready};
 use profile::Profile;
 use std::alloc::Global;
 
-// Writes a filter once the checker has said yes to it.
-fn put_checked(alloc: Global, prepared: &Prepared, out: &mut [u8], told: &mut Told) -> u32
-    requires { IsUnbroken prepared.now.profile prepared.now.filter.items prepared.now.certificate.items }
+// Writes a filter that breaks no rule of the checker: it was asked when the filter was prepared.
+fn put_prepared(prepared: &Prepared, out: &mut [u8], told: &mut Told) -> u32
+    requires clear { IsClear prepared.now.profile.rules }
+    requires taken { IsTaken prepared.now.filter.items }
+    requires unbroken { IsUnbroken prepared.now.profile prepared.now.filter.items prepared.now.certificate.items }
     ensures accepted { result ≡ 0 → IsAccepted (insns_of (take told.new.count out.new)) }
     ensures right { result ≡ 0 → IsRight prepared.now.profile (insns_of (take told.new.count out.new)) }
     ensures room { result ≡ 2 → length out.old < told.new.count }
-    ensures statuses { (result ≡ 0) ⊎ ((result ≡ 2) ⊎ (result ≡ 3)) }
+    ensures statuses { (result ≡ 0) ⊎ (result ≡ 2) }
 {
-    let Ok(_checked) = prepared.checked(alloc) else {
-        return NO_MEMORY;
-    };
     if written(&prepared.filter, out, &mut told.count) {
         DONE
     } else {
@@ -39,6 +39,7 @@ fn put_checked(alloc: Global, prepared: &Prepared, out: &mut [u8], told: &mut To
 
 // Writes the filter of a profile.
 fn put_filter(alloc: Global, profile: Profile, out: &mut [u8], told: &mut Told) -> u32
+    requires { IsClear profile.rules }
     ensures accepted { result ≡ 0 → IsAccepted (insns_of (take told.new.count out.new)) }
     ensures right { result ≡ 0 → IsRight profile (insns_of (take told.new.count out.new)) }
     ensures room { result ≡ 2 → length out.old < told.new.count }
@@ -46,7 +47,7 @@ fn put_filter(alloc: Global, profile: Profile, out: &mut [u8], told: &mut Told) 
     ensures statuses { (result ≡ 0) ⊎ ((result ≡ 2) ⊎ ((result ≡ 3) ⊎ (result ≡ 11))) }
 {
     match Prepared::of_profile(alloc, profile) {
-        Ok(prepared) => put_checked(alloc, &prepared, out, told),
+        Ok(prepared) => put_prepared(&prepared, out, told),
         Err(Unready::OutOfMemory) => NO_MEMORY,
         Err(_) => NO_FILTER,
     }

@@ -31,8 +31,8 @@ pub(crate) struct Frames<'a> {
     is_done: bool,
 }
 
-// How deep a value may lie, as the reader of values has it.
-const DEEPEST: usize = 127;
+/// How deep a value may lie, as the reader of values has it.
+pub(crate) const DEEPEST: usize = 127;
 
 impl<'a> Frames<'a> {
     pub(crate) fn new(alloc: Global) -> Frames<'a> {

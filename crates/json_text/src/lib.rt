@@ -5,6 +5,7 @@
 mod fault;
 mod frames;
 mod known;
+mod skip;
 mod trim;
 
 pub use fault::{TextFault, fault_of};

@@ -2,6 +2,7 @@
 use crate::fault::point_of;
 use crate::frames::Frames;
 use crate::known::{may_be_large, past_blanks, place_of};
+use crate::skip::skip_value;
 use json::{Reader, Scratch, Token, Writer, is_number};
 use std::alloc::{AllocError, Global};
 
@@ -20,14 +21,24 @@ pub struct Trimmed {
     pub doubled: Option<Doubled>,
 }
 
-// The text as far as it was read. While `skipped` says how deep a member lies that is not read, nothing of it is written.
+// The text as far as it was read.
 #[derive(Drop)]
 struct Trimmer<'a> {
     frames: Frames<'a>,
     out: Writer,
-    skips_next: bool,
-    skipped: Option<usize>,
     doubled: Option<Doubled>,
+}
+
+// What is to be done behind a token.
+enum Next {
+    Read,
+    Skip,
+    GiveUp,
+}
+
+// Reads on, unless what was read may not stand there.
+fn read_on(may_stand: bool) -> Next {
+    if may_stand { Next::Read } else { Next::GiveUp }
 }
 
 impl<'a> Trimmer<'a> {
@@ -35,15 +46,8 @@ impl<'a> Trimmer<'a> {
         Trimmer {
             frames: Frames::new(alloc),
             out: Writer::new(Vec::new(alloc)),
-            skips_next: false,
-            skipped: None,
             doubled: None,
         }
-    }
-
-    // Whether what is read now is not written.
-    fn skips(&self) -> bool {
-        self.skips_next || self.skipped.is_some()
     }
 
     // Keeps in mind a key that is read, and the first that stands twice.
@@ -54,6 +58,7 @@ impl<'a> Trimmer<'a> {
         key: usize,
         at: usize,
     ) -> Result<(), AllocError> {
+        let at = past_blanks(text, at);
         let Some(first) = self.frames.seen_at(key) else {
             return self.frames.keep_seen(key, at);
         };
@@ -67,29 +72,28 @@ impl<'a> Trimmer<'a> {
         Ok(())
     }
 
-    // Reads a key, which is written with a 0 behind it if it is none of those that are read.
+    // Reads a key, which is written with a 0 behind it if it is none of those that are read: then its value is passed over.
     fn take_key(
         &mut self,
         alloc: Global,
         (text, at): (&[u8], usize),
         keys: &[&str],
         key: &'a str,
-    ) -> Result<bool, AllocError> {
+    ) -> Result<Next, AllocError> {
         if !self.frames.take_key(key) {
-            return Ok(false);
-        }
-        if self.skips() {
-            return Ok(true);
+            return Ok(Next::GiveUp);
         }
         self.out.key(key)?;
         match place_of(keys, key) {
-            Some(place) => self.keep_key(alloc, text, place, at)?,
+            Some(place) => {
+                self.keep_key(alloc, text, place, at)?;
+                Ok(Next::Read)
+            }
             None => {
                 self.out.u64(0)?;
-                self.skips_next = true;
+                Ok(Next::Skip)
             }
         }
-        Ok(true)
     }
 
     // Begins an object or a list.
@@ -97,21 +101,12 @@ impl<'a> Trimmer<'a> {
         if !self.frames.take_value() {
             return Ok(false);
         }
-        if self.skips_next {
-            self.skips_next = false;
-            self.skipped = Some(self.frames.depth());
-        } else if self.skipped.is_none() {
-            self.put_begin(is_object)?;
+        if is_object {
+            self.out.begin_object()?;
+        } else {
+            self.out.begin_array()?;
         }
         self.frames.begin(is_object)
-    }
-
-    fn put_begin(&mut self, is_object: bool) -> Result<(), AllocError> {
-        if is_object {
-            self.out.begin_object()
-        } else {
-            self.out.begin_array()
-        }
     }
 
     // Ends an object or a list.
@@ -119,88 +114,76 @@ impl<'a> Trimmer<'a> {
         if !self.frames.end(is_object) {
             return Ok(false);
         }
-        match self.skipped {
-            None => self.put_end(is_object)?,
-            Some(depth) => {
-                if depth == self.frames.depth() {
-                    self.skipped = None;
-                }
-            }
+        if is_object {
+            self.out.end_object()?;
+        } else {
+            self.out.end_array()?;
         }
         Ok(true)
     }
 
-    fn put_end(&mut self, is_object: bool) -> Result<(), AllocError> {
-        if is_object {
-            self.out.end_object()
-        } else {
-            self.out.end_array()
-        }
-    }
-
-    // Whether a value that is no object and no list may stand here, and is written.
-    fn take_single(&mut self) -> (bool, bool) {
-        let may_stand = self.frames.take_value();
-        let is_written = !self.skips();
-        self.skips_next = false;
-        (may_stand, is_written)
-    }
-
     fn text(&mut self, text: &str) -> Result<bool, AllocError> {
-        let (may_stand, is_written) = self.take_single();
-        if is_written {
-            self.out.string(text)?;
-        }
-        Ok(may_stand)
+        self.out.string(text)?;
+        Ok(self.frames.take_value())
     }
 
-    // A number that may be more than a reader takes is left to that reader, written or not.
+    // A number that may be more than a reader takes is left to that reader.
     fn number(&mut self, number: &str) -> Result<bool, AllocError> {
-        let (may_stand, is_written) = self.take_single();
         if may_be_large(number) || !is_number(number) {
             return Ok(false);
         }
-        if is_written {
-            self.out.number(number)?;
-        }
-        Ok(may_stand)
+        self.out.number(number)?;
+        Ok(self.frames.take_value())
     }
 
     fn boolean(&mut self, value: bool) -> Result<bool, AllocError> {
-        let (may_stand, is_written) = self.take_single();
-        if is_written {
-            self.out.boolean(value)?;
-        }
-        Ok(may_stand)
+        self.out.boolean(value)?;
+        Ok(self.frames.take_value())
     }
 
     fn null(&mut self) -> Result<bool, AllocError> {
-        let (may_stand, is_written) = self.take_single();
-        if is_written {
-            self.out.null()?;
-        }
-        Ok(may_stand)
+        self.out.null()?;
+        Ok(self.frames.take_value())
     }
 
-    // Reads a token, which is known to be printable. False says that the text is given up.
+    // Reads a token that is no key, unless it may not stand here.
+    fn take_other(&mut self, token: Token<'_>) -> Result<bool, AllocError> {
+        match token {
+            Token::BeginObject => self.begin(true),
+            Token::EndObject => self.end(true),
+            Token::BeginArray => self.begin(false),
+            Token::EndArray => self.end(false),
+            Token::String(text) => self.text(text),
+            Token::Bool(value) => self.boolean(value),
+            Token::Null => self.null(),
+            Token::Number(number) => self.number(number),
+            Token::Key(_) | Token::Bad => Ok(false),
+        }
+    }
+
+    // Reads a token, which is known to be printable.
     fn take(
         &mut self,
         alloc: Global,
         place: (&[u8], usize),
         keys: &[&str],
         token: Token<'a>,
-    ) -> Result<bool, AllocError> {
-        match token {
-            Token::BeginObject => self.begin(true),
-            Token::EndObject => self.end(true),
-            Token::BeginArray => self.begin(false),
-            Token::EndArray => self.end(false),
-            Token::Key(key) => self.take_key(alloc, place, keys, key),
-            Token::String(text) => self.text(text),
-            Token::Bool(value) => self.boolean(value),
-            Token::Null => self.null(),
-            Token::Number(number) => self.number(number),
-            Token::Bad => Ok(false),
+    ) -> Result<Next, AllocError> {
+        if let Token::Key(key) = token {
+            return self.take_key(alloc, place, keys, key);
+        }
+        let may_stand = self.take_other(token)?;
+        Ok(read_on(may_stand))
+    }
+
+    // Passes over the value of a member, if that is to be done.
+    fn skip(&mut self, reader: &mut Reader<'_>, length: usize, next: Next) -> bool {
+        match next {
+            Next::Read => true,
+            Next::GiveUp => false,
+            Next::Skip => {
+                self.frames.take_value() && skip_value(reader, length, self.frames.depth())
+            }
         }
     }
 }
@@ -214,11 +197,12 @@ fn read<'a>(
 ) -> Result<Option<Trimmer<'a>>, AllocError> {
     let mut trimmer = Trimmer::new(alloc);
     for _ in 0..text.len() {
-        let at = past_blanks(text, reader.offset());
+        let at = reader.offset();
         let Some(token) = reader.next() else {
             break;
         };
-        if !trimmer.take(alloc, (text, at), keys, token)? {
+        let next = trimmer.take(alloc, (text, at), keys, token)?;
+        if !trimmer.skip(&mut reader, text.len(), next) {
             return Ok(None);
         }
     }

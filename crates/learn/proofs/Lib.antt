@@ -1,1 +1,5 @@
 mod Lines
+mod Taken
+mod Come
+mod Rules
+mod Results

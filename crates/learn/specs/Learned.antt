@@ -1,5 +1,5 @@
 -- What a bundle that was made of logs allows, and for which calls it has rules.
-use Rattle.std.specs.Prelude.{ℕ, ◌≡◌, ◌⊎◌, true, List, Option, Some, IfSome, map}
+use Rattle.std.specs.Prelude.{ℕ, ◌≡◌, ◌⊎◌, true, List, Option, Some, IfSome}
 use Rattle.std.specs.List.{All, Contains}
 use Rattle.serde_json.specs.Data.{Data}
 use Rattle.call_record.specs.Verdict.{allow}
@@ -13,11 +13,7 @@ use Rattle.explain.specs.declared.told.Told.{Told}
 use Rattle.strace_log.specs.Line.{call_on, words_of_call}
 use Rattle.strace_log.specs.Lines.{lines_of}
 use Rattle.learn.specs.declared.lists.Runtime.{Runtime}
-use Rattle.learn.specs.declared.logs.Log.{Log}
 use Rattle.learn.specs.Lists.{is_listed}
-
-abbrev pub texts_of : List Log → List (List ℕ)
-texts_of logs = map (λ log. log.text.now) logs
 
 -- the call that the line tells, if it tells one, is allowed
 abbrev pub AllowsLine : Arch → Policy → List ℕ → Type 0
@@ -59,5 +55,5 @@ pub record IsLearned (native : Arch) (texts : List (List ℕ)) (runtime : Option
   pub allows : All (AllowsText native policy) texts
   pub named : All (IsNamed native texts runtime) policy.rules
 
-abbrev pub TellsLearned : Arch → List Log → Option Runtime → Told → Type 0
-TellsLearned native logs runtime told = told.done ≡ true → IsLearned native (texts_of logs) runtime told.bytes.items
+abbrev pub TellsLearned : Arch → List (List ℕ) → Option Runtime → Told → Type 0
+TellsLearned native texts runtime told = told.done ≡ true → IsLearned native texts runtime told.bytes.items

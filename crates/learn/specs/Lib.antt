@@ -1,4 +1,5 @@
 pub mod Lists
+pub mod Given
 pub mod Learned
 pub mod Replayed
 pub mod inner

@@ -1,5 +1,5 @@
 -- What a bundle lets through of logs.
-use Rattle.std.specs.Prelude.{ℕ, ◌≡◌, true, List, IfSome}
+use Rattle.std.specs.Prelude.{ℕ, ◌≡◌, true, List, IfSome, map}
 use Rattle.std.specs.List.{All}
 use Rattle.serde_json.specs.Data.{Data}
 use Rattle.call_record.specs.Verdict.{Through}
@@ -10,7 +10,9 @@ use Rattle.explain.specs.declared.told.Told.{Told}
 use Rattle.strace_log.specs.Line.{call_on, words_of_call}
 use Rattle.strace_log.specs.Lines.{lines_of}
 use Rattle.learn.specs.declared.logs.Log.{Log}
-use Rattle.learn.specs.Learned.{texts_of}
+
+abbrev pub texts_of : List Log → List (List ℕ)
+texts_of logs = map (λ log. log.text.now) logs
 
 -- what the profile says of a call's record carries the call out
 abbrev pub LetsThrough : Policy → List ℕ → Type 0

@@ -1,23 +1,49 @@
 //! The calls of logs, each once.
-ghost use Rattle.std.specs.Prelude.{◌≡◌, ℕ, List, [], IfOk, Contains};
-ghost use Rattle.std.specs.List.{All};
-ghost use Rattle.call_tables.specs.declared.arch.Arch.{Arch};
-ghost use Rattle.strace_log.specs.Lines.{lines_of};
-ghost use Rattle.learn.specs.inner.Seen.{AreSeen};
-ghost use Rattle.learn.specs.Learned.{IsSeen, texts_of};
+ghost use Rattle.std.specs.Prelude.{◌≡◌, IfOk, []};
+ghost use Rattle.call_record.specs.Record.{words};
+ghost use Rattle.strace_log.specs.Line.{words_of_call};
+ghost use Rattle.learn.specs.inner.Taken.{Grows, IsCovered};
 
+use crate::covering::{fitting, is_noted, whole_of};
 use crate::keeps::{Keep, keep_of, values_of};
-use crate::logs::Log;
+use call_record::{Record, words_are_a_record};
 use call_tables::Arch;
 use std::alloc::{AllocError, Global};
-use strace_log::{Call, call_on, is_remark};
+use strace_log::Call;
 
-/// A call that a log shows, and whether it is allowed whatever its arguments.
-#[derive(Clone, Copy, PartialEq, Eq)]
+/// Calls that logs show: those of a number on a machine whose arguments have these values at these places.
+#[derive(Clone, Copy)]
 pub(crate) struct Seen {
     pub(crate) arch: Arch,
     pub(crate) nr: u32,
-    pub(crate) is_whole: bool,
+    pub(crate) places: [bool; 6],
+    pub(crate) values: [u64; 6],
+}
+
+// A call's record, made at address 0.
+fn record_of(arch: Arch, nr: u32, args: [u64; 6]) -> Record
+    ensures { words result ≡ words_of_call (arch, nr, args) }
+{
+    Record {
+        nr,
+        arch: arch.token(),
+        ip: 0,
+        args,
+    }
+}
+
+impl Seen {
+    /// Whether they are allowed whatever their arguments.
+    pub(crate) fn is_whole(&self) -> bool {
+        !self.places.iter().any(|is_kept| *is_kept)
+    }
+
+    /// One of them as a filter sees it, made at address 0.
+    pub(crate) fn record(&self) -> Record
+        ensures { words result ≡ words_of_call (self.now.arch, self.now.nr, self.now.values) }
+    {
+        record_of(self.arch, self.nr, self.values)
+    }
 }
 
 /// Values of a call's arguments: which of those asked for it is, and the values, 0 where none is kept.
@@ -27,208 +53,85 @@ pub(crate) struct Kept {
     pub(crate) values: [u64; 6],
 }
 
-/// A line that tells no call, and is none of those that strace writes beside them: its log and its number, both from 0.
-#[derive(Clone, Copy)]
-pub(crate) struct Unread {
-    pub(crate) log: usize,
-    pub(crate) line: u64,
-}
-
 /// How many values of arguments are kept at most: more entries than a bundle may have.
 pub(crate) const MOST_KEPT: usize = 1024;
 
-// How many lines that are not read are told.
-const MOST_UNREAD: usize = 10;
-
-/// The calls of logs, the values that are kept of their arguments, how many records there are, and the lines that are not read.
+/// The calls of logs, the values that are kept of their arguments, and how many records there are.
 #[derive(Drop)]
 pub(crate) struct Calls {
     pub(crate) seen: Vec<Seen>,
     pub(crate) kept: Vec<Kept>,
     pub(crate) records: u64,
-    pub(crate) unread: Vec<Unread>,
-    pub(crate) unread_count: u64,
 }
 
-// Adds a call, unless it is there.
-fn note(seen: &mut Vec<Seen>, call: Seen) -> Result<(), AllocError>
-    ensures { (native : Arch) (texts : List (List ℕ)) → IsSeen native texts call.arch call.nr → AreSeen native texts seen.old.items
-        → IfOk result (λ _. AreSeen native texts seen.new.items) }
-{
-    if seen.contains(&call) {
-        return Ok(());
+// Adds values, unless they are there, and tells whether there are not too many.
+fn note_values(kept: &mut Vec<Kept>, values: Kept) -> Result<bool, AllocError> {
+    if kept.contains(&values) {
+        return Ok(true);
     }
-    seen.push(call)?;
-    Ok(())
-}
-
-// Adds values, unless they are there or there are too many.
-fn note_values(kept: &mut Vec<Kept>, values: Kept) -> Result<(), AllocError> {
-    if kept.contains(&values) || kept.len() >= MOST_KEPT {
-        return Ok(());
+    if kept.len() >= MOST_KEPT {
+        return Ok(false);
     }
     kept.push(values)?;
-    Ok(())
+    Ok(true)
 }
 
-// Adds the values of a call of which some are kept, and tells whether it has them all.
-fn see_values(
-    keeps: &[Keep<'_>],
-    call: &Call<'_>,
-    kept: &mut Vec<Kept>,
-) -> Result<bool, AllocError> {
+// What is to be gathered of a call, and its values where they are kept.
+fn seen_of(keeps: &[Keep<'_>], call: &Call<'_>, kept: &mut Vec<Kept>) -> Result<Seen, AllocError> {
     let Some(at) = keep_of(keeps, call) else {
-        return Ok(false);
+        return Ok(whole_of(call));
     };
     let Some(keep) = keeps.get(at) else {
-        return Ok(false);
+        return Ok(whole_of(call));
     };
-    match values_of(keep, call) {
-        Some(values) => {
-            note_values(kept, Kept { keep: at, values })?;
-            Ok(true)
-        }
-        None => Ok(false),
+    let Some(values) = values_of(keep, call) else {
+        return Ok(whole_of(call));
+    };
+    if !note_values(kept, Kept { keep: at, values })? {
+        return Ok(whole_of(call));
     }
-}
-
-// Adds a call, and its values where they are kept.
-fn see(keeps: &[Keep<'_>], call: &Call<'_>, calls: &mut Calls) -> Result<(), AllocError>
-    ensures { (native : Arch) (texts : List (List ℕ)) → IsSeen native texts call.now.arch call.now.nr → AreSeen native texts calls.old.seen.items
-        → IfOk result (λ _. AreSeen native texts calls.new.seen.items) }
-{
-    calls.records = calls.records.saturating_add(1);
-    let is_kept = see_values(keeps, call, &mut calls.kept)?;
-    let seen = Seen {
+    Ok(Seen {
         arch: call.arch,
         nr: call.nr,
-        is_whole: !is_kept,
-    };
-    note(&mut calls.seen, seen)
+        places: keep.places,
+        values,
+    })
 }
 
-// Keeps in mind that a line is not read, if it tells more than the end of a call, a signal or an exit.
-fn pass_over(line: &str, at: Unread, calls: &mut Calls) -> Result<(), AllocError>
-    ensures { (native : Arch) (texts : List (List ℕ)) → AreSeen native texts calls.old.seen.items
-        → IfOk result (λ _. AreSeen native texts calls.new.seen.items) }
+// Adds a call as it is to be gathered, unless it is there.
+fn note(seen: &mut Vec<Seen>, call: &Call<'_>, new: Seen) -> Result<(), AllocError>
+    ensures grown { IfOk result (λ _. Grows seen.old.items seen.new.items call.now.arch call.now.nr) }
+    ensures covered { IfOk result (λ _. IsCovered seen.new.items (call.now.arch, call.now.nr, call.now.args)) }
 {
-    if is_remark(line) {
+    let record = call.record();
+    words_are_a_record(&record);
+    if is_noted(seen, &new.places, call) {
         return Ok(());
     }
-    calls.unread_count = calls.unread_count.saturating_add(1);
-    if calls.unread.len() < MOST_UNREAD {
-        calls.unread.push(at)?;
-    }
+    let fits = fitting(new, call);
+    seen.push(fits)?;
     Ok(())
 }
 
-// Adds the call that a line tells, if it tells one.
-fn see_line(
-    native: Arch,
-    keeps: &[Keep<'_>],
-    line: &str,
-    at: Unread,
-    calls: &mut Calls,
-) -> Result<(), AllocError>
-    ensures { (texts : List (List ℕ)) (text : List ℕ) → Contains texts text → Contains (lines_of text) line.now
-        → AreSeen native texts calls.old.seen.items → IfOk result (λ _. AreSeen native texts calls.new.seen.items) }
-{
-    match call_on(native, line) {
-        Some(call) => see(keeps, &call, calls),
-        None => pass_over(line, at, calls),
+impl Calls {
+    /// No calls.
+    pub(crate) fn new(alloc: Global) -> Calls
+        ensures { result.seen.items ≡ [] }
+    {
+        Calls {
+            seen: Vec::new(alloc),
+            kept: Vec::new(alloc),
+            records: 0,
+        }
     }
 }
 
-// Adds the calls that the lines of a text tell.
-fn see_text(
-    native: Arch,
-    keeps: &[Keep<'_>],
-    log: usize,
-    text: &str,
-    calls: &mut Calls,
-) -> Result<(), AllocError>
-    ensures { (texts : List (List ℕ)) → Contains texts text.now → AreSeen native texts calls.old.seen.items
-        → IfOk result (λ _. AreSeen native texts calls.new.seen.items) }
+/// Adds a call, and its values where they are kept.
+pub(crate) fn see(keeps: &[Keep<'_>], call: &Call<'_>, calls: &mut Calls) -> Result<(), AllocError>
+    ensures grown { IfOk result (λ _. Grows calls.old.seen.items calls.new.seen.items call.now.arch call.now.nr) }
+    ensures covered { IfOk result (λ _. IsCovered calls.new.seen.items (call.now.arch, call.now.nr, call.now.args)) }
 {
-    let mut line_number = 0u64;
-    let mut rest = text;
-    'line: while let Some((line, more)) = rest.split_once('\n') {
-        let at = Unread {
-            log,
-            line: line_number,
-        };
-        see_line(native, keeps, line, at, calls)?;
-        line_number = line_number.saturating_add(1);
-        rest = more;
-    }
-    let at = Unread {
-        log,
-        line: line_number,
-    };
-    see_line(native, keeps, rest, at, calls)
-}
-
-// Adds the calls of a log. A log that is no text has none.
-fn see_log(
-    native: Arch,
-    keeps: &[Keep<'_>],
-    place: usize,
-    log: &Log<'_>,
-    calls: &mut Calls,
-) -> Result<(), AllocError>
-    ensures { (texts : List (List ℕ)) → Contains texts log.now.text.now → AreSeen native texts calls.old.seen.items
-        → IfOk result (λ _. AreSeen native texts calls.new.seen.items) }
-{
-    match str::from_utf8(log.text) {
-        Ok(text) => see_text(native, keeps, place, text, calls),
-        Err(_) => Ok(()),
-    }
-}
-
-/// The place of the first log that has no record, one behind those before.
-pub(crate) fn first_empty(before: Option<usize>, place: usize, is_empty: bool) -> Option<usize> {
-    if is_empty {
-        before.or(Some(place))
-    } else {
-        before
-    }
-}
-
-// The calls of logs, and the place of the first that has none.
-fn see_logs(
-    native: Arch,
-    keeps: &[Keep<'_>],
-    logs: &[Log<'_>],
-    calls: &mut Calls,
-) -> Result<Option<usize>, AllocError>
-    requires { calls.old.seen.items ≡ [] }
-    ensures { IfOk result (λ _. AreSeen native (texts_of logs.now) calls.new.seen.items) }
-{
-    let mut empty = None;
-    for (place, log) in logs.iter().enumerate() {
-        let before = calls.records;
-        see_log(native, keeps, place, log, calls)?;
-        empty = first_empty(empty, place, calls.records == before);
-    }
-    Ok(empty)
-}
-
-/// The calls of logs, and the place of the first log that has none.
-pub(crate) fn calls_of(
-    alloc: Global,
-    native: Arch,
-    keeps: &[Keep<'_>],
-    logs: &[Log<'_>],
-) -> Result<(Calls, Option<usize>), AllocError>
-    ensures { IfOk result (λ found. AreSeen native (texts_of logs.now) found.0.seen.items) }
-{
-    let mut calls = Calls {
-        seen: Vec::new(alloc),
-        kept: Vec::new(alloc),
-        records: 0,
-        unread: Vec::new(alloc),
-        unread_count: 0,
-    };
-    let empty = see_logs(native, keeps, logs, &mut calls)?;
-    Ok((calls, empty))
+    calls.records = calls.records.saturating_add(1);
+    let new = seen_of(keeps, call, &mut calls.kept)?;
+    note(&mut calls.seen, call, new)
 }

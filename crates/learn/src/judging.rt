@@ -5,66 +5,83 @@ ghost use Rattle.call_record.specs.Verdict.{allow};
 ghost use Rattle.call_tables.specs.Arch.{table_of};
 ghost use Rattle.call_tables.specs.Table.{number_in};
 ghost use Rattle.call_tables.specs.declared.arch.Arch.{Arch};
-ghost use Rattle.profile.specs.Policy.{Says};
-ghost use Rattle.strace_log.specs.Line.{words_of_call};
 ghost use Rattle.learn.specs.inner.Seen.{AreSeen};
-ghost use Rattle.learn.specs.Learned.{AllowsLine, AllowsText, IsNamed, IsOfRecord, texts_of};
+ghost use Rattle.learn.specs.inner.Taken.{AllowsEach, IsForEach, IsWithin, OneAllows};
+ghost use Rattle.learn.specs.Learned.{IsNamed, IsOfRecord};
 
 use crate::calls::Seen;
 use crate::lists::{Runtime, is_listed};
-use crate::logs::Log;
 use call_record::Word;
-use call_tables::Arch;
-use profile::{Profile, Rule};
-use strace_log::{Call, call_on};
+use profile::{Cond, Profile, Rule, are_for};
 
-// Whether a profile allows a call.
-fn allows(profile: &Profile, call: &Call<'_>) -> bool
-    ensures { IsTrue result → Says profile.now (words_of_call (call.now.arch, call.now.nr, call.now.args)) allow }
+// Whether a condition is on one of these places.
+fn is_within(places: &[bool; 6], cond: &Cond) -> bool
+    ensures { IsTrue result → IsWithin places.now cond.now }
 {
-    profile.decide(&call.record()) == Word::ALLOW
+    places[usize::from(cond.index)]
 }
 
-// Whether it allows the call that a line tells, if it tells one.
-fn allows_line(native: Arch, profile: &Profile, line: &str) -> bool
-    ensures { IsTrue result → AllowsLine native profile.now line.now }
+// Whether all conditions are on these places.
+fn are_within(places: &[bool; 6], conds: &[Cond]) -> bool
+    ensures { IsTrue result → All (IsWithin places.now) conds.now }
 {
-    match call_on(native, line) {
-        Some(call) => allows(profile, &call),
-        None => true,
-    }
-}
-
-// Whether it allows each call that the lines of a text tell.
-fn allows_text(native: Arch, profile: &Profile, text: &str) -> bool
-    ensures { IsTrue result → AllowsText native profile.now text.now }
-{
-    let mut rest = text;
-    'line: while let Some((line, more)) = rest.split_once('\n') {
-        if !allows_line(native, profile, line) {
+    for cond in conds {
+        if !is_within(places, cond) {
             return false;
         }
-        rest = more;
     }
-    allows_line(native, profile, rest)
+    true
 }
 
-// The same of a log.
-fn allows_log(native: Arch, profile: &Profile, log: &Log<'_>) -> bool
-    ensures { IsTrue result → AllowsText native profile.now log.now.text.now }
+// Whether a rule is for each of these calls: for one of them, by no other arguments than those that they have in common.
+fn is_for_each(seen: &Seen, rule: &Rule) -> bool
+    ensures { IsTrue result → IsForEach seen.now rule.now }
 {
-    match str::from_utf8(log.text) {
-        Ok(text) => allows_text(native, profile, text),
-        Err(_) => false,
+    if !rule.matches(&seen.record()) {
+        return false;
     }
+    are_within(&seen.places, rule.conds.as_slice())
 }
 
-/// Whether a profile allows each record of logs.
-pub(crate) fn allows_logs(native: Arch, profile: &Profile, logs: &[Log<'_>]) -> bool
-    ensures { IsTrue result → All (AllowsText native profile.now) (texts_of logs.now) }
+// Whether a rule allows each of these calls.
+fn allows(seen: &Seen, rule: &Rule) -> bool
+    ensures word { IsTrue result → rule.now.word ≡ allow }
+    ensures for_each { IsTrue result → IsForEach seen.now rule.now }
 {
-    for log in logs {
-        if !allows_log(native, profile, log) {
+    if rule.word != Word::ALLOW {
+        return false;
+    }
+    is_for_each(seen, rule)
+}
+
+// Whether one of the rules allows each of these calls.
+fn one_allows(rules: &[Rule], seen: &Seen) -> bool
+    ensures { IsTrue result → OneAllows rules.now seen.now }
+{
+    for rule in rules {
+        if allows(seen, rule) {
+            return true;
+        }
+    }
+    false
+}
+
+// Whether a profile allows each of these calls.
+fn allows_each(profile: &Profile, seen: &Seen) -> bool
+    ensures { IsTrue result → AllowsEach profile.now seen.now }
+{
+    if !are_for(profile.machines(), seen.arch.token(), seen.nr) {
+        return false;
+    }
+    one_allows(profile.rules(), seen)
+}
+
+/// Whether a profile allows each call that was gathered.
+pub(crate) fn allows_seen(profile: &Profile, calls: &[Seen]) -> bool
+    ensures { IsTrue result → All (AllowsEach profile.now) calls.now }
+{
+    for seen in calls {
+        if !allows_each(profile, seen) {
             return false;
         }
     }

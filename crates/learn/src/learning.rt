@@ -1,15 +1,17 @@
 //! A bundle from logs.
-ghost use Rattle.std.specs.Prelude.{◌≡◌, IfOk, IfSome, true, false, string_bytes};
-ghost use Rattle.learn.specs.inner.Seen.{AreSeen, IsWeighed};
-ghost use Rattle.learn.specs.Learned.{TellsLearned, texts_of};
+ghost use Rattle.std.specs.Prelude.{◌≡◌, ℕ, List, IfOk, true, false, string_bytes};
+ghost use Rattle.call_tables.specs.declared.arch.Arch.{Arch};
+ghost use Rattle.learn.specs.inner.Seen.{IsWeighed};
+ghost use Rattle.learn.specs.inner.Taken.{AreTaken, HaveShown, lines_in};
+ghost use Rattle.learn.specs.Learned.{TellsLearned};
 
 use crate::bundle::{bundle_of, machines_of};
-use crate::calls::{Calls, MOST_KEPT, Seen, calls_of};
-use crate::judging::{allows_logs, are_named};
+use crate::calls::{Calls, MOST_KEPT, Seen};
+use crate::judging::{allows_seen, are_named};
 use crate::lists::Runtime;
-use crate::logs::{Log, name_at};
 use crate::names::names_of;
-use crate::telling::{put_learned, put_unread};
+use crate::reading::Shown;
+use crate::telling::put_learned;
 use crate::wish::Wish;
 use call_tables::Arch;
 use explain::{Told, refused_profile};
@@ -35,23 +37,21 @@ fn refused(alloc: Global, what: &str, name: &str, why: &str) -> Result<Told, All
     })
 }
 
-// The bundle whose text means a profile, if the profile allows each record, and names no other calls than it may.
+// The bundle whose text means a profile, if the profile allows each call that was gathered, and names no other calls than it may.
 fn weighed(
     alloc: Global,
-    native: Arch,
     profile: &Profile,
-    logs: &[Log<'_>],
-    calls: &[Seen],
+    seen: &[Seen],
     runtime: Option<Runtime>,
     text: String,
 ) -> Result<Told, AllocError>
-    requires { AreSeen native (texts_of logs.now) calls.now }
-    ensures { IfOk result (λ told. told.done ≡ true → IsWeighed native profile.now (texts_of logs.now) runtime (string_bytes text) told.bytes.items) }
+    ensures { (native : Arch) (texts : List (List ℕ)) → AreTaken native (lines_in texts) seen.now
+        → IfOk result (λ told. told.done ≡ true → IsWeighed native profile.now texts runtime (string_bytes text) told.bytes.items) }
 {
-    if !allows_logs(native, profile, logs) {
+    if !allows_seen(profile, seen) {
         return refused(alloc, "bundle", "", "it does not allow each record");
     }
-    if !are_named(calls, runtime, profile.rules()) {
+    if !are_named(seen, runtime, profile.rules()) {
         return refused(alloc, "bundle", "", "it names a call that no log shows");
     }
     Ok(Told {
@@ -64,66 +64,81 @@ fn weighed(
 fn judged(
     alloc: Global,
     native: Arch,
-    logs: &[Log<'_>],
-    calls: &[Seen],
+    seen: &[Seen],
     runtime: Option<Runtime>,
     text: String,
 ) -> Result<Told, AllocError>
-    requires { AreSeen native (texts_of logs.now) calls.now }
-    ensures { IfOk result (TellsLearned native logs.now runtime) }
+    ensures { (texts : List (List ℕ)) → AreTaken native (lines_in texts) seen.now
+        → IfOk result (TellsLearned native texts runtime) }
 {
     match read_bundle(alloc, text.as_bytes(), native) {
         Ok(read) => {
-            let told = weighed(alloc, native, &read.profile, logs, calls, runtime, text)?;
+            let told = weighed(alloc, &read.profile, seen, runtime, text)?;
             Ok(told)
         }
         Err(error) => refused_profile(alloc, error),
     }
 }
 
-// What is told where a log has no record, or too many values.
-fn unfit(
-    alloc: Global,
-    logs: &[Log<'_>],
-    calls: &Calls,
-    empty: Option<usize>,
-) -> Result<Option<Told>, AllocError>
-    ensures { IfOk result (λ found. IfSome found (λ told. told.done ≡ false)) }
+// What tells that a log has no record.
+fn no_record(alloc: Global, name: &str) -> Result<Told, AllocError>
+    ensures { IfOk result (λ told. told.done ≡ false) }
 {
-    if let Some(place) = empty {
-        let name = name_at(logs, place);
-        let why = "no line tells a call: it is no log of strace -f -n -e raw=all";
-        let told = refused(alloc, "log", name, why)?;
-        return Ok(Some(told));
-    }
+    let why = "no line tells a call: it is no log of strace -f -n -e raw=all";
+    refused(alloc, "log", name, why)
+}
+
+// The bundle of the calls that logs show, of which not too many values are kept, and what is told of it.
+fn learn_calls(
+    alloc: Global,
+    native: Arch,
+    calls: &Calls,
+    wish: &Wish<'_>,
+    lines: &mut String,
+) -> Result<Told, AllocError>
+    ensures { (texts : List (List ℕ)) → AreTaken native (lines_in texts) calls.now.seen.items
+        → IfOk result (TellsLearned native texts wish.now.runtime) }
+{
     if calls.kept.len() >= MOST_KEPT {
-        let told = refused_profile(alloc, ProfileError::TooMany)?;
-        return Ok(Some(told));
+        return refused_profile(alloc, ProfileError::TooMany);
     }
-    Ok(None)
+    let machines = machines_of(alloc, native, calls)?;
+    let runtime = wish.runtime;
+    let otherwise = wish.otherwise;
+    let names = names_of(alloc, &machines, &wish.keeps, calls, runtime, otherwise)?;
+    put_learned(lines, &machines, &wish.keeps, calls, &names, runtime)?;
+    let text = bundle_of(alloc, &machines, &wish.keeps, calls, &names, otherwise)?;
+    judged(alloc, native, &calls.seen, runtime, text)
+}
+
+// The same, unless a log has no record.
+fn learn_shown(
+    alloc: Global,
+    native: Arch,
+    shown: &Shown,
+    wish: &Wish<'_>,
+    lines: &mut String,
+) -> Result<Told, AllocError>
+    ensures { (texts : List (List ℕ)) → HaveShown native texts shown.now → IfOk result (TellsLearned native texts wish.now.runtime) }
+{
+    if shown.is_lacking {
+        return no_record(alloc, &shown.lacking);
+    }
+    learn_calls(alloc, native, &shown.calls, wish, lines)
 }
 
 /// Makes a bundle, which is read for a native machine, that allows what logs show.
 pub fn learn(
     alloc: Global,
     native: Arch,
-    logs: &[Log<'_>],
+    shown: &Shown,
     wish: &Wish<'_>,
 ) -> Result<Learned, AllocError>
-    ensures { IfOk result (λ learned. TellsLearned native logs.now wish.now.runtime learned.told) }
+    ensures { (texts : List (List ℕ)) → HaveShown native texts shown.now
+        → IfOk result (λ learned. TellsLearned native texts wish.now.runtime learned.told) }
 {
-    let (calls, empty) = calls_of(alloc, native, &wish.keeps, logs)?;
     let mut lines = String::new(alloc);
-    put_unread(&mut lines, logs, &calls)?;
-    if let Some(told) = unfit(alloc, logs, &calls, empty)? {
-        return Ok(Learned { told, lines });
-    }
-    let machines = machines_of(alloc, native, &calls)?;
-    let runtime = wish.runtime;
-    let otherwise = wish.otherwise;
-    let names = names_of(alloc, &machines, &wish.keeps, &calls, runtime, otherwise)?;
-    put_learned(&mut lines, &machines, &wish.keeps, &calls, &names, runtime)?;
-    let text = bundle_of(alloc, &machines, &wish.keeps, &calls, &names, otherwise)?;
-    let told = judged(alloc, native, logs, &calls.seen, runtime, text)?;
+    shown.unread.put(&mut lines)?;
+    let told = learn_shown(alloc, native, shown, wish, &mut lines)?;
     Ok(Learned { told, lines })
 }

@@ -3,15 +3,18 @@
 
 mod bundle;
 mod calls;
+mod covering;
 mod judging;
 mod keeps;
 mod learning;
 mod lists;
 mod logs;
 mod names;
+mod reading;
 mod refusals;
 mod replaying;
 mod telling;
+mod unread;
 mod unused;
 mod wish;
 
@@ -19,5 +22,6 @@ pub use keeps::Keep;
 pub use learning::{Learned, learn};
 pub use lists::{Otherwise, Runtime};
 pub use logs::Log;
+pub use reading::{LogFault, Shown};
 pub use replaying::replay;
 pub use wish::{Wish, wish_of};

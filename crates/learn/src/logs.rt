@@ -14,3 +14,12 @@ pub(crate) fn name_at<'a>(logs: &[Log<'a>], place: usize) -> &'a str {
         None => "",
     }
 }
+
+/// The place of the first log that has no record, one behind those before.
+pub(crate) fn first_empty(before: Option<usize>, place: usize, is_empty: bool) -> Option<usize> {
+    if is_empty {
+        before.or(Some(place))
+    } else {
+        before
+    }
+}

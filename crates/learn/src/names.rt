@@ -33,7 +33,7 @@ fn put(names: &mut Vec<&'static str>, name: &'static str) -> Result<(), AllocErr
 fn shown(alloc: Global, calls: &Calls) -> Result<Vec<&'static str>, AllocError> {
     let mut names = Vec::new(alloc);
     for call in &calls.seen {
-        if call.is_whole {
+        if call.is_whole() {
             if let Some(name) = call.arch.name(call.nr) {
                 put(&mut names, name)?;
             }

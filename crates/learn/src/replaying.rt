@@ -2,11 +2,9 @@
 ghost use Rattle.std.specs.Prelude.{◌≡◌, IfOk, IfNone, IsTrue, true, false};
 ghost use Rattle.std.specs.List.{All};
 ghost use Rattle.strace_log.specs.Line.{words_of_call};
-ghost use Rattle.learn.specs.Learned.{texts_of};
-ghost use Rattle.learn.specs.Replayed.{LetsThrough, LineIsThrough, TellsReplayed, TextIsThrough};
+ghost use Rattle.learn.specs.Replayed.{LetsThrough, LineIsThrough, TellsReplayed, TextIsThrough, texts_of};
 
-use crate::calls::first_empty;
-use crate::logs::{Log, name_at};
+use crate::logs::{Log, first_empty, name_at};
 use crate::refusals::{Refusal, count, put_refusal};
 use crate::telling::line_at;
 use crate::unused::put_unused;

@@ -54,7 +54,7 @@ fn value_count(calls: &Calls, keep: usize) -> usize {
 
 // Whether logs show a call that lacks an argument of which the values are kept.
 fn is_loose(calls: &Calls, keep: &Keep<'_>) -> bool {
-    calls.seen.iter().any(|call| call.is_whole && call.arch.number(keep.name) == Some(call.nr))
+    calls.seen.iter().any(|call| call.is_whole() && call.arch.number(keep.name) == Some(call.nr))
 }
 
 // Adds how many values are kept of each call.
@@ -87,28 +87,6 @@ pub(crate) fn line_at<'a>(log: &Log<'a>, place: u64) -> &'a str {
         left = left.saturating_sub(1);
     }
     ""
-}
-
-/// Adds the lines of logs that were not read.
-pub(crate) fn put_unread(
-    text: &mut String,
-    logs: &[Log<'_>],
-    calls: &Calls,
-) -> Result<(), AllocError> {
-    for unread in &calls.unread {
-        if let Some(log) = logs.get(unread.log) {
-            let name = log.name;
-            let number = unread.line.saturating_add(1);
-            let line = line_at(log, unread.line);
-            writeln!(text, "{name}:{number}: not read: {line}")?;
-        }
-    }
-    let told = calls.unread.len() as u64;
-    if calls.unread_count > told {
-        let more = calls.unread_count.saturating_sub(told);
-        writeln!(text, "and {more} lines more that were not read")?;
-    }
-    Ok(())
 }
 
 /// Adds what is in a bundle that was made of logs, and why.

@@ -1,6 +1,6 @@
 -- What gets past a profile, by what is said of a call and of the same with the bits at 0 that are not read.
-use Rattle.std.proofs.Common.{◌≡◌, ℕ, true, false, List, [], ◌∷◌, ◌++◌, ◌∙◌, subst, sym}
-use Rattle.std.proofs.lemmas.List.Elements.{All-push}
+use Rattle.std.proofs.Common.{◌≡◌, ℕ, length, true, false, List, [], ◌∷◌, ◌++◌, ◌∙◌, refl, subst, sym}
+use Rattle.std.proofs.lemmas.List.Elements.{All-head, All-push}
 use Rattle.std.specs.List.{All}
 use Rattle.call_record.specs.Record.{words}
 use Rattle.call_record.specs.Verdict.{Through, is_through}
@@ -8,7 +8,7 @@ use Rattle.call_record.specs.Words.{IsRecord}
 use Rattle.narrowed.specs.Alike.{ClearedIsAlike, IsCleared, IsNarrowed}
 use Rattle.order.specs.Order.{Exceeds}
 use Rattle.profile.specs.Policy.{Policy, Says}
-use Rattle.lint.specs.Past.{GetsPast}
+use Rattle.lint.specs.Past.{GetsPast, NothingGetsPast}
 use Rattle.lint.specs.declared.past.Past.{Past}
 
 -- what a profile lets through and its narrowed one refuses gets past
@@ -47,3 +47,12 @@ refused_gets_past p past cleared alike says through says_cleared refused = recor
 pub one_more_gets_past : (p : Policy) (list more : List Past) (past : Past) → more ≡ list ++ past ∷ [] → GetsPast p past
     → All (GetsPast p) list → All (GetsPast p) more
 one_more_gets_past p list more past is gets all = subst (All (GetsPast p)) (sym is) (All-push (GetsPast p) list past all gets)
+
+-- one of some calls
+pub some_gets_past : (p : Policy) (list : List Past) → All (GetsPast p) list → ¬ (length list ≡ 0) → (past : Past) × GetsPast p past
+some_gets_past p [] all some = absurd (some refl)
+some_gets_past p (x ∷ xs) all some = (x, All-head (GetsPast p) x xs all)
+
+-- nothing gets past a profile that is its own narrowed one
+pub own_is_no_more : (p : Policy) → IsNarrowed p p → NothingGetsPast p
+own_is_no_more p is = record { narrowed = p; is = is; no_more = λ r rec through. through }

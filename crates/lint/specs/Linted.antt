@@ -1,26 +1,19 @@
 -- What `ccell lint` tells of a bundle.
-use Rattle.std.specs.Prelude.{◌≡◌, ◌⊎◌, ℕ, Bool, true, false, List, IfSome}
+use Rattle.std.specs.Prelude.{◌≡◌, ◌⊎◌, ℕ, Bool, true, false, List}
 use Rattle.call_tables.specs.declared.arch.Arch.{Arch}
+use Rattle.explain.specs.Told.{RefusesBundle}
 use Rattle.explain.specs.declared.told.Told.{Told}
 use Rattle.narrow.specs.Narrow.{IsBundle}
 use Rattle.profile.specs.Policy.{Policy}
-use Rattle.profile_json.specs.Breaks.{Breaks}
-use Rattle.profile_json.specs.Fault.{fault_of}
-use Rattle.profile_json.specs.declared.fault.ProfileError.{ProfileError}
-use Rattle.lint.specs.Past.{IsFinding}
+use Rattle.lint.specs.Past.{GetsPast, IsFinding}
 use Rattle.lint.specs.declared.past.Finding.{Finding}
+use Rattle.lint.specs.declared.past.Past.{Past}
 use Rattle.lint.specs.declared.past.Finding.TheVariants.{Nothing, GetPast, Undecided}
 
 abbrev pub is_nothing : Finding → Bool
 is_nothing Nothing = true
 is_nothing (GetPast list) = false
 is_nothing (Undecided size) = false
-
--- the bundle is refused for a fault that it has
-pub record IsRefused (native : Arch) (bundle : List ℕ) (told : Told) : Type 0 where
-  pub fault : ProfileError
-  pub stands : IfSome (fault_of fault) (Breaks bundle native)
-  pub done : told.done ≡ false
 
 -- what is found of its profile is so, and it is done where nothing is found
 pub record IsJudged (native : Arch) (bundle : List ℕ) (told : Told) : Type 0 where
@@ -31,4 +24,8 @@ pub record IsJudged (native : Arch) (bundle : List ℕ) (told : Told) : Type 0 w
   pub done : told.done ≡ is_nothing found
 
 abbrev pub IsLinted : Arch → List ℕ → Told → Type 0
-IsLinted native bundle told = IsRefused native bundle told ⊎ IsJudged native bundle told
+IsLinted native bundle told = RefusesBundle native bundle told ⊎ IsJudged native bundle told
+
+-- some call gets past the profile that the bundle means
+abbrev pub SomeGetPast : Arch → List ℕ → Type 0
+SomeGetPast native bundle = (p : Policy) × IsBundle native bundle p × (past : Past) × GetsPast p past

@@ -1,12 +1,13 @@
 -- Calls that get past a profile by bits that nobody reads.
-use Rattle.std.specs.Prelude.{◌≢◌, ⊤, []}
+use Rattle.std.specs.Prelude.{◌≢◌, ◌<◌, ⊤, []}
 use Rattle.std.specs.List.{All}
 use Rattle.call_record.specs.Record.{words}
 use Rattle.call_record.specs.Verdict.{Through}
 use Rattle.narrowed.specs.Alike.{Alike, IsCleared, IsNarrowed}
+use Rattle.narrowed.specs.Counts.{most_narrowed}
 use Rattle.order.specs.Decided.{AreTooLong}
 use Rattle.order.specs.Order.{AllowsNoMore}
-use Rattle.profile.specs.Policy.{Policy, Says}
+use Rattle.profile.specs.Policy.{Policy, Says, most_rules}
 use Rattle.lint.specs.declared.past.Past.{Past}
 use Rattle.lint.specs.declared.past.Size.{Size}
 use Rattle.lint.specs.declared.past.Size.TheVariants.{TooMany, TooLong, TooLarge}
@@ -34,9 +35,9 @@ pub record IsTooLong (p : Policy) : Type 0 where
   pub is : IsNarrowed p narrowed
   pub longer : AreTooLong p narrowed
 
--- a size that was too small: of the narrowed rules and of a certificate nothing is said
+-- A size that was too small: the narrowed rules may be more than a profile may have. Of a certificate nothing is said.
 abbrev pub IsTooSmall : Policy → Size → Type 0
-IsTooSmall p TooMany = ⊤
+IsTooSmall p TooMany = most_rules < most_narrowed p.rules
 IsTooSmall p TooLong = IsTooLong p
 IsTooSmall p TooLarge = ⊤
 

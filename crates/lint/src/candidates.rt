@@ -5,8 +5,10 @@ use call_arguments::read_bits;
 use profile::{Cond, Profile};
 use std::alloc::{AllocError, Global};
 
-// The most records that are tried for a call.
+// The most records that are tried for a call, and the most conditions with so many: of a call with more, fewer are tried.
 const MOST_RECORDS: usize = 4096;
+
+const MOST_CONDITIONS: usize = 64;
 
 // Adds a number if it is not there.
 fn add(values: &mut Vec<u64>, value: u64) -> Result<(), AllocError> {
@@ -46,13 +48,14 @@ fn with_values(
     records: &[[u64; 6]],
     index: usize,
     values: &[u64],
+    most: usize,
 ) -> Result<Vec<[u64; 6]>, AllocError>
     requires { index < 6 }
 {
     let mut more = Vec::new(alloc);
     for args in records {
         for value in values {
-            if more.len() < MOST_RECORDS {
+            if more.len() < most {
                 let mut next = *args;
                 next[index] = *value;
                 more.push(next)?;
@@ -64,10 +67,11 @@ fn with_values(
 
 /// The arguments that are tried for a call under these conditions.
 pub(crate) fn arguments(alloc: Global, conds: &[Cond]) -> Result<Vec<[u64; 6]>, AllocError> {
+    let most = MOST_RECORDS * MOST_CONDITIONS / MOST_CONDITIONS.max(conds.len());
     let mut records: Vec<[u64; 6]> = vec![in alloc; [0; 6]]?;
     for index in 0..6 {
         let values = values_of(alloc, conds, index)?;
-        records = with_values(alloc, &records, index, &values)?;
+        records = with_values(alloc, &records, index, &values, most)?;
     }
     Ok(records)
 }

@@ -1,16 +1,19 @@
 //! Whether a call gets past a profile.
-ghost use Rattle.std.specs.Prelude.{◌≡◌, [], ◌∷◌, IfOk};
+ghost use Rattle.std.specs.Prelude.{◌≡◌, true, [], ◌∷◌, IfOk, IfSome};
 ghost use Rattle.call_record.specs.Record.{words};
 ghost use Rattle.narrowed.specs.Alike.{IsNarrowed};
+ghost use Rattle.narrowed.specs.Narrowed.{AreNarrowed};
 ghost use Rattle.order.specs.Order.{Exceeds};
 ghost use Rattle.lint.specs.Past.{GetsPast, IsFinding};
 
 use crate::past::{Finding, Past, Size};
 use crate::search::search;
 use call_record::words_are_a_record;
-use narrowed::{CutError, cleared, cleared_is_alike, narrowed};
+use narrowed::{
+    CutError, WHOLE, add_narrowed, cleared, cleared_is_alike, is_narrowed, narrowed, suits,
+};
 use order::{AtMost, Excess, allows_no_more};
-use profile::Profile;
+use profile::{Profile, Rule};
 use std::alloc::{AllocError, Global};
 
 // A call that a profile lets through and its narrowed one refuses gets past.
@@ -57,10 +60,38 @@ fn decided(alloc: Global, profile: &Profile, narrowed: &Profile) -> Result<Findi
     }
 }
 
+// The rules of a profile, unless one looks at a bit that is not read.
+fn own_rules(alloc: Global, profile: &Profile) -> Result<Option<Vec<Rule>>, CutError>
+    ensures { IfOk result (λ found. IfSome found (λ rules. AreNarrowed profile.now.rules rules.items)) }
+{
+    let mut rules = Vec::new(alloc);
+    let plan = [WHOLE; 6];
+    for rule in profile.rules() {
+        if !suits(rule, &plan) {
+            return Ok(None);
+        }
+        add_narrowed(alloc, &mut rules, rule, &plan)?;
+    }
+    Ok(Some(rules))
+}
+
+// Whether a profile is seen to be its own narrowed one.
+fn is_own(alloc: Global, profile: &Profile) -> Result<bool, CutError>
+    ensures { IfOk result (λ own. own ≡ true → IsNarrowed profile.now profile.now) }
+{
+    match own_rules(alloc, profile)? {
+        Some(rules) => Ok(is_narrowed(profile, profile, &rules)),
+        None => Ok(false),
+    }
+}
+
 // What is decided where the search finds nothing.
 fn decided_alone(alloc: Global, profile: &Profile) -> Result<Finding, AllocError>
     ensures { IfOk result (IsFinding profile.now) }
 {
+    if let Ok(true) = is_own(alloc, profile) {
+        return Ok(Finding::Nothing);
+    }
     match narrowed(alloc, profile) {
         Ok(narrowed) => decided(alloc, profile, &narrowed),
         Err(CutError::TooMany) => Ok(Finding::Undecided(Size::TooMany)),

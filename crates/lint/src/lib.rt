@@ -4,6 +4,8 @@
 
 mod candidates;
 mod decided;
+mod hints;
+mod pairs;
 mod past;
 mod places;
 mod remarks;
@@ -12,5 +14,6 @@ mod text;
 mod told;
 
 pub use decided::finding;
+pub use hints::hint;
 pub use past::{Finding, Past, Size};
 pub use told::lint;

@@ -1,5 +1,6 @@
 //! Which entry says what is said of a call.
 use call_record::Record;
+use call_tables::Arch;
 use profile_json::EntryRules;
 
 // The first entry with a rule that matches a call.
@@ -14,4 +15,14 @@ pub(crate) fn place_of(all: &EntryRules, call: &Record, cleared: &Record) -> Opt
         Some(entry) => Some(entry),
         None => entry_of(all, cleared),
     }
+}
+
+/// The first entry with a rule for a machine's call, if the machine has the call.
+pub(crate) fn entry_at(all: &EntryRules, arch: Arch, nr: Option<u32>) -> Option<usize> {
+    let nr = nr?;
+    let place = all
+        .rules
+        .iter()
+        .position(|rule| rule.arch == arch && rule.nr == nr)?;
+    all.entry_of(place)
 }

@@ -1,4 +1,5 @@
 //! What else in a bundle says less than it seems to. None of it changes what is decided.
+use crate::pairs::put_pairs;
 use call_arguments::{Reading, readings};
 use call_record::lets_through;
 use explain::ConditionText;
@@ -47,9 +48,13 @@ fn compared_with(cond: &Cond) -> u64 {
     }
 }
 
-// Why a condition says less than it seems to.
+// Why a condition says less than it seems to. On x86 and ARM each argument has 32 bits.
 fn remark_of(rule: &Rule, cond: &Cond) -> Option<&'static str> {
-    let reading = reading_of(rule, cond)?;
+    let reading = if rule.is_narrow() {
+        Reading::Bits32
+    } else {
+        reading_of(rule, cond)?
+    };
     match reading {
         Reading::NotTaken => Some("the call has no such argument"),
         Reading::Pointer => {
@@ -94,8 +99,8 @@ fn is_again(all: &EntryRules, at: usize, rule: &Rule) -> bool {
     all.entry_of(before) == all.entry_of(at) && other.arch.name(other.nr) == rule.arch.name(rule.nr)
 }
 
-// Adds the remarks on a rule, once for all machines.
-fn put_rule(text: &mut Text, profile: &Profile, all: &EntryRules, at: usize, rule: &Rule) {
+// Adds the remarks on a rule's conditions, once for all machines.
+fn put_rule(text: &mut Text, all: &EntryRules, at: usize, rule: &Rule) {
     let Some(entry) = all.entry_of(at) else {
         return;
     };
@@ -105,10 +110,24 @@ fn put_rule(text: &mut Text, profile: &Profile, all: &EntryRules, at: usize, rul
     for (place, cond) in rule.conds.as_slice().iter().enumerate() {
         put_condition(text, entry, place, rule, cond);
     }
-    if rule.word == profile.default_word() && !rule.conds.as_slice().is_empty() {
-        let name = rule.arch.name(rule.nr).unwrap_or("a call");
+}
+
+// Whether the rule before one is of the same entry.
+fn is_same_entry(all: &EntryRules, at: usize) -> bool {
+    let Some(before) = at.checked_sub(1) else {
+        return false;
+    };
+    all.entry_of(before) == all.entry_of(at)
+}
+
+// Adds the remark on an entry that says what the default says, at its first rule.
+fn put_default(text: &mut Text, profile: &Profile, all: &EntryRules, at: usize, rule: &Rule) {
+    if rule.word != profile.default_word() || is_same_entry(all, at) {
+        return;
+    }
+    if let Some(entry) = all.entry_of(at) {
         text.put(format_args!(
-            "remark: linux.seccomp.syscalls[{entry}]: {name}: it says what the default says\n"
+            "remark: linux.seccomp.syscalls[{entry}]: it says what the default says\n"
         ));
     }
 }
@@ -131,9 +150,11 @@ fn put_strict(text: &mut Text, profile: &Profile) {
 /// Adds the remarks.
 pub(crate) fn put_remarks(text: &mut Text, profile: &Profile, all: &EntryRules) {
     put_strict(text, profile);
+    put_pairs(text, profile, all);
     for (at, rule) in all.rules.iter().enumerate() {
+        put_default(text, profile, all, at, rule);
         if !rule.conds.as_slice().is_empty() {
-            put_rule(text, profile, all, at, rule);
+            put_rule(text, all, at, rule);
         }
     }
 }

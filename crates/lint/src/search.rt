@@ -75,24 +75,26 @@ fn first_past(profile: &Profile, token: u32, nr: u32, tried: &[[u64; 6]]) -> Opt
     None
 }
 
-// Whether a call stands among those that were found.
-fn is_told(found: &[Past], token: u32, nr: u32) -> bool {
-    found
-        .iter()
-        .any(|past| past.call.arch == token && past.call.nr == nr)
+// Whether a call was searched, which it counts as from now on.
+fn was_searched(searched: &mut Vec<(u32, u32)>, token: u32, nr: u32) -> Result<bool, AllocError> {
+    if searched.iter().any(|call| call.0 == token && call.1 == nr) {
+        return Ok(true);
+    }
+    searched.push((token, nr))?;
+    Ok(false)
 }
 
-// The call of a rule, if it gets past and was not found.
+// The call of a rule, if it gets past and was not searched.
 fn past_at(
     alloc: Global,
     profile: &Profile,
     rule: &Rule,
-    found: &[Past],
+    searched: &mut Vec<(u32, u32)>,
 ) -> Result<Option<Past>, AllocError>
     ensures { IfOk result (λ found. IfSome found (GetsPast profile.now)) }
 {
     let token = rule.arch.token();
-    if rule.conds.is_empty() || is_told(found, token, rule.nr) {
+    if rule.conds.is_empty() || was_searched(searched, token, rule.nr)? {
         return Ok(None);
     }
     let conds = conditions_of(alloc, profile, token, rule.nr)?;
@@ -105,11 +107,12 @@ fn add_past(
     alloc: Global,
     profile: &Profile,
     rule: &Rule,
+    searched: &mut Vec<(u32, u32)>,
     found: &mut Vec<Past>,
 ) -> Result<(), AllocError>
     ensures { IfOk result (λ _. All (GetsPast profile.now) found.old.items → All (GetsPast profile.now) found.new.items) }
 {
-    let Some(past) = past_at(alloc, profile, rule, found)? else {
+    let Some(past) = past_at(alloc, profile, rule, searched)? else {
         return Ok(());
     };
     found.push(past)?;
@@ -121,8 +124,9 @@ pub(crate) fn search(alloc: Global, profile: &Profile) -> Result<Vec<Past>, Allo
     ensures { IfOk result (λ list. All (GetsPast profile.now) list.items) }
 {
     let mut list = Vec::new(alloc);
+    let mut searched = Vec::new(alloc);
     for rule in profile.rules() {
-        add_past(alloc, profile, rule, &mut list)?;
+        add_past(alloc, profile, rule, &mut searched, &mut list)?;
     }
     Ok(list)
 }

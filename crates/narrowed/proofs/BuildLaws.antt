@@ -1,5 +1,5 @@
 -- Narrowed rules build a profile wherever the rules did, unless they are too many.
-use Rattle.std.proofs.Common.{◌≡◌, ◌≢◌, ℕ, zero, suc, ◌%◌, ◌^◌, ◌<◌, ◌≤◌, List, [], ◌∷◌, length, get_or, Some, refl, sym, ◌∙◌, ap, subst, arith}
+use Rattle.std.proofs.Common.{◌≡◌, ◌≢◌, ℕ, zero, suc, ◌%◌, ◌^◌, ◌<◌, ◌≤◌, List, [], ◌∷◌, ◌++◌, length, length-append, get_or, Some, refl, sym, ◌∙◌, ap, subst, arith}
 use Rattle.std.specs.Prelude.{◌↔◌, slice_get}
 use Rattle.std.specs.List.{All, Contains}
 use Rattle.std.proofs.lemmas.List.Elements.{All-contains}
@@ -15,8 +15,11 @@ use Rattle.profile.specs.Rule.{Matches, Clash}
 use Rattle.profile.specs.Policy.{Policy, IsProfile, InOrder}
 use Rattle.profile.specs.declared.fault.BuildError.{BuildError}
 use Rattle.profile.specs.declared.fault.BuildError.TheVariants.{NativeMissing, MixedFamilies, ForeignRule, Overlap, TooMany, OutOfMemory}
-use Rattle.profile.specs.Build.{IsBuiltOf, IsFirstCause, IsFirstForeign, IsFirstClash, ClashAt}
-use Rattle.narrowed.specs.inner.Sizes.{IsSize}
+use Rattle.profile.specs.Build.{IsBuiltOf, IsFirstCause, IsFirstForeign, IsFirstClash, ClashAt, KeepsOnce}
+use Rattle.profile.specs.Build as build
+use Rattle.narrowed.specs.Counts.{IsCutCause}
+use Rattle.narrowed.specs.declared.fault.CutError.{CutError}
+use Rattle.narrowed.specs.inner.Sizes.{IsSize, cut_cause}
 use Rattle.profile.proofs.KeptLaws.{kept_in, in_kept}
 use Rattle.profile.proofs.OneBuilt.{one_order}
 use Rattle.profile.proofs.MachineLaws.{family_in}
@@ -131,3 +134,28 @@ module _ (p : Policy) (is : IsProfile p) (rules : List Rule) (narrowed : AreNarr
       built q (subst (λ (x : Arch). IsBuiltOf x p.machines p.default_word rules q) n
       (subst (λ (xs : List Arch). IsBuiltOf native xs p.default_word rules q) m
       (subst (λ (w : ℕ). IsBuiltOf native archs w rules q) d b)))
+
+-- ---- why none is built
+
+kept_short : (rules kept : List Rule) → KeepsOnce rules kept → length kept ≤ length rules
+kept_short _ _ build.none = omega arith
+kept_short _ _ (build.first rules kept rule h new) =
+    let before = kept_short rules kept h in
+    let one = length-append rules (rule ∷ []) in
+    let two = length-append kept (rule ∷ []) in
+    omega (arith, before, one, two)
+kept_short _ _ (build.again rules kept rule h has) =
+    let before = kept_short rules kept h in
+    let one = length-append rules (rule ∷ []) in
+    omega (arith, before, one)
+
+pub too_many_kept : (native : Arch) (archs : List Arch) (rules : List Rule) (most : ℕ) (e : BuildError) (r : CutError)
+    → length rules ≤ most → IsFirstCause native archs rules e → r ≡ cut_cause e → IsCutCause most r
+too_many_kept native archs rules most TooMany r few (_, _, (kept, keeps, many)) is =
+    let short = kept_short rules kept keeps in
+    subst (IsCutCause most) (sym is) (omega (arith, few, short, many))
+too_many_kept native archs rules most OutOfMemory r few h is = subst (IsCutCause most) (sym is) tt
+too_many_kept native archs rules most NativeMissing r few h is = subst (IsCutCause most) (sym is) tt
+too_many_kept native archs rules most MixedFamilies r few h is = subst (IsCutCause most) (sym is) tt
+too_many_kept native archs rules most (ForeignRule i) r few h is = subst (IsCutCause most) (sym is) tt
+too_many_kept native archs rules most (Overlap i j) r few h is = subst (IsCutCause most) (sym is) tt

@@ -10,6 +10,8 @@ use Rattle.profile.specs.Condition.{Meets}
 use Rattle.narrowed.specs.Narrowed.{Has}
 use Rattle.narrowed.specs.inner.Parts.{cut, IsLow, AreParts}
 use Rattle.narrowed.specs.inner.Cutting.{Hold, HoldCut, with_each, extended, IsPartOf, IsPart, AreCombined}
+use Rattle.narrowed.specs.Counts.{most_lists, most_parts}
+use Rattle.narrowed.proofs.CountLaws.{extended_few, one_more_list}
 use Rattle.narrowed.proofs.HasLaws.{Has-left, Has-right, Has-cases, Has-nil, Has-one, one-Has, Has-like, Has-map, map-Has}
 
 pub all_from : {A : Type 0} (P : A → Type 0) (xs : List A) → ((x : A) → Contains xs x → P x) → All P xs
@@ -73,6 +75,7 @@ combined_none plan = record {
   );
   indexes = All-cons (λ ds. map (λ d. d.index) ds ≡ []) [] [] refl (All-nil (λ ds. map (λ d. d.index) ds ≡ []));
   parts = All-cons (All (IsPart plan [])) [] [] (All-nil (IsPart plan [])) (All-nil (All (IsPart plan [])));
+  few = omega arith;
 }
 
 module _ (plan : List ℕ) (cs : List Cond) (css : List (List Cond)) (c : Cond) (ds : List Cond)
@@ -141,4 +144,6 @@ module _ (plan : List ℕ) (cs : List Cond) (css : List (List Cond)) (c : Cond) 
     meets = more_met;
     indexes = extended_all (λ es. map (λ e. e.index) es ≡ map (λ e. e.index) (cs ++ c ∷ [])) ds css more_indexes;
     parts = extended_all (All (IsPart plan (cs ++ c ∷ []))) ds css more_parts;
+    few = subst (λ n. length (extended ds css) ≤ n) (sym (one_more_list plan cs c))
+        (extended_few ds css (most_lists plan cs) (most_parts bits c) before.few its.few);
   }

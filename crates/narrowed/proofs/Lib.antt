@@ -1,5 +1,6 @@
 pub mod TurnLaws
 pub mod HasLaws
+pub mod CountLaws
 pub mod PatternLaws
 pub mod CutLaws
 pub mod WidthLaws

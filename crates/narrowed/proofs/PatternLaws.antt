@@ -1,5 +1,5 @@
 -- The patterns of the numbers above a value and below it.
-use Rattle.std.proofs.Common.{◌≡◌, ℕ, zero, suc, ◌+◌, ◌-◌, ◌/◌, ◌%◌, ◌^◌, ◌<◌, ◌≤◌, ◌==◌, ◌⊎◌, Bool, true, false, inl, inr, List, [], ◌∷◌, ◌++◌, refl, sym, ◌∙◌, ap, subst, arith}
+use Rattle.std.proofs.Common.{◌≡◌, ℕ, zero, suc, ◌+◌, ◌-◌, ◌/◌, ◌%◌, ◌^◌, ◌<◌, ◌≤◌, ◌==◌, ◌⊎◌, Bool, true, false, inl, inr, List, [], ◌∷◌, ◌++◌, length, length-append, refl, sym, ◌∙◌, ap, subst, arith}
 use Rattle.std.specs.Prelude.{◌↔◌, Option, Some, None, if◌then◌else◌, bit_and}
 use Rattle.std.specs.Option.{option_to_list}
 use Rattle.std.specs.List.{All}
@@ -151,3 +151,30 @@ low_below b v up down (suc n) le =
 pub turns_low : (b v : ℕ) (up down : Bool) → All (λ p. p.mask < 2 ^ b) (turns b v up down)
 unfolding turns
 turns_low b v up down = low_below b v up down b (omega arith)
+
+-- ---- how many there are
+
+few_even : (b i datum : ℕ) (take : Bool) → length (option_to_list (if take then Some (from_place b i datum) else None)) ≤ 1
+few_even b i datum true = omega arith
+few_even b i datum false = omega arith
+
+few_at : (b v : ℕ) (up down : Bool) (i : ℕ) → length (option_to_list (turn_at b v up down i)) ≤ 1
+few_at b v up down i =
+    elim (cases_Bool (v / 2 ^ i % 2 == 0)) [
+      | inl even ↦ subst (λ (o : Option Pattern). length (option_to_list o) ≤ 1) (sym (at_even b v up down i even))
+          (few_even b i (high v i + 2 ^ i) up)
+      | inr odd ↦ subst (λ (o : Option Pattern). length (option_to_list o) ≤ 1) (sym (at_odd b v up down i odd))
+          (few_even b i (high v i - 2 ^ i) down)
+    ]
+
+few_below : (b v : ℕ) (up down : Bool) (n : ℕ) → length (turns_below b v up down n) ≤ n
+few_below b v up down zero = omega arith
+few_below b v up down (suc n) =
+    let long = length-append (turns_below b v up down n) (option_to_list (turn_at b v up down n)) in
+    let before = few_below b v up down n in
+    let here = few_at b v up down n in
+    omega (arith, long, before, here)
+
+pub turns_few : (b v : ℕ) (up down : Bool) → length (turns b v up down) ≤ b
+unfolding turns
+turns_few b v up down = few_below b v up down b

@@ -6,6 +6,7 @@ use Rattle.std.proofs.lemmas.Bool.{le-leb}
 use Rattle.std.proofs.lemmas.Bool.Decides.{leb_tells}
 use Rattle.std.specs.List.{All, Contains}
 use Rattle.std.proofs.lemmas.Bool.{cases_lt, cases_Bool}
+use Rattle.std.proofs.lemmas.List.{length-map}
 use Rattle.std.proofs.lemmas.List.Elements.{All-append, All-contains, All-nil, All-cons}
 use Rattle.std.proofs.Math.Nat.{mod-eq_of_lt}
 use Rattle.call_record.specs.Words.{IsRecord, word, argument}
@@ -20,6 +21,7 @@ use Rattle.profile.specs.Operator.{Compares}
 use Rattle.profile.specs.Condition.{Meets}
 use Rattle.profile.specs.Rule.{argument_of, Matches}
 use Rattle.narrowed.specs.Alike.{read_of, Alike, IsCleared}
+use Rattle.narrowed.specs.Counts.{most_lists}
 use Rattle.narrowed.specs.Narrowed.{Has, Answers, MatchesRead, AreNarrowed}
 use Rattle.narrowed.specs.inner.Parts.{cut, IsLow}
 use Rattle.narrowed.specs.inner.Cutting.{Hold, HoldCut, IsPartOf, IsPart, AreCombined, IsLike, AreCut, SuitsAt, Suits}
@@ -249,6 +251,12 @@ module _ (plan : List ℕ) (rule : Rule) (parts : List Rule) (suits : Suits plan
     machines = all_from (λ (q : Rule). Has (λ (x : Rule). x.arch ≡ q.arch) (rule ∷ [])) parts
         (λ q has. Has-one (λ (x : Rule). x.arch ≡ q.arch) rule (sym (like q has).arch));
   }
+
+pub cut_few : (plan : List ℕ) (rule : Rule) (parts : List Rule) → AreCut plan rule parts → length parts ≤ most_lists plan rule.conds.items
+cut_few plan rule parts cuts =
+    let long = length-map parts (λ (q : Rule). q.conds.items) in
+    let few = cuts.combined.few in
+    omega (arith, long, few)
 
 -- ---- more rules
 

@@ -1,5 +1,5 @@
 -- One more step of the loops that make lists of conditions and rules.
-use Rattle.std.proofs.Common.{◌≡◌, true, false, ℕ, ◌+◌, ◌<◌, ◌≤◌, ◌^◌, inl, inr, List, [], ◌∷◌, ◌++◌, length, get_or, map, take, bit_and, refl, sym, ◌∙◌, ap, subst, arith, append_assoc}
+use Rattle.std.proofs.Common.{◌≡◌, true, false, ℕ, ◌+◌, ◌<◌, ◌≤◌, ◌^◌, inl, inr, List, [], ◌∷◌, ◌++◌, length, length-append, get_or, map, take, bit_and, refl, sym, ◌∙◌, ap, subst, arith, append_assoc}
 use Rattle.std.specs.Prelude.{◌↔◌, Option, Some, None, IsSome, IfOk, Result, Ok, Err}
 use Rattle.std.specs.List.{All, Contains, flat_map}
 use Rattle.std.proofs.lemmas.List.{append-nil, length-map, length-take-le, map-append, map_more, take_more}
@@ -13,6 +13,7 @@ use Rattle.profile.specs.declared.conditions.Op.TheVariants.{MaskedEq}
 use Rattle.profile.specs.Operator.{Compares, mask_of}
 use Rattle.profile.specs.Condition.{IsCondition, Meets}
 use Rattle.narrowed.specs.declared.patterns.Pattern.{Pattern}
+use Rattle.narrowed.specs.Counts.{most_by}
 use Rattle.narrowed.specs.Narrowed.{Has}
 use Rattle.narrowed.specs.inner.Patterns.{HasPattern}
 use Rattle.narrowed.specs.inner.Parts.{cut, IsLow, ArePatterns, AreOfPatterns, AreParts}
@@ -20,6 +21,7 @@ use Rattle.profile.specs.declared.rules.Rule.{Rule}
 use Rattle.narrowed.specs.inner.Cutting.{with_each, extended, AreCombined, IsLike, AreCut}
 use Rattle.narrowed.proofs.HasLaws.{Has-left, Has-right, Has-cases, Has-nil, Has-one, one-Has, Has-map}
 use Rattle.narrowed.proofs.CutLaws.{all_from}
+use Rattle.narrowed.proofs.CountLaws.{most_low, most_wide}
 use Rattle.narrowed.proofs.RuleLaws.{cut_low, cut_wide}
 
 -- a list with one more part behind it
@@ -79,7 +81,19 @@ patterns_none argument = record {
   meets = λ u. (λ h. absurd (Has-nil (λ d. Meets d u) h), λ h. absurd (Has-nil (HasPattern u) h));
   index = All-nil (λ d. d.index ≡ argument);
   low = λ bits _. All-nil (IsLow bits);
+  few = omega arith;
 }
+
+pushed_few : (ps : List Pattern) (ds : List Cond) (p : Pattern) (d : Cond) → length ds ≤ length ps → length (ds ++ d ∷ []) ≤ length (ps ++ p ∷ [])
+pushed_few ps ds p d le =
+    let one = length-append ps (p ∷ []) in
+    let two = length-append ds (d ∷ []) in
+    omega (arith, one, two, le)
+
+skipped_few : (ps : List Pattern) (ds : List Cond) (p : Pattern) → length ds ≤ length ps → length ds ≤ length (ps ++ p ∷ [])
+skipped_few ps ds p le =
+    let one = length-append ps (p ∷ []) in
+    omega (arith, one, le)
 
 met_by : (op : Op) (value datum u : ℕ) → op ≡ MaskedEq → Compares op value datum u ↔ (bit_and u value ≡ datum)
 met_by op value datum u is =
@@ -111,6 +125,7 @@ module _ (argument : ℕ) (ps : List Pattern) (ds : List Cond) (p : Pattern) (be
     low = λ bits all.
         let mask : p.mask < 2 ^ bits = All-contains (λ q. q.mask < 2 ^ bits) (ps ++ p ∷ []) p all (Contains-push ps p) in
         All-push (IsLow bits) ds c (before.low bits (first bits all)) (record { op = o; mask = subst (λ x. x < 2 ^ bits) (sym v) mask });
+    few = pushed_few ps ds p c before.few;
   }
 
   -- no number has bits that its mask has not
@@ -130,6 +145,7 @@ module _ (argument : ℕ) (ps : List Pattern) (ds : List Cond) (p : Pattern) (be
         );
     index = before.index;
     low = λ bits all. before.low bits (first bits all);
+    few = skipped_few ps ds p before.few;
   }
 
 false_true : false ≡ true → ⊥
@@ -147,8 +163,8 @@ patterns_next argument ps i ds x lt at are =
 
 -- ---- parts
 
-pub parts_low : (b : ℕ) → b ≤ 32 → (c : Cond) (ps qs : List Pattern) (ds : List Cond) → ArePatterns b (Meets c) ps → qs ≡ ps
-    → AreOfPatterns c.index qs ds → AreParts b c ds
+pub parts_low : (b : ℕ) → b ≤ 32 → (c : Cond) (ps qs : List Pattern) (ds : List Cond) → ArePatterns b (most_by b c.op) (Meets c) ps
+    → qs ≡ ps → AreOfPatterns c.index qs ds → AreParts b c ds
 parts_low b le c ps qs ds are same of =
     let its : AreOfPatterns c.index ps ds = subst (λ (xs : List Pattern). AreOfPatterns c.index xs ds) same of in
     record {
@@ -159,6 +175,7 @@ parts_low b le c ps qs ds are same of =
       index = its.index;
       low = λ _. its.low b are.low;
       kept = λ lt. absurd (omega (arith, lt, le));
+      few = let most = most_low b c le in let one = its.few in let two = are.few in omega (arith, most, one, two);
     }
 
 pub parts_whole : (b : ℕ) → 32 < b → (c : Cond) (ds : List Cond) → ds ≡ c ∷ [] → AreParts b c ds
@@ -171,6 +188,7 @@ parts_whole b lt c ds is =
       index = All-cons (λ d. d.index ≡ c.index) c [] refl (All-nil (λ d. d.index ≡ c.index));
       low = λ le. absurd (omega (arith, lt, le));
       kept = λ _. refl;
+      few = let most = most_wide b c lt in omega (arith, most);
     } in
     subst (AreParts b c) (sym is) its
 

@@ -1,6 +1,7 @@
 //! The patterns that stand for a condition on the lowest bits of its argument.
-ghost use Rattle.std.specs.Prelude.{◌≡◌, ◌≢◌, ◌<◌, ◌≤◌, bit_and, IfOk};
+ghost use Rattle.std.specs.Prelude.{◌≡◌, ◌≢◌, ◌<◌, ◌≤◌, bit_and, max, IfOk};
 ghost use Rattle.profile.specs.Condition.{Meets};
+ghost use Rattle.narrowed.specs.Counts.{most_by};
 ghost use Rattle.narrowed.specs.inner.Parts.{ArePatterns};
 
 use crate::patterns::{Pattern, one, power_of_two, turns};
@@ -9,7 +10,7 @@ use std::alloc::{AllocError, Global};
 
 fn greater(alloc: Global, bits: u32, value: u64) -> Result<Vec<Pattern>, AllocError>
     requires { bits ≤ 32 }
-    ensures { IfOk result (λ list. ArePatterns bits (λ w. value < w) list.items) }
+    ensures { IfOk result (λ list. ArePatterns bits (max 1 bits) (λ w. value < w) list.items) }
 {
     if value < power_of_two(bits) {
         return turns(alloc, bits, value, true, false);
@@ -19,7 +20,7 @@ fn greater(alloc: Global, bits: u32, value: u64) -> Result<Vec<Pattern>, AllocEr
 
 fn lesser(alloc: Global, bits: u32, value: u64) -> Result<Vec<Pattern>, AllocError>
     requires { bits ≤ 32 }
-    ensures { IfOk result (λ list. ArePatterns bits (λ w. w < value) list.items) }
+    ensures { IfOk result (λ list. ArePatterns bits (max 1 bits) (λ w. w < value) list.items) }
 {
     if value < power_of_two(bits) {
         return turns(alloc, bits, value, false, true);
@@ -29,7 +30,7 @@ fn lesser(alloc: Global, bits: u32, value: u64) -> Result<Vec<Pattern>, AllocErr
 
 fn unlike(alloc: Global, bits: u32, value: u64) -> Result<Vec<Pattern>, AllocError>
     requires { bits ≤ 32 }
-    ensures { IfOk result (λ list. ArePatterns bits (λ w. w ≢ value) list.items) }
+    ensures { IfOk result (λ list. ArePatterns bits (max 1 bits) (λ w. w ≢ value) list.items) }
 {
     if value < power_of_two(bits) {
         return turns(alloc, bits, value, true, true);
@@ -39,7 +40,7 @@ fn unlike(alloc: Global, bits: u32, value: u64) -> Result<Vec<Pattern>, AllocErr
 
 fn equal(alloc: Global, bits: u32, value: u64) -> Result<Vec<Pattern>, AllocError>
     requires { bits ≤ 32 }
-    ensures { IfOk result (λ list. ArePatterns bits (λ w. w ≡ value) list.items) }
+    ensures { IfOk result (λ list. ArePatterns bits 1 (λ w. w ≡ value) list.items) }
 {
     let limit = power_of_two(bits);
     if value < limit {
@@ -50,7 +51,7 @@ fn equal(alloc: Global, bits: u32, value: u64) -> Result<Vec<Pattern>, AllocErro
 
 fn masked(alloc: Global, bits: u32, mask: u64, datum: u64) -> Result<Vec<Pattern>, AllocError>
     requires { bits ≤ 32 }
-    ensures { IfOk result (λ list. ArePatterns bits (λ w. bit_and w mask ≡ datum) list.items) }
+    ensures { IfOk result (λ list. ArePatterns bits 1 (λ w. bit_and w mask ≡ datum) list.items) }
 {
     let limit = power_of_two(bits);
     if datum < limit {
@@ -61,7 +62,7 @@ fn masked(alloc: Global, bits: u32, mask: u64, datum: u64) -> Result<Vec<Pattern
 
 fn at_least(alloc: Global, bits: u32, value: u64) -> Result<Vec<Pattern>, AllocError>
     requires { bits ≤ 32 }
-    ensures { IfOk result (λ list. ArePatterns bits (λ w. value ≤ w) list.items) }
+    ensures { IfOk result (λ list. ArePatterns bits (max 1 bits) (λ w. value ≤ w) list.items) }
 {
     if value == 0 {
         return one(alloc, 0, 0);
@@ -71,7 +72,7 @@ fn at_least(alloc: Global, bits: u32, value: u64) -> Result<Vec<Pattern>, AllocE
 
 fn at_most(alloc: Global, bits: u32, value: u64) -> Result<Vec<Pattern>, AllocError>
     requires { bits ≤ 32 }
-    ensures { IfOk result (λ list. ArePatterns bits (λ w. w ≤ value) list.items) }
+    ensures { IfOk result (λ list. ArePatterns bits (max 1 bits) (λ w. w ≤ value) list.items) }
 {
     if value < power_of_two(bits) {
         return lesser(alloc, bits, value + 1);
@@ -82,7 +83,7 @@ fn at_most(alloc: Global, bits: u32, value: u64) -> Result<Vec<Pattern>, AllocEr
 /// The patterns of the numbers whose lowest bits meet a condition.
 pub(crate) fn patterns(alloc: Global, cond: &Cond, bits: u32) -> Result<Vec<Pattern>, AllocError>
     requires { bits ≤ 32 }
-    ensures { IfOk result (λ list. ArePatterns bits (Meets cond.now) list.items) }
+    ensures { IfOk result (λ list. ArePatterns bits (most_by bits cond.now.op) (Meets cond.now) list.items) }
 {
     match cond.op {
         Op::Ne => unlike(alloc, bits, cond.value),

@@ -1,6 +1,7 @@
 //! The rules that stand for one rule whose arguments are cut to their lowest bits.
-ghost use Rattle.std.specs.Prelude.{◌≡◌, ◌++◌, ◌≤◌, ◌<◌, [], ◌∷◌, map, length, IfOk};
+ghost use Rattle.std.specs.Prelude.{◌≡◌, ℕ, ◌++◌, ◌≤◌, ◌<◌, [], ◌∷◌, map, length, IfOk, IfErr};
 ghost use Rattle.std.specs.List.{All, flat_map};
+ghost use Rattle.narrowed.specs.Counts.{IsCutCause, most_lists};
 ghost use Rattle.narrowed.specs.inner.Cutting as spec;
 
 use crate::fault::CutError;
@@ -53,7 +54,8 @@ pub fn conditions(
     plan: &[u32; 6],
 ) -> Result<Vec<ArrayVec<Cond, 6>>, CutError>
     requires { length conds.now ≤ 6 }
-    ensures { IfOk result (λ made. spec.AreCombined plan.now conds.now (map (λ v. v.items) made.items)) }
+    ensures ok { IfOk result (λ made. spec.AreCombined plan.now conds.now (map (λ v. v.items) made.items)) }
+    ensures err { IfErr result (IsCutCause (most_lists plan.now conds.now)) }
 {
     let mut made = Vec::new(alloc);
     made.push(ArrayVec::new())?;
@@ -75,6 +77,7 @@ fn with_conds(
     lists: &[ArrayVec<Cond, 6>],
 ) -> Result<Vec<Rule>, CutError>
     requires { All (λ v. map (λ d. d.index) v.items ≡ map (λ c. c.index) rule.now.conds.items) lists.now }
+    ensures err { (most : ℕ) → IfErr result (IsCutCause most) }
     ensures like { IfOk result (λ made. All (spec.IsLike rule.now) made.items) }
     ensures conds { IfOk result (λ made. map (λ q. q.conds.items) made.items ≡ map (λ v. v.items) lists.now) }
 {
@@ -90,7 +93,8 @@ fn with_conds(
 
 /// The rules that stand for one whose arguments are cut.
 pub(crate) fn cut(alloc: Global, rule: &Rule, plan: &[u32; 6]) -> Result<Vec<Rule>, CutError>
-    ensures { IfOk result (λ made. spec.AreCut plan.now rule.now made.items) }
+    ensures ok { IfOk result (λ made. spec.AreCut plan.now rule.now made.items) }
+    ensures err { IfErr result (IsCutCause (most_lists plan.now rule.now.conds.items)) }
 {
     let lists = conditions(alloc, rule.conds.as_slice(), plan)?;
     with_conds(alloc, rule, &lists)

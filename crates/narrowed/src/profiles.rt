@@ -1,8 +1,9 @@
 //! Narrowed profiles.
-ghost use Rattle.std.specs.Prelude.{◌≡◌, ◌↔◌, ◌≤◌, ◌<◌, IfOk, IfSome, IsTrue, All, Contains, length};
+ghost use Rattle.std.specs.Prelude.{◌≡◌, ◌↔◌, ◌≤◌, ◌<◌, IfOk, IfErr, IfSome, IsTrue, All, Contains, length};
+ghost use Rattle.narrowed.specs.Counts.{IsCutCause, most_narrowed};
 ghost use Rattle.narrowed.specs.Alike.{IsNarrowed};
 ghost use Rattle.narrowed.specs.Narrowed.{AreNarrowed};
-ghost use Rattle.narrowed.specs.inner.Sizes.{IsSize};
+ghost use Rattle.narrowed.specs.inner.Sizes.{IsSize, cut_cause};
 
 use crate::fault::CutError;
 use crate::rules::narrowed_rules;
@@ -95,6 +96,7 @@ pub fn is_narrowed(profile: &Profile, narrowed: &Profile, rules: &[Rule]) -> boo
 // Why no profile is built of narrowed rules.
 fn cause_of(error: BuildError) -> CutError
     requires { IsSize error }
+    ensures { result ≡ cut_cause error }
 {
     match error {
         BuildError::TooMany => CutError::TooMany,
@@ -108,8 +110,10 @@ fn cause_of(error: BuildError) -> CutError
 
 // The profile of narrowed rules.
 fn built(alloc: Global, profile: &Profile, rules: Vec<Rule>) -> Result<Profile, CutError>
-    requires { AreNarrowed profile.now.rules rules.items }
-    ensures { IfOk result (IsNarrowed profile.now) }
+    requires narrowed { AreNarrowed profile.now.rules rules.items }
+    requires few { length rules.items ≤ most_narrowed profile.now.rules }
+    ensures ok { IfOk result (IsNarrowed profile.now) }
+    ensures err { IfErr result (IsCutCause (most_narrowed profile.now.rules)) }
 {
     match Profile::build(
         alloc,
@@ -125,7 +129,8 @@ fn built(alloc: Global, profile: &Profile, rules: Vec<Rule>) -> Result<Profile, 
 
 /// The narrowed profile: it says of a record what the profile says of it with the bits at 0 that are not read.
 pub fn narrowed(alloc: Global, profile: &Profile) -> Result<Profile, CutError>
-    ensures { IfOk result (IsNarrowed profile.now) }
+    ensures ok { IfOk result (IsNarrowed profile.now) }
+    ensures err { IfErr result (IsCutCause (most_narrowed profile.now.rules)) }
 {
     let rules = narrowed_rules(alloc, profile.rules())?;
     built(alloc, profile, rules)

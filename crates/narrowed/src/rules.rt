@@ -1,5 +1,6 @@
 //! Narrowed rules.
-ghost use Rattle.std.specs.Prelude.{◌≡◌, ◌++◌, [], ◌∷◌, IfOk, ℕ, List};
+ghost use Rattle.std.specs.Prelude.{◌≡◌, ◌++◌, [], ◌∷◌, ◌+◌, ◌≤◌, length, IfOk, IfErr, ℕ, List};
+ghost use Rattle.narrowed.specs.Counts.{IsCutCause, most_lists, most_narrowed};
 ghost use Rattle.narrowed.specs.Narrowed.{AreNarrowed};
 ghost use Rattle.profile.specs.declared.rules.Rule.{Rule as TheRule};
 ghost use Rattle.narrowed.specs.inner.Cutting.{Suits};
@@ -13,7 +14,9 @@ use std::alloc::{AllocError, Global};
 /// The narrowed rules of one rule, whose arguments are cut so.
 pub fn narrowed_rule(alloc: Global, rule: &Rule, plan: &[u32; 6]) -> Result<Vec<Rule>, CutError>
     requires { Suits plan.now rule.now }
-    ensures { IfOk result (λ parts. AreNarrowed (rule.now ∷ []) parts.items) }
+    ensures ok { IfOk result (λ parts. AreNarrowed (rule.now ∷ []) parts.items) }
+    ensures few { IfOk result (λ parts. length parts.items ≤ most_lists plan.now rule.now.conds.items) }
+    ensures err { IfErr result (IsCutCause (most_lists plan.now rule.now.conds.items)) }
 {
     cut(alloc, rule, plan)
 }
@@ -36,8 +39,10 @@ pub fn add_narrowed(
     plan: &[u32; 6],
 ) -> Result<(), CutError>
     requires { Suits plan.now rule.now }
-    ensures { IfOk result (λ _. (before : List TheRule) → AreNarrowed before rules.old.items
+    ensures ok { IfOk result (λ _. (before : List TheRule) → AreNarrowed before rules.old.items
         → AreNarrowed (before ++ rule.now ∷ []) rules.new.items) }
+    ensures few { IfOk result (λ _. length rules.new.items ≤ length rules.old.items + most_lists plan.now rule.now.conds.items) }
+    ensures err { IfErr result (IsCutCause (length rules.old.items + most_lists plan.now rule.now.conds.items)) }
 {
     let parts = narrowed_rule(alloc, rule, plan)?;
     append(rules, &parts)?;
@@ -49,7 +54,9 @@ pub fn add_narrowed(
 
 /// The narrowed rules of a list.
 pub fn narrowed_rules(alloc: Global, rules: &[Rule]) -> Result<Vec<Rule>, CutError>
-    ensures { IfOk result (λ narrowed. AreNarrowed rules.now narrowed.items) }
+    ensures ok { IfOk result (λ narrowed. AreNarrowed rules.now narrowed.items) }
+    ensures few { IfOk result (λ narrowed. length narrowed.items ≤ most_narrowed rules.now) }
+    ensures err { IfErr result (IsCutCause (most_narrowed rules.now)) }
 {
     let mut narrowed = Vec::new(alloc);
     for rule in rules {

@@ -1,5 +1,6 @@
 //! To how many bits the arguments of a rule are cut.
-ghost use Rattle.std.specs.Prelude.{IsTrue, All, slice_index};
+ghost use Rattle.std.specs.Prelude.{◌≡◌, IsTrue, All, slice_index};
+ghost use Rattle.narrowed.specs.Counts as counts;
 ghost use Rattle.narrowed.specs.inner.Parts.{IsLow};
 ghost use Rattle.narrowed.specs.inner.Cutting.{IsReadPlan, Suits, SuitsAt};
 
@@ -67,7 +68,8 @@ pub fn suits(rule: &Rule, plan: &[u32; 6]) -> bool
 
 // How many bits are read of each argument of a call.
 fn read_plan(token: u32, nr: u32) -> [u32; 6]
-    ensures { IsReadPlan token nr result }
+    ensures reads { IsReadPlan token nr result }
+    ensures exact { result ≡ counts.read_plan token nr }
 {
     [
         read_bits(token, nr, 0),
@@ -82,7 +84,8 @@ fn read_plan(token: u32, nr: u32) -> [u32; 6]
 /// How many bits are read of each argument of a rule's call; all, where its machine has narrow arguments, since no more is
 /// compared.
 pub fn own_plan(rule: &Rule) -> [u32; 6]
-    ensures { Suits result rule.now }
+    ensures suits { Suits result rule.now }
+    ensures exact { result ≡ counts.own_plan rule.now }
 {
     if rule.is_narrow() {
         return [WHOLE; 6];

@@ -1,5 +1,6 @@
 -- What certify writes, by what its parts do; and a certificate and a record that convicts exclude one another.
 use Rattle.std.proofs.Common.{◌≡◌, ◌<◌, ◌++◌, append_assoc, ℕ, length, String, Global, inl, inr, Bool, true, List, refl, sym, subst, ◌∙◌}
+use Rattle.std.specs.Global.{Vec}
 use Rattle.std.specs.Prelude.{[], IfOk, IfSome, slice_index, string_bytes, Option, Some, None, Result, Ok, Err, ◌≢◌}
 use Rattle.std.proofs.lemmas.Option.{same_Some}
 use Rattle.call_tables.specs.declared.arch.Arch.{Arch}
@@ -15,9 +16,13 @@ use Rattle.cert_check.proofs.Right.{right}
 use Rattle.cert_check.specs.Right.{IsRight}
 use Rattle.cert_check.specs.Valid.{IsValidCertificate}
 use Rattle.cert_check.proofs.ValidLaws.{kept}
-use Rattle.cert_walk.specs.declared.fault.CertifyError.{CertifyError}
-use Rattle.cert_walk.specs.declared.fault.CertifyError.TheVariants as maker
-use Rattle.certify.specs.Conviction.{Convicts}
+use Rattle.cert_search.specs.declared.fault.CertifyError.{CertifyError}
+use Rattle.cert_search.specs.declared.fault.CertifyError.TheVariants as maker
+use Rattle.call_record.specs.Record.{words}
+use Rattle.certify.specs.Conviction.{Convicts, IsConviction, IsEvidence}
+use Rattle.certify.specs.declared.evidence.Conviction.{Conviction}
+use Rattle.certify.specs.declared.evidence.Evidence.{Evidence}
+use Rattle.certify.specs.declared.evidence.Evidence.TheVariants.{Certificate, Convicting}
 use Rattle.certify.specs.Fault.{IsOfSize}
 use Rattle.rule_compile.specs.Steady.{IsSteady, Nothing}
 use Rattle.streams.specs.Failures.{Failures}
@@ -34,12 +39,12 @@ use Rattle.profile_json.proofs.unbroken.Unbroken.{meaning_is_one, meaning_is_unb
 use Rattle.pipeline.proofs.ExportLaws.{as_failed}
 use Rattle.pipeline.proofs.FindingLaws.{no_fault, one_policy}
 use Rattle.pipeline.specs.Certified.{AreJudged, Certifies, CertifiesOwn, EvidenceExcludes, IsOpen, IsOwnFilter, WritesCertificate}
-use Rattle.pipeline.specs.Certified.{conviction_line}
+use Rattle.pipeline.specs.Certified.{IsEvidenceFor, IsJudgement, IsOwnJudgement, conviction_line}
 use Rattle.pipeline.specs.Exported.{IsToldAs, Refuses}
 use Rattle.pipeline.specs.Finding.{IsBundle, IsYes}
 use Rattle.pipeline.specs.declared.unready.Unready.{Unready}
 use Rattle.pipeline.specs.declared.unready.Unready.TheVariants as unready
-use Rattle.pipeline.specs.inner.Told.{IsLine, Tells, TellsLine}
+use Rattle.pipeline.specs.Told.{IsLine, IsWritten, Tells, TellsLine}
 
 -- seven parts of a line, joined from the right and from the left
 pub seven_parts : (a b c d e f g : List ℕ) → a ++ (b ++ (c ++ (d ++ (e ++ (f ++ g))))) ≡ a ++ b ++ c ++ d ++ e ++ f ++ g
@@ -107,20 +112,6 @@ module _ (native : Arch) (bundle filter : List ℕ) where
   kernel_open policy e means program refused = (tt, (policy, [], means, first_kernel policy filter [] program e refused))
 
 module _ {S : Type 0} (held : S → Option (List ℕ)) (failures : S → Failures) (old new : S) (native : Arch) (bundle filter : List ℕ) where
-  pub certificate_written : (policy : Policy) (cert : List ℕ) → IsBundle native bundle policy → IsYes policy filter cert
-      → WritesMade {S = S} {T = Bool} held failures old new cert (Ok true) → Certifies held failures old new native bundle filter (Ok true)
-  certificate_written policy cert means kept written =
-      inl (record { cert = cert; is = (policy, means, kept); written = written; told = refl })
-
-  pub certificate_failed : (T : Type 0) (policy : Policy) (cert : List ℕ) (fault : WriteFault) (result : Result Bool WriteFault)
-      → IsBundle native bundle policy → IsYes policy filter cert
-      → WritesMade {S = S} {T = T} held failures old new cert (Err fault) → result ≡ Err fault
-      → Certifies held failures old new native bundle filter result
-  certificate_failed T policy cert fault result means kept written e =
-      let here : WritesCertificate held failures old new native bundle filter (Err fault) =
-      record { cert = cert; is = (policy, means, kept); written = as_failed held failures old new T cert fault written; told = tt } in
-      inl (subst (λ (r : Result Bool WriteFault). WritesCertificate held failures old new native bundle filter r) (sym e) here)
-
   pub record_told : (policy : Policy) (p : List Insn) (words : List ℕ) (given said : ℕ) (result : Result Bool WriteFault)
       → AreJudged native bundle filter policy → p ≡ insns_of filter → IsRecord words → Convicts policy p words given said
       → Tells held failures old new words given said result → Certifies held failures old new native bundle filter result
@@ -140,16 +131,6 @@ module _ {S : Type 0} (held : S → Option (List ℕ)) (failures : S → Failure
       }))
   record_told policy p words given said result judged same is convicts (inr h) = inr (inr (inr h))
 
-  pub open_told : (u : Unready) (result : Result Bool WriteFault) → (u ≢ unready.OutOfMemory → IsOpen native bundle filter u)
-      → Refuses held failures old new u result → Certifies held failures old new native bundle filter result
-  open_told u result why (inl h) = inr (inr (inl (record { unready = u; is = why h.0; written = h.1; told = h.2 })))
-  open_told u result why (inr h) = inr (inr (inr h))
-
--- what is said of each result that is given
-pub each_ok : {A E : Type 0} {P Q : A → Type 0} (r : Result A E) → IfOk r P → ((a : A) → P a → Q a) → IfOk r Q
-each_ok (Ok a) is f = f a is
-each_ok (Err e) is f = tt
-
 -- with a valid certificate of an accepted filter the checker says yes
 pub yes_of_valid : (policy : Policy) (p : List Insn) (filter cert : List ℕ) → IsClear policy.rules → p ≡ insns_of filter
     → view_fault filter ≡ None → IsAccepted (insns_of filter) → IsValidCertificate policy p cert → IsYes policy filter cert
@@ -160,6 +141,56 @@ yes_of_valid policy p filter cert clear same whole taken valid =
       right = right policy (insns_of filter) here.0 clear taken here.2;
       kept = kept policy filter cert whole taken here;
     }
+
+-- want of memory is told as such
+pub told_memory : (e : CertifyError) (u : Unready) → IsToldAs unready.Certify maker.OutOfMemory e u → e ≡ maker.OutOfMemory
+    → u ≡ unready.OutOfMemory
+told_memory e u (inl memory) is = memory.1
+told_memory e u (inr step) is = absurd (step.0 is)
+
+-- what is found of a profile and a filter is the evidence for the bundle and the filter's bytes
+pub evidence_for : (native : Arch) (bundle filter : List ℕ) (policy : Policy) (p : List Insn) (e : Evidence)
+    → AreJudged native bundle filter policy → IsClear policy.rules → p ≡ insns_of filter → IsEvidence policy p e
+    → IsEvidenceFor native bundle filter e
+evidence_for native bundle filter policy p (Certificate cert) judged clear same valid =
+    (policy, judged.means, yes_of_valid policy p filter cert.items clear same judged.program judged.accepted valid)
+evidence_for native bundle filter policy p (Convicting found) judged clear same convicts =
+    (policy, judged, subst (λ (q : List Insn). IsConviction policy q found) same convicts)
+
+-- a fault of the bundle
+pub profile_open : (native : Arch) (bundle filter : List ℕ) (e : ProfileError) (u : Unready)
+    → IfSome (fault_of e) (Breaks bundle native) → IsToldAs unready.Profile refusal.OutOfMemory e u → u ≢ unready.OutOfMemory
+    → IsOpen native bundle filter u
+profile_open native bundle filter e u stands (inl memory) other = absurd (other memory.1)
+profile_open native bundle filter e u stands (inr step) other =
+    subst (λ (v : Unready). IsOpen native bundle filter v) (sym step.1) (step.0, stands)
+
+-- a bundle that means a profile has none
+pub own_read : (native : Arch) (bundle : List ℕ) (policy : Policy) (e : ProfileError) (u : Unready) → IsBundle native bundle policy
+    → IfSome (fault_of e) (Breaks bundle native) → IsToldAs unready.Profile refusal.OutOfMemory e u → u ≡ unready.OutOfMemory
+own_read native bundle policy e u means stands (inl memory) = memory.1
+own_read native bundle policy e u means stands (inr step) =
+    absurd (no_fault meaning_is_unbroken meaning_is_one native bundle policy e means step.0 stands)
+
+module _ {S : Type 0} (held : S → Option (List ℕ)) (failures : S → Failures) (old new : S) where
+  pub written_failed : (T : Type 0) (bytes : List ℕ) (fault : WriteFault) (result : Result Bool WriteFault)
+      → WritesMade {S = S} {T = T} held failures old new bytes (Err fault) → result ≡ Err fault
+      → IsWritten held failures old new bytes result
+  written_failed T bytes fault result written e =
+      let here : IsWritten held failures old new bytes (Err fault) =
+      record { written = as_failed held failures old new T bytes fault written; told = tt } in
+      subst (λ (r : Result Bool WriteFault). IsWritten held failures old new bytes r) (sym e) here
+
+  module _ (native : Arch) (bundle filter : List ℕ) where
+    -- a record that is found is told
+    pub evidence_convicting : (evidence : Evidence) (found : Conviction) (result : Result Bool WriteFault) → evidence ≡ Convicting found
+        → IsEvidenceFor native bundle filter evidence → IsRecord (words found.call)
+        → Tells held failures old new (words found.call) found.given found.said result
+        → Certifies held failures old new native bundle filter result
+    evidence_convicting evidence found result e is call told =
+        let here : IsEvidenceFor native bundle filter (Convicting found) = subst (λ (x : Evidence). IsEvidenceFor native bundle filter x) e is in
+        record_told held failures old new native bundle filter here.0 (insns_of filter) (words found.call) found.given found.said result
+        here.1 refl call here.2 told
 
 -- where the filter is right it gives the profile's verdict
 right_is_not_convicted : (policy : Policy) (p : List Insn) (r : List ℕ) (given said : ℕ) → IsRight policy p → IsRecord r
@@ -172,30 +203,3 @@ evidence_excludes one native bundle filter cert rec given said found convicted =
     let same : found.0 ≡ convicted.policy = one_policy one native bundle found.0 convicted.policy found.1 convicted.judged.means in
     right_is_not_convicted convicted.policy (insns_of filter) (words_of rec) given said
     (subst (λ (q : Policy). IsRight q (insns_of filter)) same found.2.right) convicted.call.words convicted.convicts
-
--- ---- a filter of this project's own
-
-module _ (native : Arch) (bundle filter : List ℕ) (policy : Policy) (own : IsOwnFilter native bundle filter policy) where
-  module _ {S : Type 0} (held : S → Option (List ℕ)) (failures : S → Failures) (old new : S) where
-    -- a bundle that means a profile is refused for want of memory alone
-    pub own_refused : (e : ProfileError) (u : Unready) (result : Result Bool WriteFault)
-        → IfSome (fault_of e) (Breaks bundle native) → IsToldAs unready.Profile refusal.OutOfMemory e u
-        → Refuses held failures old new u result → CertifiesOwn held failures old new native bundle filter result
-    own_refused e u result stands told (inr h) = inr h
-    own_refused e u result stands (inl memory) (inl h) = absurd (h.0 memory.1)
-    own_refused e u result stands (inr step) (inl h) =
-        absurd (no_fault meaning_is_unbroken meaning_is_one native bundle policy e own.means step.0 stands)
-
-    -- what is written of a certificate
-    pub own_written : (cert : List ℕ) → IsYes policy filter cert → WritesMade {S = S} {T = Bool} held failures old new cert (Ok true)
-        → CertifiesOwn held failures old new native bundle filter (Ok true)
-    own_written cert kept written =
-        inl (record { cert = cert; is = (policy, own.means, kept); written = written; told = refl })
-
-    pub own_failed : (T : Type 0) (cert : List ℕ) (fault : WriteFault) (result : Result Bool WriteFault) → IsYes policy filter cert
-        → WritesMade {S = S} {T = T} held failures old new cert (Err fault) → result ≡ Err fault
-        → CertifiesOwn held failures old new native bundle filter result
-    own_failed T cert fault result kept written e =
-        let here : WritesCertificate held failures old new native bundle filter (Err fault) =
-        record { cert = cert; is = (policy, own.means, kept); written = as_failed held failures old new T cert fault written; told = tt } in
-        inl (subst (λ (r : Result Bool WriteFault). WritesCertificate held failures old new native bundle filter r) (sym e) here)

@@ -16,8 +16,8 @@ use Rattle.kernel_check.specs.Accepted.{IsAccepted}
 use Rattle.cert_check.specs.Right.{IsRight}
 use Rattle.cert_check.specs.Valid.{IsValidCertificate}
 use Rattle.cert_check.proofs.ValidLaws.{kept}
-use Rattle.cert_walk.specs.declared.fault.CertifyError.{CertifyError}
-use Rattle.cert_walk.specs.declared.fault.CertifyError.TheVariants as maker
+use Rattle.cert_search.specs.declared.fault.CertifyError.{CertifyError}
+use Rattle.cert_search.specs.declared.fault.CertifyError.TheVariants as maker
 use Rattle.certify.specs.Fault.{IsOfSize}
 use Rattle.certify.proofs.CompiledLaws.{compiled}
 use Rattle.streams.specs.Failures.{Failures}

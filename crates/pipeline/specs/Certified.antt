@@ -1,7 +1,7 @@
 -- What is written of a bundle and a filter, both as bytes: a certificate, a call record that convicts the filter, or why there
 -- is neither.
 use Rattle.std.specs.Prelude.{ℕ, ◌≡◌, ◌≢◌, ◌<◌, ◌⊎◌, Bool, true, false, List, [], ◌∷◌, ◌++◌, length, slice_index}
-use Rattle.std.specs.Prelude.{Option, None, Result, IfOk, codes}
+use Rattle.std.specs.Prelude.{Option, None, Result, Ok, Err, IfOk, codes}
 use Rattle.hex.specs.Hex.{encode_lower}
 use Rattle.call_tables.specs.declared.arch.Arch.{Arch}
 use Rattle.call_record.specs.Text as verdict
@@ -11,9 +11,11 @@ use Rattle.kernel_check.specs.Accepted.{IsAccepted}
 use Rattle.profile.specs.Policy.{Policy}
 use Rattle.rule_compile.specs.Shape.{IsCallFilter, IsPlain}
 use Rattle.rule_compile.specs.Steady.{IsSteady, Nothing}
-use Rattle.certify.specs.Conviction.{Convicts}
-use Rattle.cert_walk.specs.declared.fault.CertifyError.{CertifyError}
-use Rattle.cert_walk.specs.declared.fault.CertifyError.TheVariants as maker
+use Rattle.certify.specs.Conviction.{Convicts, IsCertificate, IsConviction}
+use Rattle.certify.specs.declared.evidence.Evidence.{Evidence}
+use Rattle.certify.specs.declared.evidence.Evidence.TheVariants.{Certificate, Convicting}
+use Rattle.cert_search.specs.declared.fault.CertifyError.{CertifyError}
+use Rattle.cert_search.specs.declared.fault.CertifyError.TheVariants as maker
 use Rattle.cert_check.specs.Certified.{IsFirst}
 use Rattle.cert_check.specs.declared.fault.CheckError.{CheckError}
 use Rattle.cert_check.specs.declared.fault.CheckError.TheVariants as error
@@ -22,7 +24,7 @@ use Rattle.streams.specs.Sink.{WritesMade}
 use Rattle.streams.specs.declared.fault.WriteFault.{WriteFault}
 use Rattle.texts.specs.Lines.{line_feed}
 use Rattle.pipeline.specs.Exported.{IsUnready, LacksMemory, line_of}
-use Rattle.pipeline.specs.Finding.{IsBundle, IsFinding}
+use Rattle.pipeline.specs.Finding.{IsBundle, IsFinding, IsYes}
 use Rattle.pipeline.specs.declared.check.Finding.TheVariants.{Yes}
 use Rattle.pipeline.specs.declared.unready.Unready.{Unready}
 use Rattle.pipeline.specs.declared.unready.Unready.TheVariants.{Profile, Compile, Certify, Check, OutOfMemory}
@@ -77,6 +79,23 @@ IsOpen native bundle filter (Certify e) = IsUndecided native bundle filter e
 IsOpen native bundle filter (Check e) =
     IsOfFilter e × ((policy : Policy) × (cert : List ℕ) × IsBundle native bundle policy × IsFirst policy filter cert e)
 IsOpen native bundle filter OutOfMemory = ⊥
+
+-- the evidence on a filter, beside a bundle: a certificate with which the checker says yes, or what convicts the filter for the
+-- profile that the bundle means
+abbrev pub IsEvidenceFor : Arch → List ℕ → List ℕ → Evidence → Type 0
+IsEvidenceFor native bundle filter (Certificate cert) = (policy : Policy) × IsBundle native bundle policy × IsYes policy filter cert.items
+IsEvidenceFor native bundle filter (Convicting found) =
+    (policy : Policy) × AreJudged native bundle filter policy × IsConviction policy (insns_of filter) found
+
+-- what is judged: the evidence, or why there is none
+abbrev pub IsJudgement : Arch → List ℕ → List ℕ → Result Evidence Unready → Type 0
+IsJudgement native bundle filter (Ok evidence) = IsEvidenceFor native bundle filter evidence
+IsJudgement native bundle filter (Err e) = e ≢ OutOfMemory → IsOpen native bundle filter e
+
+-- a certificate, or want of memory
+abbrev pub IsOwnJudgement : Result Evidence Unready → Type 0
+IsOwnJudgement (Ok evidence) = IsCertificate evidence
+IsOwnJudgement (Err e) = e ≡ OutOfMemory
 
 -- what was written is a certificate with which the checker says yes, and the answer is true
 pub record WritesCertificate {S : Type 0} (held : S → Option (List ℕ)) (failures : S → Failures) (old new : S) (native : Arch)

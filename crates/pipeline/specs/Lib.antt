@@ -4,4 +4,4 @@ pub mod Plain
 pub mod Prepared
 pub mod Exported
 pub mod Certified
-pub mod inner
+pub mod Told

@@ -1,49 +1,29 @@
 //! From a bundle and a filter to a certificate, or to a call record that convicts the filter.
-ghost use Rattle.std.specs.Prelude.{◌≡◌, ◌≢◌, ◌<◌, ℕ, List, None, IfErr, IfOk, length, slice_index, string_bytes};
+ghost use Rattle.std.specs.Prelude.{◌≡◌, ◌<◌, ℕ, List, Ok, IfOk, length, slice_index, string_bytes};
 ghost use Rattle.call_record.specs.Record.{words};
-ghost use Rattle.bpf_insn.specs.Bytes.{insns_of, view_fault};
-ghost use Rattle.kernel_check.specs.Accepted.{IsAccepted};
+ghost use Rattle.bpf_insn.specs.Bytes.{insns_of};
 ghost use Rattle.kernel_check.specs.Lent.{accepted_insns};
 ghost use Rattle.call_tables.specs.declared.arch.Arch.{Arch as TheArch};
-ghost use Rattle.rule_compile.specs.Steady.{IsSteady, Nothing};
-ghost use Rattle.cert_check.specs.Right.{IsRight};
-ghost use Rattle.certify.specs.Certificates.{RightLacksRoom};
-ghost use Rattle.certify.specs.Fault.{IsOfSize};
-ghost use Rattle.pipeline.specs.Certified.{AreJudged, Certifies, CertifiesOwn, IsOwnFilter, conviction_line, digits_line};
+ghost use Rattle.certify.specs.declared.evidence.Conviction.{Conviction as TheConviction};
+ghost use Rattle.certify.specs.declared.evidence.Evidence.TheVariants.{Convicting};
+ghost use Rattle.certify.specs.Conviction.{IsCertificate};
+ghost use Rattle.pipeline.specs.Certified.{AreJudged, Certifies, CertifiesOwn, IsEvidenceFor, IsJudgement, IsOwnFilter, IsOwnJudgement};
+ghost use Rattle.pipeline.specs.Certified.{conviction_line, digits_line};
 ghost use Rattle.profile.specs.Policy.{Policy};
-ghost use Rattle.pipeline.specs.Exported.{LacksMemory};
-ghost use Rattle.pipeline.specs.Finding.{IsBundle, IsYes};
-ghost use Rattle.pipeline.specs.inner.Told.{IsLine, Tells};
+ghost use Rattle.pipeline.specs.Finding.{IsBundle};
+ghost use Rattle.pipeline.specs.Told.{IsLine, IsWritten, Tells};
 
 use crate::unready::{Unready, refuse};
 use bpf_insn::Program;
 use call_record::{Word, words_are_a_record};
 use call_tables::Arch;
 use cert_check::CheckError;
-use certify::{CertifyError, Conviction, certify_accepted, convict};
+use certify::{Conviction, Evidence, judge};
 use kernel_check::{Accepted, accept};
 use profile::Profile;
 use profile_json::read_bundle;
 use std::alloc::{AllocError, Global};
 use streams::{Sink, WriteFault, write_all};
-
-// The certificate that is made of a profile and a filter, to which the checker says yes.
-fn certified(
-    alloc: Global,
-    profile: &Profile,
-    program: &Accepted<'_>,
-) -> Result<Vec<u8>, CertifyError>
-    ensures ok { (filter : List ℕ) → view_fault filter ≡ None → IsAccepted (insns_of filter)
-        → accepted_insns program.now ≡ insns_of filter → IfOk result (λ cert. IsYes profile.now filter cert.items) }
-    // Of a right filter that compares steadily an error tells of memory or of the format's limits.
-    ensures sure { RightLacksRoom profile.now (accepted_insns program.now) result }
-    // Of a filter of this project's own only memory is refused.
-    ensures own { (native : TheArch) (bundle filter : List ℕ) → IsOwnFilter native bundle filter profile.now
-        → accepted_insns program.now ≡ insns_of filter → IfErr result (λ e. e ≡ CertifyError.OutOfMemory) }
-{
-    profile.rules();
-    certify_accepted(alloc, profile, program)
-}
 
 // The bytes of a record are 64, each below 256.
 fn are_bytes(bytes: &[u8])
@@ -87,81 +67,109 @@ fn tell<S: Sink>(alloc: Global, found: &Conviction, sink: &mut S) -> Result<bool
     Ok(false)
 }
 
-// Writes the line of a call record that convicts a filter without a certificate, or else why it has none.
-fn convict_or_refuse<S: Sink>(
-    alloc: Global,
-    profile: &Profile,
-    program: &Accepted<'_>,
-    error: CertifyError,
-    sink: &mut S,
-) -> Result<bool, WriteFault>
+// What is judged of a profile and a filter that the kernel accepts.
+fn judged(alloc: Global, profile: &Profile, program: &Accepted<'_>) -> Result<Evidence, Unready>
     ensures found { (native : TheArch) (bundle filter : List ℕ) → AreJudged native bundle filter profile.now
-        → accepted_insns program.now ≡ insns_of filter
-        → (IsRight profile.now (accepted_insns program.now) → IsSteady (accepted_insns program.now) 0 Nothing → IsOfSize error)
-        → Certifies S.held S.failures sink.old sink.new native bundle filter result }
-    ensures memory { error ≡ CertifyError.OutOfMemory → LacksMemory sink.old sink.new result }
+        → accepted_insns program.now ≡ insns_of filter → IsJudgement native bundle filter result }
+    ensures own { (native : TheArch) (bundle filter : List ℕ) → IsOwnFilter native bundle filter profile.now
+        → accepted_insns program.now ≡ insns_of filter → IsOwnJudgement result }
 {
-    if let CertifyError::OutOfMemory = error {
-        return Err(WriteFault::OutOfMemory);
-    }
-    match convict(alloc, profile, program) {
-        Ok(Some(found)) => {
-            words_are_a_record(&found.call);
-            tell(alloc, &found, sink)
-        }
-        Ok(None) => refuse(alloc, &Unready::from(error), sink),
-        Err(error) => refuse(alloc, &Unready::from(error), sink),
+    profile.rules();
+    match judge(alloc, profile, program) {
+        Ok(evidence) => Ok(evidence),
+        Err(error) => Err(Unready::from(error)),
     }
 }
 
-// Writes the certificate of a filter that the kernel accepts, or what tells that it has none.
-fn write_certificate<S: Sink>(
-    alloc: Global,
-    profile: &Profile,
-    filter: &[u8],
-    program: &Accepted<'_>,
-    sink: &mut S,
-) -> Result<bool, WriteFault>
-    ensures found { (native : TheArch) (bundle : List ℕ) → AreJudged native bundle filter.now profile.now
-        → accepted_insns program.now ≡ insns_of filter.now
-        → Certifies S.held S.failures sink.old sink.new native bundle filter.now result }
-    ensures own { (native : TheArch) (bundle : List ℕ) → IsOwnFilter native bundle filter.now profile.now
-        → accepted_insns program.now ≡ insns_of filter.now
-        → CertifiesOwn S.held S.failures sink.old sink.new native bundle filter.now result }
-{
-    match certified(alloc, profile, program) {
-        Ok(certificate) => {
-            write_all(&certificate, sink)?;
-            Ok(true)
-        }
-        Err(error) => convict_or_refuse(alloc, profile, program, error, sink),
-    }
-}
-
-// Writes the certificate of a filter, or what tells that it has none.
-fn certify_filter<S: Sink>(
-    alloc: Global,
-    profile: &Profile,
-    filter: &[u8],
-    sink: &mut S,
-) -> Result<bool, WriteFault>
+// What is judged of a profile and the bytes of a filter.
+fn judge_filter(alloc: Global, profile: &Profile, filter: &[u8]) -> Result<Evidence, Unready>
     ensures found { (native : TheArch) (bundle : List ℕ) → IsBundle native bundle profile.now
-        → Certifies S.held S.failures sink.old sink.new native bundle filter.now result }
-    ensures own { (native : TheArch) (bundle : List ℕ) → IsOwnFilter native bundle filter.now profile.now
-        → CertifiesOwn S.held S.failures sink.old sink.new native bundle filter.now result }
+        → IsJudgement native bundle filter.now result }
+    ensures own { (native : TheArch) (bundle : List ℕ) → IsOwnFilter native bundle filter.now profile.now → IsOwnJudgement result }
 {
     let program = match Program::view(filter) {
         Ok(program) => program,
-        Err(fault) => return refuse(alloc, &Unready::Check(CheckError::View(fault)), sink),
+        Err(fault) => return Err(Unready::Check(CheckError::View(fault))),
     };
     match accept(&program) {
-        Ok(accepted) => write_certificate(alloc, profile, filter, &accepted, sink),
-        Err(refused) => refuse(alloc, &Unready::Check(CheckError::Kernel(refused)), sink),
+        Ok(accepted) => judged(alloc, profile, &accepted),
+        Err(refused) => Err(Unready::Check(CheckError::Kernel(refused))),
     }
 }
 
-/// Writes a certificate that a filter answers what a bundle says, which is read for a native machine, once the checker says
-/// yes to it. Where there is none, the answer is false, and the line of a call record is written on which the filter gives
+/// The evidence on a filter, beside a bundle that is read for a native machine: a certificate that the filter answers what the bundle
+/// says, to which the checker says yes, or a call record on which the filter gives another verdict. Or else why there is neither: of
+/// a filter that compares steadily only that the format has no room.
+pub fn judge_bundle(
+    alloc: Global,
+    native: Arch,
+    bundle: &[u8],
+    filter: &[u8],
+) -> Result<Evidence, Unready>
+    ensures found { IsJudgement native bundle.now filter.now result }
+    // Of a bundle that means a plain profile, and a filter as the compiler makes it of such, there is a certificate, unless memory is
+    // refused.
+    ensures own { (policy : Policy) → IsOwnFilter native bundle.now filter.now policy → IsOwnJudgement result }
+{
+    match read_bundle(alloc, bundle, native) {
+        Ok(bundle) => judge_filter(alloc, &bundle.profile, filter),
+        Err(error) => Err(Unready::from(error)),
+    }
+}
+
+// Writes a certificate. The answer is true.
+fn write_certificate<S: Sink>(certificate: &[u8], sink: &mut S) -> Result<bool, WriteFault>
+    ensures { IsWritten S.held S.failures sink.old sink.new certificate.now result }
+{
+    write_all(certificate, sink)?;
+    Ok(true)
+}
+
+// Writes the evidence on a filter: the certificate, where the answer is true, or the line of the very record that convicts it.
+fn write_evidence<S: Sink>(
+    alloc: Global,
+    evidence: &Evidence,
+    sink: &mut S,
+) -> Result<bool, WriteFault>
+    ensures found { (native : TheArch) (bundle filter : List ℕ) → IsEvidenceFor native bundle filter evidence.now
+        → Certifies S.held S.failures sink.old sink.new native bundle filter result }
+    ensures own { (native : TheArch) (bundle filter : List ℕ) → IsEvidenceFor native bundle filter evidence.now
+        → IsCertificate evidence.now → CertifiesOwn S.held S.failures sink.old sink.new native bundle filter result }
+    ensures told { (found : TheConviction) → evidence.now ≡ Convicting found
+        → Tells S.held S.failures sink.old sink.new (words found.call) found.given found.said result }
+{
+    match evidence {
+        Evidence::Certificate(certificate) => write_certificate(certificate, sink),
+        Evidence::Convicting(found) => {
+            words_are_a_record(&found.call);
+            tell(alloc, found, sink)
+        }
+    }
+}
+
+/// Writes what was judged: the evidence, where there is some, or the line that says why there is none. The answer is true where a
+/// certificate was written.
+pub fn write_judged<S: Sink>(
+    alloc: Global,
+    judged: &Result<Evidence, Unready>,
+    sink: &mut S,
+) -> Result<bool, WriteFault>
+    ensures found { (native : TheArch) (bundle filter : List ℕ) → IsJudgement native bundle filter judged.now
+        → Certifies S.held S.failures sink.old sink.new native bundle filter result }
+    ensures own { (native : TheArch) (bundle filter : List ℕ) → IsJudgement native bundle filter judged.now → IsOwnJudgement judged.now
+        → CertifiesOwn S.held S.failures sink.old sink.new native bundle filter result }
+    // The record that is told is the one that was found.
+    ensures told { (found : TheConviction) → judged.now ≡ Ok (Convicting found)
+        → Tells S.held S.failures sink.old sink.new (words found.call) found.given found.said result }
+{
+    match judged {
+        Ok(evidence) => write_evidence(alloc, evidence, sink),
+        Err(unready) => refuse(alloc, unready, sink),
+    }
+}
+
+/// Writes what is judged of a bundle, which is read for a native machine, and a filter: a certificate to which the checker says
+/// yes. Where there is none, the answer is false, and the line of a call record is written on which the filter gives
 /// another verdict than the bundle says; or, where none is found, the line that says why there is neither: of a filter that
 /// compares steadily only that the format has no room.
 pub fn certify_bundle<S: Sink>(
@@ -177,8 +185,6 @@ pub fn certify_bundle<S: Sink>(
     ensures own { (policy : Policy) → IsOwnFilter native bundle.now filter.now policy
         → CertifiesOwn S.held S.failures sink.old sink.new native bundle.now filter.now result }
 {
-    match read_bundle(alloc, bundle, native) {
-        Ok(bundle) => certify_filter(alloc, &bundle.profile, filter, sink),
-        Err(error) => refuse(alloc, &Unready::from(error), sink),
-    }
+    let judged = judge_bundle(alloc, native, bundle, filter);
+    write_judged(alloc, &judged, sink)
 }

@@ -1,6 +1,8 @@
 //! The rules of a bundle, entry by entry.
-ghost use Rattle.std.specs.Prelude.{IfOk};
+ghost use Rattle.std.specs.Prelude.{IfErr, IfOk, IfSome};
+ghost use Rattle.profile_json.specs.Breaks.{Breaks};
 ghost use Rattle.profile_json.specs.ByEntry.{AreRulesOf};
+ghost use Rattle.profile_json.specs.Fault.{fault_of};
 
 use crate::bundle::{said_of, value_of};
 use crate::fault::ProfileError;
@@ -31,7 +33,10 @@ impl EntryRules {
 
 /// Reads the rules that the entries of a bundle say on its machines.
 pub fn rules_by_entry(alloc: Global, text: &[u8], native: Arch) -> Result<EntryRules, ProfileError>
-    ensures { IfOk result (λ all. AreRulesOf native text.now all.rules.items all.ends.items) }
+    ensures ok { IfOk result (λ all. AreRulesOf native text.now all.rules.items all.ends.items) }
+
+    // Unless memory ran out, the fault stands in the text.
+    ensures err { IfErr result (λ e. IfSome (fault_of e) (Breaks text.now native)) }
 {
     let value = value_of(alloc, text, native)?;
     let seccomp = root_of(&value)?;

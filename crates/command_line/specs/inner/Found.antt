@@ -9,7 +9,7 @@ use Rattle.clap.specs.Words.{Row, Text, all_of, first_of}
 use Rattle.export.specs.declared.form.Form.{Form}
 use Rattle.command_line.specs.Arguments.{Given, form_called}
 use Rattle.command_line.specs.Arguments.Given.{Verdict, Check, Certify, Export, Run, Explain, Read, Record}
-use Rattle.command_line.specs.Arguments.Given.{Assemble, Annotate, Draw, Lint, Compare, Adapt, Learn, Replay, Manual, Version}
+use Rattle.command_line.specs.Arguments.Given.{Assemble, Annotate, Draw, Lint, Compare, CompareFilters, Adapt, Learn, Replay, Manual, Version}
 
 -- the machine that the part MACHINE calls
 abbrev pub native_in : List Row → Option Arch
@@ -39,6 +39,11 @@ verdict_in rows = with_part (codes "FILTER") rows (λ filter. with_part (codes "
 abbrev pub check_in : List Row → Option Given
 check_in rows = with_part (codes "BUNDLE") rows (λ bundle. with_part (codes "FILTER") rows (λ filter.
     with_part (codes "CERTIFICATE") rows (λ cert. with_native rows (λ native. Check native bundle filter cert))))
+
+-- two parts that are given and the machine, and what is made of them
+abbrev pub with_files : Text → Text → List Row → (Arch → Text → Text → Option Given) → Option Given
+with_files one other rows made = with_part one rows (λ first. with_part other rows (λ second.
+    option_and_then (λ native. made native first second) (native_in rows)))
 
 abbrev pub certify_in : List Row → Option Given
 certify_in rows = with_part (codes "BUNDLE") rows (λ bundle. with_part (codes "FILTER") rows (λ filter.
@@ -76,14 +81,16 @@ draw_in rows = with_part (codes "FILTER") rows (λ filter. with_native rows (λ 
 abbrev pub lint_in : List Row → Option Given
 lint_in rows = with_part (codes "BUNDLE") rows (λ bundle. with_native rows (λ native. Lint native bundle))
 
--- whether the part that may stand last is `atmost`; none where it is another
-abbrev pub asks_at_most : Option Text → Option Bool
-asks_at_most None = Some false
-asks_at_most (Some last) = if bytes_eq last (codes "atmost") then Some true else None
+-- the command of comparing that the part that may stand last asks for
+abbrev pub compared_as : Option Text → Arch → Text → Text → Option Given
+compared_as None native old new = Some (Compare native old new false)
+compared_as (Some last) native old new =
+    if bytes_eq last (codes "atmost") then Some (Compare native old new true)
+    else if bytes_eq last (codes "filters") then Some (CompareFilters native old new)
+    else None
 
 abbrev pub compare_in : List Row → Option Given
-compare_in rows = with_part (codes "OLD") rows (λ old. with_part (codes "NEW") rows (λ new. option_and_then (λ at_most.
-    with_native rows (λ native. Compare native old new at_most)) (asks_at_most (first_of (codes "atmost") rows))))
+compare_in rows = with_files (codes "OLD") (codes "NEW") rows (compared_as (first_of (codes "WORD") rows))
 
 abbrev pub adapt_in : List Row → List Text → Option Given
 adapt_in rows arguments = with_part (codes "CONFIG") rows (λ config.

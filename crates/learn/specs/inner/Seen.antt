@@ -12,7 +12,8 @@ abbrev pub AreSeen : Arch → List (List ℕ) → List Seen → Type 0
 AreSeen native texts calls = All (λ call. IsSeen native texts call.arch call.nr) calls
 
 -- the bytes are those of the text, and the profile that it means allows each record and names no other calls than it may
-pub record IsWeighed (native : Arch) (policy : Policy) (texts : List (List ℕ)) (runtime : Option Runtime) (text bytes : List ℕ) : Type 0 where
+pub record IsWeighed (native : Arch) (policy : Policy) (texts : List (List ℕ)) (runtime : Option Runtime)
+    (text bytes : List ℕ) : Type 0 where
   pub same : bytes ≡ text
   pub allows : All (AllowsText native policy) texts
   pub named : All (IsNamed native texts runtime) policy.rules

@@ -1,5 +1,5 @@
 -- Lists of conditions, each of one part of each condition.
-use Rattle.std.specs.Prelude.{◌≡◌, true, ◌↔◌, ℕ, ◌<◌, ◌≤◌, List, [], ◌∷◌, ◌++◌, map, slice_index}
+use Rattle.std.specs.Prelude.{◌≡◌, true, ◌↔◌, ℕ, ◌<◌, ◌≤◌, List, [], ◌∷◌, ◌++◌, length, map, slice_index}
 use Rattle.std.specs.List.{All, Contains, flat_map}
 use Rattle.call_arguments.specs.Reads.{read_bits}
 use Rattle.call_tables.specs.Arch.{token_of}
@@ -7,6 +7,7 @@ use Rattle.call_tables.specs.Width.{is_narrow}
 use Rattle.profile.specs.declared.conditions.Cond.{Cond}
 use Rattle.profile.specs.declared.rules.Rule.{Rule}
 use Rattle.profile.specs.Condition.{Meets}
+use Rattle.narrowed.specs.Counts.{most_lists}
 use Rattle.narrowed.specs.Narrowed.{Has}
 use Rattle.narrowed.specs.inner.Parts.{cut, IsLow}
 
@@ -39,6 +40,7 @@ pub record AreCombined (plan : List ℕ) (cs : List Cond) (css : List (List Cond
   pub meets : (a : ℕ → ℕ) → Has (Hold a) css ↔ HoldCut plan a cs
   pub indexes : All (λ ds. map (λ d. d.index) ds ≡ map (λ c. c.index) cs) css
   pub parts : All (All (IsPart plan cs)) css
+  pub few : length css ≤ most_lists plan cs
 
 -- a rule's machine, call and verdict
 pub record IsLike (rule part : Rule) : Type 0 where

@@ -1,5 +1,6 @@
 -- Bits that a number has under a mask, and the lists of them that stand for a comparison.
-use Rattle.std.specs.Prelude.{◌≡◌, ℕ, zero, suc, ◌+◌, ◌-◌, ◌/◌, ◌%◌, ◌^◌, ◌==◌, Bool, List, [], ◌∷◌, ◌++◌, bit_and, Option, Some, None, if◌then◌else◌}
+use Rattle.std.specs.Prelude.{◌≡◌, ℕ, zero, suc, ◌+◌, ◌-◌, ◌/◌, ◌%◌, ◌^◌, ◌==◌, Bool, List, [], ◌∷◌, ◌++◌}
+use Rattle.std.specs.Prelude.{bit_and, Option, Some, None, if◌then◌else◌}
 use Rattle.std.specs.Option.{option_to_list}
 use Rattle.narrowed.specs.declared.patterns.Pattern.{Pattern}
 
@@ -23,7 +24,8 @@ turn_at bits value up down place =
 
 abbrev pub turns_below : ℕ → ℕ → Bool → Bool → ℕ → List Pattern
 turns_below bits value up down zero = []
-turns_below bits value up down (suc place) = turns_below bits value up down place ++ option_to_list (turn_at bits value up down place)
+turns_below bits value up down (suc place) =
+    turns_below bits value up down place ++ option_to_list (turn_at bits value up down place)
 
 -- all numbers above a value, or below it, or both
 unfoldable pub turns : ℕ → ℕ → Bool → Bool → List Pattern

@@ -1,5 +1,7 @@
 -- Errors of building that are about sizes and memory.
 use Rattle.profile.specs.declared.fault.BuildError.{BuildError}
+use Rattle.narrowed.specs.declared.fault.CutError.{CutError}
+use Rattle.narrowed.specs.declared.fault.CutError.TheVariants as cut
 use Rattle.profile.specs.declared.fault.BuildError.TheVariants.{NativeMissing, MixedFamilies, ForeignRule, Overlap, TooMany, OutOfMemory}
 
 abbrev pub IsSize : BuildError → Type 0
@@ -9,3 +11,8 @@ IsSize NativeMissing = ⊥
 IsSize MixedFamilies = ⊥
 IsSize (ForeignRule i) = ⊥
 IsSize (Overlap i j) = ⊥
+
+-- why no profile is narrowed, by why none is built of the rules
+abbrev pub cut_cause : BuildError → CutError
+cut_cause TooMany = cut.TooMany
+cut_cause other = cut.OutOfMemory

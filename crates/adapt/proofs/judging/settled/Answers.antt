@@ -16,6 +16,6 @@ returns c = λ done.
       means = read.2;
       rules = c.in_ok-all.all.rules.items;
       ends = c.in_ok-all.all.ends.items;
-      are = c.in_ok-all.ensures;
+      are = c.in_ok-all.ensures.ok;
       settles = subst (λ (rules : List Rule). Settles c.args.choice rules c.in_ok-read.read.profile) c.deref.ensures.value settles;
     }

@@ -10,6 +10,6 @@ returns c =
       means = means.2;
       rules = c.in_ok-all.all.rules.items;
       ends = c.in_ok-all.all.ends.items;
-      are = c.in_ok-all.ensures;
+      are = c.in_ok-all.ensures.ok;
       told = rw c.family.ensures at c.in_ok-text.ensures;
     }

@@ -1,8 +1,7 @@
-use Rattle.std.proofs.Common.{◌<◌, ◌^◌, true, false, sym, subst, ap, ◌∙◌, rules, ◌≡◌}
+use Rattle.std.proofs.Common.{◌<◌, ◌^◌, true, false, sym, subst, ap, ◌∙◌, rules}
 use Rattle.std.specs.Prelude.{IfSome}
 use Rattle.cert_state.specs.Literals.{AreValues, IsLit}
 use Rattle.cert_state.specs.Sharp.{sharp_fact}
-use Rattle.cert_form.specs.Nodes.{literals}
 use Rattle.cert_paths.specs.inner.Places.{known_at}
 use Rattle.cert_paths.proofs.LitLaws.{fact_lit, transfer_values}
 use Rattle.cert_paths.proofs.following.at_branch.Goals as goal

@@ -1,9 +1,12 @@
-use Rattle.std.proofs.Common.{◌≡◌, sym, ◌∙◌}
+use Rattle.std.proofs.Common.{◌≡◌, sym, subst, ◌∙◌}
+use Rattle.std.proofs.lemmas.Option.{same_Some}
 use Rattle.std.specs.Prelude.{Result, Ok, Err, IfOk, Some}
 use Rattle.bpf_insn.specs.Code.{operation_of}
 use Rattle.cert_check.specs.Rules.{verdict_by}
 use Rattle.cert_form.specs.declared.node.Kind.{Kind}
 use Rattle.cert_paths.specs.declared.fault.PathsError.{PathsError}
+use Rattle.cert_paths.specs.inner.Places.{known_at}
+use Rattle.cert_paths.specs.inner.Plain.{TakesAtReturn}
 use Rattle.cert_paths.proofs.following.at_end.Goals as goal
 
 -- a fact of each node that is made
@@ -16,3 +19,9 @@ returns-in-Some-clause-done c =
     let is : verdict_by (operation_of c.args.insn.code) c.args.from.regs c.args.insn ≡ Some c.in-Some.word =
     sym c.verdict_at.ensures ∙ c.in-Some.is in
     on_ok c.at_return.result _ _ c.at_return.ensures.done (λ kind done. (c.in-Some.word, is, done))
+
+pub returns-in-Some-clause-memory : goal.returns-in-Some-clause-memory
+returns-in-Some-clause-memory c = λ word nodes is meant takes fits.
+    let same : word ≡ c.in-Some.word = same_Some word c.in-Some.word (sym is ∙ sym c.verdict_at.ensures ∙ c.in-Some.is) in
+    c.at_return.ensures.memory nodes meant
+    (subst (λ w. TakesAtReturn c.args.profile.now (known_at c.args.paths.now.entries.items c.args.from) w nodes) same takes) fits

@@ -1,5 +1,5 @@
-use Rattle.std.proofs.Common.{◌≡◌, ℕ, ◌+◌, ◌^◌, ◌<◌, sym, ◌∙◌, arith, ◌⊎◌, ⊎_elim, List, length}
-use Rattle.std.specs.Prelude.{Result, Ok, Err, IfOk, IfErr, Some, OnOk}
+use Rattle.std.proofs.Common.{◌≡◌, ℕ, ◌+◌, ◌^◌, ◌<◌, sym, ap, subst, ◌∙◌, arith, rules, ⊎_elim, List, length}
+use Rattle.std.specs.Prelude.{Result, Ok, Err, IfOk, Some, OnOk}
 use Rattle.bpf_insn.specs.declared.instruction.Insn.{Insn}
 use Rattle.bpf_insn.specs.Code.{operation_of}
 use Rattle.kernel_check.specs.Accepted.{IsAccepted}
@@ -11,8 +11,11 @@ use Rattle.cert_paths.specs.declared.action.Action.TheVariants as action
 use Rattle.cert_paths.specs.declared.fault.PathsError.{PathsError}
 use Rattle.cert_paths.specs.declared.paths.Paths.{Paths}
 use Rattle.cert_paths.specs.inner.Actions.{action_by}
-use Rattle.cert_paths.specs.inner.Follow.{IsCut, IsFollowed, IsFork, IsReturn, IsStep}
+use Rattle.cert_paths.specs.inner.Follow.{IsCut, IsFollowed, IsReturn}
 use Rattle.cert_paths.specs.inner.Places.{ArePaths, known_at}
+use Rattle.cert_paths.specs.inner.Plain.{AreShares, IsParted}
+use Rattle.cert_paths.proofs.FitLaws.{fork_shares, if_ok, no_shares, only_memory, parted_shares, step_shares}
+use Rattle.cert_paths.proofs.ShareLaws.{ends_takes, forks_takes, goes_takes}
 use Rattle.cert_paths.proofs.FollowLaws.{cut_followed, fork_followed, given_there, goes_followed, known_there, return_followed}
 use Rattle.cert_paths.proofs.ToldLaws.{of_size, truly_of_size}
 use Rattle.cert_paths.proofs.WayLaws.{accepted_is, goes_inside, other_inside, taken_inside}
@@ -120,3 +123,102 @@ returns-in-Goes-clause-truly c =
 pub returns-in-Goes-clause-told : goal.returns-in-Goes-clause-told
 returns-in-Goes-clause-told c = λ led.
     of_size c.args.profile.now (accepted_insns c.args.program.now) c.step.result c.step.ensures.size
+
+-- ---- of a profile without conditions
+
+pub returns-in-Ends-clause-shares : goal.returns-in-Ends-clause-shares
+returns-in-Ends-clause-shares c = λ nodes meant takes some.
+    let p = accepted_insns c.args.program.now in
+    let i = c.args.insn in
+    let old = c.args.paths.now in
+    let new = c.at_end.new.paths in
+    let from = c.args.from in
+    let policy = c.args.profile.now in
+    let small : i.k < 2 ^ 32 = search rules in
+    let acts : action_by (operation_of i.code) i ≡ action.Ends = sym c.action_of.ensures ∙ c.in-Ends.is in
+    let end = ends_takes policy p meant from.pc from.regs (known_at old.entries.items from) i c.requires.found small c.requires.alive nodes
+    acts takes in
+    let verdict : verdict_by (operation_of i.code) from.regs i ≡ Some i.k = ap (λ o. verdict_by o from.regs i) end.0 in
+    if_ok c.at_end.result _ (λ _. AreShares policy p old new nodes)
+    (λ kind done. ⊎_elim
+    (λ (same : new ≡ old). subst (λ (t : Paths). AreShares policy p old t nodes) (sym same) (no_shares policy p old nodes some))
+    (λ (parted : IsParted policy old new from i.k nodes).
+    parted_shares policy p old new from i nodes c.requires.place c.requires.found end.0 parted)
+    done)
+    (c.at_end.ensures.parts i.k nodes verdict meant end.1)
+
+pub returns-in-Ends-clause-memory : goal.returns-in-Ends-clause-memory
+returns-in-Ends-clause-memory c = λ nodes meant takes some fits.
+    let p = accepted_insns c.args.program.now in
+    let i = c.args.insn in
+    let old = c.args.paths.now in
+    let from = c.args.from in
+    let policy = c.args.profile.now in
+    let small : i.k < 2 ^ 32 = search rules in
+    let acts : action_by (operation_of i.code) i ≡ action.Ends = sym c.action_of.ensures ∙ c.in-Ends.is in
+    let end = ends_takes policy p meant from.pc from.regs (known_at old.entries.items from) i c.requires.found small c.requires.alive nodes
+    acts takes in
+    let verdict : verdict_by (operation_of i.code) from.regs i ≡ Some i.k = ap (λ o. verdict_by o from.regs i) end.0 in
+    c.at_end.ensures.memory i.k nodes verdict meant end.1 fits
+
+pub returns-in-Forks-clause-shares : goal.returns-in-Forks-clause-shares
+returns-in-Forks-clause-shares c = λ nodes meant takes some.
+    let p = accepted_insns c.args.program.now in
+    let i = c.args.insn in
+    let old = c.args.paths.now in
+    let new = c.at_branch.new.paths in
+    let from = c.args.from in
+    let policy = c.args.profile.now in
+    let small : i.k < 2 ^ 32 = search rules in
+    let acts : action_by (operation_of i.code) i ≡ action.Forks = sym c.action_of.ensures ∙ c.in-Forks.is in
+    let both = forks_takes policy p meant from.pc from.regs (known_at old.entries.items from) i c.requires.found small c.requires.alive nodes
+    acts takes in
+    if_ok c.at_branch.result _ (λ _. AreShares policy p old new nodes)
+    (λ kind fork. fork_shares policy p old new from i kind nodes c.requires.place fork both) c.at_branch.ensures.fork
+
+pub returns-in-Forks-clause-memory : goal.returns-in-Forks-clause-memory
+returns-in-Forks-clause-memory c = λ nodes meant takes some fits.
+    let p = accepted_insns c.args.program.now in
+    let i = c.args.insn in
+    let old = c.args.paths.now in
+    let from = c.args.from in
+    let policy = c.args.profile.now in
+    let small : i.k < 2 ^ 32 = search rules in
+    let acts : action_by (operation_of i.code) i ≡ action.Forks = sym c.action_of.ensures ∙ c.in-Forks.is in
+    let both = forks_takes policy p meant from.pc from.regs (known_at old.entries.items from) i c.requires.found small c.requires.alive nodes
+    acts takes in
+    let less = both.less in
+    let one = both.first_some in
+    let two = both.second_some in
+    only_memory old from c.requires.place nodes 2 c.at_branch.result fits (omega (arith, less, one, two)) both.room c.at_branch.ensures.refused
+
+pub returns-in-Goes-clause-shares : goal.returns-in-Goes-clause-shares
+returns-in-Goes-clause-shares c = λ nodes meant takes some.
+    let p = accepted_insns c.args.program.now in
+    let i = c.args.insn in
+    let old = c.args.paths.now in
+    let new = c.step.new.paths in
+    let from = c.args.from in
+    let policy = c.args.profile.now in
+    let small : i.k < 2 ^ 32 = search rules in
+    let acts : action_by (operation_of i.code) i ≡ action.Goes c.in-Goes.skip = sym c.action_of.ensures ∙ c.in-Goes.is in
+    let one = goes_takes policy p meant from.pc from.regs (known_at old.entries.items from) i c.requires.found small c.requires.alive nodes
+    c.in-Goes.skip acts takes in
+    if_ok c.step.result _ (λ _. AreShares policy p old new nodes)
+    (λ kind step. step_shares policy p old new from (from.pc + 1 + c.in-Goes.skip) (transfer from.regs i) kind nodes step one)
+    c.step.ensures.step
+
+pub returns-in-Goes-clause-memory : goal.returns-in-Goes-clause-memory
+returns-in-Goes-clause-memory c = λ nodes meant takes some fits.
+    let p = accepted_insns c.args.program.now in
+    let i = c.args.insn in
+    let old = c.args.paths.now in
+    let from = c.args.from in
+    let policy = c.args.profile.now in
+    let small : i.k < 2 ^ 32 = search rules in
+    let acts : action_by (operation_of i.code) i ≡ action.Goes c.in-Goes.skip = sym c.action_of.ensures ∙ c.in-Goes.is in
+    let one = goes_takes policy p meant from.pc from.regs (known_at old.entries.items from) i c.requires.found small c.requires.alive nodes
+    c.in-Goes.skip acts takes in
+    let less = one.less in
+    let rest = one.some in
+    only_memory old from c.requires.place nodes 1 c.step.result fits (omega (arith, less, rest)) one.room c.step.ensures.refused

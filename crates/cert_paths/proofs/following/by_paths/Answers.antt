@@ -1,5 +1,7 @@
 use Rattle.std.proofs.lemmas.Result.{err_from_is_err_and}
 use Rattle.kernel_check.specs.Lent.{accepted_insns}
+use Rattle.cert_paths.specs.inner.Meant.{IsMeant}
+use Rattle.cert_paths.proofs.FitLaws.{first_room}
 use Rattle.cert_paths.proofs.SoundLaws.{first_led, first_sound}
 use Rattle.cert_paths.proofs.TellingLaws.{steady_telling}
 use Rattle.cert_paths.proofs.ToldLaws.{of_right}
@@ -30,3 +32,15 @@ returns-in_err-follow_all-clause-never c = λ telling right.
 pub returns-in_err-follow_all-clause-steady : goal.returns-in_err-follow_all-clause-steady
 returns-in_err-follow_all-clause-steady c = λ steady.
     returns-in_err-follow_all-clause-told c (steady_telling (accepted_insns c.args.program.now) steady)
+
+-- ---- of a profile without conditions
+
+pub returns-in_err-follow_all-clause-memory : goal.returns-in_err-follow_all-clause-memory
+returns-in_err-follow_all-clause-memory c = λ plain shape.
+    let policy = c.args.profile.now in
+    let program = accepted_insns c.args.program.now in
+    let meant : IsMeant policy program = record { profile = c.rules.ensures.is_profile; plain = plain; shape = shape } in
+    let start = c.in_ok-paths.paths in
+    let room = first_room policy program meant start c.in_ok-paths.ensures.places c.in_ok-paths.ensures.kinds in
+    let q = err_from_is_err_and c.from_residual-in_err-follow_all.result c.from_residual-in_err-follow_all.ensures.1 in
+    rw (q.1, q.2) (c.in_err-follow_all.ensures.memory meant room)

@@ -4,6 +4,7 @@ use Rattle.std.proofs.lemmas.Bool.{iff_false}
 use Rattle.kernel_check.specs.Lent.{accepted_insns}
 use Rattle.cert_state.specs.Entailment.{IsDead}
 use Rattle.cert_paths.specs.inner.Places.{IsPlace, known_at}
+use Rattle.cert_paths.proofs.FitLaws.{no_shares}
 use Rattle.cert_paths.proofs.FollowLaws.{dead_followed, from_inside}
 use Rattle.cert_paths.proofs.GrowLaws.{all_at}
 use Rattle.cert_paths.proofs.following.follow.Goals as goal
@@ -28,3 +29,15 @@ at_insn-requires-clause-place c =
 
 pub at_insn-requires-clause-alive : goal.at_insn-requires-clause-alive
 at_insn-requires-clause-alive c = λ is. iff_false c.dead.ensures c.if-dead.false (subst IsDead (sym c.known.ensures) is)
+
+-- ---- of a profile without conditions
+
+pub returns-then-dead-clause-shares : goal.returns-then-dead-clause-shares
+returns-then-dead-clause-shares c = λ nodes meant takes some.
+    no_shares c.args.profile.now (accepted_insns c.args.program.now) c.args.paths.now nodes some
+
+pub returns-in_default-clause-memory : goal.returns-in_default-clause-memory
+returns-in_default-clause-memory c = λ nodes meant takes some fits.
+    let p = accepted_insns c.args.program.now in
+    let low = from_inside c.args.profile.now p c.args.paths.now c.requires.paths c.requires.inside c.args.from c.requires.from in
+    absurd (none-some _ (sym c.in_default.ensures ∙ slice_get-get_or p c.args.from.pc (record { code = 0; jt = 0; jf = 0; k = 0 }) low))

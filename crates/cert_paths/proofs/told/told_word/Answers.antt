@@ -11,11 +11,11 @@ never (Err e) P Q R is not = tt
 pub returns-then-low-high : goal.returns-then-low-high
 returns-then-low-high c =
     never c.or_number.result _ _ _ c.or_number.ensures
-    (λ is. ⊎_elim (λ (past : 16 ≤ c.args.word). omega (arith, past, c.requires)) (λ none. omega (arith, none)) (c.below.ensures is))
+    (λ is. ⊎_elim (λ (past : 16 ≤ c.args.word). omega (arith, past, c.requires)) (λ none. omega (arith, none)) (c.below.ensures.none is))
 
 pub returns : goal.returns
 returns c =
     let low = c.unwrap_or-low.result.0 in
     let small : low < 2 ^ 32 = search rules in
     never c.or_number-2.result _ _ _ c.or_number-2.ensures
-    (λ is. ⊎_elim (λ (past : 16 ≤ c.args.word). omega (arith, past, c.requires)) (λ other. other (and_all low small)) (c.bits.ensures is))
+    (λ is. ⊎_elim (λ (past : 16 ≤ c.args.word). omega (arith, past, c.requires)) (λ other. other (and_all low small)) (c.bits.ensures.none is))

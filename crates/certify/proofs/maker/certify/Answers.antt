@@ -9,3 +9,8 @@ pub returns-in-Err-clause-sure : goal.returns-in-Err-clause-sure
 returns-in-Err-clause-sure c = λ accepted right steady.
     let refused = c.in-Err.ensures.refused in
     absurd (accepted.no_cause c.in-Err.refused.pc c.in-Err.refused.cause refused.stands)
+
+pub returns-in-Err-clause-telling : goal.returns-in-Err-clause-telling
+returns-in-Err-clause-telling c = λ accepted right telling.
+    let refused = c.in-Err.ensures.refused in
+    absurd (accepted.no_cause c.in-Err.refused.pc c.in-Err.refused.cause refused.stands)

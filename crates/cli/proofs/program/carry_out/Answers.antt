@@ -1,8 +1,8 @@
 use Rattle.std.proofs.Common.{◌≡◌, ◌⊎◌, ap, subst}
 use Rattle.std.specs.Prelude.{Err}
 use Rattle.command_line.specs.Arguments.{given}
-use Rattle.cli.specs.Dispatch.{TellsChanges}
-use Rattle.cli.proofs.DispatchLaws.{is_misuse, unread_arguments}
+use Rattle.cli.specs.Dispatch.{ExplainsWhy, TellsChanges}
+use Rattle.cli.proofs.DispatchLaws.{explained_stop, is_misuse, unread_arguments}
 use Rattle.cli.proofs.program.carry_out.Goals as goal
 
 pub returns-in-Ok-clause-quiet : goal.returns-in-Ok-clause-quiet
@@ -17,3 +17,14 @@ returns-in-Err-clause-does g c command is =
 
 pub returns-in-Err-clause-misuse : goal.returns-in-Err-clause-misuse
 returns-in-Err-clause-misuse g c none = is_misuse c.in-Err.misuse (Err c.from.result) (ap Err c.from.ensures)
+
+pub returns-in-Ok-clause-explained : goal.returns-in-Ok-clause-explained
+returns-in-Ok-clause-explained g c command is =
+    subst (λ k. ExplainsWhy g.O.Sink.held g.O.Sink.failures g.E.Sink.held g.E.Sink.failures (g.F.Files.folder c.args.files.now)
+    c.args.out.now c.obey.new.out c.args.err.now c.obey.new.err k c.obey.result)
+    (c.in-Ok.ensures.command command is) c.obey.ensures.explained
+
+pub returns-in-Err-clause-explained : goal.returns-in-Err-clause-explained
+returns-in-Err-clause-explained g c command is =
+    explained_stop g.O.Sink.held g.O.Sink.failures g.E.Sink.held g.E.Sink.failures (g.F.Files.folder c.args.files.now) c.args.out.now
+    c.args.out.now c.args.err.now c.args.err.now command c.from.result

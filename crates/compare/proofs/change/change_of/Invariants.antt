@@ -1,5 +1,4 @@
 -- Each of those so far is like the first one, and a difference where all are.
-use Rattle.std.proofs.Common.{ℕ}
 use Rattle.std.specs.List.{All}
 use Rattle.profile.specs.Policy.{Policy}
 use Rattle.compare.specs.Difference.{IsDifference, IsLike}

@@ -1,7 +1,7 @@
 use Rattle.explain.proofs.telling.explanation.Goals as goal
 
-pub returns : goal.returns
-returns c =
+pub returns-clause-explains : goal.returns-clause-explains
+returns-clause-explains c =
     let means = c.in_ok-read.ensures.ok in
     let told = c.in_ok-text.ensures in
     record {
@@ -11,7 +11,7 @@ returns c =
       means = means.2;
       rules = c.in_ok-all.all.rules.items;
       ends = c.in_ok-all.all.ends.items;
-      are = c.in_ok-all.ensures;
+      are = c.in_ok-all.ensures.ok;
       said = told.0;
       says = told.1;
       told = told.2;

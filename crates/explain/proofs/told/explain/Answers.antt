@@ -1,7 +1,13 @@
+use Rattle.std.proofs.Common.{inr, refl}
 use Rattle.explain.specs.Asked.{IsCall}
 use Rattle.explain.proofs.told.explain.Goals as goal
 
 pub returns-in-Ok : goal.returns-in-Ok
 returns-in-Ok c =
-    let call : IsCall c.args.native c.args.arguments.now c.in-Some.call = rw c.in-Some.is at c.in_ok-call.ensures in
-    λ _. (c.in-Some.call, call, rw c.into_bytes.ensures.value c.in-Ok.ensures)
+    let call : IsCall c.args.native c.args.arguments.now c.in-Some.call = rw c.in-Some.is at c.in_ok-call.ensures.found in
+    inr (inr (record {
+      call = c.in-Some.call;
+      is_call = call;
+      explains = rw c.into_bytes.ensures.value c.in-Ok.ensures.explains;
+      done = refl;
+    }))

@@ -3,9 +3,9 @@ use Rattle.profile_json.specs.Meaning.{IsText}
 use Rattle.learn.proofs.learning.judged.Goals as goal
 
 pub returns-in_ok-told-in-Ok : goal.returns-in_ok-told-in-Ok
-returns-in_ok-told-in-Ok c = λ done.
+returns-in_ok-told-in-Ok c = λ texts taken done.
     let means = c.in-Ok.ensures.ok in
-    let weighed = c.in_ok-told-in-Ok.ensures done in
+    let weighed = c.in_ok-told-in-Ok.ensures c.args.native texts taken done in
     record {
       t = means.0;
       is_text = subst (λ (bytes : List ℕ). IsText bytes means.0) (c.as_bytes.ensures.value ∙ sym weighed.same) means.1;

@@ -6,4 +6,5 @@ returns-in-Ok c = is_judged c.args.native c.args.bundle.now c.judged.result c.ju
 
 pub returns-in-Err : goal.returns-in-Err
 returns-in-Err c =
-    is_refused c.args.native c.args.bundle.now c.in-Err.error c.refused_profile.result c.in-Err.ensures.err c.refused_profile.ensures
+    is_refused c.args.native c.args.bundle.now c.in-Err.error c.refused_profile.result c.in-Err.ensures.err
+    c.refused_profile.ensures.fault c.refused_profile.ensures.told

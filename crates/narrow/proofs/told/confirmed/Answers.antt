@@ -17,4 +17,4 @@ returns-in-Ok c =
     }
 
 pub returns-in-Err : goal.returns-in-Err
-returns-in-Err c = λ bundle means. none_done c.args.native bundle c.refused_profile.result c.refused_profile.ensures
+returns-in-Err c = λ bundle means. none_done c.args.native bundle c.refused_profile.result c.refused_profile.ensures.done

@@ -7,7 +7,7 @@ use Rattle.narrowed.proofs.asked.masked.Goals as goal
 pub returns-then-datum-limit : goal.returns-then-datum-limit
 returns-then-datum-limit c =
     if_ok (λ l. l.items ≡ one (c.args.mask % c.power_of_two-limit.result) c.args.datum)
-    (λ l. ArePatterns c.args.bits (λ w. bit_and w c.args.mask ≡ c.args.datum) l.items)
+    (λ l. ArePatterns c.args.bits 1 (λ w. bit_and w c.args.mask ≡ c.args.datum) l.items)
     (λ l e. masked_asked c.args.bits c.args.mask c.args.datum l.items
     (e ∙ ap (λ x. one (c.args.mask % x) c.args.datum) c.power_of_two-limit.ensures)) c.one.result c.one.ensures
 

@@ -1,11 +1,17 @@
 use Rattle.narrowed.specs.Narrowed.{AreNarrowed}
-use Rattle.std.proofs.Common.{[], ◌∷◌}
+use Rattle.std.proofs.Common.{[], ◌∷◌, ◌≤◌, length}
+use Rattle.narrowed.specs.Counts.{most_lists}
 use Rattle.narrowed.specs.inner.Cutting.{AreCut}
 use Rattle.narrowed.proofs.AskedLaws.{if_ok}
 use Rattle.narrowed.proofs.RuleLaws as laws
 use Rattle.narrowed.proofs.rules.narrowed_rule.Goals as goal
 
-pub returns : goal.returns
-returns c =
+pub returns-clause-ok : goal.returns-clause-ok
+returns-clause-ok c =
     if_ok (λ l. AreCut c.args.plan.now c.args.rule.now l.items) (λ l. AreNarrowed (c.args.rule.now ∷ []) l.items)
-    (λ l cuts. laws.narrowed_rule c.args.plan.now c.args.rule.now l.items c.requires cuts) c.cut.result c.cut.ensures
+    (λ l cuts. laws.narrowed_rule c.args.plan.now c.args.rule.now l.items c.requires cuts) c.cut.result c.cut.ensures.ok
+
+pub returns-clause-few : goal.returns-clause-few
+returns-clause-few c =
+    if_ok (λ l. AreCut c.args.plan.now c.args.rule.now l.items) (λ l. length l.items ≤ most_lists c.args.plan.now c.args.rule.now.conds.items)
+    (λ l cuts. laws.cut_few c.args.plan.now c.args.rule.now l.items cuts) c.cut.result c.cut.ensures.ok

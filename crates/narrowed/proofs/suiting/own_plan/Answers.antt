@@ -6,11 +6,11 @@ use Rattle.narrowed.specs.inner.Cutting.{IsReadPlan}
 use Rattle.narrowed.proofs.SuitLaws.{six, read_suits, whole_suits}
 use Rattle.narrowed.proofs.suiting.own_plan.Goals as goal
 
-pub returns-then-is_narrow : goal.returns-then-is_narrow
-returns-then-is_narrow c =
+pub returns-then-is_narrow-clause-suits : goal.returns-then-is_narrow-clause-suits
+returns-then-is_narrow-clause-suits c =
     whole_suits c.args.rule.now (64 ∷ 64 ∷ 64 ∷ 64 ∷ 64 ∷ 64 ∷ []) (sym c.is_narrow.ensures ∙ c.if-is_narrow.true) (six (λ _. 64) 64 64 64 64 64 64 refl refl refl refl refl refl)
 
-pub returns : goal.returns
-returns c =
+pub returns-clause-suits : goal.returns-clause-suits
+returns-clause-suits c =
     read_suits c.args.rule.now c.read_plan.result
-    (subst (λ t. IsReadPlan t c.args.rule.now.nr c.read_plan.result) c.token.ensures c.read_plan.ensures)
+    (subst (λ t. IsReadPlan t c.args.rule.now.nr c.read_plan.result) c.token.ensures c.read_plan.ensures.reads)

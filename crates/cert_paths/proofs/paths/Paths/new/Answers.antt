@@ -1,4 +1,4 @@
-use Rattle.std.proofs.Common.{refl, ◌∙◌, ap}
+use Rattle.std.proofs.Common.{◌∙◌, ap}
 use Rattle.std.specs.Prelude.{◌++◌, ◌∷◌, []}
 use Rattle.cert_paths.specs.inner.Places.{first_place}
 use Rattle.cert_paths.proofs.PathLaws.{first_paths}

@@ -1,0 +1,77 @@
+-- A record that is explained is the one that was told.
+use Rattle.std.proofs.Common.{◌≡◌, ◌⊎◌, ℕ, List, Bool, true, false, inl, inr, refl, subst, sym, ◌∙◌}
+use Rattle.std.specs.Prelude.{Err, IfErr, IfOk, Ok, Option, Result}
+use Rattle.call_record.specs.Record.{words}
+use Rattle.call_tables.specs.declared.arch.Arch.{Arch}
+use Rattle.certify.specs.declared.evidence.Conviction.{Conviction}
+use Rattle.certify.specs.declared.evidence.Evidence.{Evidence}
+use Rattle.certify.specs.declared.evidence.Evidence.TheVariants.{Certificate, Convicting}
+use Rattle.pipeline.specs.Told.{Tells}
+use Rattle.pipeline.specs.declared.unready.Unready.{Unready}
+use Rattle.streams.specs.Failures.{Failures}
+use Rattle.streams.specs.Sink.{WritesMade}
+use Rattle.streams.specs.declared.fault.WriteFault.{WriteFault}
+use Rattle.cli.specs.Dispatch.{ExplainsRecord}
+use Rattle.cli.specs.Explained.{HasNoRecord, MayTellWhy, TellsRecord}
+use Rattle.cli.specs.Files.{Folder, HasBytes}
+
+IsYes : Bool → Type 0
+IsYes true = Unit {0}
+IsYes false = ⊥
+
+module _ {O E : Type 0} (held : O → Option (List ℕ)) (failures : O → Failures) (out out' : O) (shown : E → Option (List ℕ))
+    (dropped : E → Failures) (err err' : E) (native : Arch) (bundle : List ℕ) where
+  module _ (result : Result Bool WriteFault) where
+    -- where a record was told the answer is no
+    not_done : (found : Conviction) → Tells held failures out out' (words found.call) found.given found.said result → result ≡ Ok true → ⊥
+    not_done found (inl line) is =
+        subst IsYes (subst (λ (r : Result Bool WriteFault). IfOk r (λ done. done ≡ false)) is line.told) tt
+    not_done found (inr lacks) is = subst (λ (r : Result Bool WriteFault). IfErr r (λ e. ⊥)) (sym is ∙ lacks.0) tt
+
+    pub quiet_of : (judged : Result Evidence Unready)
+        → ((found : Conviction) → judged ≡ Ok (Convicting found)
+        → Tells held failures out out' (words found.call) found.given found.said result)
+        → (HasNoRecord judged → err' ≡ err) → result ≡ Ok true → err' ≡ err
+    quiet_of (Ok (Certificate cert)) told quiet is = quiet tt
+    quiet_of (Ok (Convicting found)) told quiet is = absurd (not_done found (told found refl) is)
+    quiet_of (Err unready) told quiet is = quiet tt
+
+    line_of : (found : Conviction) → MayTellWhy shown dropped err err' native bundle found.call → result ≡ Ok false
+        → Tells held failures out out' (words found.call) found.given found.said result
+        → (err' ≡ err) ⊎ TellsRecord held failures out out' shown dropped err err' native bundle
+    line_of found why is (inl h) =
+        inr (record {
+          call = found.call;
+          given = found.given;
+          said = found.said;
+          line = h.line;
+          is = h.is;
+          written = subst (λ (r : Result Bool WriteFault). WritesMade held failures out out' h.line r) is h.written;
+          why = why;
+        })
+    line_of found why is (inr lacks) = absurd (subst (λ (r : Result Bool WriteFault). IfErr r (λ e. ⊥)) (sym is ∙ lacks.0) tt)
+
+    pub told_of : (judged : Result Evidence Unready)
+        → ((found : Conviction) → judged ≡ Ok (Convicting found)
+        → Tells held failures out out' (words found.call) found.given found.said result)
+        → ((found : Conviction) → judged ≡ Ok (Convicting found) → MayTellWhy shown dropped err err' native bundle found.call)
+        → (HasNoRecord judged → err' ≡ err) → result ≡ Ok false
+        → (err' ≡ err) ⊎ TellsRecord held failures out out' shown dropped err err' native bundle
+    told_of (Ok (Certificate cert)) told why quiet is = inl (quiet tt)
+    told_of (Ok (Convicting found)) told why quiet is = line_of found (why found refl) is (told found refl)
+    told_of (Err unready) told why quiet is = inl (quiet tt)
+
+  -- the same of the bytes of a file
+  with_bytes : (folder : Option Folder) (name : List ℕ) → HasBytes folder name bundle
+      → (err' ≡ err) ⊎ TellsRecord held failures out out' shown dropped err err' native bundle
+      → (err' ≡ err)
+      ⊎ ((b : List ℕ) × HasBytes folder name b × TellsRecord held failures out out' shown dropped err err' native b)
+  with_bytes folder name has (inl same) = inl same
+  with_bytes folder name has (inr h) = inr (bundle, has, h)
+
+  pub explained_done : (folder : Option Folder) (name : List ℕ) → HasBytes folder name bundle → (done : Bool)
+      → (result : Result Bool WriteFault) → result ≡ Ok done
+      → (result ≡ Ok false → (err' ≡ err) ⊎ TellsRecord held failures out out' shown dropped err err' native bundle)
+      → ExplainsRecord held failures shown dropped folder out out' err err' native name (Ok done)
+  explained_done folder name has true result e told = tt
+  explained_done folder name has false result e told = with_bytes folder name has (told e)

@@ -1,0 +1,10 @@
+use Rattle.std.proofs.Common.{ℕ, List, [], ◌∷◌, subst, sym}
+use Rattle.cli.specs.Files.{HasBytes}
+use Rattle.cli.proofs.telling.linted.Goals as goal
+
+pub returns-in-Ok-lint : goal.returns-in-Ok-lint
+returns-in-Ok-lint g c = (
+  c.deref.result.now ∷ [],
+  (subst (λ (b : List ℕ). HasBytes (g.F.Files.folder c.args.files.now) c.args.bundle.now b) (sym c.deref.ensures.value) c.in-Ok.ensures.ok, tt),
+  c.in-Ok-lint.ensures,
+)

@@ -1,0 +1,45 @@
+-- What stands on standard error beside a call record that `ccell certify` tells.
+use Rattle.std.specs.Prelude.{ℕ, ◌≡◌, ◌⊎◌, ⊤, List, Option, Result, Ok, Err}
+use Rattle.call_record.specs.declared.layout.Record.{Record}
+use Rattle.call_record.specs.Record.{words}
+use Rattle.call_tables.specs.declared.arch.Arch.{Arch}
+use Rattle.certify.specs.Conviction.{IsCertificate}
+use Rattle.certify.specs.declared.evidence.Evidence.{Evidence}
+use Rattle.explain.specs.Explanation.{Explains}
+use Rattle.pipeline.specs.Told.{IsLine}
+use Rattle.pipeline.specs.declared.unready.Unready.{Unready}
+use Rattle.streams.specs.Failures.{Failures}
+use Rattle.streams.specs.Sink.{Writes, Wrote}
+use Rattle.streams.specs.declared.fault.WriteFault.{WriteFault}
+
+-- bytes were written, as far as the sink took them
+pub record WritesSome {E : Type 0} (shown : E → Option (List ℕ)) (dropped : E → Failures) (err err' : E) (bytes : List ℕ) : Type 0 where
+  pub answer : Result (Unit {0}) WriteFault
+  pub written : Writes shown dropped err err' bytes answer
+
+-- a text that explains what the bundle says of the record was written, as far as the sink took it
+pub record WritesWhy {E : Type 0} (shown : E → Option (List ℕ)) (dropped : E → Failures) (err err' : E) (native : Arch)
+    (bundle : List ℕ) (call : Record) : Type 0 where
+  pub text : List ℕ
+  pub explains : Explains native bundle call text
+  pub written : WritesSome shown dropped err err' text
+
+-- or nothing was
+abbrev pub MayTellWhy : {E : Type 0} → (E → Option (List ℕ)) → (E → Failures) → E → E → Arch → List ℕ → Record → Type 0
+MayTellWhy shown dropped err err' native bundle call = (err' ≡ err) ⊎ WritesWhy shown dropped err err' native bundle call
+
+-- no record was found: a certificate, or the reason why there is neither
+abbrev pub HasNoRecord : Result Evidence Unready → Type 0
+HasNoRecord (Ok evidence) = IsCertificate evidence
+HasNoRecord (Err unready) = ⊤
+
+-- the line of a record was written, and on standard error an explanation of this very record, or nothing
+pub record TellsRecord {O E : Type 0} (held : O → Option (List ℕ)) (failures : O → Failures) (out out' : O)
+    (shown : E → Option (List ℕ)) (dropped : E → Failures) (err err' : E) (native : Arch) (bundle : List ℕ) : Type 0 where
+  pub call : Record
+  pub given : ℕ
+  pub said : ℕ
+  pub line : List ℕ
+  pub is : IsLine (words call) given said line
+  pub written : Wrote held failures out out' line
+  pub why : MayTellWhy shown dropped err err' native bundle call

@@ -1,0 +1,146 @@
+//! Commands that tell: what the library tells of arguments and of files, and how it is written.
+ghost use Rattle.std.specs.Prelude.{Option, [], ◌∷◌, map};
+ghost use Rattle.compare.specs.Told.{IsCompared};
+ghost use Rattle.differ.specs.Told.{IsTold};
+ghost use Rattle.explain.specs.Told.{IsAssembled, IsRecorded};
+ghost use Rattle.lint.specs.Linted.{IsLinted};
+ghost use Rattle.cli.specs.Files.{Folder};
+ghost use Rattle.cli.specs.Dispatch.{OfArguments, of_none, of_one, of_two};
+ghost use Rattle.cli.specs.inner.Telling.{IsToldOf, TellsOn};
+
+use crate::files::{Files, read};
+use crate::stops::Stop;
+use call_tables::Arch;
+use explain::Told;
+use std::alloc::Global;
+use streams::{Sink, write_all};
+
+/// Writes what is told.
+pub(crate) fn tell<'a, O: Sink>(told: Result<Told, Stop<'a>>, out: &mut O) -> Result<bool, Stop<'a>>
+    ensures { TellsOn O.held O.failures out.old out.new told.entry result }
+{
+    match told {
+        Ok(told) => match write_all(&told.bytes, out) {
+            Ok(()) => Ok(told.done),
+            Err(fault) => Err(Stop::from(fault)),
+        },
+        Err(stop) => Err(stop),
+    }
+}
+
+/// The record of a call.
+pub(crate) fn record<'a>(alloc: Global, native: Arch, call: &[&str]) -> Result<Told, Stop<'a>>
+    ensures { (folder : Option Folder) → IsToldOf folder [] (of_none (OfArguments (IsRecorded native) (map (λ c. c.now) call.now))) result }
+{
+    match explain::record(alloc, native, call) {
+        Ok(told) => Ok(told),
+        Err(_no_memory) => Err(Stop::OutOfMemory),
+    }
+}
+
+/// The bytes of the filter of a listing.
+pub(crate) fn assembled<'a, F: Files>(
+    alloc: Global,
+    listing: &'a str,
+    files: &mut F,
+) -> Result<Told, Stop<'a>>
+    ensures { IsToldOf (F.folder files.old) (listing.entry.now ∷ []) (of_one IsAssembled) result }
+{
+    match read(alloc, files, listing) {
+        Ok(text) => match explain::assembled(alloc, &text) {
+            Ok(told) => Ok(told),
+            Err(_no_memory) => Err(Stop::OutOfMemory),
+        },
+        Err(stop) => Err(stop),
+    }
+}
+
+/// Which calls get past a bundle by bits that the kernel does not read.
+pub(crate) fn linted<'a, F: Files>(
+    alloc: Global,
+    native: Arch,
+    bundle: &'a str,
+    files: &mut F,
+) -> Result<Told, Stop<'a>>
+    ensures { IsToldOf (F.folder files.old) (bundle.entry.now ∷ []) (of_one (IsLinted native)) result }
+{
+    match read(alloc, files, bundle) {
+        Ok(text) => match lint::lint(alloc, native, &text) {
+            Ok(told) => Ok(told),
+            Err(_no_memory) => Err(Stop::OutOfMemory),
+        },
+        Err(stop) => Err(stop),
+    }
+}
+
+// Compares two bundles, of which the first one was read.
+fn compared_with<'a, F: Files>(
+    alloc: Global,
+    native: Arch,
+    first: &[u8],
+    new: &'a str,
+    at_most: bool,
+    files: &mut F,
+) -> Result<Told, Stop<'a>>
+    ensures { IsToldOf (F.folder files.old) (new.entry.now ∷ []) (of_one (IsCompared at_most native first.now)) result }
+{
+    match read(alloc, files, new) {
+        Ok(second) => match compare::compare(alloc, native, first, &second, at_most) {
+            Ok(told) => Ok(told),
+            Err(_no_memory) => Err(Stop::OutOfMemory),
+        },
+        Err(stop) => Err(stop),
+    }
+}
+
+/// Compares what a new bundle says with what an old one says, or tells whether it allows no more.
+pub(crate) fn compared<'a, F: Files>(
+    alloc: Global,
+    native: Arch,
+    old: &'a str,
+    new: &'a str,
+    at_most: bool,
+    files: &mut F,
+) -> Result<Told, Stop<'a>>
+    ensures { IsToldOf (F.folder files.old) (old.entry.now ∷ new.entry.now ∷ []) (of_two (IsCompared at_most native)) result }
+{
+    match read(alloc, files, old) {
+        Ok(first) => compared_with(alloc, native, &first, new, at_most, files),
+        Err(stop) => Err(stop),
+    }
+}
+
+// Compares two filters, of which the first one was read.
+fn filters_compared_with<'a, F: Files>(
+    alloc: Global,
+    native: Arch,
+    first: &[u8],
+    new: &'a str,
+    files: &mut F,
+) -> Result<Told, Stop<'a>>
+    ensures { IsToldOf (F.folder files.old) (new.entry.now ∷ []) (of_one (IsTold first.now)) result }
+{
+    match read(alloc, files, new) {
+        Ok(second) => match differ::compare_filters(alloc, native, first, &second) {
+            Ok(told) => Ok(told),
+            Err(_no_memory) => Err(Stop::OutOfMemory),
+        },
+        Err(stop) => Err(stop),
+    }
+}
+
+/// Tells calls of which a new filter answers another verdict than an old one.
+pub(crate) fn filters_compared<'a, F: Files>(
+    alloc: Global,
+    native: Arch,
+    old: &'a str,
+    new: &'a str,
+    files: &mut F,
+) -> Result<Told, Stop<'a>>
+    ensures { IsToldOf (F.folder files.old) (old.entry.now ∷ new.entry.now ∷ []) (of_two IsTold) result }
+{
+    match read(alloc, files, old) {
+        Ok(first) => filters_compared_with(alloc, native, &first, new, files),
+        Err(stop) => Err(stop),
+    }
+}

@@ -1,0 +1,2 @@
+pub mod Differ
+pub mod Told

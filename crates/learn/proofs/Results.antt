@@ -1,0 +1,12 @@
+-- What holds of the value of a result.
+use Rattle.std.specs.Prelude.{IfOk, Result, Ok, Err}
+
+-- of two facts a third follows
+pub if_ok_both : {T E : Type 0} (P Q R : T → Type 0) → ((x : T) → P x → Q x → R x) → (r : Result T E) → IfOk r P → IfOk r Q → IfOk r R
+if_ok_both P Q R h (Ok x) p q = h x p q
+if_ok_both P Q R h (Err e) p q = p
+
+-- what holds of each value
+pub if_ok_always : {T E : Type 0} (P : T → Type 0) → ((x : T) → P x) → (r : Result T E) → IfOk r P
+if_ok_always P h (Ok x) = h x
+if_ok_always P h (Err e) = tt

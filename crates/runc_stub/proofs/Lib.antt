@@ -1,0 +1,3 @@
+pub mod AnyLaws
+pub mod RunLaws
+pub mod SplitLaws

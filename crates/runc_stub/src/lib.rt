@@ -1,0 +1,15 @@
+//! The ENOSYS stub that runc puts in front of a container's filter, told apart from the filter.
+//!
+//! [`split`] follows each path through the first instructions of a program, on all records at once that take it.
+#![tactic(auto)]
+
+mod calls;
+mod compare;
+mod numbers;
+mod path;
+mod region;
+mod splitting;
+mod step;
+
+pub use calls::{Calls, is_answered};
+pub use splitting::{Stub, split};
