@@ -15,7 +15,7 @@ use Rattle.cli.specs.Dispatch.{ExplainsRecord}
 use Rattle.cli.specs.Explained.{HasNoRecord, MayTellWhy, TellsRecord}
 use Rattle.cli.specs.Files.{Folder, HasBytes}
 
-IsYes : Bool → Type 0
+abbrev IsYes : Bool → Type 0
 IsYes true = Unit {0}
 IsYes false = ⊥
 
