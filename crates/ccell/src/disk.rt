@@ -3,7 +3,7 @@ use cli::{FileFault, Files};
 use std::alloc::Global;
 use std::io::Read;
 use std::{fs, io};
-use streams::FromRead;
+use streams::{Failed, Source};
 
 fn fault_of(error: io::Error) -> FileFault {
     match error.kind() {
@@ -40,6 +40,39 @@ fn read_up_to(alloc: Global, reader: &mut impl Read, most: u32) -> io::Result<Ve
     Ok(bytes)
 }
 
+/// A file that is open, and read a part at a time.
+#[derive(Drop)]
+pub struct OpenFile {
+    file: fs::File,
+    failures: u64,
+    last_failed: bool,
+    calls: u64,
+}
+
+impl Source for OpenFile {
+    ghost use Rattle.std.specs.Prelude.{None};
+
+    // What a file holds is not told.
+    ghost left = { λ _. None };
+
+    ghost failures = { λ s. record { count = s.failures; last = s.last_failed } };
+
+    ghost calls = { λ s. s.calls };
+
+    fn read(&mut self, buf: &mut [u8]) -> Result<usize, Failed> {
+        if self.calls > 0 {
+            self.calls -= 1;
+            if let Ok(count) = self.file.read(buf) {
+                self.last_failed = false;
+                return Ok(count);
+            }
+        }
+        self.last_failed = true;
+        self.failures = self.failures.saturating_add(1);
+        Err(Failed)
+    }
+}
+
 /// Reads files by their paths.
 #[derive(Drop)]
 pub struct Disk<'a>(pub &'a HostRuntime);
@@ -50,11 +83,16 @@ impl Files for Disk<'_> {
     // What the files of a process have is not told.
     ghost folder = { λ _. None };
 
-    type Opened = FromRead<fs::File>;
+    type Opened = OpenFile;
 
-    fn open(&mut self, name: &str) -> Result<FromRead<fs::File>, FileFault> {
+    fn open(&mut self, name: &str) -> Result<OpenFile, FileFault> {
         let file = fs::open(self.0, name).map_err(fault_of)?;
-        Ok(FromRead::new(file))
+        Ok(OpenFile {
+            file,
+            failures: 0,
+            last_failed: false,
+            calls: u64::MAX,
+        })
     }
 
     fn read(&mut self, _alloc: Global, name: &str) -> Result<Vec<u8>, FileFault> {
