@@ -20,9 +20,13 @@ use Rattle.command_line.specs.declared.Misuse.{Misuse}
 use Rattle.command_line.specs.declared.Misuse.TheVariants as kind
 use Rattle.cli.specs.declared.stops.Stop.{Stop}
 use Rattle.cli.specs.declared.stops.Stop.TheVariants.{Usage, CannotRead, Read, Write, OutOfMemory}
-use Rattle.cli.specs.Dispatch.{AnswersCertify, AnswersCheck, AnswersExport, AnswersTold, AnswersVerdict, Does}
-use Rattle.cli.specs.Dispatch.{any_call, explained_as, of_one, of_two, ExplainsWhy, FirstUnread, HaveBytes, IsMisuse, StopsAt, StopsAtFile, TellsMisuse}
-use Rattle.cli.specs.inner.Telling.{IsToldOf, TellsOn, TellsText}
+use Rattle.cli.specs.Dispatch.{AnswersAdapt, AnswersCertify, AnswersCheck, AnswersExport, AnswersManual, AnswersReplay, AnswersTold}
+use Rattle.cli.specs.Dispatch.{AnswersVerdict, Does, StopsAtWords}
+use Rattle.cli.specs.Adapted.{IsMadeAs, asks_narrow}
+use Rattle.cli.specs.Told.{IsManual, IsReplayed, of_none, of_one, of_two}
+use Rattle.cli.specs.declared.adapting.Both.{Both}
+use Rattle.cli.specs.Dispatch.{any_call, explained_as, ExplainsWhy, FirstUnread, HaveBytes, IsMisuse, StopsAt, StopsAtFile, TellsMisuse}
+use Rattle.cli.specs.inner.Telling.{IsAdaptedOf, IsManualOf, IsReplayOf, IsToldOf, TellsOn, TellsText, told_in}
 use Rattle.cli.specs.Stop.{Reports, line_of, status_of, stop_at_misuse}
 use Rattle.cli.specs.Files.{Folder, HasBytes, HasEnough}
 use Rattle.cli.specs.Running.{told_line}
@@ -159,6 +163,35 @@ module _ {O : Type 0} (held : O → Option (List ℕ)) (failures : O → Failure
   answers_told (Ok told) is h = inr (is.0, told, is.1, is.2, h)
   answers_told (Err stop) at h = inl (record { stop = stop; at = at; told = h.0; unwritten = h.1 })
 
+-- so is what stops at words, if they ask for nothing
+module _ {O : Type 0} (held : O → Option (List ℕ)) (failures : O → Failures) (folder : Option Folder) (old new : O) where
+  stopped_at : (result : Result Bool Stop) (told : Result Told Stop) → told ≡ Err Usage → TellsOn held failures old new told result
+      → StopsAtWords held failures folder old new result
+  stopped_at result told e h = subst (λ t. TellsOn held failures old new t result) e h
+
+  pub answers_manual : {name : Option (List ℕ)} (result : Result Bool Stop) (told : Result Told Stop) → IsManualOf folder name told
+      → TellsOn held failures old new told result → AnswersManual held failures folder old new name result
+  answers_manual {name} result told (inl is) h = inl (is.0, stopped_at result told is.1 h)
+  answers_manual {name} result told (inr is) h = inr (answers_told held failures folder [] (of_none (IsManual name)) old new result told is h)
+
+  pub answers_adapted : (native : Arch) (config : List ℕ) (words : List (List ℕ)) (result : Result Bool Stop) (both : Result Both Stop)
+      → IsAdaptedOf folder native config (asks_narrow words) (told_in both) → TellsOn held failures old new (told_in both) result
+      → AnswersAdapt held failures folder old new native config words result
+  answers_adapted native config words result both (inl is) h = inl (stopped_at result (told_in both) is h)
+  answers_adapted native config words result both (inr is) h =
+      inr (answers_told held failures folder (config ∷ []) (of_one (λ text. IsMadeAs native (asks_narrow words))) old new result
+      (told_in both) is h)
+
+  pub answers_replayed : (native : Arch) (bundle : List ℕ) (words : List (List ℕ)) (result : Result Bool Stop) (told : Result Told Stop)
+      → IsReplayOf folder native bundle words told → TellsOn held failures old new told result
+      → AnswersReplay held failures folder old new native bundle words result
+  answers_replayed native bundle words result told is h = (
+    is.logs,
+    is.unused,
+    is.named,
+    answers_told held failures folder (bundle ∷ is.logs) (IsReplayed native is.unused) old new result told is.is h,
+  )
+
 -- the text of one file is told of
 pub told_text : (folder : Option Folder) (name text : List ℕ) (Is : List ℕ → Told → Type 0) → HasBytes folder name text
     → (told : Result Told Stop) → TellsText (Is text) told → IsToldOf folder (name ∷ []) (of_one Is) told
@@ -211,19 +244,19 @@ module _ {I O : Type 0} (left : I → Option (List ℕ)) (given : I → Failures
   not_begun (Export native bundle form) = (refl, inl (stops_early folder out (bundle ∷ [])))
   not_begun (Run native bundles) = inl (refl, stops_early folder out bundles)
   not_begun (Explain native bundle call) = inr (refl, inl (stops_early folder out (bundle ∷ [])))
-  not_begun (ReadOut native bundle) = refl
+  not_begun (ReadOut native bundle) = (refl, inl (stops_early folder out (bundle ∷ [])))
   not_begun (Record native call) = (refl, inl (stops_early folder out []))
   not_begun (Assemble listing) = (refl, inl (stops_early folder out (listing ∷ [])))
-  not_begun (Annotate native filter) = refl
-  not_begun (Draw native filter) = refl
+  not_begun (Annotate native filter) = (refl, inl (stops_early folder out (filter ∷ [])))
+  not_begun (Draw native filter) = (refl, inl (stops_early folder out (filter ∷ [])))
   not_begun (Lint native bundle) = (refl, inl (stops_early folder out (bundle ∷ [])))
   not_begun (Compare native old new at_most) = (refl, inl (stops_early folder out (old ∷ new ∷ [])))
   not_begun (CompareFilters native old new) = (refl, inl (stops_early folder out (old ∷ new ∷ [])))
-  not_begun (Adapt native config words) = refl
+  not_begun (Adapt native config words) = (refl, inr (inl (stops_early folder out (config ∷ []))))
   not_begun (Learn native words) = refl
-  not_begun (Replay native bundle words) = refl
-  not_begun (Manual name) = refl
-  not_begun Version = refl
+  not_begun (Replay native bundle words) = (refl, (words, false, refl, inl (stops_early folder out (bundle ∷ words))))
+  not_begun (Manual name) = (refl, inr (inl (stops_early folder out [])))
+  not_begun Version = (refl, inl (stops_early folder out []))
 
   pub unread_arguments : (command : Given) (misuse : Misuse) (result : Result Bool Stop) → Reads command (Err misuse)
       → result ≡ Err (stop_at_misuse misuse) → Does left given held taken folder input input out out command result

@@ -6,14 +6,15 @@ use denote.Ref.{Bor}
 use Rattle.call_tables.specs.declared.arch.Arch.{Arch}
 use Rattle.command_line.specs.Arguments.{Given}
 use Rattle.command_line.specs.Arguments.Given.{Verdict, Check, Certify, Export, Run, Explain, Record, Assemble}
-use Rattle.command_line.specs.Arguments.Given.{Lint, Compare, CompareFilters, Adapt, Learn}
+use Rattle.command_line.specs.Arguments.Given.{Read, Annotate, Draw, Lint, Compare, CompareFilters, Adapt, Learn, Replay, Manual, Version}
 use Rattle.streams.specs.Failures.{Failures}
 use Rattle.streams.specs.Sink.{StopsAt as StopsWriting, Wrote}
 use Rattle.streams.specs.declared.fault.WriteFault.{WriteFault}
 use Rattle.export.specs.declared.form.Form.{Form}
-use Rattle.explain.specs.Told.{IsAssembled, IsExplained, IsRecorded}
+use Rattle.explain.specs.Told.{IsAssembled, IsExplained, IsRecorded, IsVersion}
 use Rattle.explain.specs.declared.told.Told.{Told}
 use Rattle.audit.specs.Any.{IsExplained as IsExplainedAny}
+use Rattle.describe.specs.Shown.{IsAnnotated, IsDrawn}
 use Rattle.lint.specs.Linted.{IsLinted}
 use Rattle.compare.specs.Told.{IsCompared}
 use Rattle.differ.specs.Told.{IsTold}
@@ -24,6 +25,8 @@ use Rattle.pipeline.specs.Finding.{WritesFinding}
 use Rattle.cli.specs.declared.stops.Stop.{Stop}
 use Rattle.cli.specs.declared.stops.Stop.TheVariants.{CannotRead, OutOfMemory, Usage, Write}
 use Rattle.cli.specs.Explained.{TellsRecord}
+use Rattle.cli.specs.Adapted.{IsMadeAs, asks_narrow}
+use Rattle.cli.specs.Told.{IsManual, IsNoCommand, IsReplayed, NamesLogs, of_none, of_one, of_two, OfArguments}
 use Rattle.cli.specs.Files.{CannotBeRead, Folder, HasBytes, HasEnough}
 use Rattle.cli.specs.Running.{RunsBundles, told_line}
 use Rattle.cli.specs.Stop.{Reports, line_of, status_of}
@@ -118,24 +121,24 @@ module _ {O : Type 0} (held : O → Option (List ℕ)) (failures : O → Failure
       ⊎ ((texts : List (List ℕ)) × (told : Told) × HaveBytes folder names texts × Is texts told
       × WritesTold held failures old new told result)
 
--- what is so of the text of one file, of two, and of none
-abbrev pub of_one : (List ℕ → Told → Type 0) → List (List ℕ) → Told → Type 0
-of_one Is (text ∷ []) told = Is text told
-of_one Is texts told = ⊥
+  -- the program stops at words that ask for nothing, and nothing is written
+  abbrev pub StopsAtWords : Result Bool Stop → Type 0
+  StopsAtWords result = (result ≡ Err Usage) × (new ≡ old)
 
-abbrev pub of_two : (List ℕ → List ℕ → Told → Type 0) → List (List ℕ) → Told → Type 0
-of_two Is (first ∷ second ∷ []) told = Is first second told
-of_two Is texts told = ⊥
+  -- the bundle that is made of a configuration
+  abbrev pub AnswersAdapt : Arch → List ℕ → List (List ℕ) → Result Bool Stop → Type 0
+  AnswersAdapt native config words result =
+      StopsAtWords result ⊎ AnswersTold (config ∷ []) (of_one (λ text. IsMadeAs native (asks_narrow words))) result
 
-abbrev pub of_none : (Told → Type 0) → List (List ℕ) → Told → Type 0
-of_none Is [] told = Is told
-of_none Is texts told = ⊥
+  -- what a bundle says of the calls of logs
+  abbrev pub AnswersReplay : Arch → List ℕ → List (List ℕ) → Result Bool Stop → Type 0
+  AnswersReplay native bundle words result =
+      (logs : List (List ℕ)) × (unused : Bool) × NamesLogs words logs unused
+      × AnswersTold (bundle ∷ logs) (IsReplayed native unused) result
 
--- the arguments, wherever they lie in memory
-pub record OfArguments (Is : List (Bor (List ℕ)) → Told → Type 0) (arguments : List (List ℕ)) (told : Told) : Type 0 where
-  pub lying : List (Bor (List ℕ))
-  pub same : map (λ a. a.now) lying ≡ arguments
-  pub is : Is lying told
+  -- the commands, or the page of one
+  abbrev pub AnswersManual : Option (List ℕ) → Result Bool Stop → Type 0
+  AnswersManual name result = (IsNoCommand name × StopsAtWords result) ⊎ AnswersTold [] (of_none (IsManual name)) result
 
 -- the call that `explain` is asked about whatever its arguments are
 abbrev pub any_call : List (List ℕ) → Option (List ℕ)
@@ -153,7 +156,7 @@ asks_audit (word ∷ []) = bytes_eq word (codes "audit")
 asks_audit call = false
 
 -- What the program does as a command. `run` reads its input, and so does `explain` where it is asked about a kernel's log. Of what it
--- tells then, and of the other commands, nothing more is said.
+-- tells then, of what `learn` does, and of what `read` tells, nothing more is said.
 module _ {I O : Type 0} (left : I → Option (List ℕ)) (given : I → Failures) (held : O → Option (List ℕ)) (taken : O → Failures)
     (folder : Option Folder) (input input' : I) (out out' : O) where
   abbrev pub AnswersRun : Arch → List (List ℕ) → Result Bool Stop → Type 0
@@ -175,12 +178,21 @@ module _ {I O : Type 0} (left : I → Option (List ℕ)) (given : I → Failures
   Does (Record native call) result =
       (input' ≡ input) × AnswersTold held taken folder out out' [] (of_none (OfArguments (IsRecorded native) call)) result
   Does (Assemble text) result = (input' ≡ input) × AnswersTold held taken folder out out' (text ∷ []) (of_one IsAssembled) result
+  Does (Read native bundle) result =
+      (input' ≡ input) × AnswersTold held taken folder out out' (bundle ∷ []) (of_one (λ text told. Unit {0})) result
+  Does (Annotate native filter) result =
+      (input' ≡ input) × AnswersTold held taken folder out out' (filter ∷ []) (of_one IsAnnotated) result
+  Does (Draw native filter) result = (input' ≡ input) × AnswersTold held taken folder out out' (filter ∷ []) (of_one IsDrawn) result
   Does (Lint native bundle) result = (input' ≡ input) × AnswersTold held taken folder out out' (bundle ∷ []) (of_one (IsLinted native)) result
   Does (Compare native old new at_most) result =
       (input' ≡ input) × AnswersTold held taken folder out out' (old ∷ new ∷ []) (of_two (IsCompared at_most native)) result
   Does (CompareFilters native old new) result =
       (input' ≡ input) × AnswersTold held taken folder out out' (old ∷ new ∷ []) (of_two IsTold) result
-  Does other result = input' ≡ input
+  Does (Adapt native config words) result = (input' ≡ input) × AnswersAdapt held taken folder out out' native config words result
+  Does (Replay native bundle words) result = (input' ≡ input) × AnswersReplay held taken folder out out' native bundle words result
+  Does (Manual name) result = (input' ≡ input) × AnswersManual held taken folder out out' name result
+  Does Version result = (input' ≡ input) × AnswersTold held taken folder out out' [] (of_none IsVersion) result
+  Does (Learn native words) result = input' ≡ input
 
 -- What `certify` tells where its answer is no: nothing on standard error, or on standard output the line of a call record and on
 -- standard error an explanation of this very record.

@@ -3,6 +3,8 @@ pub mod Fault
 pub mod Files
 pub mod Running
 pub mod Explained
+pub mod Adapted
+pub mod Told
 pub mod Dispatch
 pub mod Headline
 pub mod inner

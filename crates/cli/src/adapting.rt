@@ -1,7 +1,12 @@
 //! What `ccell adapt` does.
+ghost use Rattle.std.specs.Prelude.{◌≡◌, ◌↔◌, [], ◌∷◌, IfOk, IsTrue, map, true};
+ghost use Rattle.cli.specs.Adapted.{IsMadeAs, IsMadeOfDraft, IsNarrowedOne, asks_narrow};
+ghost use Rattle.cli.specs.Told.{of_one};
+ghost use Rattle.cli.specs.inner.Telling.{IsAdaptedOf, IsToldOf, told_in};
+
 use crate::files::{Files, read};
 use crate::stops::Stop;
-use adapt::{Adapted, adapt, wanted_of};
+use adapt::{Adapted, Wanted, adapt, wanted_of};
 use call_tables::Arch;
 use explain::Told;
 use narrow::{Narrowing, narrow};
@@ -14,25 +19,42 @@ pub struct Both {
     pub changes: String,
 }
 
-// The words but for `narrow`, unless that stands twice.
-fn without_narrow<'a>(
-    alloc: Global,
-    words: &[&'a str],
-) -> Result<Option<Vec<&'a str>>, AllocError> {
+// Whether one of the words is `narrow`.
+fn has_narrow(words: &[&str]) -> bool
+    ensures { result ≡ asks_narrow (map (λ w. w.now) words.now) }
+{
+    for word in words {
+        if *word == "narrow" {
+            return true;
+        }
+    }
+    false
+}
+
+// The words but for `narrow`.
+fn without_narrow<'a>(alloc: Global, words: &[&'a str]) -> Result<Vec<&'a str>, AllocError> {
     let mut rest = Vec::new(alloc);
     for word in words {
         if *word != "narrow" {
             rest.push(*word)?;
         }
     }
+    Ok(rest)
+}
+
+// What the words ask for beside `narrow`, which stands once at most.
+fn wanted(alloc: Global, words: &[&str]) -> Result<Option<Wanted>, AllocError> {
+    let rest = without_narrow(alloc, words)?;
     if rest.len().saturating_add(1) < words.len() {
         return Ok(None);
     }
-    Ok(Some(rest))
+    Ok(wanted_of(&rest))
 }
 
 // The narrowed bundle of a bundle that was made, with the changes of both.
-fn narrowed(alloc: Global, native: Arch, made: Adapted) -> Result<Both, AllocError> {
+fn narrowed(alloc: Global, native: Arch, made: Adapted) -> Result<Both, AllocError>
+    ensures { IsMadeOfDraft native made.entry.told → IfOk result (λ both. IsNarrowedOne native both.told) }
+{
     let Adapted {
         told,
         draft: _draft,
@@ -57,7 +79,9 @@ const HINT: &str =
     "ccell: lint reports calls that get past this bundle; narrow behind the file keeps them out\n";
 
 // A bundle that was made, with its changes, and whether `lint` has a call to report.
-fn hinted(alloc: Global, native: Arch, made: Adapted) -> Result<Both, AllocError> {
+fn hinted(alloc: Global, native: Arch, made: Adapted) -> Result<Both, AllocError>
+    ensures { IfOk result (λ both. both.told ≡ made.entry.told) }
+{
     let Adapted {
         told,
         draft: _draft,
@@ -72,24 +96,56 @@ fn hinted(alloc: Global, native: Arch, made: Adapted) -> Result<Both, AllocError
     Ok(Both { told, changes })
 }
 
+// The bundle that is made of a configuration, or the narrowed one of it.
+fn made_of(
+    alloc: Global,
+    native: Arch,
+    config: &[u8],
+    wanted: &Wanted,
+    is_narrow: bool,
+) -> Result<Both, AllocError>
+    ensures { IfOk result (λ both. IsMadeAs native is_narrow both.told) }
+{
+    let made = adapt(alloc, native, config, wanted)?;
+    if is_narrow {
+        return narrowed(alloc, native, made);
+    }
+    hinted(alloc, native, made)
+}
+
+// The same of a configuration by its name.
+fn made_of_file<'a, F: Files>(
+    alloc: Global,
+    native: Arch,
+    config: &'a str,
+    wanted: &Wanted,
+    is_narrow: bool,
+    files: &mut F,
+) -> Result<Both, Stop<'a>>
+    ensures { IsToldOf (F.folder files.old) (config.entry.now ∷ []) (of_one (λ text. IsMadeAs native is_narrow)) (told_in result) }
+{
+    match read(alloc, files, config) {
+        Ok(text) => match made_of(alloc, native, &text, wanted, is_narrow) {
+            Ok(both) => Ok(both),
+            Err(_no_memory) => Err(Stop::OutOfMemory),
+        },
+        Err(stop) => Err(stop),
+    }
+}
+
 /// Makes a bundle of an engine's configuration, as words ask for it.
-pub fn adapted<'a>(
+pub fn adapted<'a, F: Files>(
     alloc: Global,
     native: Arch,
     config: &'a str,
     words: &[&str],
-    files: &mut impl Files,
-) -> Result<Both, Stop<'a>> {
-    let Some(rest) = without_narrow(alloc, words)? else {
-        return Err(Stop::Usage);
-    };
-    let Some(wanted) = wanted_of(&rest) else {
-        return Err(Stop::Usage);
-    };
-    let config = read(alloc, files, config)?;
-    let made = adapt(alloc, native, &config, &wanted)?;
-    if rest.len() < words.len() {
-        return Ok(narrowed(alloc, native, made)?);
+    files: &mut F,
+) -> Result<Both, Stop<'a>>
+    ensures { IsAdaptedOf (F.folder files.old) native config.entry.now (asks_narrow (map (λ w. w.now) words.now)) (told_in result) }
+{
+    match wanted(alloc, words) {
+        Ok(Some(wanted)) => made_of_file(alloc, native, config, &wanted, has_narrow(words), files),
+        Ok(None) => Err(Stop::Usage),
+        Err(_no_memory) => Err(Stop::OutOfMemory),
     }
-    Ok(hinted(alloc, native, made)?)
 }

@@ -9,8 +9,10 @@ mod fault;
 mod files;
 mod law;
 mod logs;
+mod manual;
 mod program;
 mod run;
+mod showing;
 mod stops;
 mod telling;
 

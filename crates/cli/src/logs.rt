@@ -1,40 +1,30 @@
 //! What `ccell learn` and `ccell replay` do with logs.
+ghost use Rattle.std.specs.Prelude.{◌≡◌, ◌∷◌, IfOk, map};
+ghost use Rattle.learn.specs.Replayed.{TellsReplayed, texts_of};
+ghost use Rattle.cli.specs.Told.{IsReplayed, NamesLogs};
+ghost use Rattle.cli.specs.inner.Telling.{IsReplayOf, IsToldOf};
+
 use crate::adapting::Both;
 use crate::fault::FileFault;
-use crate::files::{Files, read};
+use crate::files::{Files, read, read_each};
 use crate::stops::Stop;
 use call_tables::Arch;
 use explain::Told;
 use learn::{Keep, Learned, Log, LogFault, Shown, learn, replay, wish_of};
 use std::alloc::{AllocError, Global};
 
-// The bytes of the logs of these names, in order.
-fn read_logs<'a>(
-    alloc: Global,
-    files: &mut impl Files,
-    names: &[&'a str],
-) -> Result<Vec<Vec<u8>>, Stop<'a>> {
-    let mut texts = Vec::new(alloc);
-    for name in names {
-        let text = read(alloc, files, *name)?;
-        match texts.push(text) {
-            Ok(()) => {}
-            Err(_no_room) => return Err(Stop::OutOfMemory),
-        }
-    }
-    Ok(texts)
-}
-
 // Logs by their names and their bytes.
 fn logs_of<'a>(
     alloc: Global,
     names: &[&'a str],
     texts: &'a [Vec<u8>],
-) -> Result<Vec<Log<'a>>, AllocError> {
+) -> Result<Vec<Log<'a>>, AllocError>
+    ensures { IfOk result (λ logs. texts_of logs.items ≡ map (λ t. t.items) texts.now) }
+{
     let mut logs = Vec::new(alloc);
-    for (name, text) in names.iter().zip(texts) {
+    for (place, text) in texts.iter().enumerate() {
         logs.push(Log {
-            name: *name,
+            name: names.get(place).copied().unwrap_or(""),
             text: text.as_slice(),
         })?;
     }
@@ -89,29 +79,83 @@ pub fn learned<'a, F: Files>(
 }
 
 // The names of logs, and whether `unused` stands behind them.
-fn names_in<'a>(words: &'a [&'a str]) -> (&'a [&'a str], bool) {
+fn names_in<'a>(words: &'a [&'a str]) -> (&'a [&'a str], bool)
+    ensures { NamesLogs (map (λ w. w.now) words.now) (map (λ n. n.now) result.0.now) result.1 }
+{
     match words {
-        [_first, names @ .., last] => {
-            if *last == "unused" {
-                return (&words[..names.len() + 1], true);
+        [first @ .., last] => {
+            if *last == "unused" && !first.is_empty() {
+                return (first, true);
             }
             (words, false)
         }
-        _ => (words, false),
+        [] => (words, false),
+    }
+}
+
+// What a bundle says of the calls of logs.
+fn played(
+    alloc: Global,
+    native: Arch,
+    bundle: &[u8],
+    names: &[&str],
+    texts: &[Vec<u8>],
+    tells_unused: bool,
+) -> Result<Told, AllocError>
+    ensures { IfOk result (TellsReplayed native tells_unused bundle.now (map (λ t. t.items) texts.now)) }
+{
+    let logs = logs_of(alloc, names, texts)?;
+    replay(alloc, native, bundle, &logs, tells_unused)
+}
+
+// The same of logs by their names.
+fn played_each<'a, F: Files>(
+    alloc: Global,
+    native: Arch,
+    bundle: &[u8],
+    names: &'a [&'a str],
+    tells_unused: bool,
+    files: &mut F,
+) -> Result<Told, Stop<'a>>
+    ensures { IsToldOf (F.folder files.old) (map (λ n. n.now) names.entry.now)
+        (λ logs. TellsReplayed native tells_unused bundle.now logs) result }
+{
+    match read_each(alloc, files, names) {
+        Ok(texts) => match played(alloc, native, bundle, names, &texts, tells_unused) {
+            Ok(told) => Ok(told),
+            Err(_no_memory) => Err(Stop::OutOfMemory),
+        },
+        Err(stop) => Err(stop),
+    }
+}
+
+// The same of a bundle by its name.
+fn played_bundle<'a, F: Files>(
+    alloc: Global,
+    native: Arch,
+    bundle: &'a str,
+    names: &'a [&'a str],
+    tells_unused: bool,
+    files: &mut F,
+) -> Result<Told, Stop<'a>>
+    ensures { IsToldOf (F.folder files.old) (bundle.entry.now ∷ map (λ n. n.now) names.entry.now) (IsReplayed native tells_unused) result }
+{
+    match read(alloc, files, bundle) {
+        Ok(text) => played_each(alloc, native, &text, names, tells_unused, files),
+        Err(stop) => Err(stop),
     }
 }
 
 /// Tells which calls of logs a bundle refuses.
-pub fn replayed<'a>(
+pub fn replayed<'a, F: Files>(
     alloc: Global,
     native: Arch,
     bundle: &'a str,
     words: &'a [&'a str],
-    files: &mut impl Files,
-) -> Result<Told, Stop<'a>> {
+    files: &mut F,
+) -> Result<Told, Stop<'a>>
+    ensures { IsReplayOf (F.folder files.old) native bundle.entry.now (map (λ w. w.now) words.entry.now) result }
+{
     let (names, tells_unused) = names_in(words);
-    let bundle = read(alloc, files, bundle)?;
-    let texts = read_logs(alloc, files, names)?;
-    let logs = logs_of(alloc, names, &texts)?;
-    Ok(replay(alloc, native, &bundle, &logs, tells_unused)?)
+    played_bundle(alloc, native, bundle, names, tells_unused, files)
 }

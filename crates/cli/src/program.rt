@@ -3,21 +3,22 @@ ghost use Rattle.std.specs.Prelude.{◌≡◌, ◌⊎◌, ◌≤◌, Err, Ok, On
 ghost use Rattle.command_line.specs.Arguments.{Given, IsCommandLine, NoCommandLine, given};
 ghost use Rattle.cli.specs.Dispatch.{Answers, AnswersCertify, AnswersCheck, AnswersExport, AnswersRun, AnswersVerdict, Does, ExplainsRecord, ExplainsWhy, IsMisuse};
 ghost use Rattle.cli.specs.Dispatch.{TellsChanges, TellsMisuse};
+ghost use Rattle.cli.specs.inner.Telling.{TellsOn, told_in};
 
 use crate::adapting::{Both, adapted};
 use crate::comparing;
 use crate::explaining::explain;
 use crate::files::{Files, read, read_certificate, read_each, read_filter, read_record};
 use crate::logs::{learned, replayed};
+use crate::manual::{manual, version};
 use crate::run::run_bundles;
+use crate::showing::{annotated, drawn, read_out};
 use crate::stops::{Stop, report};
 use crate::telling::{assembled, compared, filters_compared, linted, record, tell};
 use call_tables::Arch;
 use command_line::{Command, Form, read_arguments};
-use describe::{annotated, drawn};
-use explain::Told;
 use pipeline::{check_line, export_bundle, verdict_line};
-use std::alloc::{AllocError, Global};
+use std::alloc::Global;
 use streams::{Sink, Source, write_all};
 
 // Answers a filter to a record.
@@ -107,75 +108,25 @@ fn run<'a, F: Files, I: Source, O: Sink>(
     run_bundles(alloc, native, &texts, input, out)
 }
 
-// Behind what a bundle means, if a call gets past it.
-const HINT: &str = "ccell lint reports calls that get past this bundle\n";
-
-// Whether a bundle that is told is one that a call is found to get past.
-fn is_passed(alloc: Global, native: Arch, bundle: &[u8], told: &Told) -> Result<bool, AllocError> {
-    if told.done {
-        return lint::hint(alloc, native, bundle);
-    }
-    Ok(false)
-}
-
-// Tells what a bundle means, or where it is wrong, and whether `lint` has a call to report.
-fn read_out<'a>(
-    alloc: Global,
-    native: Arch,
-    bundle: &'a str,
-    files: &mut impl Files,
-    out: &mut impl Sink,
-) -> Result<bool, Stop<'a>> {
-    let bundle = read(alloc, files, bundle)?;
-    let told = describe::read_out(alloc, native, &bundle)?;
-    let is_passed = is_passed(alloc, native, &bundle, &told)?;
-    let done = tell(Ok(told), out)?;
-    if is_passed {
-        write_all(HINT.as_bytes(), out)?;
-    }
-    Ok(done)
-}
-
-// Shows a filter: tells what the lines of its listing mean, or its graph.
-fn show<'a, T: FnOnce(Global, Arch, &[u8]) -> Result<Told, AllocError>>(
-    alloc: Global,
-    native: Arch,
-    filter: &'a str,
-    told: T,
-    files: &mut impl Files,
-    out: &mut impl Sink,
-) -> Result<bool, Stop<'a>>
-    requires { T.IsAlwaysCallable told }
-{
-    let filter = read_filter(alloc, files, filter)?;
-    tell(Ok(told(alloc, native, &filter)?), out)
-}
-
 // Writes a bundle that was made, or why there is none, and tells on standard error what was changed or added.
-fn tell_both<'a, E: Sink>(
+fn tell_both<'a, O: Sink, E: Sink>(
     both: Result<Both, Stop<'a>>,
-    out: &mut impl Sink,
+    out: &mut O,
     err: &mut E,
 ) -> Result<bool, Stop<'a>>
+    ensures told { TellsOn O.held O.failures out.old out.new (told_in both.entry) result }
     ensures stopped { OnErr result (err.new ≡ err.old) }
 {
-    let Both { told, changes } = both?;
-    let done = tell(Ok(told), out)?;
-    let _ = write_all(changes.as_bytes(), err);
-    Ok(done)
-}
-
-// Tells how a command is used, or which there are.
-fn manual<'a>(
-    alloc: Global,
-    command: Option<&'a str>,
-    out: &mut impl Sink,
-) -> Result<bool, Stop<'a>> {
-    let Some(told) = command_line::manual(alloc, command)? else {
-        return Err(Stop::Usage);
-    };
-    write_all(told.as_bytes(), out)?;
-    Ok(true)
+    match both {
+        Ok(Both { told, changes }) => {
+            let result = tell(Ok(told), out);
+            if result.is_ok() {
+                let _ = write_all(changes.as_bytes(), err);
+            }
+            result
+        }
+        Err(stop) => Err(stop),
+    }
 }
 
 // Carries a command out: true where it answered a verdict or yes, wrote what was asked for or ran a script, false where it
@@ -221,11 +172,11 @@ fn obey<'a, F: Files, I: Source, O: Sink, E: Sink>(
             bundle,
             call,
         } => tell(explain(alloc, native, bundle, call, files, input), out),
-        Command::Read { native, bundle } => read_out(alloc, native, bundle, files, out),
+        Command::Read { native, bundle } => tell(read_out(alloc, native, bundle, files), out),
         Command::Record { native, call } => tell(record(alloc, native, call), out),
         Command::Assemble { listing } => tell(assembled(alloc, listing, files), out),
-        Command::Annotate { native, filter } => show(alloc, native, filter, annotated, files, out),
-        Command::Draw { native, filter } => show(alloc, native, filter, drawn, files, out),
+        Command::Annotate { native, filter } => tell(annotated(alloc, native, filter, files), out),
+        Command::Draw { native, filter } => tell(drawn(alloc, native, filter, files), out),
         Command::Lint { native, bundle } => tell(linted(alloc, native, bundle, files), out),
         Command::Compare {
             native,
@@ -249,8 +200,8 @@ fn obey<'a, F: Files, I: Source, O: Sink, E: Sink>(
             bundle,
             words,
         } => tell(replayed(alloc, native, bundle, words, files), out),
-        Command::Manual { command } => manual(alloc, command, out),
-        Command::Version => tell(Ok(explain::version(alloc)?), out),
+        Command::Manual { command } => tell(manual(alloc, command), out),
+        Command::Version => tell(version(alloc), out),
     }
 }
 

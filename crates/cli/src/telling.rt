@@ -5,7 +5,7 @@ ghost use Rattle.differ.specs.Told.{IsTold};
 ghost use Rattle.explain.specs.Told.{IsAssembled, IsRecorded};
 ghost use Rattle.lint.specs.Linted.{IsLinted};
 ghost use Rattle.cli.specs.Files.{Folder};
-ghost use Rattle.cli.specs.Dispatch.{OfArguments, of_none, of_one, of_two};
+ghost use Rattle.cli.specs.Told.{OfArguments, of_none, of_one, of_two};
 ghost use Rattle.cli.specs.inner.Telling.{IsToldOf, TellsOn};
 
 use crate::files::{Files, read};

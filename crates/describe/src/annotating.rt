@@ -1,11 +1,19 @@
 //! The listing of a filter, with what its lines mean.
+ghost use Rattle.std.specs.Prelude.{◌≡◌, ◌++◌, ℕ, List, [], ◌∷◌, IfOk, None, Some, codes, string_bytes};
+ghost use Rattle.bpf_insn.specs.Bytes.{insns_of, view_fault};
+ghost use Rattle.bpf_insn.specs.Fault.{text_of as fault_text};
+ghost use Rattle.bpf_insn.specs.Program.{insns};
+ghost use Rattle.kernel_check.specs.Accepted.{IsRefusal};
+ghost use Rattle.texts.specs.Lines.{line_feed};
+ghost use Rattle.describe.specs.Shown as spec;
+
 use crate::flow::{Known, is_jump, targets};
 use crate::lines::Lines;
 use bpf_insn::{Insn, Operation, Program, ViewError};
 use call_record::Word;
 use call_tables::{Arch, LEAST_X32_NUMBER};
 use explain::{ActionText, Told, machine_of, machine_with};
-use kernel_check::accept;
+use kernel_check::{Refused, accept};
 use std::alloc::{AllocError, Global};
 use std::fmt::Write;
 
@@ -134,40 +142,86 @@ fn put_lines(
     Ok(())
 }
 
-/// The line that tells why bytes are no program.
-pub(crate) fn no_program(alloc: Global, fault: ViewError) -> Result<Told, AllocError> {
-    let line = format!(in alloc; "refused view {fault}\n")?;
+// The line that tells why bytes are no program.
+fn view_line(alloc: Global, fault: ViewError) -> Result<String, AllocError>
+    ensures { IfOk result (λ line. string_bytes line ≡ codes "refused view " ++ fault_text fault ++ line_feed ∷ []) }
+{
+    format!(in alloc; "refused view {fault}\n")
+}
+
+/// Tells why bytes are no program.
+pub(crate) fn no_program(alloc: Global, fault: ViewError) -> Result<Told, AllocError>
+    ensures { IfOk result (λ told. (filter : List ℕ) → view_fault filter ≡ Some fault → spec.IsNoProgram filter told) }
+{
+    let line = view_line(alloc, fault)?;
     Ok(Told {
         bytes: line.into_bytes(),
         done: false,
     })
 }
 
-/// A text about a program. Where the kernel refuses the program, the cause is its last line, behind a mark.
-pub(crate) fn with_cause(
+// The line that tells why the kernel refuses a program, behind a mark.
+fn kernel_line(alloc: Global, mark: &str, cause: Refused) -> Result<String, AllocError>
+    ensures { IfOk result (λ line. string_bytes line ≡ spec.cause_line mark.now cause) }
+{
+    format!(in alloc; "{mark}refused kernel {cause}\n")
+}
+
+// A text about a program that the kernel refuses, with the cause as its last line.
+fn with_line(
+    alloc: Global,
     mut text: String,
-    program: &Program<'_>,
     mark: &str,
-) -> Result<Told, AllocError> {
-    let refused = accept(program).err();
-    if let Some(refused) = refused {
-        writeln!(text, "{mark}refused kernel {refused}")?;
-    }
+    cause: Refused,
+) -> Result<Told, AllocError>
+    ensures { IfOk result (λ told. (filter : List ℕ) → view_fault filter ≡ None → IsRefusal (insns_of filter) cause
+        → spec.IsRefused mark.now filter told) }
+{
+    let line = kernel_line(alloc, mark, cause)?;
+    text.push_str(&line)?;
     Ok(Told {
         bytes: text.into_bytes(),
-        done: refused.is_none(),
+        done: false,
     })
+}
+
+/// A text about a program. Where the kernel refuses the program, the cause is its last line, behind a mark.
+pub(crate) fn with_cause(
+    alloc: Global,
+    text: String,
+    program: &Program<'_>,
+    mark: &str,
+) -> Result<Told, AllocError>
+    ensures { IfOk result (λ told. (filter : List ℕ) → view_fault filter ≡ None → insns program.now ≡ insns_of filter
+        → spec.IsShown mark.now filter told) }
+{
+    match accept(program) {
+        Ok(_accepted) => Ok(Told {
+            bytes: text.into_bytes(),
+            done: true,
+        }),
+        Err(cause) => with_line(alloc, text, mark, cause),
+    }
+}
+
+// The listing of a program, with what its lines mean.
+fn listing(alloc: Global, native: Arch, program: &Program<'_>) -> Result<String, AllocError> {
+    let mut text = String::new(alloc);
+    let lines = Lines::of(alloc, native, program)?;
+    put_lines(&mut text, native, program, &lines)?;
+    Ok(text)
 }
 
 /// Tells a filter's listing, with what its lines mean on a native machine: names of calls, arguments and actions, and where
 /// jumps lead. Of a filter that the kernel refuses it tells also the cause.
-pub fn annotated(alloc: Global, native: Arch, filter: &[u8]) -> Result<Told, AllocError> {
-    let program = match Program::view(filter) {
-        Ok(program) => program,
-        Err(fault) => return no_program(alloc, fault),
-    };
-    let mut text = String::new(alloc);
-    let lines = Lines::of(alloc, native, &program)?;
-    put_lines(&mut text, native, &program, &lines)?;
-    with_cause(text, &program, "")
+pub fn annotated(alloc: Global, native: Arch, filter: &[u8]) -> Result<Told, AllocError>
+    ensures { IfOk result (spec.IsAnnotated filter.now) }
+{
+    match Program::view(filter) {
+        Ok(program) => {
+            let text = listing(alloc, native, &program)?;
+            with_cause(alloc, text, &program, "")
+        }
+        Err(fault) => no_program(alloc, fault),
+    }
 }

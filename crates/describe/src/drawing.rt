@@ -1,4 +1,7 @@
 //! A filter as a graph in the language of Graphviz: a node for each block of instructions, and an edge for each outcome.
+ghost use Rattle.std.specs.Prelude.{IfOk};
+ghost use Rattle.describe.specs.Shown as spec;
+
 use crate::annotating::{no_program, put_meaning, with_cause};
 use crate::flow::{Known, targets};
 use crate::lines::Lines;
@@ -99,16 +102,25 @@ fn put_blocks(
     Ok(())
 }
 
+// The graph of a program.
+fn graph(alloc: Global, native: Arch, program: &Program<'_>) -> Result<String, AllocError> {
+    let mut text = String::from_str(alloc, HEAD)?;
+    let lines = Lines::of(alloc, native, program)?;
+    put_blocks(&mut text, native, program, &lines)?;
+    text.push_str("}\n")?;
+    Ok(text)
+}
+
 /// Tells a filter as a graph, with the names that a native machine has for calls, arguments and actions. Of a filter that the
 /// kernel refuses it tells also the cause.
-pub fn drawn(alloc: Global, native: Arch, filter: &[u8]) -> Result<Told, AllocError> {
-    let program = match Program::view(filter) {
-        Ok(program) => program,
-        Err(fault) => return no_program(alloc, fault),
-    };
-    let mut text = String::from_str(alloc, HEAD)?;
-    let lines = Lines::of(alloc, native, &program)?;
-    put_blocks(&mut text, native, &program, &lines)?;
-    text.push_str("}\n")?;
-    with_cause(text, &program, "// ")
+pub fn drawn(alloc: Global, native: Arch, filter: &[u8]) -> Result<Told, AllocError>
+    ensures { IfOk result (spec.IsDrawn filter.now) }
+{
+    match Program::view(filter) {
+        Ok(program) => {
+            let text = graph(alloc, native, &program)?;
+            with_cause(alloc, text, &program, "// ")
+        }
+        Err(fault) => no_program(alloc, fault),
+    }
 }

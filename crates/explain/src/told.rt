@@ -127,7 +127,9 @@ const VERSION: &str = "ccell 0.1.0\n\
     proved and built with rattle-kit-13f logic dac8208d650f15bf; docs/PROMISES.md says what is proved\n";
 
 /// The edition of the program, and with what it was proved.
-pub fn version(alloc: Global) -> Result<Told, AllocError> {
+pub fn version(alloc: Global) -> Result<Told, AllocError>
+    ensures { IfOk result spec.IsVersion }
+{
     Ok(Told {
         bytes: Vec::from_slice(alloc, VERSION.as_bytes())?,
         done: true,

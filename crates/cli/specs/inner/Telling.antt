@@ -1,11 +1,15 @@
 -- What functions tell of files, before it is written.
-use Rattle.std.specs.Prelude.{ℕ, ◌≡◌, List, Bool, Option, Result, Ok, Err}
+use Rattle.std.specs.Prelude.{ℕ, ◌≡◌, ◌⊎◌, List, [], ◌∷◌, Bool, Option, Result, Ok, Err}
 use Rattle.streams.specs.Failures.{Failures}
 use Rattle.explain.specs.declared.told.Told.{Told}
 use Rattle.cli.specs.declared.stops.Stop.{Stop}
-use Rattle.cli.specs.declared.stops.Stop.TheVariants.{OutOfMemory}
+use Rattle.call_tables.specs.declared.arch.Arch.{Arch}
+use Rattle.cli.specs.declared.adapting.Both.{Both}
+use Rattle.cli.specs.declared.stops.Stop.TheVariants.{OutOfMemory, Usage}
 use Rattle.cli.specs.Dispatch.{FirstUnread, HaveBytes, WritesTold}
 use Rattle.cli.specs.Files.{Folder}
+use Rattle.cli.specs.Adapted.{IsMadeAs}
+use Rattle.cli.specs.Told.{IsManual, IsNoCommand, IsReplayed, NamesLogs, of_none, of_one}
 
 -- the files are read, and what is so of their bytes is told; or the program stops there
 abbrev pub IsToldOf : Option Folder → List (List ℕ) → (List (List ℕ) → Told → Type 0) → Result Told Stop → Type 0
@@ -21,3 +25,25 @@ TellsText Is (Err stop) = stop ≡ OutOfMemory
 abbrev pub TellsOn : {O : Type 0} → (O → Option (List ℕ)) → (O → Failures) → O → O → Result Told Stop → Result Bool Stop → Type 0
 TellsOn held failures old new (Ok told) result = WritesTold held failures old new told result
 TellsOn held failures old new (Err stop) result = (result ≡ Err stop) × (new ≡ old)
+
+-- what is told on standard output, of what is told there and on standard error
+abbrev pub told_in : Result Both Stop → Result Told Stop
+told_in (Ok both) = Ok both.told
+told_in (Err stop) = Err stop
+
+-- the commands, or the page of one, unless there is no command of that name
+abbrev pub IsManualOf : Option Folder → Option (List ℕ) → Result Told Stop → Type 0
+IsManualOf folder name told = (IsNoCommand name × (told ≡ Err Usage)) ⊎ IsToldOf folder [] (of_none (IsManual name)) told
+
+-- the bundle that is made of a configuration, unless the words ask for nothing
+abbrev pub IsAdaptedOf : Option Folder → Arch → List ℕ → Bool → Result Told Stop → Type 0
+IsAdaptedOf folder native config narrow told =
+    (told ≡ Err Usage) ⊎ IsToldOf folder (config ∷ []) (of_one (λ text. IsMadeAs native narrow)) told
+
+-- what a bundle says of the calls of the logs that the words name
+pub record IsReplayOf (folder : Option Folder) (native : Arch) (bundle : List ℕ) (words : List (List ℕ)) (told : Result Told Stop)
+    : Type 0 where
+  pub logs : List (List ℕ)
+  pub unused : Bool
+  pub named : NamesLogs words logs unused
+  pub is : IsToldOf folder (bundle ∷ logs) (IsReplayed native unused) told

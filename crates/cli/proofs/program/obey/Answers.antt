@@ -1,10 +1,12 @@
 use Rattle.std.proofs.Common.{[], ◌∷◌, inl, inr, map, refl, ⊎_elim}
 use Rattle.compare.specs.Told.{IsCompared}
+use Rattle.describe.specs.Shown.{IsAnnotated, IsDrawn}
 use Rattle.differ.specs.Told.{IsTold}
-use Rattle.explain.specs.Told.{IsAssembled, IsRecorded}
+use Rattle.explain.specs.Told.{IsAssembled, IsRecorded, IsVersion}
 use Rattle.lint.specs.Linted.{IsLinted}
-use Rattle.cli.specs.Dispatch.{OfArguments, any_call, explained_as, of_none, of_one, of_two}
-use Rattle.cli.proofs.DispatchLaws.{answers_told, now_of}
+use Rattle.cli.specs.Dispatch.{any_call, explained_as}
+use Rattle.cli.specs.Told.{OfArguments, of_none, of_one, of_two}
+use Rattle.cli.proofs.DispatchLaws.{answers_adapted, answers_manual, answers_replayed, answers_told, now_of}
 use Rattle.cli.proofs.program.obey.Goals as goal
 
 pub returns-in-Explain-clause-does : goal.returns-in-Explain-clause-does
@@ -60,4 +62,60 @@ returns-in-CompareFilters-clause-does g c = rw c.in-CompareFilters.is (
       (g.F.Files.folder c.args.files.now) (c.in-CompareFilters.old.now ∷ c.in-CompareFilters.new.now ∷ []) (of_two IsTold)
       c.args.out.now c.tell-in-CompareFilters.new.out c.tell-in-CompareFilters.result c.filters_compared.result
       c.filters_compared.ensures c.tell-in-CompareFilters.ensures,
+)
+
+pub returns-in-Read-clause-does : goal.returns-in-Read-clause-does
+returns-in-Read-clause-does g c = rw c.in-Read.is (
+  refl,
+  answers_told g.O.Sink.held g.O.Sink.failures
+      (g.F.Files.folder c.args.files.now) (c.in-Read.bundle.now ∷ []) (of_one (λ text told. Unit {0}))
+      c.args.out.now c.tell-in-Read.new.out c.tell-in-Read.result c.read_out.result c.read_out.ensures c.tell-in-Read.ensures,
+)
+
+pub returns-in-Annotate-clause-does : goal.returns-in-Annotate-clause-does
+returns-in-Annotate-clause-does g c = rw c.in-Annotate.is (
+  refl,
+  answers_told g.O.Sink.held g.O.Sink.failures
+      (g.F.Files.folder c.args.files.now) (c.in-Annotate.filter.now ∷ []) (of_one IsAnnotated)
+      c.args.out.now c.tell-in-Annotate.new.out c.tell-in-Annotate.result c.annotated.result c.annotated.ensures c.tell-in-Annotate.ensures,
+)
+
+pub returns-in-Draw-clause-does : goal.returns-in-Draw-clause-does
+returns-in-Draw-clause-does g c = rw c.in-Draw.is (
+  refl,
+  answers_told g.O.Sink.held g.O.Sink.failures
+      (g.F.Files.folder c.args.files.now) (c.in-Draw.filter.now ∷ []) (of_one IsDrawn)
+      c.args.out.now c.tell-in-Draw.new.out c.tell-in-Draw.result c.drawn.result c.drawn.ensures c.tell-in-Draw.ensures,
+)
+
+pub returns-in-Version-clause-does : goal.returns-in-Version-clause-does
+returns-in-Version-clause-does g c = rw c.in-Version.is (
+  refl,
+  answers_told g.O.Sink.held g.O.Sink.failures
+      (g.F.Files.folder c.args.files.now) [] (of_none IsVersion)
+      c.args.out.now c.tell-in-Version.new.out c.tell-in-Version.result c.version.result
+      (c.version.ensures (g.F.Files.folder c.args.files.now)) c.tell-in-Version.ensures,
+)
+
+pub returns-in-Manual-clause-does : goal.returns-in-Manual-clause-does
+returns-in-Manual-clause-does g c = rw c.in-Manual.is (
+  refl,
+  answers_manual g.O.Sink.held g.O.Sink.failures (g.F.Files.folder c.args.files.now) c.args.out.now c.tell-in-Manual.new.out
+      c.tell-in-Manual.result c.manual.result (c.manual.ensures (g.F.Files.folder c.args.files.now)) c.tell-in-Manual.ensures,
+)
+
+pub returns-in-Adapt-clause-does : goal.returns-in-Adapt-clause-does
+returns-in-Adapt-clause-does g c = rw c.in-Adapt.is (
+  refl,
+  answers_adapted g.O.Sink.held g.O.Sink.failures (g.F.Files.folder c.args.files.now) c.args.out.now c.tell_both.new.out
+      c.in-Adapt.native c.in-Adapt.config.now (map now_of c.in-Adapt.words.now) c.tell_both.result c.adapted.result c.adapted.ensures
+      c.tell_both.ensures.told,
+)
+
+pub returns-in-Replay-clause-does : goal.returns-in-Replay-clause-does
+returns-in-Replay-clause-does g c = rw c.in-Replay.is (
+  refl,
+  answers_replayed g.O.Sink.held g.O.Sink.failures (g.F.Files.folder c.args.files.now) c.args.out.now c.tell-in-Replay.new.out
+      c.in-Replay.native c.in-Replay.bundle.now (map now_of c.in-Replay.words.now) c.tell-in-Replay.result c.replayed.result
+      c.replayed.ensures c.tell-in-Replay.ensures,
 )

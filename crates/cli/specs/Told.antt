@@ -1,0 +1,47 @@
+-- What commands tell of the texts of files, and of none.
+use Rattle.std.specs.Prelude.{ℕ, ◌≡◌, Bool, true, false, List, [], ◌∷◌, ◌++◌, map, codes, Option, Some, None}
+use denote.Ref.{Bor}
+use Rattle.call_tables.specs.declared.arch.Arch.{Arch}
+use Rattle.command_line.specs.Manual.{IsPage, list_of, row_called, rows}
+use Rattle.explain.specs.Told.{TellsText}
+use Rattle.explain.specs.declared.told.Told.{Told}
+use Rattle.learn.specs.Replayed.{TellsReplayed}
+
+-- what is so of the text of one file, of two, and of none
+abbrev pub of_one : (List ℕ → Told → Type 0) → List (List ℕ) → Told → Type 0
+of_one Is (text ∷ []) told = Is text told
+of_one Is texts told = ⊥
+
+abbrev pub of_two : (List ℕ → List ℕ → Told → Type 0) → List (List ℕ) → Told → Type 0
+of_two Is (first ∷ second ∷ []) told = Is first second told
+of_two Is texts told = ⊥
+
+abbrev pub of_none : (Told → Type 0) → List (List ℕ) → Told → Type 0
+of_none Is [] told = Is told
+of_none Is texts told = ⊥
+
+-- the arguments, wherever they lie in memory
+pub record OfArguments (Is : List (Bor (List ℕ)) → Told → Type 0) (arguments : List (List ℕ)) (told : Told) : Type 0 where
+  pub lying : List (Bor (List ℕ))
+  pub same : map (λ a. a.now) lying ≡ arguments
+  pub is : Is lying told
+
+-- it was done: the list of commands, or the page of the one of that name
+abbrev pub IsManual : Option (List ℕ) → Told → Type 0
+IsManual None told = TellsText (list_of rows) told
+IsManual (Some name) told = IsPage (row_called name rows) (Some told.bytes.items) × (told.done ≡ true)
+
+-- there is no command of that name
+abbrev pub IsNoCommand : Option (List ℕ) → Type 0
+IsNoCommand None = ⊥
+IsNoCommand (Some name) = row_called name rows ≡ None
+
+-- the words are the names of logs, and the word `unused` may stand behind them
+abbrev pub NamesLogs : List (List ℕ) → List (List ℕ) → Bool → Type 0
+NamesLogs words logs true = words ≡ logs ++ codes "unused" ∷ []
+NamesLogs words logs false = words ≡ logs
+
+-- what a bundle, whose text is the first one, says of the calls of logs
+abbrev pub IsReplayed : Arch → Bool → List (List ℕ) → Told → Type 0
+IsReplayed native unused (bundle ∷ logs) told = TellsReplayed native unused bundle logs told
+IsReplayed native unused [] told = ⊥

@@ -1,0 +1,80 @@
+//! What `ccell read`, `ccell annotate` and `ccell draw` tell.
+ghost use Rattle.std.specs.Prelude.{[], ◌∷◌, ⊤};
+ghost use Rattle.describe.specs.Shown.{IsAnnotated, IsDrawn};
+ghost use Rattle.cli.specs.Told.{of_one};
+ghost use Rattle.cli.specs.inner.Telling.{IsToldOf};
+
+use crate::files::{Files, read, read_filter};
+use crate::stops::Stop;
+use call_tables::Arch;
+use explain::Told;
+use std::alloc::{AllocError, Global};
+
+/// The lines of a filter's listing, with what they mean.
+pub(crate) fn annotated<'a, F: Files>(
+    alloc: Global,
+    native: Arch,
+    filter: &'a str,
+    files: &mut F,
+) -> Result<Told, Stop<'a>>
+    ensures { IsToldOf (F.folder files.old) (filter.entry.now ∷ []) (of_one IsAnnotated) result }
+{
+    match read_filter(alloc, files, filter) {
+        Ok(bytes) => match describe::annotated(alloc, native, &bytes) {
+            Ok(told) => Ok(told),
+            Err(_no_memory) => Err(Stop::OutOfMemory),
+        },
+        Err(stop) => Err(stop),
+    }
+}
+
+/// A filter as a graph.
+pub(crate) fn drawn<'a, F: Files>(
+    alloc: Global,
+    native: Arch,
+    filter: &'a str,
+    files: &mut F,
+) -> Result<Told, Stop<'a>>
+    ensures { IsToldOf (F.folder files.old) (filter.entry.now ∷ []) (of_one IsDrawn) result }
+{
+    match read_filter(alloc, files, filter) {
+        Ok(bytes) => match describe::drawn(alloc, native, &bytes) {
+            Ok(told) => Ok(told),
+            Err(_no_memory) => Err(Stop::OutOfMemory),
+        },
+        Err(stop) => Err(stop),
+    }
+}
+
+// Behind what a bundle means, if a call gets past it.
+const HINT: &str = "ccell lint reports calls that get past this bundle\n";
+
+// What a bundle means, or where it is wrong, and whether `lint` has a call to report.
+fn described(alloc: Global, native: Arch, bundle: &[u8]) -> Result<Told, AllocError> {
+    let Told { mut bytes, done } = describe::read_out(alloc, native, bundle)?;
+    if done {
+        let is_passed = lint::hint(alloc, native, bundle)?;
+        if is_passed {
+            bytes.extend_from_slice(HINT.as_bytes())?;
+        }
+    }
+    Ok(Told { bytes, done })
+}
+
+/// What a bundle means, or where it is wrong.
+pub(crate) fn read_out<'a, F: Files>(
+    alloc: Global,
+    native: Arch,
+    bundle: &'a str,
+    files: &mut F,
+) -> Result<Told, Stop<'a>>
+    ensures { IsToldOf (F.folder files.old) (bundle.entry.now ∷ []) (of_one (λ text told. ⊤)) result }
+{
+    match read(alloc, files, bundle) {
+        Ok(text) => match described(alloc, native, &text) {
+            Ok(told) => Ok(told),
+            Err(_no_memory) => Err(Stop::OutOfMemory),
+        },
+        Err(stop) => Err(stop),
+    }
+}
