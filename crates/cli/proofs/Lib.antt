@@ -6,3 +6,4 @@ mod EnoughLaws
 mod FileLaws
 mod DispatchLaws
 mod ExplainedLaws
+mod StatusLaws

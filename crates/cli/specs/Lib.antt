@@ -7,4 +7,5 @@ pub mod Adapted
 pub mod Told
 pub mod Dispatch
 pub mod Headline
+pub mod Statuses
 pub mod inner

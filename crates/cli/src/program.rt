@@ -1,8 +1,11 @@
 //! The whole program, from the arguments after its name to its exit status.
-ghost use Rattle.std.specs.Prelude.{◌≡◌, ◌⊎◌, ◌≤◌, Err, Ok, OnErr, true, map};
+ghost use Rattle.std.specs.Prelude.{◌≡◌, ◌⊎◌, ◌≤◌, ℕ, List, Err, Ok, OnErr, true, map};
+ghost use Rattle.call_tables.specs.declared.arch.Arch.{Arch as TheArch};
+ghost use Rattle.command_line.specs.Arguments.Given.{Check, Run};
 ghost use Rattle.command_line.specs.Arguments.{Given, IsCommandLine, NoCommandLine, given};
 ghost use Rattle.cli.specs.Dispatch.{Answers, AnswersCertify, AnswersCheck, AnswersExport, AnswersRun, AnswersVerdict, Does, ExplainsRecord, ExplainsWhy, IsMisuse};
 ghost use Rattle.cli.specs.Dispatch.{TellsChanges, TellsMisuse};
+ghost use Rattle.cli.specs.Statuses.{AreRight, HasRun};
 ghost use Rattle.cli.specs.inner.Telling.{TellsOn, told_in};
 
 use crate::adapting::{Both, adapted};
@@ -223,6 +226,7 @@ fn carry_out<'a, F: Files, I: Source, O: Sink, E: Sink>(
     ensures misuse { NoCommandLine arguments.entry.now → IsMisuse result }
     ensures unread { NoCommandLine arguments.entry.now → input.new ≡ input.old }
     ensures unwritten { NoCommandLine arguments.entry.now → out.new ≡ out.old }
+    ensures unopened { NoCommandLine arguments.entry.now → files.new ≡ files.old }
 {
     match read_arguments(alloc, arguments) {
         Ok(command) => obey(alloc, command, files, input, out, err),
@@ -245,9 +249,15 @@ pub fn dispatch<F: Files, I: Source, O: Sink, E: Sink>(
     ensures answers { (command : Given) → IsCommandLine arguments.entry.now command
         → Answers I.left I.failures O.held O.failures E.held E.failures (F.folder files.old) input.old input.new out.old out.new
         err.old err.new command result }
-    // Arguments that are no command are a fault of the command line, unless the memory to read them is refused: no input is
-    // read, no output is written, and standard error says so.
+    // `check` ends with 0 only if the filter is right for the bundle, and `run` only if the script was answered.
+    ensures check { (native : TheArch) (bundle filter cert : List ℕ) → IsCommandLine arguments.entry.now (Check native bundle filter cert)
+        → result ≡ 0 → AreRight (F.folder files.old) native bundle filter }
+    ensures run { (native : TheArch) (bundles : List (List ℕ)) → IsCommandLine arguments.entry.now (Run native bundles) → result ≡ 0
+        → HasRun (F.folder files.old) native bundles (I.left input.old) (O.held out.old) (O.held out.new) }
+    // Arguments that are no command are a fault of the command line, unless the memory to read them is refused: no file and no input
+    // is read, no output is written, and standard error says so.
     ensures misuse { NoCommandLine arguments.entry.now → TellsMisuse E.held E.failures err.old err.new result }
+    ensures unopened { NoCommandLine arguments.entry.now → files.new ≡ files.old }
     ensures unread { NoCommandLine arguments.entry.now → input.new ≡ input.old }
     ensures unwritten { NoCommandLine arguments.entry.now → out.new ≡ out.old }
 {
