@@ -129,13 +129,6 @@ def codes_in(text, head):
     return {code for first, *rows in tables(text) if first[:2] == head for row in rows for code in re.findall(r"`(0x..)`", " ".join(row))}
 
 
-def faults_of_operations(page, text):
-    """The table of operations: its codes are those of the lines of listings."""
-    shown = codes_in(text, ["Operation", "Code"])
-    unlike = shown ^ codes_in(read("docs/FILTERS.md"), ["Code", "Line"]) if shown else set()
-    return [f"codes in one of two tables alone: {sorted(unlike)}"] if unlike else []
-
-
 def faults_of_answers(page, text):
     """The tables of texts with what the assembler answers, and of filters with what `verdict` answers."""
     faults = []
@@ -246,7 +239,6 @@ def faults_of_commands(page, text):
 CHECKS = (
     faults_of_labels,
     faults_of_codes,
-    faults_of_operations,
     faults_of_answers,
     faults_of_actions,
     faults_of_calls,
