@@ -124,11 +124,6 @@ def faults_of_codes(page, text):
     return faults
 
 
-def codes_in(text, head):
-    """The codes of the tables with this head."""
-    return {code for first, *rows in tables(text) if first[:2] == head for row in rows for code in re.findall(r"`(0x..)`", " ".join(row))}
-
-
 def faults_of_answers(page, text):
     """The tables of texts with what the assembler answers, and of filters with what `verdict` answers."""
     faults = []
