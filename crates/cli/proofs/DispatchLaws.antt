@@ -2,7 +2,7 @@
 use Rattle.std.proofs.Common.{◌≡◌, ℕ, ◌+◌, ◌<◌, inl, inr, List, [], ◌∷◌, ◌++◌, ap, drop, get_or, length, map, refl, subst, sym, take, ◌∙◌}
 use Rattle.std.proofs.lemmas.List.{get_or_default, map-append, take_more}
 use denote.Ref.{Bor}
-use Rattle.std.specs.Prelude.{Bool, IfOk, Option, None, Some, Result, Ok, Err}
+use Rattle.std.specs.Prelude.{Bool, false, IfOk, Option, None, Some, Result, Ok, Err}
 use Rattle.call_tables.specs.declared.arch.Arch.{Arch}
 use Rattle.streams.specs.Failures.{Failures}
 use Rattle.streams.specs.declared.fault.WriteFault.{WriteFault}
@@ -22,8 +22,8 @@ use Rattle.cli.specs.declared.stops.Stop.{Stop}
 use Rattle.cli.specs.declared.stops.Stop.TheVariants.{Usage, CannotRead, Read, Write, OutOfMemory}
 use Rattle.cli.specs.Dispatch.{AnswersAdapt, AnswersCertify, AnswersCheck, AnswersExport, AnswersManual, AnswersReplay, AnswersTold}
 use Rattle.cli.specs.Dispatch.{AnswersVerdict, Does, StopsAtWords}
-use Rattle.cli.specs.Adapted.{IsMadeAs, asks_narrow}
-use Rattle.cli.specs.Told.{IsManual, IsReplayed, of_none, of_one, of_two}
+use Rattle.cli.specs.Adapted.{IsMadeAs}
+use Rattle.cli.specs.Told.{IsManual, IsReplayed, OfArguments, of_none, of_one, of_two}
 use Rattle.cli.specs.declared.adapting.Both.{Both}
 use Rattle.cli.specs.Dispatch.{any_call, explained_as, ExplainsWhy, FirstUnread, HaveBytes, IsMisuse, StopsAt, StopsAtFile, TellsMisuse}
 use Rattle.cli.specs.inner.Telling.{IsAdaptedOf, IsManualOf, IsReplayOf, IsToldOf, TellsOn, TellsText, told_in}
@@ -169,17 +169,17 @@ module _ {O : Type 0} (held : O → Option (List ℕ)) (failures : O → Failure
       → StopsAtWords held failures folder old new result
   stopped_at result told e h = subst (λ t. TellsOn held failures old new t result) e h
 
-  pub answers_manual : {name : Option (List ℕ)} (result : Result Bool Stop) (told : Result Told Stop) → IsManualOf folder name told
+  pub answers_manual : (name : Option (List ℕ)) (result : Result Bool Stop) (told : Result Told Stop) → IsManualOf folder name told
       → TellsOn held failures old new told result → AnswersManual held failures folder old new name result
-  answers_manual {name} result told (inl is) h = inl (is.0, stopped_at result told is.1 h)
-  answers_manual {name} result told (inr is) h = inr (answers_told held failures folder [] (of_none (IsManual name)) old new result told is h)
+  answers_manual name result told (inl is) h = inl (is.0, stopped_at result told is.1 h)
+  answers_manual name result told (inr is) h = inr (answers_told held failures folder [] (of_none (IsManual name)) old new result told is h)
 
   pub answers_adapted : (native : Arch) (config : List ℕ) (words : List (List ℕ)) (result : Result Bool Stop) (both : Result Both Stop)
-      → IsAdaptedOf folder native config (asks_narrow words) (told_in both) → TellsOn held failures old new (told_in both) result
+      → IsAdaptedOf folder native config words (told_in both) → TellsOn held failures old new (told_in both) result
       → AnswersAdapt held failures folder old new native config words result
   answers_adapted native config words result both (inl is) h = inl (stopped_at result (told_in both) is h)
   answers_adapted native config words result both (inr is) h =
-      inr (answers_told held failures folder (config ∷ []) (of_one (λ text. IsMadeAs native (asks_narrow words))) old new result
+      inr (answers_told held failures folder (config ∷ []) (of_one (λ text. OfArguments (IsMadeAs native) words)) old new result
       (told_in both) is h)
 
   pub answers_replayed : (native : Arch) (bundle : List ℕ) (words : List (List ℕ)) (result : Result Bool Stop) (told : Result Told Stop)

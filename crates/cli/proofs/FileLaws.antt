@@ -19,6 +19,8 @@ use Rattle.pipeline.specs.declared.unready.Unready.{Unready}
 use Rattle.pipeline.specs.declared.unready.Unready.TheVariants.{Profile, Compile, Certify, Check, OutOfMemory}
 use Rattle.pipeline.specs.declared.verdict.Answer.{Answer}
 use Rattle.pipeline.specs.declared.verdict.Answer.TheVariants.{Verdict, NoRecord, NoProgram, Refusal}
+use Rattle.describe.specs.Shown.{IsShown}
+use Rattle.explain.specs.declared.told.Told.{Told}
 use Rattle.cli.specs.Files.{IsEnough}
 use Rattle.cli.proofs.EnoughLaws.{all_read, all_read_of, first_of_file, same_fault, whole_filter}
 
@@ -95,3 +97,12 @@ module _ (native : Arch) (bundle filter f : List ℕ) (enough : IsEnough 32768 f
       told = h.told;
     })))
     certified_of_file result (inr (inr (inr h))) = inr (inr (inr h))
+
+-- what is shown of a filter
+module _ (filter f : List ℕ) (enough : IsEnough 32768 filter f) where
+  pub shown_of_file : (mark : List ℕ) (told : Told) → IsShown mark f told → IsShown mark filter told
+  shown_of_file mark told (inl h) = inl (record { fault = h.fault; stands = same_fault filter f enough ∙ h.stands; tells = h.tells })
+  shown_of_file mark told (inr (inl h)) =
+      subst (λ x. IsShown mark x told) (whole_filter filter f enough h.program) (inr (inl h))
+  shown_of_file mark told (inr (inr h)) =
+      subst (λ x. IsShown mark x told) (whole_filter filter f enough h.program) (inr (inr h))

@@ -25,7 +25,7 @@ use Rattle.pipeline.specs.Finding.{WritesFinding}
 use Rattle.cli.specs.declared.stops.Stop.{Stop}
 use Rattle.cli.specs.declared.stops.Stop.TheVariants.{CannotRead, OutOfMemory, Usage, Write}
 use Rattle.cli.specs.Explained.{TellsRecord}
-use Rattle.cli.specs.Adapted.{IsMadeAs, asks_narrow}
+use Rattle.cli.specs.Adapted.{IsMadeAs}
 use Rattle.cli.specs.Told.{IsManual, IsNoCommand, IsReplayed, NamesLogs, of_none, of_one, of_two, OfArguments}
 use Rattle.cli.specs.Files.{CannotBeRead, Folder, HasBytes, HasEnough}
 use Rattle.cli.specs.Running.{RunsBundles, told_line}
@@ -128,7 +128,7 @@ module _ {O : Type 0} (held : O → Option (List ℕ)) (failures : O → Failure
   -- the bundle that is made of a configuration
   abbrev pub AnswersAdapt : Arch → List ℕ → List (List ℕ) → Result Bool Stop → Type 0
   AnswersAdapt native config words result =
-      StopsAtWords result ⊎ AnswersTold (config ∷ []) (of_one (λ text. IsMadeAs native (asks_narrow words))) result
+      StopsAtWords result ⊎ AnswersTold (config ∷ []) (of_one (λ text. OfArguments (IsMadeAs native) words)) result
 
   -- what a bundle says of the calls of logs
   abbrev pub AnswersReplay : Arch → List ℕ → List (List ℕ) → Result Bool Stop → Type 0

@@ -1,7 +1,7 @@
 //! What `ccell adapt` does.
-ghost use Rattle.std.specs.Prelude.{◌≡◌, ◌↔◌, [], ◌∷◌, IfOk, IsTrue, map, true};
-ghost use Rattle.cli.specs.Adapted.{IsMadeAs, IsMadeOfDraft, IsNarrowedOne, asks_narrow};
-ghost use Rattle.cli.specs.Told.{of_one};
+ghost use Rattle.std.specs.Prelude.{◌≡◌, ◌↔◌, [], ◌∷◌, IfOk, IsTrue, map};
+ghost use Rattle.cli.specs.Adapted.{AsksNarrow, IsMadeAs, IsMadeOfDraft, IsNarrowedOne};
+ghost use Rattle.cli.specs.Told.{OfArguments, of_one};
 ghost use Rattle.cli.specs.inner.Telling.{IsAdaptedOf, IsToldOf, told_in};
 
 use crate::files::{Files, read};
@@ -21,14 +21,9 @@ pub struct Both {
 
 // Whether one of the words is `narrow`.
 fn has_narrow(words: &[&str]) -> bool
-    ensures { result ≡ asks_narrow (map (λ w. w.now) words.now) }
+    ensures { IsTrue result ↔ AsksNarrow words.now }
 {
-    for word in words {
-        if *word == "narrow" {
-            return true;
-        }
-    }
-    false
+    words.iter().any(|word| *word == "narrow")
 }
 
 // The words but for `narrow`.
@@ -53,7 +48,7 @@ fn wanted(alloc: Global, words: &[&str]) -> Result<Option<Wanted>, AllocError> {
 
 // The narrowed bundle of a bundle that was made, with the changes of both.
 fn narrowed(alloc: Global, native: Arch, made: Adapted) -> Result<Both, AllocError>
-    ensures { IsMadeOfDraft native made.entry.told → IfOk result (λ both. IsNarrowedOne native both.told) }
+    ensures { IsMadeOfDraft native made.told → IfOk result (λ both. IsNarrowedOne native both.told) }
 {
     let Adapted {
         told,
@@ -80,7 +75,7 @@ const HINT: &str =
 
 // A bundle that was made, with its changes, and whether `lint` has a call to report.
 fn hinted(alloc: Global, native: Arch, made: Adapted) -> Result<Both, AllocError>
-    ensures { IfOk result (λ both. both.told ≡ made.entry.told) }
+    ensures { IfOk result (λ both. both.told ≡ made.told) }
 {
     let Adapted {
         told,
@@ -102,12 +97,12 @@ fn made_of(
     native: Arch,
     config: &[u8],
     wanted: &Wanted,
-    is_narrow: bool,
+    words: &[&str],
 ) -> Result<Both, AllocError>
-    ensures { IfOk result (λ both. IsMadeAs native is_narrow both.told) }
+    ensures { IfOk result (λ both. IsMadeAs native words.now both.told) }
 {
     let made = adapt(alloc, native, config, wanted)?;
-    if is_narrow {
+    if has_narrow(words) {
         return narrowed(alloc, native, made);
     }
     hinted(alloc, native, made)
@@ -119,13 +114,13 @@ fn made_of_file<'a, F: Files>(
     native: Arch,
     config: &'a str,
     wanted: &Wanted,
-    is_narrow: bool,
+    words: &[&str],
     files: &mut F,
 ) -> Result<Both, Stop<'a>>
-    ensures { IsToldOf (F.folder files.old) (config.entry.now ∷ []) (of_one (λ text. IsMadeAs native is_narrow)) (told_in result) }
+    ensures { IsToldOf (F.folder files.old) (config.entry.now ∷ []) (of_one (λ text. OfArguments (IsMadeAs native) (map (λ w. w.now) words.now))) (told_in result) }
 {
     match read(alloc, files, config) {
-        Ok(text) => match made_of(alloc, native, &text, wanted, is_narrow) {
+        Ok(text) => match made_of(alloc, native, &text, wanted, words) {
             Ok(both) => Ok(both),
             Err(_no_memory) => Err(Stop::OutOfMemory),
         },
@@ -141,10 +136,10 @@ pub fn adapted<'a, F: Files>(
     words: &[&str],
     files: &mut F,
 ) -> Result<Both, Stop<'a>>
-    ensures { IsAdaptedOf (F.folder files.old) native config.entry.now (asks_narrow (map (λ w. w.now) words.now)) (told_in result) }
+    ensures { IsAdaptedOf (F.folder files.old) native config.entry.now (map (λ w. w.now) words.now) (told_in result) }
 {
     match wanted(alloc, words) {
-        Ok(Some(wanted)) => made_of_file(alloc, native, config, &wanted, has_narrow(words), files),
+        Ok(Some(wanted)) => made_of_file(alloc, native, config, &wanted, words, files),
         Ok(None) => Err(Stop::Usage),
         Err(_no_memory) => Err(Stop::OutOfMemory),
     }

@@ -2,6 +2,7 @@
 ghost use Rattle.std.specs.Prelude.{◌≡◌, ◌⊎◌, ◌∷◌, [], IfOk, true, map};
 ghost use Rattle.std.specs.Option.{option_map};
 ghost use Rattle.cli.specs.Dispatch as spec;
+ghost use Rattle.cli.specs.Told.{of_one};
 ghost use Rattle.cli.specs.inner.Telling.{IsToldOf, TellsText};
 
 use crate::files::{Files, read};
@@ -106,7 +107,7 @@ pub fn explain<'a, F: Files, I: Source>(
 ) -> Result<Told, Stop<'a>>
     ensures { (spec.asks_audit (map (λ c. c.now) call.now) ≡ true)
         ⊎ ((input.new ≡ input.old) × IsToldOf (F.folder files.old) (bundle.entry.now ∷ [])
-        (spec.of_one (spec.explained_as native (map (λ c. c.now) call.now) (spec.any_call (map (λ c. c.now) call.now)))) result) }
+        (of_one (spec.explained_as native (map (λ c. c.now) call.now) (spec.any_call (map (λ c. c.now) call.now)))) result) }
 {
     match read(alloc, files, bundle) {
         Ok(text) => {

@@ -100,7 +100,7 @@ returns-in-Version-clause-does g c = rw c.in-Version.is (
 pub returns-in-Manual-clause-does : goal.returns-in-Manual-clause-does
 returns-in-Manual-clause-does g c = rw c.in-Manual.is (
   refl,
-  answers_manual g.O.Sink.held g.O.Sink.failures (g.F.Files.folder c.args.files.now) c.args.out.now c.tell-in-Manual.new.out
+  answers_manual g.O.Sink.held g.O.Sink.failures (g.F.Files.folder c.args.files.now) c.args.out.now c.tell-in-Manual.new.out _
       c.tell-in-Manual.result c.manual.result (c.manual.ensures (g.F.Files.folder c.args.files.now)) c.tell-in-Manual.ensures,
 )
 

@@ -1,0 +1,10 @@
+use Rattle.std.proofs.Common.{ℕ, List, [], ◌∷◌, subst, sym}
+use Rattle.cli.specs.Files.{HasEnough}
+use Rattle.cli.proofs.FileLaws.{shown_of_file}
+use Rattle.cli.proofs.showing.annotated.Goals as goal
+
+pub returns-in-Ok-annotated : goal.returns-in-Ok-annotated
+returns-in-Ok-annotated g c =
+    let read = subst (λ (b : List ℕ). HasEnough 32768 (g.F.Files.folder c.args.files.now) c.args.filter.now b) (sym c.deref.ensures.value)
+    c.in-Ok.ensures.ok in
+    (read.file ∷ [], (read.is, tt), shown_of_file read.file c.deref.result.now read.enough _ c.in-Ok-annotated.told c.in-Ok-annotated.ensures)
