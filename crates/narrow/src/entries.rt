@@ -118,7 +118,7 @@ impl<'a> Entries<'a> {
         self.changes.put(format_args!("linux.seccomp.syscalls[{at}].args[{place}]: {name}"));
         tell_conditions(&mut self.changes, conds);
         self.changes.put(
-            ": it never has so high a value, and an order is not told by the lowest bits: write one that it can have\n",
+            ": the argument never has so high a value, and no order is told by its lowest bits: write a value that it can have\n",
         );
     }
 
