@@ -92,10 +92,14 @@ pub(crate) fn conditions_of(
     Ok(conds)
 }
 
-/// The lowest bit of an argument that is not read, if there is one.
-pub(crate) fn unread_bit(token: u32, nr: u32, index: usize) -> Option<u64>
-    requires { index < 6 }
-{
-    let bits = read_bits(token, nr, index);
-    if bits < 64 { Some(1 << bits) } else { None }
+/// The bits that are read of each argument of a call.
+pub(crate) fn read_masks(token: u32, nr: u32) -> [u64; 6] {
+    let mut masks = [u64::MAX; 6];
+    for index in 0..6 {
+        let bits = read_bits(token, nr, index);
+        if bits < 64 {
+            masks[index] = (1 << bits) - 1;
+        }
+    }
+    masks
 }

@@ -2,10 +2,10 @@
 ghost use Rattle.std.specs.Prelude.{IfOk, IfSome, All};
 ghost use Rattle.lint.specs.Past.{GetsPast};
 
-use crate::candidates::{arguments, conditions_of, unread_bit};
+use crate::candidates::{arguments, conditions_of, read_masks};
 use crate::past::Past;
 use call_record::{Record, lets_through};
-use narrowed::{cleared, cleared_is_alike};
+use narrowed::{WHOLE, cleared, cleared_is_alike, suit_call};
 use profile::{Profile, Rule};
 use std::alloc::{AllocError, Global};
 
@@ -31,28 +31,61 @@ pub(crate) fn past_of(profile: &Profile, call: Record) -> Option<Past>
     })
 }
 
-// A pair of a call with these arguments, if it gets past.
-fn past_with(profile: &Profile, token: u32, nr: u32, args: [u64; 6]) -> Option<Past>
-    ensures { IfSome result (GetsPast profile.now) }
-{
-    let call = Record {
+// What is read of arguments.
+fn masked(args: &[u64; 6], masks: &[u64; 6]) -> [u64; 6] {
+    let mut read = *args;
+    for index in 0..6 {
+        read[index] &= masks[index];
+    }
+    read
+}
+
+fn record(token: u32, nr: u32, args: [u64; 6]) -> Record {
+    Record {
         nr,
         arch: token,
         ip: 0,
         args,
-    };
+    }
+}
+
+// A pair of a call with these arguments, if it gets past.
+fn past_with(
+    profile: &Profile,
+    token: u32,
+    nr: u32,
+    args: [u64; 6],
+    masks: &[u64; 6],
+) -> Option<Past>
+    ensures { IfSome result (GetsPast profile.now) }
+{
+    let call = record(token, nr, args);
+    if !lets_through(profile.decide(&call)) {
+        return None;
+    }
+    let read = record(token, nr, masked(&args, masks));
+    if lets_through(profile.decide(&read)) {
+        return None;
+    }
     past_of(profile, call)
 }
 
-// A pair of a call with these arguments and a bit set in one of them that is not read, if it gets past.
-fn past_dirty(profile: &Profile, token: u32, nr: u32, args: &[u64; 6]) -> Option<Past>
+// A pair of a call with these arguments and the lowest bit set in one of them that is not read, if it gets past.
+fn past_dirty(
+    profile: &Profile,
+    token: u32,
+    nr: u32,
+    args: &[u64; 6],
+    masks: &[u64; 6],
+) -> Option<Past>
     ensures { IfSome result (GetsPast profile.now) }
 {
     for index in 0..6 {
-        if let Some(bit) = unread_bit(token, nr, index) {
+        let unread = masks[index].wrapping_add(1);
+        if unread != 0 {
             let mut dirty = *args;
-            dirty[index] |= bit;
-            if let Some(past) = past_with(profile, token, nr, dirty) {
+            dirty[index] |= unread;
+            if let Some(past) = past_with(profile, token, nr, dirty, masks) {
                 return Some(past);
             }
         }
@@ -64,11 +97,12 @@ fn past_dirty(profile: &Profile, token: u32, nr: u32, args: &[u64; 6]) -> Option
 fn first_past(profile: &Profile, token: u32, nr: u32, tried: &[[u64; 6]]) -> Option<Past>
     ensures { IfSome result (GetsPast profile.now) }
 {
+    let masks = read_masks(token, nr);
     for args in tried {
-        if let Some(past) = past_with(profile, token, nr, *args) {
+        if let Some(past) = past_with(profile, token, nr, *args, &masks) {
             return Some(past);
         }
-        if let Some(past) = past_dirty(profile, token, nr, args) {
+        if let Some(past) = past_dirty(profile, token, nr, args, &masks) {
             return Some(past);
         }
     }
@@ -84,7 +118,7 @@ fn was_searched(searched: &mut Vec<(u32, u32)>, token: u32, nr: u32) -> Result<b
     Ok(false)
 }
 
-// The call of a rule, if it gets past and was not searched.
+// The call of a rule, if it gets past and was not searched. Where its conditions look at read bits alone, none does.
 fn past_at(
     alloc: Global,
     profile: &Profile,
@@ -98,6 +132,9 @@ fn past_at(
         return Ok(None);
     }
     let conds = conditions_of(alloc, profile, token, rule.nr)?;
+    if suit_call(token, rule.nr, conds.as_slice(), &[WHOLE; 6]) {
+        return Ok(None);
+    }
     let tried = arguments(alloc, &conds)?;
     Ok(first_past(profile, token, rule.nr, &tried))
 }

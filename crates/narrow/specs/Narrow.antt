@@ -4,6 +4,8 @@ use Rattle.serde_json.specs.Data.{Data}
 use Rattle.call_tables.specs.declared.arch.Arch.{Arch}
 use Rattle.explain.specs.declared.told.Told.{Told}
 use Rattle.narrowed.specs.Alike.{IsNarrowed}
+use Rattle.narrowed.specs.Lowered.{AreLowered, ValuesFit, with_rules}
+use Rattle.profile.specs.declared.rules.Rule.{Rule}
 use Rattle.profile.specs.Policy.{Policy}
 use Rattle.profile_json.specs.Meaning.{IsText, Means}
 use Rattle.narrow.specs.declared.told.Narrowing.{Narrowing}
@@ -12,13 +14,17 @@ use Rattle.narrow.specs.declared.told.Narrowing.{Narrowing}
 abbrev pub IsBundle : Arch → List ℕ → Policy → Type 0
 IsBundle native bytes p = (t : Data) × IsText bytes t × Means t native p
 
--- what is written means the narrowed profile of what was read
+-- What is written means the narrowed profile of what was read, where of a value that an argument cannot have its bits that are read
+-- stand: so it speaks of what is read alone. Where the arguments can have all values, it is the narrowed profile of what was read.
 pub record IsWritten (native : Arch) (bundle written : List ℕ) : Type 0 where
   pub read : Policy
   pub means : IsBundle native bundle read
+  pub lowers : List Rule
+  pub are_lowered : AreLowered lowers read.rules
   pub narrowed : Policy
   pub says : IsBundle native written narrowed
-  pub is_narrowed : IsNarrowed read narrowed
+  pub is_narrowed : IsNarrowed (with_rules read lowers) narrowed
+  pub fitting : ValuesFit read.rules → IsNarrowed read narrowed
 
 -- where it was done
 abbrev pub IsTold : Arch → List ℕ → Told → Type 0

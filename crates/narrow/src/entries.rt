@@ -1,6 +1,6 @@
 //! Entries, written in parts where their arguments are cut.
 use crate::conditions::put_conditions;
-use crate::plans::{agree, cuts, plan_of, unfit};
+use crate::plans::{agree, cuts, lowered, plan_of};
 use crate::text::Text;
 use arrayvec::ArrayVec;
 use call_tables::Arch;
@@ -38,6 +38,21 @@ fn tell_conditions(text: &mut Text, conds: &[Cond]) {
         let condition = ConditionText(cond);
         text.put(format_args!(" {joined_by} {condition}"));
         joined_by = "and";
+    }
+}
+
+// Adds what is read of values that arguments cannot have.
+fn tell_lowered(text: &mut Text, conds: &[Cond], lowers: &[Cond]) {
+    let mut joined_by = ", of which";
+    for (cond, lower) in conds.iter().zip(lowers) {
+        if cond != lower {
+            let condition = ConditionText(lower);
+            text.put(format_args!("{joined_by} {condition}"));
+            joined_by = " and";
+        }
+    }
+    if joined_by == " and" {
+        text.put(" is read,");
     }
 }
 
@@ -86,22 +101,25 @@ impl<'a> Entries<'a> {
         self.changes.put(format_args!("linux.seccomp.syscalls[{at}]: {name}: {why}\n"));
     }
 
-    // Tells what an entry became for one call.
-    fn tell(&mut self, at: usize, name: &str, conds: &[Cond], count: usize) {
+    // Tells what an entry became for one call, and what is read of values that its arguments cannot have.
+    fn tell(&mut self, at: usize, name: &str, conds: &[Cond], lowers: &[Cond], count: usize) {
         self.changes
             .put(format_args!("linux.seccomp.syscalls[{at}]: {name}"));
         tell_conditions(&mut self.changes, conds);
+        tell_lowered(&mut self.changes, conds, lowers);
         let entries = if count == 1 { "entry" } else { "entries" };
         self.changes
             .put(format_args!(" is written as {count} {entries}\n"));
     }
 
-    // Tells a value that an argument cannot have.
-    fn refuse_value(&mut self, at: usize, name: &str, place: usize, conds: &[Cond]) {
+    // Tells an order with a value that its argument cannot have.
+    fn refuse_order(&mut self, at: usize, name: &str, place: usize, conds: &[Cond]) {
         self.is_refused = true;
         self.changes.put(format_args!("linux.seccomp.syscalls[{at}].args[{place}]: {name}"));
         tell_conditions(&mut self.changes, conds);
-        self.changes.put(": no kernel reads so high a value there: write the bits that are read\n");
+        self.changes.put(
+            ": the argument never has so high a value, and no order is told by its lowest bits: write a value that it can have\n",
+        );
     }
 
     // Adds what an entry says of one call whose arguments are cut.
@@ -113,13 +131,26 @@ impl<'a> Entries<'a> {
         conds: &[Cond],
         plan: &Plan,
     ) -> Result<(), AllocError> {
-        // There are six arguments.
-        let conds = &conds[..conds.len().min(6)];
-        if let Some(place) = unfit(conds, plan) {
-            self.refuse_value(at, name, place, conds);
-            return Ok(());
+        match lowered(self.alloc, conds, plan)? {
+            Ok(lowers) => self.put_lowered(at, entry, name, conds, &lowers, plan),
+            Err(place) => {
+                self.refuse_order(at, name, place, conds);
+                Ok(())
+            }
         }
-        if !agree(self.machines, name, conds, plan) {
+    }
+
+    // Adds the same, whose arguments can have all values.
+    fn put_lowered(
+        &mut self,
+        at: usize,
+        entry: &Value,
+        name: &str,
+        conds: &[Cond],
+        lowers: &[Cond],
+        plan: &Plan,
+    ) -> Result<(), AllocError> {
+        if !agree(self.machines, name, lowers, plan) {
             self.refuse(
                 at,
                 name,
@@ -127,9 +158,10 @@ impl<'a> Entries<'a> {
             );
             return Ok(());
         }
-        match conditions(self.alloc, conds, plan) {
+        // There are six arguments.
+        match conditions(self.alloc, &lowers[..lowers.len().min(6)], plan) {
             Ok(lists) => {
-                self.tell(at, name, conds, lists.len());
+                self.tell(at, name, conds, lowers, lists.len());
                 self.put_parts(entry, name, &lists);
                 Ok(())
             }

@@ -1,8 +1,9 @@
 //! To how many bits the arguments of a call are cut, by its name: an entry of a bundle is for all machines that have the call.
 use call_arguments::read_bits;
 use call_tables::{Arch, is_narrow};
-use narrowed::{Plan, WHOLE, WIDEST, sees_low, suit_call};
+use narrowed::{Plan, WHOLE, WIDEST, cut_to, fits_in, sees_low, suit_call};
 use profile::Cond;
+use std::alloc::{AllocError, Global};
 
 // To how many bits a machine's call cuts the argument of a condition.
 fn bits_on(arch: Arch, name: &str, cond: &Cond) -> u32 {
@@ -58,16 +59,32 @@ pub(crate) fn cuts(plan: &Plan) -> bool {
     plan.iter().any(|bits| *bits <= WIDEST)
 }
 
-/// The place of the first condition that compares with a value which its argument cannot have.
-pub(crate) fn unfit(conds: &[Cond], plan: &Plan) -> Option<usize> {
-    conds
-        .iter()
-        .position(|cond| is_unfit(cond.value, plan[cond.index as usize]))
+// Whether the argument of a condition is cut, and cannot have the value.
+fn is_unfit(cond: &Cond, plan: &Plan) -> bool {
+    let bits = plan[cond.index as usize];
+    bits <= WIDEST && !fits_in(cond, bits)
 }
 
-fn is_unfit(value: u64, bits: u32) -> bool {
-    if bits > WIDEST {
-        return false;
+/// The conditions with the bits that are read of values that their arguments cannot have, or the place of the first that has none:
+/// an order.
+pub(crate) fn lowered(
+    alloc: Global,
+    conds: &[Cond],
+    plan: &Plan,
+) -> Result<Result<Vec<Cond>, usize>, AllocError> {
+    let mut lowers = Vec::new(alloc);
+    for (place, cond) in conds.iter().enumerate() {
+        match lowered_condition(cond, plan) {
+            Some(lower) => lowers.push(lower)?,
+            None => return Ok(Err(place)),
+        }
     }
-    value >> bits != 0
+    Ok(Ok(lowers))
+}
+
+fn lowered_condition(cond: &Cond, plan: &Plan) -> Option<Cond> {
+    if is_unfit(cond, plan) {
+        return cut_to(cond, plan[cond.index as usize].min(WIDEST));
+    }
+    Some(*cond)
 }

@@ -3,13 +3,16 @@ ghost use Rattle.std.specs.Prelude.{◌≡◌, ◌++◌, ℕ, List, [], ◌∷�
 ghost use Rattle.narrowed.specs.inner.Cutting.{Suits};
 ghost use Rattle.profile.specs.declared.rules.Rule.{Rule as TheRule};
 ghost use Rattle.narrow.specs.Narrow as spec;
+ghost use Rattle.narrowed.specs.Lowered.{AreLowered};
 ghost use Rattle.narrowed.specs.Narrowed.{AreNarrowed};
 
 use crate::plans::plan_of;
 use crate::written::{Draft, written};
 use call_tables::Arch;
 use explain::{Told, refused_profile};
-use narrowed::{CutError, Plan, WHOLE, add_narrowed, is_narrowed, suits};
+use narrowed::{
+    CutError, Plan, WHOLE, add_narrowed, fitting_stay, is_narrowed_of, lowered_rule, suits,
+};
 use profile::{Profile, Rule};
 use profile_json::{ProfileError, read_bundle};
 use std::alloc::{AllocError, Global};
@@ -37,6 +40,25 @@ fn plan_of_rule(machines: &[Arch], rule: &Rule) -> Plan {
         Some(name) => plan_of(machines, name, rule.conds.as_slice()),
         None => [WHOLE; 6],
     }
+}
+
+// The lowered rules of a list, unless one has an order with a value that its argument cannot have.
+fn lowered_rules(
+    alloc: Global,
+    machines: &[Arch],
+    rules: &[Rule],
+) -> Result<Option<Vec<Rule>>, AllocError>
+    ensures { IfOk result (λ found. IfSome found (λ lowers. AreLowered lowers.items rules.now)) }
+{
+    let mut lowers = Vec::new(alloc);
+    for rule in rules {
+        let plan = plan_of_rule(machines, rule);
+        let Some(lower) = lowered_rule(rule, &plan)? else {
+            return Ok(None);
+        };
+        lowers.push(lower)?;
+    }
+    Ok(Some(lowers))
 }
 
 // Adds the narrowed rules of one rule, unless they are too many.
@@ -84,15 +106,18 @@ fn confirmed(
     alloc: Global,
     native: Arch,
     profile: &Profile,
+    lowers: &[Rule],
     rules: &[Rule],
     text: String,
 ) -> Result<Told, AllocError>
-    requires { AreNarrowed profile.now.rules rules.now }
+    requires lowered { AreLowered lowers.now profile.now.rules }
+    requires narrowed { AreNarrowed lowers.now rules.now }
     ensures { (bundle : List ℕ) → spec.IsBundle native bundle profile.now → IfOk result (spec.IsTold native bundle) }
 {
+    fitting_stay();
     match read_bundle(alloc, text.as_bytes(), native) {
         Ok(read) => {
-            let done = is_narrowed(profile, &read.profile, rules);
+            let done = is_narrowed_of(profile, lowers, &read.profile, rules);
             Ok(Told {
                 bytes: text.into_bytes(),
                 done,
@@ -102,12 +127,29 @@ fn confirmed(
     }
 }
 
-// The same, unless its rules cannot be narrowed.
+// The same, unless the lowered rules cannot be narrowed.
+fn checked_lowered(
+    alloc: Global,
+    native: Arch,
+    profile: &Profile,
+    lowers: &[Rule],
+    text: String,
+) -> Result<Told, AllocError>
+    requires { AreLowered lowers.now profile.now.rules }
+    ensures { (bundle : List ℕ) → spec.IsBundle native bundle profile.now → IfOk result (spec.IsTold native bundle) }
+{
+    match narrowed_rules(alloc, profile.machines(), lowers)? {
+        Some(rules) => confirmed(alloc, native, profile, lowers, &rules, text),
+        None => Ok(nothing(alloc)),
+    }
+}
+
+// The same, unless the rules cannot be lowered.
 fn checked(alloc: Global, native: Arch, profile: &Profile, text: String) -> Result<Told, AllocError>
     ensures { (bundle : List ℕ) → spec.IsBundle native bundle profile.now → IfOk result (spec.IsTold native bundle) }
 {
-    match narrowed_rules(alloc, profile.machines(), profile.rules())? {
-        Some(rules) => confirmed(alloc, native, profile, &rules, text),
+    match lowered_rules(alloc, profile.machines(), profile.rules())? {
+        Some(lowers) => checked_lowered(alloc, native, profile, &lowers, text),
         None => Ok(nothing(alloc)),
     }
 }

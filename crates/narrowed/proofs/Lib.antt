@@ -10,3 +10,4 @@ pub mod AskedLaws
 pub mod StepLaws
 pub mod BuildLaws
 pub mod SuitLaws
+pub mod LowerLaws

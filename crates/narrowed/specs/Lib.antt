@@ -1,4 +1,5 @@
 pub mod Alike
 pub mod Counts
+pub mod Lowered
 pub mod Narrowed
 pub mod inner

@@ -8,6 +8,7 @@
 mod asked;
 mod cutting;
 mod fault;
+mod lowering;
 mod parts;
 mod patterns;
 mod profiles;
@@ -17,8 +18,9 @@ mod suiting;
 
 pub use cutting::{MOST_PARTS, conditions};
 pub use fault::CutError;
+pub use lowering::{cut_to, fits_in, fitting_stay, lowered_rule};
 pub use parts::WIDEST;
-pub use profiles::{is_narrowed, narrowed};
+pub use profiles::{is_narrowed, is_narrowed_of, narrowed};
 pub use records::{cleared, cleared_is_alike};
 pub use rules::{add_narrowed, narrowed_rule, narrowed_rules};
 pub use suiting::{Plan, WHOLE, own_plan, sees_low, suit_call, suits};

@@ -2,6 +2,7 @@
 ghost use Rattle.std.specs.Prelude.{◌≡◌, ◌↔◌, ◌≤◌, ◌<◌, IfOk, IfErr, IfSome, IsTrue, All, Contains, length};
 ghost use Rattle.narrowed.specs.Counts.{IsCutCause, most_narrowed};
 ghost use Rattle.narrowed.specs.Alike.{IsNarrowed};
+ghost use Rattle.narrowed.specs.Lowered.{with_rules};
 ghost use Rattle.narrowed.specs.Narrowed.{AreNarrowed};
 ghost use Rattle.narrowed.specs.inner.Sizes.{IsSize, cut_cause};
 
@@ -76,10 +77,11 @@ fn same_word(a: Word, b: Word) -> bool
     a == b
 }
 
-/// Whether a profile is seen to be the narrowed one of another: it has its machines, its default and its narrowed rules.
-pub fn is_narrowed(profile: &Profile, narrowed: &Profile, rules: &[Rule]) -> bool
-    requires { AreNarrowed profile.now.rules rules.now }
-    ensures { IsTrue result → IsNarrowed profile.now narrowed.now }
+/// Whether a profile is seen to be the narrowed one of another with other rules: it has its machines, its default and the narrowed
+/// ones of these rules.
+pub fn is_narrowed_of(profile: &Profile, own: &[Rule], narrowed: &Profile, rules: &[Rule]) -> bool
+    requires { AreNarrowed own.now rules.now }
+    ensures { IsTrue result → IsNarrowed (with_rules profile.now own.now) narrowed.now }
 {
     if !same_word(narrowed.default_word(), profile.default_word()) {
         return false;
@@ -91,6 +93,14 @@ pub fn is_narrowed(profile: &Profile, narrowed: &Profile, rules: &[Rule]) -> boo
         return false;
     }
     has_all(rules, narrowed.rules())
+}
+
+/// Whether a profile is seen to be the narrowed one of another: it has its machines, its default and its narrowed rules.
+pub fn is_narrowed(profile: &Profile, narrowed: &Profile, rules: &[Rule]) -> bool
+    requires { AreNarrowed profile.now.rules rules.now }
+    ensures { IsTrue result → IsNarrowed profile.now narrowed.now }
+{
+    is_narrowed_of(profile, profile.rules(), narrowed, rules)
 }
 
 // Why no profile is built of narrowed rules.

@@ -9,7 +9,8 @@ use Rattle.clap.specs.Words.{Row, Text, all_of, first_of}
 use Rattle.export.specs.declared.form.Form.{Form}
 use Rattle.command_line.specs.Arguments.{Given, form_called}
 use Rattle.command_line.specs.Arguments.Given.{Verdict, Check, Certify, Export, Run, Explain, Read, Record}
-use Rattle.command_line.specs.Arguments.Given.{Assemble, Annotate, Draw, Lint, Compare, CompareFilters, Adapt, Learn, Replay, Manual, Version}
+use Rattle.command_line.specs.Arguments.Given.{Assemble, Annotate, Draw, Lint, Compare, CompareFilters, Adapt, Learn, Replay}
+use Rattle.command_line.specs.Arguments.Given.{Manual, Version}
 
 -- the machine that the part MACHINE calls
 abbrev pub native_in : List Row → Option Arch

@@ -1,13 +1,14 @@
-use Rattle.std.proofs.Common.{◌≡◌, List, sym, ◌∙◌, ap, subst, arith}
+use Rattle.std.proofs.Common.{◌≡◌, List, sym, ◌∙◌, subst}
 use Rattle.std.specs.List.{All, Contains}
 use Rattle.profile.specs.declared.rules.Rule.{Rule}
+use Rattle.narrowed.specs.Lowered.{with_rules}
 use Rattle.narrowed.proofs.PolicyLaws.{narrowed_profile, same_narrowed}
-use Rattle.narrowed.proofs.profiles.is_narrowed.Goals as goal
+use Rattle.narrowed.proofs.profiles.is_narrowed_of.Goals as goal
 
 pub returns : goal.returns
 returns c =
     λ done.
-    let p = c.args.profile.now in
+    let p = with_rules c.args.profile.now c.args.own.now in
     let q = c.args.narrowed.now in
     let within : All (Contains q.rules) c.args.rules.now =
     subst (λ (l : List Rule). All (Contains l) c.args.rules.now) c.rules.ensures.rules (c.has_all.ensures c.if-not-has_all.false) in
