@@ -1,5 +1,6 @@
 pub mod Lists
 pub mod Given
+pub mod Kept
 pub mod Learned
 pub mod Replayed
 pub mod inner
