@@ -3,3 +3,6 @@ mod Taken
 mod Come
 mod Rules
 mod Results
+mod LoggedLaws
+mod RefusedLaws
+mod PlayedLaws

@@ -1,2 +1,5 @@
 pub mod Seen
 pub mod Taken
+pub mod Refusals
+pub mod Views
+pub mod Played

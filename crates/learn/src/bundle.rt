@@ -1,6 +1,6 @@
 //! The text of a bundle that was made of logs.
 use crate::calls::{Calls, Kept};
-use crate::keeps::Keep;
+use crate::keeps::{Keep, WHOLE, low};
 use crate::lists::Otherwise;
 use crate::names::Names;
 use call_tables::Arch;
@@ -49,16 +49,28 @@ fn put_machines(text: &mut String, machines: &[Arch]) -> Result<(), AllocError> 
     Ok(())
 }
 
+// Adds the condition that an argument is a value in so many of its lowest bits.
+fn put_condition(text: &mut String, place: usize, bits: u32, value: u64) -> Result<(), AllocError> {
+    if bits >= WHOLE {
+        return write!(
+            text,
+            "{{\"index\": {place}, \"value\": {value}, \"op\": \"SCMP_CMP_EQ\"}}"
+        );
+    }
+    let mask = low(u64::MAX, bits);
+    write!(
+        text,
+        "{{\"index\": {place}, \"value\": {mask}, \"valueTwo\": {value}, \"op\": \"SCMP_CMP_MASKED_EQ\"}}"
+    )
+}
+
 // Adds the conditions that arguments have these values.
-fn put_conditions(text: &mut String, keep: &Keep<'_>, kept: &Kept) -> Result<(), AllocError> {
+fn put_conditions(text: &mut String, kept: &Kept) -> Result<(), AllocError> {
     let mut before = "";
     for place in 0..6usize {
-        if keep.places[place] {
-            let value = kept.values[place];
-            write!(
-                text,
-                "{before}{{\"index\": {place}, \"value\": {value}, \"op\": \"SCMP_CMP_EQ\"}}"
-            )?;
+        if kept.bits[place] > 0 {
+            text.push_str(before)?;
+            put_condition(text, place, kept.bits[place], kept.values[place])?;
             before = ", ";
         }
     }
@@ -75,7 +87,7 @@ fn put_kept(text: &mut String, keeps: &[Keep<'_>], kept: &Kept) -> Result<(), Al
         text,
         ",\n        {{\"names\": [\"{name}\"], \"action\": \"SCMP_ACT_ALLOW\", \"args\": ["
     )?;
-    put_conditions(text, keep, kept)?;
+    put_conditions(text, kept)?;
     text.push_str("]}")
 }
 

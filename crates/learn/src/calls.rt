@@ -5,18 +5,18 @@ ghost use Rattle.strace_log.specs.Line.{words_of_call};
 ghost use Rattle.learn.specs.inner.Taken.{Grows, IsCovered};
 
 use crate::covering::{fitting, is_noted, whole_of};
-use crate::keeps::{Keep, keep_of, values_of};
+use crate::keeps::{Keep, bits_of, keep_of, values_of};
 use call_record::{Record, words_are_a_record};
 use call_tables::Arch;
 use std::alloc::{AllocError, Global};
 use strace_log::Call;
 
-/// Calls that logs show: those of a number on a machine whose arguments have these values at these places.
+/// Calls that logs show: those of a number on a machine whose arguments are these values in so many of their lowest bits.
 #[derive(Clone, Copy)]
 pub(crate) struct Seen {
     pub(crate) arch: Arch,
     pub(crate) nr: u32,
-    pub(crate) places: [bool; 6],
+    pub(crate) bits: [u32; 6],
     pub(crate) values: [u64; 6],
 }
 
@@ -35,7 +35,7 @@ fn record_of(arch: Arch, nr: u32, args: [u64; 6]) -> Record
 impl Seen {
     /// Whether they are allowed whatever their arguments.
     pub(crate) fn is_whole(&self) -> bool {
-        !self.places.iter().any(|is_kept| *is_kept)
+        self.bits.iter().all(|bits| *bits == 0)
     }
 
     /// One of them as a filter sees it, made at address 0.
@@ -46,10 +46,11 @@ impl Seen {
     }
 }
 
-/// Values of a call's arguments: which of those asked for it is, and the values, 0 where none is kept.
+/// Values of a call's arguments: which of those asked for it is, of how many of the lowest bits, and the values, 0 where none is kept.
 #[derive(Clone, Copy, PartialEq, Eq)]
 pub(crate) struct Kept {
     pub(crate) keep: usize,
+    pub(crate) bits: [u32; 6],
     pub(crate) values: [u64; 6],
 }
 
@@ -84,16 +85,22 @@ fn seen_of(keeps: &[Keep<'_>], call: &Call<'_>, kept: &mut Vec<Kept>) -> Result<
     let Some(keep) = keeps.get(at) else {
         return Ok(whole_of(call));
     };
-    let Some(values) = values_of(keep, call) else {
+    let bits = bits_of(keep, call.arch, call.nr);
+    let Some(values) = values_of(&bits, call) else {
         return Ok(whole_of(call));
     };
-    if !note_values(kept, Kept { keep: at, values })? {
+    let new = Kept {
+        keep: at,
+        bits,
+        values,
+    };
+    if !note_values(kept, new)? {
         return Ok(whole_of(call));
     }
     Ok(Seen {
         arch: call.arch,
         nr: call.nr,
-        places: keep.places,
+        bits,
         values,
     })
 }
@@ -105,7 +112,7 @@ fn note(seen: &mut Vec<Seen>, call: &Call<'_>, new: Seen) -> Result<(), AllocErr
 {
     let record = call.record();
     words_are_a_record(&record);
-    if is_noted(seen, &new.places, call) {
+    if is_noted(seen, &new.bits, call) {
         return Ok(());
     }
     let fits = fitting(new, call);

@@ -1,28 +1,28 @@
 //! Whether a call is one of those that were gathered.
-ghost use Rattle.std.specs.Prelude.{◌≡◌, ◌<◌, true, false, IsTrue, slice_index, slice_index_or};
+ghost use Rattle.std.specs.Prelude.{◌≡◌, ◌<◌, ◌%◌, ◌^◌, IsTrue, slice_index};
 ghost use Rattle.learn.specs.inner.Taken.{Agree, Covers, IsNoted};
 
 use crate::calls::Seen;
+use crate::keeps::{WHOLE, low};
 use call_tables::Arch;
 use strace_log::Call;
 
-// Whether an argument is the value, if one is asked for.
-fn agree_at(places: &[bool; 6], values: &[u64; 6], args: &[u64; 6], place: usize) -> bool
-    requires { place < 6 }
-    ensures { IsTrue result → slice_index_or places.now place false ≡ true → slice_index values.now place ≡ slice_index args.now place }
+// Whether a number is a value in so many of the lowest bits.
+fn agree_in(bits: u32, value: u64, number: u64) -> bool
+    ensures { IsTrue result → number % 2 ^ bits ≡ value % 2 ^ bits }
 {
-    if !places[place] {
-        return true;
+    if bits >= WHOLE {
+        return number == value;
     }
-    values[place] == args[place]
+    low(number, bits) == low(value, bits)
 }
 
-// Whether the arguments at some places are the values.
-fn agree(places: &[bool; 6], values: &[u64; 6], args: &[u64; 6]) -> bool
-    ensures { IsTrue result → Agree places.now values.now args.now }
+// Whether arguments are the values in so many of their lowest bits.
+fn agree(bits: &[u32; 6], values: &[u64; 6], args: &[u64; 6]) -> bool
+    ensures { IsTrue result → Agree bits.now values.now args.now }
 {
     for place in 0..6usize {
-        if !agree_at(places, values, args, place) {
+        if !agree_in(bits[place], values[place], args[place]) {
             return false;
         }
     }
@@ -45,7 +45,7 @@ pub(crate) fn covers(seen: &Seen, call: &Call<'_>) -> bool
     if !is_same_machine(call.arch, seen.arch) {
         return false;
     }
-    agree(&seen.places, &seen.values, &call.args)
+    agree(&seen.bits, &seen.values, &call.args)
 }
 
 /// The calls of a call's number on its machine, whatever their arguments.
@@ -55,7 +55,7 @@ pub(crate) fn whole_of(call: &Call<'_>) -> Seen
     Seen {
         arch: call.arch,
         nr: call.nr,
-        places: [false; 6],
+        bits: [0; 6],
         values: [0; 6],
     }
 }
@@ -70,22 +70,22 @@ pub(crate) fn fitting(new: Seen, call: &Call<'_>) -> Seen
     whole_of(call)
 }
 
-// Whether a call is one of these, and the arguments at these places tell them.
-fn is_noted_by(seen: &Seen, places: &[bool; 6], call: &Call<'_>) -> bool
+// Whether a call is one of these, and so many bits of the arguments tell them.
+fn is_noted_by(seen: &Seen, bits: &[u32; 6], call: &Call<'_>) -> bool
     ensures { IsTrue result → Covers seen.now (call.now.arch, call.now.nr, call.now.args) }
 {
     if !covers(seen, call) {
         return false;
     }
-    seen.places == *places
+    seen.bits == *bits
 }
 
-/// Whether a call was gathered by its arguments at these places.
-pub(crate) fn is_noted(seen: &[Seen], places: &[bool; 6], call: &Call<'_>) -> bool
+/// Whether a call was gathered by so many bits of its arguments.
+pub(crate) fn is_noted(seen: &[Seen], bits: &[u32; 6], call: &Call<'_>) -> bool
     ensures { IsTrue result → IsNoted seen.now (call.now.arch, call.now.nr, call.now.args) }
 {
     for one in seen {
-        if is_noted_by(one, places, call) {
+        if is_noted_by(one, bits, call) {
             return true;
         }
     }

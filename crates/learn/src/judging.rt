@@ -6,27 +6,41 @@ ghost use Rattle.call_tables.specs.Arch.{table_of};
 ghost use Rattle.call_tables.specs.Table.{number_in};
 ghost use Rattle.call_tables.specs.declared.arch.Arch.{Arch};
 ghost use Rattle.learn.specs.inner.Seen.{AreSeen};
-ghost use Rattle.learn.specs.inner.Taken.{AllowsEach, IsForEach, IsWithin, OneAllows};
+ghost use Rattle.learn.specs.inner.Taken.{AllowsEach, IsForEach, IsLow, IsWithin, OneAllows};
 ghost use Rattle.learn.specs.Learned.{IsNamed, IsOfRecord};
 
 use crate::calls::Seen;
+use crate::keeps::WHOLE;
 use crate::lists::{Runtime, is_listed};
-use call_record::Word;
-use profile::{Cond, Profile, Rule, are_for};
+use call_record::{Word, words_are_a_record};
+use profile::{Cond, Op, Profile, Rule, are_for};
 
-// Whether a condition is on one of these places.
-fn is_within(places: &[bool; 6], cond: &Cond) -> bool
-    ensures { IsTrue result → IsWithin places.now cond.now }
+// Whether a condition looks at so many of the lowest bits of an argument alone.
+fn is_low(bits: u32, cond: &Cond) -> bool
+    ensures { IsTrue result → IsLow bits cond.now }
 {
-    places[usize::from(cond.index)]
+    if bits == WHOLE {
+        return true;
+    }
+    if bits > WHOLE || cond.op != Op::MaskedEq {
+        return false;
+    }
+    cond.value < 1 << bits
 }
 
-// Whether all conditions are on these places.
-fn are_within(places: &[bool; 6], conds: &[Cond]) -> bool
-    ensures { IsTrue result → All (IsWithin places.now) conds.now }
+// Whether a condition looks at so many of the lowest bits of its argument alone.
+fn is_within(bits: &[u32; 6], cond: &Cond) -> bool
+    ensures { IsTrue result → IsWithin bits.now cond.now }
+{
+    is_low(bits[usize::from(cond.index)], cond)
+}
+
+// Whether all conditions do.
+fn are_within(bits: &[u32; 6], conds: &[Cond]) -> bool
+    ensures { IsTrue result → All (IsWithin bits.now) conds.now }
 {
     for cond in conds {
-        if !is_within(places, cond) {
+        if !is_within(bits, cond) {
             return false;
         }
     }
@@ -37,10 +51,12 @@ fn are_within(places: &[bool; 6], conds: &[Cond]) -> bool
 fn is_for_each(seen: &Seen, rule: &Rule) -> bool
     ensures { IsTrue result → IsForEach seen.now rule.now }
 {
-    if !rule.matches(&seen.record()) {
+    let record = seen.record();
+    words_are_a_record(&record);
+    if !rule.matches(&record) {
         return false;
     }
-    are_within(&seen.places, rule.conds.as_slice())
+    are_within(&seen.bits, rule.conds.as_slice())
 }
 
 // Whether a rule allows each of these calls.

@@ -1,5 +1,10 @@
 //! Calls of which the values of arguments are kept.
-use call_tables::Arch;
+ghost use Rattle.std.specs.Prelude.{◌≡◌, ◌<◌, ◌%◌, ◌^◌};
+ghost use Rattle.call_tables.specs.Arch.{token_of};
+ghost use Rattle.learn.specs.Kept as spec;
+
+use call_arguments::read_bits;
+use call_tables::{Arch, is_narrow};
 use strace_log::{Call, machines_run};
 
 /// A call of which the values of these arguments are kept.
@@ -68,13 +73,66 @@ pub(crate) fn is_kept(keeps: &[Keep<'_>], name: &str) -> bool {
     keeps.iter().any(|keep| keep.name == name)
 }
 
-/// The values of the arguments that are kept, the others 0; none if the call lacks one of them.
-pub(crate) fn values_of(keep: &Keep<'_>, call: &Call<'_>) -> Option<[u64; 6]> {
+/// An argument of which all bits are kept.
+pub(crate) const WHOLE: u32 = 64;
+
+// How many of the lowest bits of an argument are kept: what a kernel reads of it. Of a machine of 32 bits no more is compared.
+fn width(token: u32, nr: u32, place: usize) -> u32
+    requires { place < 6 }
+    ensures { result ≡ spec.width token nr place }
+{
+    if is_narrow(token) {
+        return WHOLE;
+    }
+    read_bits(token, nr, place)
+}
+
+// The same, and 0 of an argument that is not asked for.
+fn bits_at(places: &[bool; 6], token: u32, nr: u32, place: usize) -> u32
+    requires { place < 6 }
+    ensures { result ≡ spec.bits_at places.now token nr place }
+{
+    if places[place] {
+        return width(token, nr, place);
+    }
+    0
+}
+
+/// How many of the lowest bits are kept of each argument of a call.
+pub(crate) fn bits_of(keep: &Keep<'_>, arch: Arch, nr: u32) -> [u32; 6]
+    ensures { result ≡ spec.bits_of keep.now.places (token_of arch) nr }
+{
+    let places = &keep.places;
+    let token = arch.token();
+    [
+        bits_at(places, token, nr, 0),
+        bits_at(places, token, nr, 1),
+        bits_at(places, token, nr, 2),
+        bits_at(places, token, nr, 3),
+        bits_at(places, token, nr, 4),
+        bits_at(places, token, nr, 5),
+    ]
+}
+
+/// So many of the lowest bits of a number.
+pub(crate) fn low(value: u64, bits: u32) -> u64
+    requires { bits < 65 }
+    ensures { result ≡ value % 2 ^ bits }
+{
+    if bits >= WHOLE {
+        return value;
+    }
+    value % (1 << bits)
+}
+
+/// The values of the arguments of which bits are kept, the others 0; none if the call lacks one of them.
+pub(crate) fn values_of(bits: &[u32; 6], call: &Call<'_>) -> Option<[u64; 6]> {
     let mut values = [0; 6];
     for place in 0..6u8 {
         let at = usize::from(place);
-        if keep.places[at] {
-            values[at] = call.argument(place)?;
+        let bits = bits[at].min(WHOLE);
+        if bits > 0 {
+            values[at] = low(call.argument(place)?, bits);
         }
     }
     Some(values)

@@ -1,95 +1,251 @@
-//! Calls that a bundle refuses.
-use call_record::{Record, Word};
+//! Calls of logs that a bundle refuses.
+ghost use Rattle.std.specs.Prelude.{◌≡◌, ◌++◌, List, [], IfOk, count_by, string_bytes};
+ghost use Rattle.std.specs.List.{flat_map, list_any};
+ghost use Rattle.learn.specs.Replayed as spec;
+ghost use Rattle.learn.specs.Replayed.{Refused, with_verdict};
+ghost use Rattle.learn.specs.inner.Refusals.{HaveAlike, IsNext};
+ghost use Rattle.learn.specs.inner.Views.{all_logged, all_refused, logged, refused};
+
+use crate::logged::LogCall;
+use crate::reasons::{reason_of, said_of};
+use call_record::{Word, lets_through};
 use call_tables::Arch;
-use explain::ActionText;
-use profile::{Profile, are_for};
+use explain::{ActionText, Reason};
+use profile::Profile;
 use profile_json::EntryRules;
-use std::alloc::AllocError;
+use std::alloc::{AllocError, Global};
 use std::fmt::Write;
-use strace_log::Call;
 
-/// Why a call is refused.
-#[derive(Clone, Copy, PartialEq, Eq)]
-pub(crate) enum Why {
-    /// It is no call of the bundle's machines.
-    Foreign,
-    /// By the entry at this place.
-    Entry(usize),
-    /// No entry matches it.
-    Default,
-}
-
-/// A call that is refused: by which verdict and why, how often, and the log and the line that show it first, from 0.
+/// A call that is not carried out: its machine and number, the number of the verdict that is said of it, and why; and the log, the
+/// number of the line and the line that show it.
 #[derive(Clone, Copy)]
-pub(crate) struct Refusal {
+pub(crate) struct RefusedCall<'a> {
     arch: Arch,
     nr: u32,
-    word: Word,
-    why: Why,
-    count: u64,
-    pub(crate) log: usize,
-    pub(crate) line: u64,
+    verdict: u32,
+    why: Reason,
+    log: &'a str,
+    number: usize,
+    line: &'a str,
 }
 
-// Why a profile says its verdict of a record, by the rules of its bundle's entries.
-fn why_of(profile: &Profile, all: &EntryRules, record: &Record) -> Why {
-    if !are_for(profile.machines(), record.arch, record.nr) {
-        return Why::Foreign;
+// A call with the verdict that is said of it, and why.
+fn refused_call<'a>(shown: &LogCall<'a>, word: Word, why: Reason) -> RefusedCall<'a>
+    ensures { refused result ≡ with_verdict (logged shown.now) word why }
+{
+    RefusedCall {
+        arch: shown.arch,
+        nr: shown.record.nr,
+        verdict: word.0,
+        why,
+        log: shown.log,
+        number: shown.number,
+        line: shown.line,
     }
-    match all.rules.iter().position(|rule| rule.matches(record)) {
-        Some(place) => Why::Entry(all.entry_of(place).unwrap_or(0)),
-        None => Why::Default,
-    }
 }
 
-// Whether a refusal is of this call, with this verdict for this reason.
-fn is_same(refusal: &Refusal, call: &Call<'_>, word: Word, why: Why) -> bool {
-    refusal.arch == call.arch && refusal.nr == call.nr && refusal.word == word && refusal.why == why
-}
-
-/// Counts a call that is refused, which a log shows at a line.
-pub(crate) fn count(
+// Adds a call, if a profile refuses it.
+fn put_refused<'a>(
     profile: &Profile,
     all: &EntryRules,
-    call: &Call<'_>,
-    word: Word,
-    (log, line): (usize, u64),
-    refusals: &mut Vec<Refusal>,
-) -> Result<(), AllocError> {
-    let why = why_of(profile, all, &call.record());
-    let found = refusals
-        .iter()
-        .position(|refusal| is_same(refusal, call, word, why));
-    if let Some(place) = found {
-        if let Some(refusal) = refusals.get_mut(place) {
-            refusal.count = refusal.count.saturating_add(1);
-        }
+    shown: &LogCall<'a>,
+    calls: &mut Vec<RefusedCall<'a>>,
+) -> Result<(), AllocError>
+    ensures { IfOk result (λ _. all_refused calls.new.items
+        ≡ all_refused calls.old.items ++ spec.refused_of profile.now all.now.rules.items all.now.ends.items (logged shown.now)) }
+{
+    let word = said_of(profile, &shown.record);
+    if lets_through(word) {
         return Ok(());
     }
-    refusals.push(Refusal {
-        arch: call.arch,
-        nr: call.nr,
-        word,
-        why,
-        count: 1,
-        log,
-        line,
-    })?;
+    let why = reason_of(profile, all, &shown.record);
+    calls.push(refused_call(shown, word, why))?;
     Ok(())
 }
 
-/// Adds the line of a refusal: the call, the verdict, why, and how often.
-pub(crate) fn put_refusal(text: &mut String, refusal: &Refusal) -> Result<(), AllocError> {
-    let nr = refusal.nr;
-    let name = refusal.arch.name(nr).unwrap_or("a call");
-    let machine = refusal.arch.machine_name();
-    let action = ActionText(refusal.word);
-    let count = refusal.count;
-    write!(text, "refused {name}, number {nr} of {machine}: {action}, ")?;
-    match refusal.why {
-        Why::Foreign => text.push_str("foreign")?,
-        Why::Entry(entry) => write!(text, "entry {entry}")?,
-        Why::Default => text.push_str("default")?,
+/// The calls of logs that a profile refuses, by the rules of its bundle's entries.
+pub(crate) fn refused_in<'a>(
+    alloc: Global,
+    profile: &Profile,
+    all: &EntryRules,
+    shown: &[LogCall<'a>],
+) -> Result<Vec<RefusedCall<'a>>, AllocError>
+    ensures { IfOk result (λ calls. all_refused calls.items
+        ≡ spec.refused_in profile.now all.now.rules.items all.now.ends.items (all_logged shown.now)) }
+{
+    let mut calls = Vec::new(alloc);
+    for one in shown {
+        put_refused(profile, all, one, &mut calls)?;
     }
+    Ok(calls)
+}
+
+fn is_same_reason(a: Reason, b: Reason) -> bool
+    ensures { result ≡ spec.same_reason a b }
+{
+    match (a, b) {
+        (Reason::Foreign, Reason::Foreign) => true,
+        (Reason::Entry(a), Reason::Entry(b)) => a == b,
+        (Reason::Default, Reason::Default) => true,
+        _ => false,
+    }
+}
+
+// Whether two are of one call, with one verdict, for one reason.
+fn is_alike(a: &RefusedCall<'_>, b: &RefusedCall<'_>) -> bool
+    ensures { result ≡ spec.is_alike (refused a.now) (refused b.now) }
+{
+    if a.arch.token() != b.arch.token() {
+        return false;
+    }
+    if a.nr != b.nr {
+        return false;
+    }
+    if a.verdict != b.verdict {
+        return false;
+    }
+    is_same_reason(a.why, b.why)
+}
+
+// Whether one of them is like another.
+fn has_alike(calls: &[RefusedCall<'_>], other: &RefusedCall<'_>) -> bool
+    ensures { result ≡ list_any (λ call. spec.is_alike call (refused other.now)) (all_refused calls.now) }
+{
+    for call in calls {
+        if is_alike(call, other) {
+            return true;
+        }
+    }
+    false
+}
+
+// Adds a call, unless one of these is like it.
+fn put_first<'a>(
+    firsts: &mut Vec<RefusedCall<'a>>,
+    call: &RefusedCall<'a>,
+) -> Result<(), AllocError>
+    ensures { (before : List Refused) → HaveAlike (all_refused firsts.old.items) before
+        → IfOk result (λ _. IsNext before (refused call.now) (all_refused firsts.old.items) (all_refused firsts.new.items)) }
+{
+    if has_alike(firsts, call) {
+        return Ok(());
+    }
+    firsts.push(*call)?;
+    Ok(())
+}
+
+// Those that are like none before them.
+fn firsts_of<'a>(
+    alloc: Global,
+    calls: &[RefusedCall<'a>],
+) -> Result<Vec<RefusedCall<'a>>, AllocError>
+    ensures { IfOk result (λ firsts. all_refused firsts.items ≡ spec.firsts_behind [] (all_refused calls.now)) }
+{
+    let mut firsts = Vec::new(alloc);
+    for call in calls {
+        put_first(&mut firsts, call)?;
+    }
+    Ok(firsts)
+}
+
+// How many are like the first.
+fn count_of(first: &RefusedCall<'_>, calls: &[RefusedCall<'_>]) -> usize
+    ensures { result ≡ count_by (spec.is_alike (refused first.now)) (all_refused calls.now) }
+{
+    let mut count = 0usize;
+    for call in calls {
+        count += usize::from(is_alike(first, call));
+    }
+    count
+}
+
+// The name of a machine's call.
+fn name_of(arch: Arch, nr: u32) -> &'static str
+    ensures { result.now ≡ spec.name_of arch nr }
+{
+    match arch.name(nr) {
+        Some(name) => name,
+        None => "a call",
+    }
+}
+
+// Adds the call, the verdict, and what stands before the reason.
+fn put_call(text: &mut String, call: &RefusedCall<'_>) -> Result<(), AllocError>
+    ensures { IfOk result (λ _. string_bytes text.new ≡ string_bytes text.old ++ spec.call_text (refused call.now)) }
+{
+    let nr = call.nr;
+    let name = name_of(call.arch, nr);
+    let machine = call.arch.machine_name();
+    let action = ActionText(Word(call.verdict));
+    write!(text, "refused {name}, number {nr} of {machine}: {action}, ")
+}
+
+// Adds why a call is refused.
+fn put_why(text: &mut String, why: Reason) -> Result<(), AllocError>
+    ensures { IfOk result (λ _. string_bytes text.new ≡ string_bytes text.old ++ spec.why_text why) }
+{
+    match why {
+        Reason::Foreign => text.push_str("foreign"),
+        Reason::Entry(entry) => write!(text, "entry {entry}"),
+        Reason::Default => text.push_str("default"),
+    }
+}
+
+// Adds how often it is refused.
+fn put_times(text: &mut String, count: usize) -> Result<(), AllocError>
+    ensures { IfOk result (λ _. string_bytes text.new ≡ string_bytes text.old ++ spec.times_text count) }
+{
     writeln!(text, ", {count} times")
+}
+
+// Adds the line that shows a call, with its place.
+fn put_place(text: &mut String, call: &RefusedCall<'_>) -> Result<(), AllocError>
+    ensures { IfOk result (λ _. string_bytes text.new ≡ string_bytes text.old ++ spec.place_text (refused call.now)) }
+{
+    let log = call.log;
+    let number = call.number;
+    let line = call.line;
+    writeln!(text, "  {log}:{number}: {line}")
+}
+
+// Adds a call that is refused: the verdict, why, how often, and the line that shows it first.
+fn put_refusal(
+    text: &mut String,
+    calls: &[RefusedCall<'_>],
+    first: &RefusedCall<'_>,
+) -> Result<(), AllocError>
+    ensures { IfOk result (λ _. string_bytes text.new ≡ string_bytes text.old ++ spec.refusal_text (all_refused calls.now) (refused first.now)) }
+{
+    put_call(text, first)?;
+    put_why(text, first.why)?;
+    put_times(text, count_of(first, calls))?;
+    put_place(text, first)
+}
+
+// Adds these calls of all.
+fn put_each(
+    text: &mut String,
+    calls: &[RefusedCall<'_>],
+    firsts: &[RefusedCall<'_>],
+) -> Result<(), AllocError>
+    ensures { IfOk result (λ _. string_bytes text.new ≡ string_bytes text.old
+        ++ flat_map (spec.refusal_text (all_refused calls.now)) (all_refused firsts.now)) }
+{
+    for first in firsts {
+        put_refusal(text, calls, first)?;
+    }
+    Ok(())
+}
+
+/// Adds each call that is refused, once.
+pub(crate) fn put_refusals(
+    alloc: Global,
+    text: &mut String,
+    calls: &[RefusedCall<'_>],
+) -> Result<(), AllocError>
+    ensures { IfOk result (λ _. string_bytes text.new ≡ string_bytes text.old
+        ++ flat_map (spec.refusal_text (all_refused calls.now)) (spec.firsts_behind [] (all_refused calls.now))) }
+{
+    let firsts = firsts_of(alloc, calls)?;
+    put_each(text, calls, &firsts)
 }

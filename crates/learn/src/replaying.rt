@@ -1,166 +1,94 @@
 //! Logs played through a bundle.
-ghost use Rattle.std.specs.Prelude.{◌≡◌, IfOk, IfNone, IsTrue, true, false};
-ghost use Rattle.std.specs.List.{All};
-ghost use Rattle.strace_log.specs.Line.{words_of_call};
-ghost use Rattle.learn.specs.Replayed.{LetsThrough, LineIsThrough, TellsReplayed, TextIsThrough, texts_of};
+ghost use Rattle.std.specs.Prelude.{◌≡◌, ◌⊎◌, ◌++◌, [], codes, if◌then◌else◌, IfErr, IfOk, IfSome, length, string_bytes};
+ghost use Rattle.std.specs.List.{flat_map};
+ghost use Rattle.explain.specs.Told.{TellsLine};
+ghost use Rattle.profile_json.specs.Breaks.{Breaks};
+ghost use Rattle.profile_json.specs.Fault.{fault_of};
+ghost use Rattle.learn.specs.Logged.{parts_of};
+ghost use Rattle.learn.specs.Replayed as spec;
+ghost use Rattle.learn.specs.Unused.{unused_text};
+ghost use Rattle.learn.specs.inner.Played.{IsPlayed, Plays};
+ghost use Rattle.learn.specs.inner.Views.{all_logged, all_refused};
 
-use crate::logs::{Log, first_empty, name_at};
-use crate::refusals::{Refusal, count, put_refusal};
-use crate::telling::line_at;
+use crate::logged::{LogCall, put_logs};
+use crate::logs::Log;
+use crate::refusals::{RefusedCall, put_refusals, refused_in};
 use crate::unused::put_unused;
-use call_record::{Word, lets_through};
 use call_tables::Arch;
 use explain::{Told, refused_profile};
 use profile::Profile;
-use profile_json::{EntryRules, read_bundle, rules_by_entry};
+use profile_json::{EntryRules, ProfileError, read_bundle, rules_by_entry};
 use std::alloc::{AllocError, Global};
 use std::fmt::Write;
-use strace_log::{Call, call_on};
 
-// What was found in logs: the calls that are refused, how many records there are, and how many of them are refused.
-#[derive(Drop)]
-struct Found {
-    refusals: Vec<Refusal>,
-    records: u64,
-    refused: u64,
-}
-
-// What a profile says of a call, if the call is refused.
-fn refusal_of(profile: &Profile, call: &Call<'_>) -> Option<Word>
-    ensures { IfNone result (LetsThrough profile.now (words_of_call (call.now.arch, call.now.nr, call.now.args))) }
+// Adds how many records are refused.
+fn put_count(text: &mut String, refused: usize, records: usize) -> Result<(), AllocError>
+    ensures { IfOk result (λ _. string_bytes text.new ≡ string_bytes text.old ++ spec.count_text refused records) }
 {
-    let word = profile.decide(&call.record());
-    if lets_through(word) { None } else { Some(word) }
-}
-
-// Counts a call, and tells whether it is carried out.
-fn weigh(
-    profile: &Profile,
-    all: &EntryRules,
-    call: &Call<'_>,
-    at: (usize, u64),
-    found: &mut Found,
-) -> Result<bool, AllocError>
-    ensures { IfOk result (λ through. IsTrue through → LetsThrough profile.now (words_of_call (call.now.arch, call.now.nr, call.now.args))) }
-{
-    found.records = found.records.saturating_add(1);
-    match refusal_of(profile, call) {
-        None => Ok(true),
-        Some(word) => {
-            found.refused = found.refused.saturating_add(1);
-            count(profile, all, call, word, at, &mut found.refusals)?;
-            Ok(false)
-        }
-    }
-}
-
-// Counts the call that a line tells, and tells whether it is carried out: true where the line tells none.
-fn weigh_line(
-    native: Arch,
-    profile: &Profile,
-    all: &EntryRules,
-    line: &str,
-    at: (usize, u64),
-    found: &mut Found,
-) -> Result<bool, AllocError>
-    ensures { IfOk result (λ through. IsTrue through → LineIsThrough native profile.now line.now) }
-{
-    match call_on(native, line) {
-        Some(call) => weigh(profile, all, &call, at, found),
-        None => Ok(true),
-    }
-}
-
-// Whether both hold.
-fn both(first: bool, second: bool) -> bool
-    ensures { IsTrue result → IsTrue first × IsTrue second }
-{
-    first && second
-}
-
-// Counts the calls that the lines of a text tell, and tells whether all are carried out.
-fn weigh_text(
-    native: Arch,
-    profile: &Profile,
-    all: &EntryRules,
-    log: usize,
-    text: &str,
-    found: &mut Found,
-) -> Result<bool, AllocError>
-    ensures { IfOk result (λ through. IsTrue through → TextIsThrough native profile.now text.now) }
-{
-    let mut are_through = true;
-    let mut line_number = 0u64;
-    let mut rest = text;
-    'line: while let Some((line, more)) = rest.split_once('\n') {
-        let is_through = weigh_line(native, profile, all, line, (log, line_number), found)?;
-        are_through = both(are_through, is_through);
-        line_number = line_number.saturating_add(1);
-        rest = more;
-    }
-    let last = weigh_line(native, profile, all, rest, (log, line_number), found)?;
-    Ok(both(are_through, last))
-}
-
-// The same of a log. Of one that is no text no record is known, and it is told as refused.
-fn weigh_log(
-    native: Arch,
-    profile: &Profile,
-    all: &EntryRules,
-    place: usize,
-    log: &Log<'_>,
-    found: &mut Found,
-) -> Result<bool, AllocError>
-    ensures { IfOk result (λ through. IsTrue through → TextIsThrough native profile.now log.now.text.now) }
-{
-    match str::from_utf8(log.text) {
-        Ok(text) => weigh_text(native, profile, all, place, text, found),
-        Err(_) => Ok(false),
-    }
-}
-
-// The same of logs; none of them may be without a record.
-fn weigh_logs(
-    native: Arch,
-    profile: &Profile,
-    all: &EntryRules,
-    logs: &[Log<'_>],
-    found: &mut Found,
-) -> Result<(bool, Option<usize>), AllocError>
-    ensures { IfOk result (λ weighed. IsTrue weighed.0 → All (TextIsThrough native profile.now) (texts_of logs.now)) }
-{
-    let mut are_through = true;
-    let mut empty = None;
-    for (place, log) in logs.iter().enumerate() {
-        let before = found.records;
-        let is_through = weigh_log(native, profile, all, place, log, found)?;
-        are_through = both(are_through, is_through);
-        empty = first_empty(empty, place, found.records == before);
-    }
-    Ok((are_through, empty))
-}
-
-// Adds the calls that are refused, each with the line that shows it first.
-fn put_refusals(text: &mut String, logs: &[Log<'_>], found: &Found) -> Result<(), AllocError> {
-    for refusal in &found.refusals {
-        put_refusal(text, refusal)?;
-        if let Some(log) = logs.get(refusal.log) {
-            let name = log.name;
-            let number = refusal.line.saturating_add(1);
-            let line = line_at(log, refusal.line);
-            writeln!(text, "  {name}:{number}: {line}")?;
-        }
-    }
-    let records = found.records;
-    let refused = found.refused;
     writeln!(text, "{refused} of {records} records refused")
 }
 
-// The line that tells that a log has no record.
-fn no_record(alloc: Global, logs: &[Log<'_>], place: usize) -> Result<Told, AllocError>
-    ensures { IfOk result (λ told. told.done ≡ false) }
+// Adds what is not used, if it is asked for.
+fn put_if_asked(
+    alloc: Global,
+    text: &mut String,
+    all: &EntryRules,
+    calls: &[LogCall<'_>],
+    tells_unused: bool,
+) -> Result<(), AllocError>
+    ensures { IfOk result (λ _. string_bytes text.new ≡ string_bytes text.old
+        ++ (if tells_unused then unused_text all.now.rules.items all.now.ends.items (all_logged calls.now) else [])) }
 {
-    let name = name_at(logs, place);
+    if tells_unused {
+        return put_unused(alloc, text, all, calls);
+    }
+    Ok(())
+}
+
+// The text that tells of calls, of which these are refused.
+fn text_of(
+    alloc: Global,
+    all: &EntryRules,
+    calls: &[LogCall<'_>],
+    refused: &[RefusedCall<'_>],
+    tells_unused: bool,
+) -> Result<String, AllocError>
+    ensures { IfOk result (λ text. string_bytes text
+        ≡ flat_map (spec.refusal_text (all_refused refused.now)) (spec.firsts_behind [] (all_refused refused.now))
+        ++ spec.count_text (length refused.now) (length calls.now)
+        ++ (if tells_unused then unused_text all.now.rules.items all.now.ends.items (all_logged calls.now) else [])) }
+{
+    let mut text = String::new(alloc);
+    put_refusals(alloc, &mut text, refused)?;
+    put_count(&mut text, refused.len(), calls.len())?;
+    put_if_asked(alloc, &mut text, all, calls, tells_unused)?;
+    Ok(text)
+}
+
+// What is told of calls that are played through a profile, and the rules of its bundle's entries.
+fn told_of(
+    alloc: Global,
+    profile: &Profile,
+    all: &EntryRules,
+    calls: &[LogCall<'_>],
+    tells_unused: bool,
+) -> Result<Told, AllocError>
+    ensures { IfOk result (IsPlayed profile.now all.now.rules.items all.now.ends.items tells_unused (all_logged calls.now)) }
+{
+    let _rules = profile.rules();
+    let refused = refused_in(alloc, profile, all, calls)?;
+    let text = text_of(alloc, all, calls, &refused, tells_unused)?;
+    Ok(Told {
+        bytes: text.into_bytes(),
+        done: refused.len() == 0,
+    })
+}
+
+// The line that tells that a file is no log.
+fn no_log(alloc: Global, name: &str) -> Result<Told, AllocError>
+    ensures { IfOk result (TellsLine (codes "refused log " ++ name.now
+        ++ codes ": no line tells a call: it is no log of strace -f -n -e raw=all")) }
+{
     let line = format!(in alloc;
         "refused log {name}: no line tells a call: it is no log of strace -f -n -e raw=all\n"
     )?;
@@ -171,7 +99,7 @@ fn no_record(alloc: Global, logs: &[Log<'_>], place: usize) -> Result<Told, Allo
 }
 
 // Plays logs through a profile, and the rules of its bundle's entries.
-fn replayed(
+fn played(
     alloc: Global,
     native: Arch,
     profile: &Profile,
@@ -179,47 +107,35 @@ fn replayed(
     logs: &[Log<'_>],
     tells_unused: bool,
 ) -> Result<Told, AllocError>
-    ensures { IfOk result (λ told. told.done ≡ true → All (TextIsThrough native profile.now) (texts_of logs.now)) }
+    ensures { IfOk result (Plays native profile.now all.now.rules.items all.now.ends.items (parts_of logs.now) tells_unused) }
 {
-    let mut found = Found {
-        refusals: Vec::new(alloc),
-        records: 0,
-        refused: 0,
-    };
-    let (are_through, empty) = weigh_logs(native, profile, all, logs, &mut found)?;
-    if let Some(place) = empty {
-        return no_record(alloc, logs, place);
+    let mut calls = Vec::new(alloc);
+    match put_logs(native, logs, &mut calls)? {
+        Some(name) => no_log(alloc, name),
+        None => told_of(alloc, profile, all, &calls, tells_unused),
     }
-    let mut text = String::new(alloc);
-    put_refusals(&mut text, logs, &found)?;
-    if tells_unused {
-        put_unused(&mut text, alloc, native, all, logs)?;
-    }
-    Ok(Told {
-        bytes: text.into_bytes(),
-        done: are_through,
-    })
 }
 
-// Plays logs through the profile of a bundle.
-fn replayed_by(
+// What is told of a bundle that was read twice, or why it was not.
+fn replayed(
     alloc: Global,
     native: Arch,
-    profile: &Profile,
     bundle: &[u8],
     logs: &[Log<'_>],
     tells_unused: bool,
-) -> Result<Told, AllocError>
-    ensures { IfOk result (λ told. told.done ≡ true → All (TextIsThrough native profile.now) (texts_of logs.now)) }
+) -> Result<Told, ProfileError>
+    ensures told { IfOk result (λ told. (spec.RefusesLog native (parts_of logs.now) told)
+        ⊎ (spec.Replays native bundle.now (parts_of logs.now) tells_unused told)) }
+    ensures fault { IfErr result (λ e. IfSome (fault_of e) (Breaks bundle.now native)) }
 {
-    match rules_by_entry(alloc, bundle, native) {
-        Ok(all) => replayed(alloc, native, profile, &all, logs, tells_unused),
-        Err(error) => refused_profile(alloc, error),
-    }
+    let read = read_bundle(alloc, bundle, native)?;
+    let all = rules_by_entry(alloc, bundle, native)?;
+    let told = played(alloc, native, &read.profile, &all, logs, tells_unused)?;
+    Ok(told)
 }
 
 /// Tells each call of logs that a bundle, which is read for a native machine, refuses: the verdict, why, how often, and the line
-/// that shows it first; and where it is asked for, the entries that no record matches. It is done where nothing is refused.
+/// that shows it first; and where it is asked for, what of the bundle no record matches. It is done just where nothing is refused.
 pub fn replay(
     alloc: Global,
     native: Arch,
@@ -227,13 +143,10 @@ pub fn replay(
     logs: &[Log<'_>],
     tells_unused: bool,
 ) -> Result<Told, AllocError>
-    ensures { IfOk result (TellsReplayed native bundle.now logs.now) }
+    ensures told { IfOk result (spec.TellsReplayed native tells_unused bundle.now (parts_of logs.now)) }
 {
-    match read_bundle(alloc, bundle, native) {
-        Ok(read) => {
-            let told = replayed_by(alloc, native, &read.profile, bundle, logs, tells_unused)?;
-            Ok(told)
-        }
+    match replayed(alloc, native, bundle, logs, tells_unused) {
+        Ok(told) => Ok(told),
         Err(error) => refused_profile(alloc, error),
     }
 }

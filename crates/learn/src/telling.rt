@@ -2,7 +2,6 @@
 use crate::calls::Calls;
 use crate::keeps::Keep;
 use crate::lists::Runtime;
-use crate::logs::Log;
 use crate::names::Names;
 use call_tables::Arch;
 use std::alloc::AllocError;
@@ -72,21 +71,6 @@ fn put_keeps(text: &mut String, keeps: &[Keep<'_>], calls: &Calls) -> Result<(),
         }
     }
     Ok(())
-}
-
-/// The line of a log at a place, from 0.
-pub(crate) fn line_at<'a>(log: &Log<'a>, place: u64) -> &'a str {
-    let Ok(text) = str::from_utf8(log.text) else {
-        return "";
-    };
-    let mut left = place;
-    for line in text.split('\n') {
-        if left == 0 {
-            return line;
-        }
-        left = left.saturating_sub(1);
-    }
-    ""
 }
 
 /// Adds what is in a bundle that was made of logs, and why.

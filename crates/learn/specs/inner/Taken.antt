@@ -1,10 +1,11 @@
 -- What was gathered of the lines of logs.
-use Rattle.std.specs.Prelude.{ℕ, ◌≡◌, ◌<◌, ◌++◌, ◌⊎◌, Bool, true, false, List, [], ◌∷◌, Some, IfSome, slice_index, slice_index_or}
+use Rattle.std.specs.Prelude.{ℕ, ◌≡◌, ◌<◌, ◌%◌, ◌^◌, ◌++◌, ◌⊎◌, false, List, [], ◌∷◌, Some, IfSome, slice_index}
 use Rattle.std.specs.List.{All, Contains}
 use Rattle.call_record.specs.Verdict.{allow}
 use Rattle.call_record.specs.Words.{IsRecord}
 use Rattle.call_tables.specs.declared.arch.Arch.{Arch}
 use Rattle.profile.specs.declared.conditions.Cond.{Cond}
+use Rattle.profile.specs.declared.conditions.Op.TheVariants.{MaskedEq}
 use Rattle.profile.specs.declared.rules.Rule.{Rule}
 use Rattle.profile.specs.Policy.{Policy, Says}
 use Rattle.profile.specs.Rule.{Matches}
@@ -15,15 +16,16 @@ use Rattle.learn.specs.declared.reading.Shown.{Shown}
 
 -- ---- calls
 
--- at each of these places the arguments are the values
-abbrev pub Agree : List Bool → List ℕ → List ℕ → Type 0
-Agree places values args = (j : ℕ) → j < 6 → slice_index_or places j false ≡ true → slice_index values j ≡ slice_index args j
+-- in so many of their lowest bits the arguments are the values
+abbrev pub Agree : List ℕ → List ℕ → List ℕ → Type 0
+Agree bits values args =
+    (j : ℕ) → j < 6 → slice_index args j % 2 ^ slice_index bits j ≡ slice_index values j % 2 ^ slice_index bits j
 
--- the call has this number on this machine, and these values at these places
+-- the call has this number on this machine, and these values in so many bits
 pub record Covers (seen : Seen) (call : CallParts) : Type 0 where
   pub arch : call.0 ≡ seen.arch
   pub nr : call.1 ≡ seen.nr
-  pub agrees : Agree seen.places seen.values call.2
+  pub agrees : Agree seen.bits seen.values call.2
 
 -- the call was gathered
 pub record IsCovered (seen : List Seen) (call : CallParts) : Type 0 where
@@ -82,13 +84,16 @@ pub record HasCome (native : Arch) (before : List (List ℕ)) (text part : List 
 
 -- ---- rules
 
--- the condition is on one of these places
-abbrev pub IsWithin : List Bool → Cond → Type 0
-IsWithin places c = (c.index < 6) × (slice_index_or places c.index false ≡ true)
+-- the condition looks at so many of the lowest bits of its argument alone
+abbrev pub IsLow : ℕ → Cond → Type 0
+IsLow bits c = (bits ≡ 64) ⊎ ((c.op ≡ MaskedEq) × (c.value < 2 ^ bits))
+
+abbrev pub IsWithin : List ℕ → Cond → Type 0
+IsWithin bits c = (c.index < 6) × IsLow (slice_index bits c.index) c
 
 -- the rule is for each call that is covered
 abbrev pub IsForEach : Seen → Rule → Type 0
-IsForEach seen rule = (call : CallParts) → Covers seen call → Matches rule (words_of_call call)
+IsForEach seen rule = (call : CallParts) → Covers seen call → IsRecord (words_of_call call) → Matches rule (words_of_call call)
 
 -- one of the rules allows each call that is covered
 abbrev pub OneAllows : List Rule → Seen → Type 0
