@@ -1,5 +1,5 @@
 -- Which command the parts are that clap found behind a name, by the rows of its matches. A list is the last arguments.
-use Rattle.std.specs.Prelude.{◌-◌, ℕ, true, false, Bool, List, length, drop, if◌then◌else◌, Option, Some, None, codes}
+use Rattle.std.specs.Prelude.{◌-◌, ℕ, true, false, List, length, drop, if◌then◌else◌, Option, Some, None, codes}
 use Rattle.std.specs.Prelude.{option_map, option_and_then}
 use Rattle.std.specs.Option.{option_map_or}
 use Rattle.std.specs.Str.{bytes_eq}
