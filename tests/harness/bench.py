@@ -44,6 +44,8 @@ class Bench:
             self.program.own(row, rest)
         elif kind == "certify":
             self.program.certify(row, rest)
+        elif kind == "behind":
+            self.program.behind(row, rest)
         elif kind == "pace":
             row.tell(pace(self.shelf, rest))
         elif kind in Streams.KINDS:

@@ -1,5 +1,6 @@
 """Runs of the built program `ccell` on the files of rows, told as rows tell them."""
 import os
+import re
 import subprocess
 
 from harness.limits import ENDLESS
@@ -76,6 +77,22 @@ class Program:
         self.shelf.keep("told", ran.stdout)
         checked = self.run(["check", *line.split(), "told"])
         row.tell(f"a certificate: {checked.stdout.decode().rstrip()}")
+
+    def behind(self, row, line):
+        """Asks for the evidence on `MACHINE BUNDLE FILTER` behind runc's stub. Tells what stands on standard error, and of a certificate
+        what the check says of it and of the filter without its stub, whose size is told, or else of the whole."""
+        native, bundle, filtered = line.split()
+        ran = self.run(["certify", native, bundle, filtered, "runc"])
+        told = ran.stderr.decode()
+        row.tell(*lines_of(told))
+        if not ran.stdout.startswith(b"CCRT"):
+            row.tell(*lines_of(ran.stdout.decode()))
+            return
+        size = re.search(r"the first (\d+) bytes", told)
+        self.shelf.keep("told", ran.stdout)
+        self.shelf.keep("rest", self.shelf.bytes_of(filtered)[int(size[1]) if size else 0 :])
+        of_rest, of_whole = (self.run(["check", native, bundle, name, "told"]).stdout.decode().rstrip() for name in ("rest", filtered))
+        row.tell(f"a certificate: {of_rest}" if of_rest == "yes" else f"a certificate of the whole: {of_whole}")
 
 
 def tell_replies(inputs, last, written):

@@ -11,27 +11,30 @@ use Rattle.audit.specs.Any.{IsExplained as IsExplainedAny}
 use Rattle.explain.specs.Told.{IsExplained}
 use Rattle.explain.specs.declared.told.Told.{Told}
 use Rattle.pipeline.specs.Answer.{WritesAnswer}
+use Rattle.behind_runc.specs.Behind.{CertifiesBehind}
 use Rattle.pipeline.specs.Certified.{Certifies}
 use Rattle.pipeline.specs.Exported.{Exports}
 use Rattle.pipeline.specs.Finding.{WritesFinding}
 use Rattle.command_line.specs.Arguments.{Given, Reads}
-use Rattle.command_line.specs.Arguments.Given.{Verdict, Check, Certify, Export, Run, Explain, Read as ReadOut, Record, Assemble, Annotate, Draw, Lint, Compare, CompareFilters, Adapt, Learn, Replay, Manual, Version}
+use Rattle.command_line.specs.Arguments.Given.{Verdict, Check, Certify, CertifyBehind, Export, Run, Explain, Read as ReadOut, Record, Assemble, Annotate, Draw, Lint, Compare, CompareFilters, Adapt, Learn, Replay, Manual, Version}
 use Rattle.command_line.specs.declared.Misuse.{Misuse}
 use Rattle.command_line.specs.declared.Misuse.TheVariants as kind
 use Rattle.cli.specs.declared.stops.Stop.{Stop}
 use Rattle.cli.specs.declared.stops.Stop.TheVariants.{Usage, CannotRead, Read, Write, OutOfMemory}
-use Rattle.cli.specs.Dispatch.{AnswersAdapt, AnswersCertify, AnswersCheck, AnswersExport, AnswersManual, AnswersReplay, AnswersTold}
+use Rattle.cli.specs.Dispatch.{AnswersAdapt, AnswersBehind, AnswersCertify, AnswersCheck, AnswersExport, AnswersManual, AnswersReplay, AnswersTold}
 use Rattle.cli.specs.Dispatch.{AnswersVerdict, Does, StopsAtWords}
 use Rattle.cli.specs.Adapted.{IsMadeAs}
 use Rattle.cli.specs.Told.{IsManual, IsReplayed, OfArguments, of_none, of_one, of_two}
 use Rattle.cli.specs.declared.adapting.Both.{Both}
-use Rattle.cli.specs.Dispatch.{any_call, explained_as, ExplainsWhy, FirstUnread, HaveBytes, IsMisuse, StopsAt, StopsAtFile, TellsMisuse}
+use Rattle.cli.specs.Dispatch.{any_call, explained_as, ExplainsBehind, ExplainsWhy, FirstUnread, HaveBytes, IsMisuse, StopsAt, StopsAtFile}
+use Rattle.cli.specs.Dispatch.{TellsMisuse}
 use Rattle.cli.specs.inner.Telling.{IsAdaptedOf, IsManualOf, IsReplayOf, IsToldOf, TellsOn, TellsText, told_in}
 use Rattle.cli.specs.Stop.{Reports, line_of, status_of, stop_at_misuse}
+use Rattle.cli.specs.Explained.{TellsBehind}
 use Rattle.cli.specs.Files.{Folder, HasBytes, HasEnough}
 use Rattle.cli.specs.Running.{told_line}
 use Rattle.cli.proofs.TurnLaws.{cut_at}
-use Rattle.cli.proofs.FileLaws.{certified_of_file, check_of_file, verdict_of_files}
+use Rattle.cli.proofs.FileLaws.{behind_of_file, certified_of_file, check_of_file, tells_of_file, verdict_of_files}
 
 abbrev pub now_of : Bor (List ℕ) → List ℕ
 now_of name = name.now
@@ -88,6 +91,10 @@ module _ {O : Type 0} (held : O → Option (List ℕ)) (failures : O → Failure
           → AnswersCertify held failures folder old old native bundle filter result
       certify_first stop result h e = inl (record { stop = stop; at = inl h; told = e; unwritten = refl })
 
+      pub behind_first : (stop : Stop) (result : Result Bool Stop) → StopsAt folder bundle stop → result ≡ Err stop
+          → AnswersBehind held failures folder old old native bundle filter result
+      behind_first stop result h e = inl (record { stop = stop; at = inl h; told = e; unwritten = refl })
+
       pub check_first : (cert : List ℕ) (stop : Stop) (result : Result Bool Stop) → StopsAt folder bundle stop → result ≡ Err stop
           → AnswersCheck held failures folder old old native bundle filter cert result
       check_first cert stop result h e = inl (record { stop = stop; at = inl h; told = e; unwritten = refl })
@@ -101,6 +108,10 @@ module _ {O : Type 0} (held : O → Option (List ℕ)) (failures : O → Failure
         pub certify_second : (stop : Stop) (result : Result Bool Stop) → StopsAt later filter stop → result ≡ Err stop
             → AnswersCertify held failures folder old old native bundle filter result
         certify_second stop result h e = inl (record { stop = stop; at = second [] stop h; told = e; unwritten = refl })
+
+        pub behind_second : (stop : Stop) (result : Result Bool Stop) → StopsAt later filter stop → result ≡ Err stop
+            → AnswersBehind held failures folder old old native bundle filter result
+        behind_second stop result h e = inl (record { stop = stop; at = second [] stop h; told = e; unwritten = refl })
 
         pub check_second : (cert : List ℕ) (stop : Stop) (result : Result Bool Stop) → StopsAt later filter stop → result ≡ Err stop
             → AnswersCheck held failures folder old old native bundle filter cert result
@@ -123,6 +134,33 @@ module _ {O : Type 0} (held : O → Option (List ℕ)) (failures : O → Failure
               written = certified_of_file native b of_filter.file f of_filter.enough held failures old new answer h;
               told = e;
             },
+          )
+
+          pub behind_done : (new : O) (answer : Result Bool WriteFault) (result : Result Bool Stop)
+              → CertifiesBehind held failures old new native b f answer → result ≡ told_line answer
+              → AnswersBehind held failures folder old new native bundle filter result
+          behind_done new answer result h e = inr (
+            b,
+            of_filter.file,
+            of_bundle,
+            has_filter,
+            record {
+              answer = answer;
+              written = behind_of_file native b of_filter.file f of_filter.enough held failures old new answer h;
+              told = e;
+            },
+          )
+
+          -- what is told on standard error
+          pub behind_told : {E : Type 0} (shown : E → Option (List ℕ)) (dropped : E → Failures) (err err' : E) (new : O) (done : Bool)
+              → TellsBehind held failures old new shown dropped err err' native b f (Ok done)
+              → ExplainsBehind held failures shown dropped folder old new err err' native bundle filter (Ok done)
+          behind_told shown dropped err err' new done h = (
+            b,
+            of_filter.file,
+            of_bundle,
+            has_filter,
+            tells_of_file native b of_filter.file f of_filter.enough held failures old new (Ok done) shown dropped err err' h,
           )
 
           module _ (cert : List ℕ) (last : Option Folder) (still : last ≡ later) where
@@ -241,6 +279,7 @@ module _ {I O : Type 0} (left : I → Option (List ℕ)) (given : I → Failures
   not_begun (Verdict filter rec) = (refl, inl (stops_early folder out (filter ∷ rec ∷ [])))
   not_begun (Check native bundle filter cert) = (refl, inl (stops_early folder out (bundle ∷ filter ∷ cert ∷ [])))
   not_begun (Certify native bundle filter) = (refl, inl (stops_early folder out (bundle ∷ filter ∷ [])))
+  not_begun (CertifyBehind native bundle filter) = (refl, inl (stops_early folder out (bundle ∷ filter ∷ [])))
   not_begun (Export native bundle form) = (refl, inl (stops_early folder out (bundle ∷ [])))
   not_begun (Run native bundles) = inl (refl, stops_early folder out bundles)
   not_begun (Explain native bundle call) = inr (refl, inl (stops_early folder out (bundle ∷ [])))
@@ -271,6 +310,7 @@ module _ {O E : Type 0} (held : O → Option (List ℕ)) (taken : O → Failures
   explained_stop (Verdict filter rec) stop = tt
   explained_stop (Check native bundle filter cert) stop = tt
   explained_stop (Certify native bundle filter) stop = tt
+  explained_stop (CertifyBehind native bundle filter) stop = tt
   explained_stop (Export native bundle form) stop = tt
   explained_stop (Run native bundles) stop = tt
   explained_stop (Explain native bundle call) stop = tt

@@ -61,6 +61,13 @@ module _ {O E : Type 0} (held : O → Option (List ℕ)) (failures : O → Failu
     told_of (Ok (Convicting found)) told why quiet is = line_of found (why found refl) is (told found refl)
     told_of (Err unready) told why quiet is = inl (quiet tt)
 
+  -- of a certificate nothing is explained, and else the record that was told
+  pub why_of : (done : Bool) (result : Result Bool WriteFault) → result ≡ Ok done → (result ≡ Ok true → err' ≡ err)
+      → (result ≡ Ok false → (err' ≡ err) ⊎ TellsRecord held failures out out' shown dropped err err' native bundle)
+      → (err' ≡ err) ⊎ TellsRecord held failures out out' shown dropped err err' native bundle
+  why_of true result e quiet told = inl (quiet e)
+  why_of false result e quiet told = told e
+
   -- the same of the bytes of a file
   with_bytes : (folder : Option Folder) (name : List ℕ) → HasBytes folder name bundle
       → (err' ≡ err) ⊎ TellsRecord held failures out out' shown dropped err err' native bundle

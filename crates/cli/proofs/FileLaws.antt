@@ -1,15 +1,18 @@
 -- What is written of the bytes that are read of files is so of the files' own.
-use Rattle.std.proofs.Common.{◌≡◌, ℕ, inl, inr, List, ap, length, subst, sym, ◌∙◌, arith}
+use Rattle.std.proofs.Common.{◌≡◌, ◌⊎◌, ℕ, ◌-◌, inl, inr, List, [], ap, length, refl, subst, sym, ◌∙◌, arith}
 use Rattle.std.specs.Prelude.{◌≢◌, Bool, Option, None, Result, Ok, Err}
 use Rattle.bpf_insn.specs.Bytes.{view_fault}
 use Rattle.bpf_insn.specs.declared.fault.ViewError.TheVariants.{NotMultipleOf8}
 use Rattle.call_tables.specs.declared.arch.Arch.{Arch}
+use Rattle.call_tables.specs.Arch.{family_of}
 use Rattle.cert_check.specs.declared.fault.CheckError.{CheckError}
 use Rattle.cert_check.specs.declared.fault.CheckError.TheVariants.{View}
 use Rattle.cert_check.specs.declared.fault.CheckError.TheVariants as error
 use Rattle.streams.specs.Failures.{Failures}
 use Rattle.streams.specs.declared.fault.WriteFault.{WriteFault}
 use Rattle.streams.specs.declared.fault.WriteFault.TheVariants as fault
+use Rattle.behind_runc.specs.Behind.{CertifiesBehind, IsBehind, WritesBehind}
+use Rattle.behind_runc.specs.Told.{stub_text}
 use Rattle.pipeline.specs.Answer.{IsAnswer, WritesAnswer}
 use Rattle.pipeline.specs.Certified.{Certifies, IsConvicted, IsOfFilter, IsOpen, IsUndecided}
 use Rattle.pipeline.specs.Finding.{IsFinding, TellsFinding, WritesFinding}
@@ -21,6 +24,8 @@ use Rattle.pipeline.specs.declared.verdict.Answer.{Answer}
 use Rattle.pipeline.specs.declared.verdict.Answer.TheVariants.{Verdict, NoRecord, NoProgram, Refusal}
 use Rattle.describe.specs.Shown.{IsShown}
 use Rattle.explain.specs.declared.told.Told.{Told}
+use Rattle.runc_stub.specs.declared.calls.Calls.{Calls}
+use Rattle.cli.specs.Explained.{MayTellStub, TellsBehind, WritesSome}
 use Rattle.cli.specs.Files.{IsEnough}
 use Rattle.cli.proofs.EnoughLaws.{all_read, all_read_of, first_of_file, same_fault, whole_filter}
 
@@ -97,6 +102,58 @@ module _ (native : Arch) (bundle filter f : List ℕ) (enough : IsEnough 32768 f
       told = h.told;
     })))
     certified_of_file result (inr (inr (inr h))) = inr (inr (inr h))
+
+    -- what is written where no stub was found in the bytes that were read
+    whole_behind : (result : Result Bool WriteFault) → WritesBehind held failures old new native bundle f f result
+        → Certifies held failures old new native bundle filter result
+    whole_behind result (inl h) = certified_of_file result h
+    whole_behind result (inr (inl h)) = certified_of_file result (inl h)
+    whole_behind result (inr (inr (inl h))) = certified_of_file result (inr (inr (inl h)))
+    whole_behind result (inr (inr (inr h))) = certified_of_file result (inr (inr (inr h)))
+
+    module _ (result : Result Bool WriteFault) where
+      behind_by : (rest : List ℕ) (answered : List Calls) → IsBehind f rest answered
+          → WritesBehind held failures old new native bundle f rest result
+          → CertifiesBehind held failures old new native bundle filter result
+      behind_by rest answered (inl has) h =
+          subst (λ x. CertifiesBehind held failures old new native bundle x result) (whole_filter filter f enough has.filter_is.program)
+          (inl (rest, answered, inl has, h))
+      behind_by rest answered (inr same) h =
+          let written = subst (λ x. WritesBehind held failures old new native bundle f x result) same.0 h in
+          inl (filter, [], inr (refl, refl), inl (whole_behind result written))
+
+      pub behind_of_file : CertifiesBehind held failures old new native bundle f result
+          → CertifiesBehind held failures old new native bundle filter result
+      behind_of_file (inl h) = behind_by h.0 h.1 h.2 h.3
+      behind_of_file (inr lacks) = inr lacks
+
+      module _ {E : Type 0} (shown : E → Option (List ℕ)) (dropped : E → Failures) (err err' : E) where
+        -- where no stub was found nothing depends on the bytes
+        no_stub : (between : E) (rest : List ℕ) (answered : List Calls) → answered ≡ []
+            → MayTellStub shown dropped err between native f rest answered → MayTellStub shown dropped err between native filter filter []
+        no_stub between rest answered none h =
+            let Told : List Calls → Type 0 =
+            λ calls. (between ≡ err) ⊎ WritesSome shown dropped err between (stub_text (family_of native) (length f - length rest) calls) in
+            subst Told none h
+
+        tells_by : (h : TellsBehind held failures old new shown dropped err err' native bundle f result) → IsBehind f h.rest h.answered
+            → TellsBehind held failures old new shown dropped err err' native bundle filter result
+        tells_by h (inl has) =
+            subst (λ x. TellsBehind held failures old new shown dropped err err' native bundle x result)
+            (whole_filter filter f enough has.filter_is.program) h
+        tells_by h (inr same) = record {
+          rest = filter;
+          answered = [];
+          behind = inr (refl, refl);
+          written = inl (whole_behind result (subst (λ x. WritesBehind held failures old new native bundle f x result) same.0 h.written));
+          between = h.between;
+          calls = no_stub h.between h.rest h.answered same.1 h.calls;
+          why = h.why;
+        }
+
+        pub tells_of_file : TellsBehind held failures old new shown dropped err err' native bundle f result
+            → TellsBehind held failures old new shown dropped err err' native bundle filter result
+        tells_of_file h = tells_by h h.behind
 
 -- what is shown of a filter
 module _ (filter f : List ℕ) (enough : IsEnough 32768 filter f) where

@@ -5,7 +5,7 @@ use Rattle.std.specs.Str.{bytes_eq}
 use denote.Ref.{Bor}
 use Rattle.call_tables.specs.declared.arch.Arch.{Arch}
 use Rattle.command_line.specs.Arguments.{Given}
-use Rattle.command_line.specs.Arguments.Given.{Verdict, Check, Certify, Export, Run, Explain, Record, Assemble}
+use Rattle.command_line.specs.Arguments.Given.{Verdict, Check, Certify, CertifyBehind, Export, Run, Explain, Record, Assemble}
 use Rattle.command_line.specs.Arguments.Given.{Read, Annotate, Draw, Lint, Compare, CompareFilters, Adapt, Learn, Replay, Manual, Version}
 use Rattle.streams.specs.Failures.{Failures}
 use Rattle.streams.specs.Sink.{StopsAt as StopsWriting, Wrote}
@@ -16,6 +16,7 @@ use Rattle.explain.specs.declared.told.Told.{Told}
 use Rattle.audit.specs.Any.{IsExplained as IsExplainedAny}
 use Rattle.describe.specs.Shown.{IsAnnotated, IsDrawn}
 use Rattle.lint.specs.Linted.{IsLinted}
+use Rattle.behind_runc.specs.Behind.{CertifiesBehind}
 use Rattle.compare.specs.Told.{IsCompared}
 use Rattle.differ.specs.Told.{IsTold}
 use Rattle.pipeline.specs.Answer.{WritesAnswer}
@@ -24,7 +25,7 @@ use Rattle.pipeline.specs.Exported.{Exports}
 use Rattle.pipeline.specs.Finding.{WritesFinding}
 use Rattle.cli.specs.declared.stops.Stop.{Stop}
 use Rattle.cli.specs.declared.stops.Stop.TheVariants.{CannotRead, OutOfMemory, Usage, Write}
-use Rattle.cli.specs.Explained.{TellsRecord}
+use Rattle.cli.specs.Explained.{TellsBehind, TellsRecord}
 use Rattle.cli.specs.Adapted.{IsMadeAs}
 use Rattle.cli.specs.Told.{IsManual, IsNoCommand, IsReplayed, NamesLogs, of_none, of_one, of_two, OfArguments}
 use Rattle.cli.specs.Files.{CannotBeRead, Folder, HasBytes, HasEnough}
@@ -56,8 +57,10 @@ exit_status (Ok true) = 0
 exit_status (Ok false) = 1
 exit_status (Err stop) = status_of stop
 
--- `adapt` and `learn` alone tell on standard error what they changed or added, also where it was done
+-- `adapt` and `learn` tell on standard error what they changed or added, and `certify` with `runc` what the stub answers, also where it
+-- was done; no other command does
 abbrev pub TellsChanges : Given → Type 0
+TellsChanges (CertifyBehind native bundle filter) = Unit {0}
 TellsChanges (Adapt native config words) = Unit {0}
 TellsChanges (Learn native words) = Unit {0}
 TellsChanges other = ⊥
@@ -108,6 +111,12 @@ module _ {O : Type 0} (held : O → Option (List ℕ)) (failures : O → Failure
       StopsAtFile folder old new (bundle ∷ filter ∷ []) result
       ⊎ ((b : List ℕ) × (f : List ℕ) × HasBytes folder bundle b × HasBytes folder filter f
       × AnswersBy (Certifies held failures old new native b f) result)
+
+  abbrev pub AnswersBehind : Arch → List ℕ → List ℕ → Result Bool Stop → Type 0
+  AnswersBehind native bundle filter result =
+      StopsAtFile folder old new (bundle ∷ filter ∷ []) result
+      ⊎ ((b : List ℕ) × (f : List ℕ) × HasBytes folder bundle b × HasBytes folder filter f
+      × AnswersBy (CertifiesBehind held failures old new native b f) result)
 
   abbrev pub AnswersExport : Arch → List ℕ → Form → Result Bool Stop → Type 0
   AnswersExport native bundle form result =
@@ -170,6 +179,8 @@ module _ {I O : Type 0} (left : I → Option (List ℕ)) (given : I → Failures
   Does (Check native bundle filter cert) result =
       (input' ≡ input) × AnswersCheck held taken folder out out' native bundle filter cert result
   Does (Certify native bundle filter) result = (input' ≡ input) × AnswersCertify held taken folder out out' native bundle filter result
+  Does (CertifyBehind native bundle filter) result =
+      (input' ≡ input) × AnswersBehind held taken folder out out' native bundle filter result
   Does (Export native bundle form) result = (input' ≡ input) × AnswersExport held taken folder out out' native bundle form result
   Does (Run native bundles) result = AnswersRun native bundles result
   Does (Explain native bundle call) result =
@@ -204,8 +215,16 @@ module _ {O E : Type 0} (held : O → Option (List ℕ)) (taken : O → Failures
       ⊎ ((b : List ℕ) × HasBytes folder bundle b × TellsRecord held taken out out' shown dropped err err' native b)
   ExplainsRecord native bundle other = Unit {0}
 
+  -- what `certify` with `runc` tells, whatever its answer is
+  abbrev pub ExplainsBehind : Arch → List ℕ → List ℕ → Result Bool Stop → Type 0
+  ExplainsBehind native bundle filter (Ok done) =
+      (b : List ℕ) × (f : List ℕ) × HasBytes folder bundle b × HasBytes folder filter f
+      × TellsBehind held taken out out' shown dropped err err' native b f (Ok done)
+  ExplainsBehind native bundle filter (Err stop) = Unit {0}
+
   abbrev pub ExplainsWhy : Given → Result Bool Stop → Type 0
   ExplainsWhy (Certify native bundle filter) result = ExplainsRecord native bundle result
+  ExplainsWhy (CertifyBehind native bundle filter) result = ExplainsBehind native bundle filter result
   ExplainsWhy other result = Unit {0}
 
 -- The program did what a command asks for: its outcome, as the exit status and standard error tell it.

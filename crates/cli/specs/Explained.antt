@@ -1,13 +1,17 @@
 -- What stands on standard error beside a call record that `ccell certify` tells.
-use Rattle.std.specs.Prelude.{ℕ, ◌≡◌, ◌⊎◌, ⊤, List, Option, Result, Ok, Err}
+use Rattle.std.specs.Prelude.{ℕ, ◌≡◌, ◌⊎◌, ◌-◌, ⊤, Bool, List, length, Option, Result, Ok, Err}
 use Rattle.call_record.specs.declared.layout.Record.{Record}
 use Rattle.call_record.specs.Record.{words}
 use Rattle.call_tables.specs.declared.arch.Arch.{Arch}
+use Rattle.call_tables.specs.Arch.{family_of}
+use Rattle.behind_runc.specs.Behind.{IsBehind, WritesBehind}
+use Rattle.behind_runc.specs.Told.{stub_text}
 use Rattle.certify.specs.Conviction.{IsCertificate}
 use Rattle.certify.specs.declared.evidence.Evidence.{Evidence}
 use Rattle.explain.specs.Explanation.{Explains}
 use Rattle.pipeline.specs.Told.{IsLine}
 use Rattle.pipeline.specs.declared.unready.Unready.{Unready}
+use Rattle.runc_stub.specs.declared.calls.Calls.{Calls}
 use Rattle.streams.specs.Failures.{Failures}
 use Rattle.streams.specs.Sink.{Writes, Wrote}
 use Rattle.streams.specs.declared.fault.WriteFault.{WriteFault}
@@ -43,3 +47,21 @@ pub record TellsRecord {O E : Type 0} (held : O → Option (List ℕ)) (failures
   pub is : IsLine (words call) given said line
   pub written : Wrote held failures out out' line
   pub why : MayTellWhy shown dropped err err' native bundle call
+
+-- the calls were told that a stub of the filter answers, as far as the sink took them; or nothing was
+abbrev pub MayTellStub : {E : Type 0} → (E → Option (List ℕ)) → (E → Failures) → E → E → Arch → List ℕ → List ℕ → List Calls → Type 0
+MayTellStub shown dropped err err' native filter rest answered =
+    (err' ≡ err) ⊎ WritesSome shown dropped err err' (stub_text (family_of native) (length filter - length rest) answered)
+
+-- What was written of a filter behind a stub. On standard error are the calls that this very stub answers, and behind them nothing, or an
+-- explanation of the very record whose line was written.
+pub record TellsBehind {O E : Type 0} (held : O → Option (List ℕ)) (failures : O → Failures) (out out' : O)
+    (shown : E → Option (List ℕ)) (dropped : E → Failures) (err err' : E) (native : Arch) (bundle filter : List ℕ)
+    (result : Result Bool WriteFault) : Type 0 where
+  pub rest : List ℕ
+  pub answered : List Calls
+  pub behind : IsBehind filter rest answered
+  pub written : WritesBehind held failures out out' native bundle filter rest result
+  pub between : E
+  pub calls : MayTellStub shown dropped err between native filter rest answered
+  pub why : (err' ≡ between) ⊎ TellsRecord held failures out out' shown dropped between err' native bundle

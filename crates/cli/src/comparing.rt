@@ -12,8 +12,8 @@ use pipeline::{Conviction, Evidence, Unready, judge_bundle, write_judged};
 use std::alloc::Global;
 use streams::{Sink, WriteFault, write_all};
 
-// Writes a text. Nothing depends on whether it can be written.
-fn put_text<E: Sink>(text: String, err: &mut E)
+/// Writes a text. Nothing depends on whether it can be written.
+pub(crate) fn put_text<E: Sink>(text: String, err: &mut E)
     ensures { WritesSome E.held E.failures err.old err.new (string_bytes text) }
 {
     let _ = write_all(text.as_bytes(), err);
@@ -47,8 +47,8 @@ fn tell_evidence<E: Sink>(
     }
 }
 
-// Explains the record that was found, if one was.
-fn tell_found<E: Sink>(
+/// Explains the record that was found, if one was.
+pub(crate) fn tell_found<E: Sink>(
     alloc: Global,
     native: Arch,
     bundle: &[u8],

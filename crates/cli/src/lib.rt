@@ -3,6 +3,7 @@
 #![tactic(auto)]
 
 mod adapting;
+mod behind;
 mod comparing;
 mod explaining;
 mod fault;

@@ -9,6 +9,7 @@ ghost use Rattle.cli.specs.Statuses.{AreRight, HasRun};
 ghost use Rattle.cli.specs.inner.Telling.{TellsOn, told_in};
 
 use crate::adapting::{Both, adapted};
+use crate::behind::certify_behind;
 use crate::comparing;
 use crate::explaining::explain;
 use crate::files::{Files, read, read_certificate, read_each, read_filter, read_record};
@@ -144,7 +145,7 @@ fn obey<'a, F: Files, I: Source, O: Sink, E: Sink>(
 ) -> Result<bool, Stop<'a>>
     ensures does { Does I.left I.failures O.held O.failures (F.folder files.old) input.old input.new out.old out.new
         (given command.entry) result }
-    // Nothing is told on standard error but of a filter that is convicted, and of what was changed.
+    // Nothing is told on standard error but of a filter that is convicted, of a stub, and of what was changed.
     ensures stopped { OnErr result (err.new ≡ err.old) }
     ensures quiet { result ≡ Ok true → TellsChanges (given command.entry) ⊎ (err.new ≡ err.old) }
     // Of a filter that is convicted the record is explained that was told.
@@ -164,6 +165,11 @@ fn obey<'a, F: Files, I: Source, O: Sink, E: Sink>(
             bundle,
             filter,
         } => certify(alloc, native, bundle, filter, files, out, err),
+        Command::CertifyBehind {
+            native,
+            bundle,
+            filter,
+        } => certify_behind(alloc, native, bundle, filter, files, out, err),
         Command::Export {
             native,
             bundle,

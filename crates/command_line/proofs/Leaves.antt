@@ -16,7 +16,7 @@ use Rattle.clap.specs.declared.builder.ValueParser.TheVariants as parser
 use Rattle.export.specs.declared.form.Form.{Form}
 use Rattle.command_line.specs.Arguments as given
 use Rattle.command_line.specs.Arguments.{Given, form_called}
-use Rattle.command_line.specs.Arguments.Given.{Run, Explain, Record, Export, Compare, CompareFilters, Adapt, Learn, Replay, Manual, Version}
+use Rattle.command_line.specs.Arguments.Given.{Run, Explain, Record, Certify, CertifyBehind, Export, Compare, CompareFilters, Adapt, Learn, Replay, Manual, Version}
 use Rattle.command_line.specs.inner.Found as found
 use Rattle.command_line.specs.inner.Found.{last_of}
 use Rattle.command_line.specs.inner.Grammar.{Entry, leaf, table, top}
@@ -78,14 +78,6 @@ check_reading (a ∷ b ∷ c ∷ []) = inr (tt, refl)
 check_reading (a ∷ b ∷ c ∷ d ∷ []) = inl (refl, refl)
 check_reading (a ∷ b ∷ c ∷ d ∷ e ∷ more) = inr (tt, refl)
 
-pub certify_reading : (parts : List Text) → Reading (shape_called (codes "certify")) parts found.certify_in (given.certify parts)
-unfolding values_fault defaults_fault
-certify_reading [] = inr (tt, refl)
-certify_reading (a ∷ []) = inr (tt, refl)
-certify_reading (a ∷ b ∷ []) = inr (tt, refl)
-certify_reading (a ∷ b ∷ c ∷ []) = inl (refl, refl)
-certify_reading (a ∷ b ∷ c ∷ d ∷ more) = inr (tt, refl)
-
 export_made : (machine bundle : Text) (form : Option Form)
     → option_and_then (λ f. option_map (λ native. Export native bundle f) (native_called machine)) form ≡ given.export_in machine bundle form
 export_made machine bundle None = refl
@@ -138,6 +130,23 @@ lint_reading (a ∷ b ∷ c ∷ more) = inr (tt, refl)
 plain_made : (native : Option Arch) (made : Arch → Given) → option_and_then (λ n. Some (made n)) native ≡ option_map made native
 plain_made None made = refl
 plain_made (Some n) made = refl
+
+certify_made : (native : Option Arch) (bundle filter : Text) (behind : Bool)
+    → option_and_then (λ n. cond behind (Some (CertifyBehind n bundle filter)) None) native
+    ≡ cond behind (option_map (λ n. CertifyBehind n bundle filter) native) None
+certify_made None bundle filter true = refl
+certify_made None bundle filter false = refl
+certify_made (Some n) bundle filter true = refl
+certify_made (Some n) bundle filter false = refl
+
+pub certify_reading : (parts : List Text) → Reading (shape_called (codes "certify")) parts found.certify_in (given.certify parts)
+unfolding values_fault defaults_fault
+certify_reading [] = inr (tt, refl)
+certify_reading (a ∷ []) = inr (tt, refl)
+certify_reading (a ∷ b ∷ []) = inr (tt, refl)
+certify_reading (a ∷ b ∷ c ∷ []) = inl (refl, plain_made (native_called a) (λ n. Certify n b c))
+certify_reading (a ∷ b ∷ c ∷ d ∷ []) = inl (refl, certify_made (native_called a) b c (bytes_eq d (codes "runc")))
+certify_reading (a ∷ b ∷ c ∷ d ∷ e ∷ more) = inr (tt, refl)
 
 compare_made : (native : Option Arch) (old new : Text) (at_most filters : Bool)
     → option_and_then (λ n. cond at_most (Some (Compare n old new true)) (cond filters (Some (CompareFilters n old new)) None)) native

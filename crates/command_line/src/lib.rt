@@ -53,6 +53,12 @@ pub enum Command<'a> {
         bundle: &'a str,
         filter: &'a str,
     },
+    /// The same of a filter behind the stub that runc puts in front of it, if there is one.
+    CertifyBehind {
+        native: Arch,
+        bundle: &'a str,
+        filter: &'a str,
+    },
     /// The filter that is compiled for a bundle, read for a native machine, once it is certified and checked. The bundle
     /// is given as the name of a file.
     Export {

@@ -10,6 +10,7 @@ pub enum Meaning {
     New,
     Compared,
     Filter,
+    Stub,
     Record,
     Certificate,
     Listing,
@@ -38,6 +39,9 @@ impl Meaning {
                 "all that is asked is that the new bundle allows no more; or both files are filters\n[possible values: atmost, filters]"
             }
             Meaning::Filter => { "a file with instructions of eight bytes" }
+            Meaning::Stub => {
+                "the filter is of runc, which puts its ENOSYS stub in front\n[possible values: runc]"
+            }
             Meaning::Record => { "a file with the 64 bytes of struct seccomp_data" }
             Meaning::Certificate => { "a file that certify wrote" }
             Meaning::Listing => { "a file with the text of a filter" }

@@ -58,17 +58,39 @@ pub(crate) fn check<'a>(found: &ArgMatches<'a>) -> Option<Command<'a>>
     })
 }
 
+// The command of certifying that the part that may stand last asks for.
+fn certified_as<'a>(
+    last: Option<&str>,
+    native: Arch,
+    bundle: &'a str,
+    filter: &'a str,
+) -> Option<Command<'a>>
+    ensures { option_map given result ≡ spec.certified_as (option_map (λ s. s.now) last.entry) native bundle.entry.now filter.entry.now }
+{
+    let Some(last) = last else {
+        return Some(Command::Certify {
+            native,
+            bundle,
+            filter,
+        });
+    };
+    if last == "runc" {
+        return Some(Command::CertifyBehind {
+            native,
+            bundle,
+            filter,
+        });
+    }
+    None
+}
+
 pub(crate) fn certify<'a>(found: &ArgMatches<'a>) -> Option<Command<'a>>
     ensures { option_map given result ≡ spec.certify_in (rows_of (found_of found.now)) }
 {
     let bundle = part(found, "BUNDLE")?;
     let filter = part(found, "FILTER")?;
     let native = native(found)?;
-    Some(Command::Certify {
-        native,
-        bundle,
-        filter,
-    })
+    certified_as(part(found, "WORD"), native, bundle, filter)
 }
 
 fn form(found: &ArgMatches<'_>) -> Option<Form>

@@ -44,6 +44,8 @@ Example: ccell check x86-64 web.json web.bpf web.cert
 const CERTIFY: &str =
     "Writes a certificate that the filter answers what the bundle says, or tells a call record of which
 it does not, and explains it on standard error.
+With runc, the stub that runc puts in front of a filter is taken for what it is: on standard error
+stand the calls that it answers ENOSYS, and the certificate is of the filter behind it.
 Status 0, or 1 and a line that begins with 'no' or 'refused'.
 
 Example: ccell certify linux-x86-64 web.json web.bpf > web.cert

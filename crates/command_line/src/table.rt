@@ -26,6 +26,8 @@ const COMPARED: Part = ("WORD", 0, 1, Meaning::Compared);
 
 const FILTER: Part = ("FILTER", 1, 1, Meaning::Filter);
 
+const STUB: Part = ("WORD", 0, 1, Meaning::Stub);
+
 const RECORD: Part = ("RECORD", 1, 1, Meaning::Record);
 
 const CERTIFICATE: Part = ("CERTIFICATE", 1, 1, Meaning::Certificate);
@@ -64,7 +66,7 @@ pub const COMMANDS: &[Entry] = &[
     ),
     (
         "certify",
-        &[MACHINE, BUNDLE, FILTER],
+        &[MACHINE, BUNDLE, FILTER, STUB],
         "a certificate for any filter, or a call that convicts it",
         Page::Certify,
     ),

@@ -1,5 +1,5 @@
 -- Which command the parts are that clap found behind a name, by the rows of its matches. A list is the last arguments.
-use Rattle.std.specs.Prelude.{◌-◌, ℕ, true, false, Bool, List, length, drop, if◌then◌else◌, Option, Some, None, codes}
+use Rattle.std.specs.Prelude.{◌-◌, ℕ, true, false, List, length, drop, if◌then◌else◌, Option, Some, None, codes}
 use Rattle.std.specs.Prelude.{option_map, option_and_then}
 use Rattle.std.specs.Option.{option_map_or}
 use Rattle.std.specs.Str.{bytes_eq}
@@ -8,7 +8,7 @@ use Rattle.call_tables.specs.Arch.{native_called}
 use Rattle.clap.specs.Words.{Row, Text, all_of, first_of}
 use Rattle.export.specs.declared.form.Form.{Form}
 use Rattle.command_line.specs.Arguments.{Given, form_called}
-use Rattle.command_line.specs.Arguments.Given.{Verdict, Check, Certify, Export, Run, Explain, Read, Record}
+use Rattle.command_line.specs.Arguments.Given.{Verdict, Check, Certify, CertifyBehind, Export, Run, Explain, Read, Record}
 use Rattle.command_line.specs.Arguments.Given.{Assemble, Annotate, Draw, Lint, Compare, CompareFilters, Adapt, Learn, Replay}
 use Rattle.command_line.specs.Arguments.Given.{Manual, Version}
 
@@ -46,9 +46,13 @@ abbrev pub with_files : Text → Text → List Row → (Arch → Text → Text �
 with_files one other rows made = with_part one rows (λ first. with_part other rows (λ second.
     option_and_then (λ native. made native first second) (native_in rows)))
 
+-- the command of certifying that the part that may stand last asks for
+abbrev pub certified_as : Option Text → Arch → Text → Text → Option Given
+certified_as None native bundle filter = Some (Certify native bundle filter)
+certified_as (Some last) native bundle filter = if bytes_eq last (codes "runc") then Some (CertifyBehind native bundle filter) else None
+
 abbrev pub certify_in : List Row → Option Given
-certify_in rows = with_part (codes "BUNDLE") rows (λ bundle. with_part (codes "FILTER") rows (λ filter.
-    with_native rows (λ native. Certify native bundle filter)))
+certify_in rows = with_files (codes "BUNDLE") (codes "FILTER") rows (certified_as (first_of (codes "WORD") rows))
 
 abbrev pub form_in : List Row → Option Form
 form_in rows = option_and_then form_called (first_of (codes "FORM") rows)

@@ -1,0 +1,2 @@
+pub mod BehindLaws
+pub mod WriteLaws

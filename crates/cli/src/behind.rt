@@ -1,0 +1,75 @@
+//! What `ccell certify` does of a filter behind the stub that runc puts in front of it.
+ghost use Rattle.std.specs.Prelude.{◌≡◌, ◌-◌, IfOk, Ok, OnErr, length};
+ghost use Rattle.call_tables.specs.Arch.{family_of};
+ghost use Rattle.behind_runc.specs.Behind.{CertifiesBehind};
+ghost use Rattle.cli.specs.Dispatch.{AnswersBehind, ExplainsBehind};
+ghost use Rattle.cli.specs.Explained.{MayTellStub, TellsBehind};
+
+use crate::comparing::{put_text, tell_found};
+use crate::files::{Files, read, read_filter};
+use crate::stops::Stop;
+use behind_runc::{Behind, behind_stub, judge_behind, stub_text, write_behind};
+use call_tables::Arch;
+use std::alloc::Global;
+use streams::{Sink, WriteFault};
+
+// Tells the calls that the stub of a filter answers, if there is memory. Nothing depends on whether they can be written.
+fn tell_stub<E: Sink>(alloc: Global, native: Arch, filter: &[u8], behind: &Behind<'_>, err: &mut E)
+    ensures { MayTellStub E.held E.failures err.old err.new native filter.now behind.now.rest.now behind.now.answered.items }
+{
+    let size = filter.len().saturating_sub(behind.rest.len());
+    match stub_text(alloc, native.family(), size, &behind.answered) {
+        Ok(text) => put_text(text, err),
+        Err(_no_memory) => {}
+    }
+}
+
+// Writes what is judged of a filter behind a stub. It tells on standard error which calls the stub answers, and what the bundle says of
+// the record that was told, if one was.
+fn judge<O: Sink, E: Sink>(
+    alloc: Global,
+    native: Arch,
+    bundle: &[u8],
+    filter: &[u8],
+    out: &mut O,
+    err: &mut E,
+) -> Result<bool, WriteFault>
+    ensures written { CertifiesBehind O.held O.failures out.old out.new native bundle.now filter.now result }
+    ensures stopped { OnErr result (err.new ≡ err.old) }
+    ensures told { IfOk result (λ done. TellsBehind O.held O.failures out.old out.new E.held E.failures err.old err.new native
+        bundle.now filter.now (Ok done)) }
+{
+    let behind = match behind_stub(alloc, filter) {
+        Ok(behind) => behind,
+        Err(_no_memory) => return Err(WriteFault::OutOfMemory),
+    };
+    let judged = judge_behind(alloc, native, bundle, filter, &behind);
+    let done = match write_behind(alloc, &judged, out) {
+        Ok(done) => done,
+        Err(fault) => return Err(fault),
+    };
+    tell_stub(alloc, native, filter, &behind, err);
+    tell_found(alloc, native, bundle, &judged, err);
+    Ok(done)
+}
+
+/// Writes a certificate that a filter behind runc's stub answers what a bundle says, or what tells that it has none. Standard error
+/// tells which calls the stub answers.
+pub(crate) fn certify_behind<'a, F: Files, O: Sink, E: Sink>(
+    alloc: Global,
+    native: Arch,
+    bundle: &'a str,
+    filter: &'a str,
+    files: &mut F,
+    out: &mut O,
+    err: &mut E,
+) -> Result<bool, Stop<'a>>
+    ensures answers { AnswersBehind O.held O.failures (F.folder files.old) out.old out.new native bundle.entry.now filter.entry.now result }
+    ensures stopped { OnErr result (err.new ≡ err.old) }
+    ensures explained { ExplainsBehind O.held O.failures E.held E.failures (F.folder files.old) out.old out.new err.old err.new
+        native bundle.entry.now filter.entry.now result }
+{
+    let bundle = read(alloc, files, bundle)?;
+    let filter = read_filter(alloc, files, filter)?;
+    Ok(judge(alloc, native, &bundle, &filter, out, err)?)
+}
