@@ -227,7 +227,7 @@ module _ {O : Type 0} (held : O → Option (List ℕ)) (failures : O → Failure
     is.logs,
     is.unused,
     is.named,
-    answers_told held failures folder (bundle ∷ is.logs) (IsReplayed native is.unused) old new result told is.is h,
+    answers_told held failures folder (bundle ∷ is.logs) (IsReplayed native is.unused is.logs) old new result told is.is h,
   )
 
 -- the text of one file is told of

@@ -7,3 +7,4 @@ mod FileLaws
 mod DispatchLaws
 mod ExplainedLaws
 mod StatusLaws
+mod LogLaws

@@ -143,7 +143,7 @@ module _ {O : Type 0} (held : O → Option (List ℕ)) (failures : O → Failure
   abbrev pub AnswersReplay : Arch → List ℕ → List (List ℕ) → Result Bool Stop → Type 0
   AnswersReplay native bundle words result =
       (logs : List (List ℕ)) × (unused : Bool) × NamesLogs words logs unused
-      × AnswersTold (bundle ∷ logs) (IsReplayed native unused) result
+      × AnswersTold (bundle ∷ logs) (IsReplayed native unused logs) result
 
   -- the commands, or the page of one
   abbrev pub AnswersManual : Option (List ℕ) → Result Bool Stop → Type 0

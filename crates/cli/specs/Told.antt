@@ -1,5 +1,6 @@
 -- What commands tell of the texts of files, and of none.
 use Rattle.std.specs.Prelude.{ℕ, ◌≡◌, Bool, true, false, List, [], ◌∷◌, ◌++◌, map, codes, Option, Some, None}
+use Rattle.std.specs.List.{zip}
 use denote.Ref.{Bor}
 use Rattle.call_tables.specs.declared.arch.Arch.{Arch}
 use Rattle.command_line.specs.Manual.{IsPage, list_of, row_called, rows}
@@ -41,7 +42,7 @@ abbrev pub NamesLogs : List (List ℕ) → List (List ℕ) → Bool → Type 0
 NamesLogs words logs true = words ≡ logs ++ codes "unused" ∷ []
 NamesLogs words logs false = words ≡ logs
 
--- what a bundle, whose text is the first one, says of the calls of logs
-abbrev pub IsReplayed : Arch → Bool → List (List ℕ) → Told → Type 0
-IsReplayed native unused (bundle ∷ logs) told = TellsReplayed native unused bundle logs told
-IsReplayed native unused [] told = ⊥
+-- what is told of the logs of these names, played through a bundle, whose text is the first one
+abbrev pub IsReplayed : Arch → Bool → List (List ℕ) → List (List ℕ) → Told → Type 0
+IsReplayed native unused names (bundle ∷ texts) told = TellsReplayed native unused bundle (zip names texts) told
+IsReplayed native unused names [] told = ⊥

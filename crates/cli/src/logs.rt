@@ -1,6 +1,8 @@
 //! What `ccell learn` and `ccell replay` do with logs.
-ghost use Rattle.std.specs.Prelude.{◌≡◌, ◌∷◌, IfOk, map};
-ghost use Rattle.learn.specs.Replayed.{TellsReplayed, texts_of};
+ghost use Rattle.std.specs.Prelude.{◌≡◌, ◌∷◌, IfOk, length, map};
+ghost use Rattle.std.specs.List.{zip};
+ghost use Rattle.learn.specs.Logged.{parts_of};
+ghost use Rattle.learn.specs.Replayed.{TellsReplayed};
 ghost use Rattle.cli.specs.Told.{IsReplayed, NamesLogs};
 ghost use Rattle.cli.specs.inner.Telling.{IsReplayOf, IsToldOf};
 
@@ -19,13 +21,14 @@ fn logs_of<'a>(
     names: &[&'a str],
     texts: &'a [Vec<u8>],
 ) -> Result<Vec<Log<'a>>, AllocError>
-    ensures { IfOk result (λ logs. texts_of logs.items ≡ map (λ t. t.items) texts.now) }
+    requires { length names.now ≡ length texts.now }
+    ensures { IfOk result (λ logs. parts_of logs.items ≡ zip (map (λ n. n.now) names.now) (map (λ t. t.items) texts.now)) }
 {
     let mut logs = Vec::new(alloc);
-    for (place, text) in texts.iter().enumerate() {
+    for place in 0..texts.len() {
         logs.push(Log {
-            name: names.get(place).copied().unwrap_or(""),
-            text: text.as_slice(),
+            name: names[place],
+            text: texts[place].as_slice(),
         })?;
     }
     Ok(logs)
@@ -102,7 +105,8 @@ fn played(
     texts: &[Vec<u8>],
     tells_unused: bool,
 ) -> Result<Told, AllocError>
-    ensures { IfOk result (TellsReplayed native tells_unused bundle.now (map (λ t. t.items) texts.now)) }
+    requires { length names.now ≡ length texts.now }
+    ensures { IfOk result (TellsReplayed native tells_unused bundle.now (zip (map (λ n. n.now) names.now) (map (λ t. t.items) texts.now))) }
 {
     let logs = logs_of(alloc, names, texts)?;
     replay(alloc, native, bundle, &logs, tells_unused)
@@ -118,7 +122,7 @@ fn played_each<'a, F: Files>(
     files: &mut F,
 ) -> Result<Told, Stop<'a>>
     ensures { IsToldOf (F.folder files.old) (map (λ n. n.now) names.entry.now)
-        (λ logs. TellsReplayed native tells_unused bundle.now logs) result }
+        (λ texts. TellsReplayed native tells_unused bundle.now (zip (map (λ n. n.now) names.entry.now) texts)) result }
 {
     match read_each(alloc, files, names) {
         Ok(texts) => match played(alloc, native, bundle, names, &texts, tells_unused) {
@@ -138,7 +142,8 @@ fn played_bundle<'a, F: Files>(
     tells_unused: bool,
     files: &mut F,
 ) -> Result<Told, Stop<'a>>
-    ensures { IsToldOf (F.folder files.old) (bundle.entry.now ∷ map (λ n. n.now) names.entry.now) (IsReplayed native tells_unused) result }
+    ensures { IsToldOf (F.folder files.old) (bundle.entry.now ∷ map (λ n. n.now) names.entry.now)
+        (IsReplayed native tells_unused (map (λ n. n.now) names.entry.now)) result }
 {
     match read(alloc, files, bundle) {
         Ok(text) => played_each(alloc, native, &text, names, tells_unused, files),

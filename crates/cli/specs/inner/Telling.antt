@@ -46,4 +46,4 @@ pub record IsReplayOf (folder : Option Folder) (native : Arch) (bundle : List �
   pub logs : List (List ℕ)
   pub unused : Bool
   pub named : NamesLogs words logs unused
-  pub is : IsToldOf folder (bundle ∷ logs) (IsReplayed native unused) told
+  pub is : IsToldOf folder (bundle ∷ logs) (IsReplayed native unused logs) told
