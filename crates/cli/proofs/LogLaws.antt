@@ -1,7 +1,20 @@
--- Logs by their names and their texts.
-use Rattle.std.proofs.Common.{◌≡◌, ℕ, ◌+◌, ◌<◌, List, [], ◌∷◌, ◌++◌, ap, arith, get_or, length, map, refl, sym, take, ◌∙◌}
-use Rattle.std.proofs.lemmas.List.{length-map, length-take-le, map-append, take_more}
+-- Logs by their names and their texts, and the words that name them.
+use Rattle.std.proofs.Common.{◌≡◌, ℕ, ◌+◌, ◌-◌, ◌<◌, ◌≤◌, true, List, [], ◌∷◌, ◌++◌, Vec, Global, ap, arith, get_or, length, map, refl, sym, take, ◌∙◌}
+use Rattle.std.proofs.lemmas.Bool.Decides.{Decides-eqb}
+use Rattle.std.proofs.lemmas.List.{get_or_default, length-map, length-take-le, map-append, take_all, take_more}
+use Rattle.std.proofs.lemmas.Slice.Eq.{slice_eq-Decides}
 use Rattle.std.specs.List.{zip}
+use denote.Ref.{Bor}
+use Rattle.learn.specs.Logged.{parts_of}
+use Rattle.learn.specs.declared.logs.Log.{Log}
+use Rattle.processes.specs.Views.{same_text}
+use Rattle.cli.proofs.DispatchLaws.{now_of}
+
+abbrev bytes_of : Vec ℕ Global → List ℕ
+bytes_of t = t.items
+
+abbrev part_of : Log → List ℕ × List ℕ
+part_of log = (log.name.now, log.text.now)
 
 -- one more of both
 zip_more : {K X : Type 0} (ks : List K) (xs : List X) (k : K) (x : X) → length ks ≡ length xs
@@ -22,5 +35,38 @@ taken_with name text ns ts i n t same lt en et =
     let texts : map text (take (i + 1) ts) ≡ map text (take i ts) ++ text t ∷ [] =
     ap (map text) (take_more ts i t lt ∙ ap (λ m. take i ts ++ m ∷ []) (sym et)) ∙ map-append text (take i ts) (t ∷ []) in
     let sizes : length (map name (take i ns)) ≡ length (map text (take i ts)) =
-    length-map name (take i ns) ∙ length-take-le i ns (omega (arith, same, lt)) ∙ sym (length-map text (take i ts) ∙ length-take-le i ts (omega (arith, lt))) in
+    length-map (take i ns) name ∙ length-take-le i ns (omega (arith, same, lt))
+    ∙ sym (length-map (take i ts) text ∙ length-take-le i ts (omega (arith, lt))) in
     rw (names, texts) (sym (zip_more (map name (take i ns)) (map text (take i ts)) (name n) (text t) sizes))
+
+-- two texts that are alike, letter by letter
+same_of : (a b : List ℕ) → true ≡ same_text a b → a ≡ b
+same_of a b e = (slice_eq-Decides Decides-eqb a b (same_text a b) refl).0 (sym e)
+
+-- words of which the last one is this text
+pub last_is : (words : List (Bor (List ℕ))) (d : Bor (List ℕ)) (text : List ℕ) → 1 ≤ length words
+    → true ≡ same_text (get_or words (length words - 1) d).now text
+    → map now_of words ≡ map now_of (take (length words - 1) words) ++ text ∷ []
+last_is words d text some e =
+    let i = length words - 1 in
+    let lt : i < length words = omega (arith, some) in
+    let w = get_or words i d in
+    let all : words ≡ take i words ++ w ∷ [] =
+    sym (take_all (i + 1) words (omega (arith, some))) ∙ take_more words i w lt
+    ∙ ap (λ x. take i words ++ x ∷ []) (sym (get_or_default words i d w lt)) in
+    ap (map now_of) all ∙ map-append now_of (take i words) (w ∷ [])
+    ∙ ap (λ t. map now_of (take i words) ++ t ∷ []) (same_of w.now text e)
+
+-- one more log
+pub one_more_log : (names : List (Bor (List ℕ))) (texts : List (Vec ℕ Global)) (logs more : List Log) (i : ℕ) (d t : Bor (List ℕ))
+    (v : Vec ℕ Global) → length names ≡ length texts → i < length texts
+    → parts_of logs ≡ zip (map now_of (take i names)) (map bytes_of (take i texts))
+    → more ≡ logs ++ record { name = get_or names i d; text = t } ∷ [] → t.now ≡ v.items → v ≡ get_or texts i v
+    → parts_of more ≡ zip (map now_of (take (i + 1) names)) (map bytes_of (take (i + 1) texts))
+one_more_log names texts logs more i d t v same lt so_far pushed text at =
+    let n = get_or names i d in
+    let l : Log = record { name = n; text = t } in
+    ap parts_of pushed ∙ map-append part_of logs (l ∷ [])
+    ∙ ap (λ p. p ++ (n.now, t.now) ∷ []) so_far
+    ∙ ap (λ u. zip (map now_of (take i names)) (map bytes_of (take i texts)) ++ (n.now, u) ∷ []) text
+    ∙ taken_with now_of bytes_of names texts i n v same lt (get_or_default names i d n (omega (arith, same, lt))) at
