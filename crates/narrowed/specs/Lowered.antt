@@ -9,6 +9,7 @@ use Rattle.profile.specs.declared.conditions.Op.{Op}
 use Rattle.profile.specs.declared.conditions.Op.TheVariants.{Ne, Lt, Le, Eq, Ge, Gt, MaskedEq}
 use Rattle.profile.specs.declared.rules.Rule.{Rule}
 use Rattle.profile.specs.Policy.{Policy}
+use Rattle.narrowed.specs.Narrowed.{Has}
 
 -- an order: which of two numbers is above the other is not told by their lowest bits
 abbrev pub is_order : Op → Bool
@@ -46,6 +47,13 @@ pub record IsCutTo (bits : ℕ) (c d : Cond) : Type 0 where
   pub op : d.op ≡ c.op
   pub value : d.value ≡ c.value % 2 ^ bits
   pub datum : d.datum ≡ c.datum % 2 ^ bits
+
+-- an order with a number that its argument cannot have
+abbrev pub IsUnfitOrder : ℕ → ℕ → Cond → Type 0
+IsUnfitOrder token nr c = (is_order c.op ≡ true) × (¬ Fits token nr c)
+
+abbrev pub HasUnfitOrder : Rule → Type 0
+HasUnfitOrder rule = Has (IsUnfitOrder (token_of rule.arch) rule.nr) rule.conds.items
 
 -- d stands for the condition c of a call: it is c if the argument can have its number, and else c with the bits that are read. On a
 -- machine of narrow arguments, where no more is compared than is read, c may stand for itself.

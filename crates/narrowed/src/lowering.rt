@@ -1,5 +1,5 @@
 //! Rules whose conditions compare with numbers that their arguments cannot have.
-ghost use Rattle.std.specs.Prelude.{◌≡◌, ◌↔◌, ◌<◌, IsTrue, IfOk, IfSome};
+ghost use Rattle.std.specs.Prelude.{◌≡◌, ◌↔◌, ◌<◌, ◌≤◌, true, IsTrue, IfOk, IfSome, None};
 ghost use Rattle.std.specs.List.{AllZip};
 ghost use Rattle.call_tables.specs.Arch.{token_of};
 ghost use Rattle.narrowed.specs.Lowered as spec;
@@ -30,7 +30,8 @@ fn number_of(cond: &Cond) -> u64
 
 /// Whether an argument of so many bits can have the number with which a condition compares it.
 pub fn fits_in(cond: &Cond, bits: u32) -> bool
-    ensures { IsTrue result ↔ spec.FitsIn bits cond.now }
+    ensures fits { IsTrue result ↔ spec.FitsIn bits cond.now }
+    ensures wide { 64 ≤ bits → IsTrue result }
 {
     let number = number_of(cond);
     if bits >= 64 {
@@ -74,7 +75,8 @@ fn is_order(op: Op) -> bool
 /// The condition with the lowest bits alone of its numbers; of an order there is none.
 pub fn cut_to(cond: &Cond, bits: u32) -> Option<Cond>
     requires { bits < 64 }
-    ensures { IfSome result (spec.IsCutTo bits cond.now) }
+    ensures cut { IfSome result (spec.IsCutTo bits cond.now) }
+    ensures none { result ≡ None → spec.is_order cond.now.op ≡ true }
 {
     if is_order(cond.op) {
         return None;
@@ -85,7 +87,8 @@ pub fn cut_to(cond: &Cond, bits: u32) -> Option<Cond>
 
 // The condition that stands for one of a call, where its machine's arguments are cut, or may be left.
 fn stand_in(token: u32, nr: u32, is_cut: bool, cond: &Cond) -> Option<Cond>
-    ensures { IfSome result (λ lower. spec.StandsFor token nr lower cond.now) }
+    ensures stands { IfSome result (λ lower. spec.StandsFor token nr lower cond.now) }
+    ensures none { result ≡ None → spec.IsUnfitOrder token nr cond.now }
 {
     let bits = read_bits(token, nr, cond.index as usize);
     if fits_in(cond, bits) {
@@ -94,15 +97,13 @@ fn stand_in(token: u32, nr: u32, is_cut: bool, cond: &Cond) -> Option<Cond>
     if !is_cut && is_narrow(token) {
         return Some(*cond);
     }
-    if bits >= 64 {
-        return None;
-    }
     cut_to(cond, bits)
 }
 
 // A condition for each that stands for one of a rule, unless one of them has none.
 fn stand_ins(rule: &Rule, plan: &Plan) -> Option<ArrayVec<Cond, 6>>
-    ensures { IfSome result (λ lower. AllZip (spec.StandsFor (token_of rule.now.arch) rule.now.nr) lower.items rule.now.conds.items) }
+    ensures none { result ≡ None → spec.HasUnfitOrder rule.now }
+    ensures stand { IfSome result (λ lower. AllZip (spec.StandsFor (token_of rule.now.arch) rule.now.nr) lower.items rule.now.conds.items) }
 {
     let token = rule.arch.token();
     let mut lower = ArrayVec::new();
@@ -118,7 +119,8 @@ fn stand_ins(rule: &Rule, plan: &Plan) -> Option<ArrayVec<Cond, 6>>
 
 /// The lowered rule, where arguments are cut so, unless it has an order with a number that does not fit.
 pub fn lowered_rule(rule: &Rule, plan: &Plan) -> Result<Option<Rule>, AllocError>
-    ensures { IfOk result (λ found. IfSome found (λ lower. spec.IsLowered lower rule.now)) }
+    ensures lowered { IfOk result (λ found. IfSome found (λ lower. spec.IsLowered lower rule.now)) }
+    ensures none { IfOk result (λ found. found ≡ None → spec.HasUnfitOrder rule.now) }
 {
     if rule_fits(rule) {
         return Ok(Some(rule.clone()?));

@@ -13,7 +13,7 @@ loop-rule-preserved c =
     let one = c.rule-item.result in
     let lower = c.in-Some.lower in
     let is : IsLowered lower one =
-    subst (λ (found : Option Rule). IfSome found (λ x. IsLowered x one)) c.in-Some.is c.in_ok-lower.ensures in
+    subst (λ (found : Option Rule). IfSome found (λ x. IsLowered x one)) c.in-Some.is c.in_ok-lower.ensures.lowered in
     let more : take (i + 1) rules ≡ take i rules ++ one ∷ [] =
     take_more rules i one (omega (arith, c.loop-rule-test.true)) ∙ ap (λ (x : Rule). take i rules ++ x ∷ []) (sym c.rule-item.is) in
     subst (λ (ds : List Rule). AreLowered ds (take (i + 1) rules)) (sym c.in_ok-push.ensures.items)

@@ -9,4 +9,4 @@ returns-then-bits-ge64 c =
     let fits : FitsIn c.args.bits cond =
     subst (λ n. n < 2 ^ c.args.bits) c.number_of-number.ensures
     (fits_wider c.number_of-number.result 64 c.args.bits c.number_of-number.type_inv c.if-bits-ge64.true) in
-    (λ _. fits, λ _. search rules)
+    record { fits = (λ _. fits, λ _. search rules); wide = λ _. search rules }
