@@ -1,16 +1,16 @@
-//! Of which calls rules ask for arguments, and what is left to ask of one.
+//! What is left to ask of a call of which rules ask for arguments.
 
 use crate::parts::{Item, bits, mixed};
-use rule_compile::{Asked, Call, Open, Outline, Part};
 use std::alloc::{AllocError, Global};
 
-/// A call of which rules ask for arguments: the places of these rules in the profile's order, in the parts in which they are
-/// asked, one after the other.
+/// A call of which rules ask for arguments.
 #[derive(Drop)]
-pub(crate) struct AskedCall {
-    pub(crate) token: u32,
-    pub(crate) number: u32,
-    pub(crate) parts: Vec<Vec<u32>>,
+pub struct AskedCall {
+    /// The token of its machine.
+    pub token: u32,
+    pub number: u32,
+    /// The places of these rules in the profile's order, in the parts in which they are asked, one after the other.
+    pub parts: Vec<Vec<u32>>,
 }
 
 /// A rule that may hold: by bits, which of its conditions are met, and of which the low half decides.
@@ -102,44 +102,4 @@ impl AskedCall {
             is_late,
         })
     }
-}
-
-// The rules of a part, each once.
-fn rules_of(alloc: Global, questions: &[Open]) -> Result<Vec<u32>, AllocError> {
-    let mut rules = Vec::new(alloc);
-    for open in questions {
-        if open.begins {
-            rules.push(bits(open.asker.rule))?;
-        }
-    }
-    Ok(rules)
-}
-
-// The rules of all parts. The last part of the outline is asked first.
-fn parts_of(alloc: Global, parts: &[Part]) -> Result<Vec<Vec<u32>>, AllocError> {
-    let mut all = Vec::new(alloc);
-    for part in parts {
-        all.push(rules_of(alloc, &part.rules)?)?;
-    }
-    all.reverse();
-    Ok(all)
-}
-
-fn asked_call(alloc: Global, call: &Call, parts: &[Part]) -> Result<AskedCall, AllocError> {
-    Ok(AskedCall {
-        token: call.token,
-        number: call.number,
-        parts: parts_of(alloc, parts)?,
-    })
-}
-
-/// The calls of which rules ask for arguments.
-pub(crate) fn asked_calls(alloc: Global, outline: &Outline) -> Result<Vec<AskedCall>, AllocError> {
-    let mut calls = Vec::new(alloc);
-    for call in &outline.calls {
-        if let Asked::InParts(parts) = &call.asked {
-            calls.push(asked_call(alloc, call, parts)?)?;
-        }
-    }
-    Ok(calls)
 }

@@ -23,9 +23,11 @@ mod needs;
 mod numbers;
 mod parts;
 mod reasons;
+mod rules;
 mod spot;
 mod stating;
 mod words;
 
+pub use asked::AskedCall;
 pub use fault::OutlineError;
 pub use making::outlined;

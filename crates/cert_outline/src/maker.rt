@@ -1,15 +1,15 @@
 //! The maker of the certificate.
 
-use crate::asked::{AskedCall, Left, asked_calls};
+use crate::asked::{AskedCall, Left};
 use crate::fault::OutlineError;
 use crate::parts::{Cut, NOBODY, Table};
+use crate::rules::Rules;
 use crate::spot::{Spot, Which};
 use crate::words::Words;
 use bpf_insn::{Arithmetic, Insn, Operand, Operation, Program, Test};
 use cert_form::{Kind, MAX_NODES};
 use cert_state::{AVal, Listed, Lit, Regs, sharp_fact};
 use profile::Profile;
-use rule_compile::Outline;
 use std::alloc::{AllocError, Global};
 
 /// What is known of the profile and its filter, and of the certificate so far.
@@ -18,7 +18,8 @@ pub(crate) struct Maker<'a> {
     pub(crate) alloc: Global,
     pub(crate) profile: &'a Profile,
     pub(crate) program: Program<'a>,
-    pub(crate) calls: Vec<AskedCall>,
+    pub(crate) rules: Rules,
+    pub(crate) calls: &'a [AskedCall],
     /// Whether calls that are asked alike are told apart before their arguments are asked for, and not at the returns.
     pub(crate) is_early: bool,
     pub(crate) words: Table<Words>,
@@ -58,14 +59,15 @@ impl<'a> Maker<'a> {
         alloc: Global,
         profile: &'a Profile,
         program: Program<'a>,
-        outline: &Outline,
+        calls: &'a [AskedCall],
         is_early: bool,
     ) -> Result<Maker<'a>, AllocError> {
         Ok(Maker {
             alloc,
             profile,
             program,
-            calls: asked_calls(alloc, outline)?,
+            rules: Rules::of(alloc, profile)?,
+            calls,
             is_early,
             words: Table::new(alloc),
             left: Table::new(alloc),

@@ -1,5 +1,6 @@
 //! The certificate from an outline.
 
+use crate::asked::AskedCall;
 use crate::fault::OutlineError;
 use crate::keeping::kept_nodes;
 use crate::listing::{Written, listed_nodes, sorted};
@@ -7,7 +8,6 @@ use crate::maker::Maker;
 use bpf_insn::Program;
 use cert_form::Kind;
 use profile::Profile;
-use rule_compile::Outline;
 use std::alloc::Global;
 
 // A certificate of more bytes is made with calls told apart early as well: it has some thousand nodes.
@@ -46,10 +46,10 @@ fn drafted<'a>(
     alloc: Global,
     profile: &'a Profile,
     program: &Program<'a>,
-    outline: &Outline,
+    calls: &'a [AskedCall],
     is_early: bool,
 ) -> Drafted<'a> {
-    let mut maker = Maker::new(alloc, profile, *program, outline, is_early)?;
+    let mut maker = Maker::new(alloc, profile, *program, calls, is_early)?;
     let kinds = maker.all_kinds()?;
     let order = sorted(alloc, &kinds)?;
     let written = match listed_nodes(&maker, &kinds, &order) {
@@ -86,20 +86,20 @@ fn finished(drafted: Drafted<'_>) -> Result<Vec<u8>, OutlineError> {
     }
 }
 
-/// The certificate of the filter that the compiler made of a profile, with this outline. Calls that are asked alike are told
-/// apart at the returns; where it comes out large so, or too large, also before their arguments are asked for, and the shorter
-/// one is taken.
+/// The certificate of the filter that the compiler made of a profile, with the calls of which its outline says that rules ask for
+/// arguments. Calls that are asked alike are told apart at the returns; where it comes out large so, or too large, also before their
+/// arguments are asked for, and the shorter one is taken.
 pub fn outlined(
     alloc: Global,
     profile: &Profile,
     program: &Program<'_>,
-    outline: &Outline,
+    calls: &[AskedCall],
 ) -> Result<Vec<u8>, OutlineError> {
-    let first = drafted(alloc, profile, program, outline, false);
+    let first = drafted(alloc, profile, program, calls, false);
     if is_refused(&first) || length(&first) <= LARGE {
         return finished(first);
     }
-    let other = drafted(alloc, profile, program, outline, true);
+    let other = drafted(alloc, profile, program, calls, true);
     if first.is_err() || is_refused(&other) || length(&other) < length(&first) {
         return finished(other);
     }

@@ -85,12 +85,8 @@ impl<'a> Maker<'a> {
         known: &Facts<'_, Listed<'_>>,
         arguments: &Told<'_, K>,
         rule: &Rule,
-        token: u32,
         verdict: u32,
     ) -> bool {
-        if rule.arch.token() != token {
-            return false;
-        }
         if verdict == self.profile.default_word().0 && rule.word.0 == verdict {
             return false;
         }
@@ -118,13 +114,13 @@ impl<'a> Maker<'a> {
         let Some((least, greatest)) = facts.range(NUMBER) else {
             return Ok(numbers);
         };
-        for rule in self.profile.rules() {
-            let is_possible = least <= rule.nr && rule.nr <= greatest;
-            if is_possible && self.is_told(&facts, &arguments, rule, token, verdict) {
-                numbers.push(rule.nr)?;
+        for (_token, number, place) in self.rules.among(token, least, greatest) {
+            if let Some(rule) = self.rule(*place)
+                && self.is_told(&facts, &arguments, rule, verdict)
+            {
+                numbers.push(*number)?;
             }
         }
-        numbers.sort()?;
         numbers.dedup();
         Ok(numbers)
     }
@@ -195,7 +191,7 @@ impl<'a> Maker<'a> {
         let state = listed(&all);
         let facts = Facts::of(&state);
         let mut numbers = Vec::new(self.alloc);
-        for call in &self.calls {
+        for call in self.calls {
             let excluded = facts.entails(&Lit::NotBits(NUMBER, u32::MAX, call.number));
             if call.token == token && !excluded {
                 numbers.push(call.number)?;

@@ -7,6 +7,7 @@
 //! it is proved that the certificate is found. Where the paths are too many, `cert_search` looks for a record.
 #![tactic(auto)]
 
+mod asked;
 mod evidence;
 mod law;
 mod maker;

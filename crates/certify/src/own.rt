@@ -2,6 +2,7 @@
 ghost use Rattle.std.specs.Prelude.{◌≡◌, IfErr};
 ghost use Rattle.cert_search.specs.declared.fault.CertifyError.TheVariants.{OutOfMemory};
 
+use crate::asked::asked_calls;
 use cert_outline::{OutlineError, outlined};
 use cert_search::CertifyError;
 use kernel_check::Accepted;
@@ -18,7 +19,10 @@ fn written(
 ) -> Result<Option<Vec<u8>>, CertifyError>
     ensures { IfErr result (λ e. e ≡ OutOfMemory) }
 {
-    match outlined(alloc, profile, &program.program(), outline) {
+    let Ok(calls) = asked_calls(alloc, outline) else {
+        return Err(CertifyError::OutOfMemory);
+    };
+    match outlined(alloc, profile, &program.program(), &calls) {
         Ok(bytes) => Ok(Some(bytes)),
         Err(OutlineError::OutOfMemory) => Err(CertifyError::OutOfMemory),
         Err(_) => Ok(None),
