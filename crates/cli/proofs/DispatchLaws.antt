@@ -40,7 +40,7 @@ abbrev pub now_of : Bor (List ℕ) → List ℕ
 now_of name = name.now
 
 -- a file that is read, and one that is not behind it
-behind : (folder : Option Folder) (name bytes : List ℕ) (names : List (List ℕ)) (stop : Stop) → HasBytes folder name bytes
+pub behind : (folder : Option Folder) (name bytes : List ℕ) (names : List (List ℕ)) (stop : Stop) → HasBytes folder name bytes
     → FirstUnread folder names stop → FirstUnread folder (name ∷ names) stop
 behind folder name bytes names stop h g = inr ((bytes, h), g)
 
@@ -265,7 +265,7 @@ module _ {E : Type 0} (native : Arch) (bundle : List ℕ) (call : List (Bor (Lis
 -- ---- arguments that were not read
 
 -- memory is refused before any file is read
-unread_memory : (folder : Option Folder) (names : List (List ℕ)) → FirstUnread folder names OutOfMemory
+pub unread_memory : (folder : Option Folder) (names : List (List ℕ)) → FirstUnread folder names OutOfMemory
 unread_memory folder [] = tt
 unread_memory folder (name ∷ names) = inl tt
 

@@ -1,16 +1,25 @@
 -- Logs by their names and their texts, and the words that name them.
-use Rattle.std.proofs.Common.{◌≡◌, ℕ, ◌+◌, ◌-◌, ◌<◌, ◌≤◌, true, List, [], ◌∷◌, ◌++◌, Vec, Global, ap, arith, get_or, length, map, refl, sym, take, ◌∙◌}
+use Rattle.std.proofs.Common.{◌≡◌, ℕ, ◌+◌, ◌-◌, ◌<◌, ◌≤◌, true, List, [], ◌∷◌, ◌++◌, Vec, Global, ap, arith, get_or, length, map, refl, subst, suc, sym, take, ◌∙◌}
 use Rattle.std.proofs.lemmas.Bool.Decides.{Decides-eqb}
 use Rattle.std.proofs.lemmas.List.{get_or_default, length-map, length-take-le, map-append, take_all, take_more}
 use Rattle.std.proofs.lemmas.Slice.Eq.{slice_eq-Decides}
 use Rattle.std.specs.List.{zip}
+use Rattle.std.specs.Prelude.{Bool, Option, Result, Ok, Err}
+use Rattle.call_tables.specs.declared.arch.Arch.{Arch}
+use Rattle.explain.specs.declared.told.Told.{Told}
 use denote.Ref.{Bor}
 use Rattle.learn.specs.Logged.{parts_of}
+use Rattle.learn.specs.Replayed.{TellsReplayed}
 use Rattle.learn.specs.declared.logs.Log.{Log}
 use Rattle.processes.specs.Views.{same_text}
-use Rattle.cli.proofs.DispatchLaws.{now_of}
+use Rattle.cli.specs.declared.stops.Stop.{Stop}
+use Rattle.cli.specs.Dispatch.{FirstUnread, HaveBytes}
+use Rattle.cli.specs.Files.{Folder, HasBytes}
+use Rattle.cli.specs.Told.{IsReplayed}
+use Rattle.cli.specs.inner.Telling.{IsToldOf}
+use Rattle.cli.proofs.DispatchLaws.{behind, now_of}
 
-abbrev bytes_of : Vec ℕ Global → List ℕ
+abbrev pub bytes_of : Vec ℕ Global → List ℕ
 bytes_of t = t.items
 
 abbrev part_of : Log → List ℕ × List ℕ
@@ -70,3 +79,25 @@ one_more_log names texts logs more i d t v same lt so_far pushed text at =
     ∙ ap (λ p. p ++ (n.now, t.now) ∷ []) so_far
     ∙ ap (λ u. zip (map now_of (take i names)) (map bytes_of (take i texts)) ++ (n.now, u) ∷ []) text
     ∙ taken_with now_of bytes_of names texts i n v same lt (get_or_default names i d n (omega (arith, same, lt))) at
+
+-- as many files are read as are named
+pub as_many : (folder : Option Folder) (names texts : List (List ℕ)) → HaveBytes folder names texts → length names ≡ length texts
+as_many folder [] [] h = refl
+as_many folder [] (t ∷ ts) h = absurd h
+as_many folder (n ∷ ns) [] h = absurd h
+as_many folder (n ∷ ns) (t ∷ ts) h = ap suc (as_many folder ns ts h.1)
+
+pub as_many_read : (folder : Option Folder) (names : List (Bor (List ℕ))) (texts : List (Vec ℕ Global))
+    → HaveBytes folder (map now_of names) (map bytes_of texts) → length names ≡ length texts
+as_many_read folder names texts h =
+    sym (length-map names now_of) ∙ as_many folder (map now_of names) (map bytes_of texts) h ∙ length-map texts bytes_of
+
+-- what is told of logs behind a bundle
+pub told_behind : (folder later : Option Folder) → later ≡ folder → (native : Arch) (unused : Bool) (bundle text : List ℕ)
+    (names : List (List ℕ)) → HasBytes folder bundle text → (told : Result Told Stop)
+    → IsToldOf later names (λ texts. TellsReplayed native unused text (zip names texts)) told
+    → IsToldOf folder (bundle ∷ names) (IsReplayed native unused names) told
+told_behind folder later same native unused bundle text names has (Ok told) (texts, have, is) =
+    (text ∷ texts, (has, subst (λ d. HaveBytes d names texts) same have), is)
+told_behind folder later same native unused bundle text names has (Err stop) h =
+    behind folder bundle text names stop has (subst (λ d. FirstUnread d names stop) same h)

@@ -10,5 +10,5 @@ pub returns : goal.returns
 returns c = λ is. record {
   made = c.args.made.told;
   is_made = is;
-  is_narrowed = inl (c.if-not-told.false, subst (λ b. IsTold c.args.native b c.in_ok-narrower.narrower) c.deref.ensures.value c.in_ok-narrower.ensures);
+  is_narrowed = inl (c.if-not-told.false, subst (λ b. IsTold c.args.native b c.in_ok-narrower.field-0.told) c.deref.ensures.value c.in_ok-narrower.ensures);
 }
