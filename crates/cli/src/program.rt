@@ -5,6 +5,7 @@ ghost use Rattle.cli.specs.Dispatch.{Answers, AnswersCertify, AnswersCheck, Answ
 ghost use Rattle.cli.specs.Dispatch.{TellsChanges, TellsMisuse};
 
 use crate::adapting::{Both, adapted};
+use crate::all::certify_all;
 use crate::behind::certify_behind;
 use crate::comparing;
 use crate::explaining::explain;
@@ -216,6 +217,11 @@ fn obey<'a, F: Files, I: Source, O: Sink, E: Sink>(
             bundle,
             filter,
         } => certify_behind(alloc, native, bundle, filter, files, out, err),
+        Command::CertifyAll {
+            native,
+            bundle,
+            filter,
+        } => certify_all(alloc, native, bundle, filter, files, out, err),
         Command::Export {
             native,
             bundle,
