@@ -1,5 +1,5 @@
 -- What the commands do, by what they read and write.
-use Rattle.std.proofs.Common.{◌≡◌, ℕ, ◌+◌, ◌<◌, inl, inr, List, [], ◌∷◌, ◌++◌, ap, drop, get_or, length, map, refl, subst, sym, take, ◌∙◌}
+use Rattle.std.proofs.Common.{◌≡◌, ◌⊎◌, ℕ, ◌+◌, ◌<◌, inl, inr, List, [], ◌∷◌, ◌++◌, ap, drop, get_or, length, map, refl, subst, sym, take, ◌∙◌}
 use Rattle.std.proofs.lemmas.List.{get_or_default, map-append, take_more}
 use denote.Ref.{Bor}
 use Rattle.std.specs.Prelude.{Bool, false, IfOk, Option, None, Some, Result, Ok, Err}
@@ -12,17 +12,18 @@ use Rattle.explain.specs.Told.{IsExplained}
 use Rattle.explain.specs.declared.told.Told.{Told}
 use Rattle.pipeline.specs.Answer.{WritesAnswer}
 use Rattle.behind_runc.specs.Behind.{CertifiesBehind}
+use Rattle.convictions.specs.All.{TellsAll}
 use Rattle.pipeline.specs.Certified.{Certifies}
 use Rattle.pipeline.specs.Exported.{Exports}
 use Rattle.pipeline.specs.Finding.{WritesFinding}
 use Rattle.command_line.specs.Arguments.{Given, Reads}
-use Rattle.command_line.specs.Arguments.Given.{Verdict, Check, Certify, CertifyBehind, Export, Run, Explain, Read as ReadOut, Record, Assemble, Annotate, Draw, Lint, Compare, CompareFilters, Adapt, Learn, Replay, Manual, Version}
+use Rattle.command_line.specs.Arguments.Given.{Verdict, Check, Certify, CertifyBehind, CertifyAll, Export, Run, Explain, Read as ReadOut, Record, Assemble, Annotate, Draw, Lint, Compare, CompareFilters, Adapt, Learn, Replay, Manual, Version}
 use Rattle.command_line.specs.declared.Misuse.{Misuse}
 use Rattle.command_line.specs.declared.Misuse.TheVariants as kind
 use Rattle.cli.specs.declared.stops.Stop.{Stop}
 use Rattle.cli.specs.declared.stops.Stop.TheVariants.{Usage, CannotRead, Read, Write, OutOfMemory}
-use Rattle.cli.specs.Dispatch.{AnswersAdapt, AnswersBehind, AnswersCertify, AnswersCheck, AnswersExport, AnswersManual, AnswersReplay, AnswersTold}
-use Rattle.cli.specs.Dispatch.{AnswersVerdict, Does, StopsAtWords}
+use Rattle.cli.specs.Dispatch.{AnswersAdapt, AnswersAll, AnswersBehind, AnswersCertify, AnswersCheck, AnswersExport, AnswersManual, AnswersReplay}
+use Rattle.cli.specs.Dispatch.{AnswersTold, AnswersVerdict, Does, StopsAtWords}
 use Rattle.cli.specs.Adapted.{IsMadeAs}
 use Rattle.cli.specs.Told.{IsManual, IsReplayed, OfArguments, of_none, of_one, of_two}
 use Rattle.cli.specs.declared.adapting.Both.{Both}
@@ -34,7 +35,7 @@ use Rattle.cli.specs.Explained.{TellsBehind}
 use Rattle.cli.specs.Files.{Folder, HasBytes, HasEnough}
 use Rattle.cli.specs.Running.{told_line}
 use Rattle.cli.proofs.TurnLaws.{cut_at}
-use Rattle.cli.proofs.FileLaws.{behind_of_file, certified_of_file, check_of_file, tells_of_file, verdict_of_files}
+use Rattle.cli.proofs.FileLaws.{behind_of_file, certified_of_file, check_of_file, tells_all_of_file, tells_of_file, verdict_of_files}
 
 abbrev pub now_of : Bor (List ℕ) → List ℕ
 now_of name = name.now
@@ -95,6 +96,10 @@ module _ {O : Type 0} (held : O → Option (List ℕ)) (failures : O → Failure
           → AnswersBehind held failures folder old old native bundle filter result
       behind_first stop result h e = inl (record { stop = stop; at = inl h; told = e; unwritten = refl })
 
+      pub all_first : (stop : Stop) (result : Result Bool Stop) → StopsAt folder bundle stop → result ≡ Err stop
+          → AnswersAll held failures folder old old native bundle filter result
+      all_first stop result h e = inl (record { stop = stop; at = inl h; told = e; unwritten = refl })
+
       pub check_first : (cert : List ℕ) (stop : Stop) (result : Result Bool Stop) → StopsAt folder bundle stop → result ≡ Err stop
           → AnswersCheck held failures folder old old native bundle filter cert result
       check_first cert stop result h e = inl (record { stop = stop; at = inl h; told = e; unwritten = refl })
@@ -112,6 +117,10 @@ module _ {O : Type 0} (held : O → Option (List ℕ)) (failures : O → Failure
         pub behind_second : (stop : Stop) (result : Result Bool Stop) → StopsAt later filter stop → result ≡ Err stop
             → AnswersBehind held failures folder old old native bundle filter result
         behind_second stop result h e = inl (record { stop = stop; at = second [] stop h; told = e; unwritten = refl })
+
+        pub all_second : (stop : Stop) (result : Result Bool Stop) → StopsAt later filter stop → result ≡ Err stop
+            → AnswersAll held failures folder old old native bundle filter result
+        all_second stop result h e = inl (record { stop = stop; at = second [] stop h; told = e; unwritten = refl })
 
         pub check_second : (cert : List ℕ) (stop : Stop) (result : Result Bool Stop) → StopsAt later filter stop → result ≡ Err stop
             → AnswersCheck held failures folder old old native bundle filter cert result
@@ -134,6 +143,23 @@ module _ {O : Type 0} (held : O → Option (List ℕ)) (failures : O → Failure
               written = certified_of_file native b of_filter.file f of_filter.enough held failures old new answer h;
               told = e;
             },
+          )
+
+          all_of : (new : O) (answer : Result Bool WriteFault)
+              → Certifies held failures old new native b f answer ⊎ TellsAll held failures old new native b f answer
+              → Certifies held failures old new native b of_filter.file answer ⊎ TellsAll held failures old new native b of_filter.file answer
+          all_of new answer (inl h) = inl (certified_of_file native b of_filter.file f of_filter.enough held failures old new answer h)
+          all_of new answer (inr h) = inr (tells_all_of_file native b of_filter.file f of_filter.enough held failures old new answer h)
+
+          pub all_done : (new : O) (answer : Result Bool WriteFault) (result : Result Bool Stop)
+              → Certifies held failures old new native b f answer ⊎ TellsAll held failures old new native b f answer
+              → result ≡ told_line answer → AnswersAll held failures folder old new native bundle filter result
+          all_done new answer result h e = inr (
+            b,
+            of_filter.file,
+            of_bundle,
+            has_filter,
+            record { answer = answer; written = all_of new answer h; told = e },
           )
 
           pub behind_done : (new : O) (answer : Result Bool WriteFault) (result : Result Bool Stop)
@@ -280,6 +306,7 @@ module _ {I O : Type 0} (left : I → Option (List ℕ)) (given : I → Failures
   not_begun (Check native bundle filter cert) = (refl, inl (stops_early folder out (bundle ∷ filter ∷ cert ∷ [])))
   not_begun (Certify native bundle filter) = (refl, inl (stops_early folder out (bundle ∷ filter ∷ [])))
   not_begun (CertifyBehind native bundle filter) = (refl, inl (stops_early folder out (bundle ∷ filter ∷ [])))
+  not_begun (CertifyAll native bundle filter) = (refl, inl (stops_early folder out (bundle ∷ filter ∷ [])))
   not_begun (Export native bundle form) = (refl, inl (stops_early folder out (bundle ∷ [])))
   not_begun (Run native bundles) = inl (refl, stops_early folder out bundles)
   not_begun (Explain native bundle call) = inr (refl, inl (stops_early folder out (bundle ∷ [])))
@@ -311,6 +338,7 @@ module _ {O E : Type 0} (held : O → Option (List ℕ)) (taken : O → Failures
   explained_stop (Check native bundle filter cert) stop = tt
   explained_stop (Certify native bundle filter) stop = tt
   explained_stop (CertifyBehind native bundle filter) stop = tt
+  explained_stop (CertifyAll native bundle filter) stop = tt
   explained_stop (Export native bundle form) stop = tt
   explained_stop (Run native bundles) stop = tt
   explained_stop (Explain native bundle call) stop = tt

@@ -1,6 +1,6 @@
 -- What is written of the bytes that are read of files is so of the files' own.
 use Rattle.std.proofs.Common.{◌≡◌, ◌⊎◌, ℕ, ◌-◌, inl, inr, List, [], ap, length, refl, subst, sym, ◌∙◌, arith}
-use Rattle.std.specs.Prelude.{◌≢◌, Bool, Option, None, Result, Ok, Err}
+use Rattle.std.specs.Prelude.{◌≢◌, Bool, Option, None, Result, Ok, Err, slice_index_or}
 use Rattle.bpf_insn.specs.Bytes.{view_fault}
 use Rattle.bpf_insn.specs.declared.fault.ViewError.TheVariants.{NotMultipleOf8}
 use Rattle.call_tables.specs.declared.arch.Arch.{Arch}
@@ -25,6 +25,8 @@ use Rattle.pipeline.specs.declared.verdict.Answer.TheVariants.{Verdict, NoRecord
 use Rattle.describe.specs.Shown.{IsShown}
 use Rattle.explain.specs.declared.told.Told.{Told}
 use Rattle.runc_stub.specs.declared.calls.Calls.{Calls}
+use Rattle.certify.specs.declared.evidence.Conviction.{Conviction}
+use Rattle.convictions.specs.All.{AllConvict, Convicts, TellsAll}
 use Rattle.cli.specs.Explained.{MayTellStub, TellsBehind, WritesSome}
 use Rattle.cli.specs.Files.{IsEnough}
 use Rattle.cli.proofs.EnoughLaws.{all_read, all_read_of, first_of_file, same_fault, whole_filter}
@@ -102,6 +104,23 @@ module _ (native : Arch) (bundle filter f : List ℕ) (enough : IsEnough 32768 f
       told = h.told;
     })))
     certified_of_file result (inr (inr (inr h))) = inr (inr (inr h))
+
+    -- each record that convicts the bytes that were read convicts the file
+    all_of_file : (all : List Conviction) → AllConvict native bundle f all → AllConvict native bundle filter all
+    all_of_file all h = λ k d lt.
+        subst (λ x. Convicts native bundle x (slice_index_or all k d)) (whole_filter filter f enough (h k d lt).1.program) (h k d lt)
+
+    pub tells_all_of_file : (result : Result Bool WriteFault) → TellsAll held failures old new native bundle f result
+        → TellsAll held failures old new native bundle filter result
+    tells_all_of_file result (inl h) = inl (record {
+      all = h.all;
+      convict = all_of_file h.all h.convict;
+      text = h.text;
+      lines = h.lines;
+      written = h.written;
+      told = h.told;
+    })
+    tells_all_of_file result (inr lacks) = inr lacks
 
     -- what is written where no stub was found in the bytes that were read
     whole_behind : (result : Result Bool WriteFault) → WritesBehind held failures old new native bundle f f result

@@ -5,7 +5,7 @@ use Rattle.std.specs.Str.{bytes_eq}
 use denote.Ref.{Bor}
 use Rattle.call_tables.specs.declared.arch.Arch.{Arch}
 use Rattle.command_line.specs.Arguments.{Given}
-use Rattle.command_line.specs.Arguments.Given.{Verdict, Check, Certify, CertifyBehind, Export, Run, Explain, Record, Assemble}
+use Rattle.command_line.specs.Arguments.Given.{Verdict, Check, Certify, CertifyBehind, CertifyAll, Export, Run, Explain, Record, Assemble}
 use Rattle.command_line.specs.Arguments.Given.{Read, Annotate, Draw, Lint, Compare, CompareFilters, Adapt, Learn, Replay, Manual, Version}
 use Rattle.streams.specs.Failures.{Failures}
 use Rattle.streams.specs.Sink.{StopsAt as StopsWriting, Wrote}
@@ -17,6 +17,7 @@ use Rattle.audit.specs.Any.{IsExplained as IsExplainedAny}
 use Rattle.describe.specs.Shown.{IsAnnotated, IsDrawn}
 use Rattle.lint.specs.Linted.{IsLinted}
 use Rattle.behind_runc.specs.Behind.{CertifiesBehind}
+use Rattle.convictions.specs.All.{TellsAll}
 use Rattle.compare.specs.Told.{IsCompared}
 use Rattle.differ.specs.Told.{IsTold}
 use Rattle.pipeline.specs.Answer.{WritesAnswer}
@@ -118,6 +119,13 @@ module _ {O : Type 0} (held : O → Option (List ℕ)) (failures : O → Failure
       ⊎ ((b : List ℕ) × (f : List ℕ) × HasBytes folder bundle b × HasBytes folder filter f
       × AnswersBy (CertifiesBehind held failures old new native b f) result)
 
+  -- with `all` what it writes without, or the lines of records that convict the filter
+  abbrev pub AnswersAll : Arch → List ℕ → List ℕ → Result Bool Stop → Type 0
+  AnswersAll native bundle filter result =
+      StopsAtFile folder old new (bundle ∷ filter ∷ []) result
+      ⊎ ((b : List ℕ) × (f : List ℕ) × HasBytes folder bundle b × HasBytes folder filter f
+      × AnswersBy (λ answer. Certifies held failures old new native b f answer ⊎ TellsAll held failures old new native b f answer) result)
+
   abbrev pub AnswersExport : Arch → List ℕ → Form → Result Bool Stop → Type 0
   AnswersExport native bundle form result =
       StopsAtFile folder old new (bundle ∷ []) result
@@ -181,6 +189,7 @@ module _ {I O : Type 0} (left : I → Option (List ℕ)) (given : I → Failures
   Does (Certify native bundle filter) result = (input' ≡ input) × AnswersCertify held taken folder out out' native bundle filter result
   Does (CertifyBehind native bundle filter) result =
       (input' ≡ input) × AnswersBehind held taken folder out out' native bundle filter result
+  Does (CertifyAll native bundle filter) result = (input' ≡ input) × AnswersAll held taken folder out out' native bundle filter result
   Does (Export native bundle form) result = (input' ≡ input) × AnswersExport held taken folder out out' native bundle form result
   Does (Run native bundles) result = AnswersRun native bundles result
   Does (Explain native bundle call) result =

@@ -3,6 +3,7 @@
 #![tactic(auto)]
 
 mod adapting;
+mod all;
 mod behind;
 mod comparing;
 mod explaining;

@@ -9,6 +9,7 @@ ghost use Rattle.cli.specs.Statuses.{AreRight, HasRun};
 ghost use Rattle.cli.specs.inner.Telling.{TellsOn, told_in};
 
 use crate::adapting::{Both, adapted};
+use crate::all::certify_all;
 use crate::behind::certify_behind;
 use crate::comparing;
 use crate::explaining::explain;
@@ -170,6 +171,11 @@ fn obey<'a, F: Files, I: Source, O: Sink, E: Sink>(
             bundle,
             filter,
         } => certify_behind(alloc, native, bundle, filter, files, out, err),
+        Command::CertifyAll {
+            native,
+            bundle,
+            filter,
+        } => certify_all(alloc, native, bundle, filter, files, out, err),
         Command::Export {
             native,
             bundle,

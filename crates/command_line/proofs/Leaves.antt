@@ -16,7 +16,7 @@ use Rattle.clap.specs.declared.builder.ValueParser.TheVariants as parser
 use Rattle.export.specs.declared.form.Form.{Form}
 use Rattle.command_line.specs.Arguments as given
 use Rattle.command_line.specs.Arguments.{Given, form_called}
-use Rattle.command_line.specs.Arguments.Given.{Run, Explain, Record, Certify, CertifyBehind, Export, Compare, CompareFilters, Adapt, Learn, Replay, Manual, Version}
+use Rattle.command_line.specs.Arguments.Given.{Run, Explain, Record, Certify, CertifyBehind, CertifyAll, Export, Compare, CompareFilters, Adapt, Learn, Replay, Manual, Version}
 use Rattle.command_line.specs.inner.Found as found
 use Rattle.command_line.specs.inner.Found.{last_of}
 use Rattle.command_line.specs.inner.Grammar.{Entry, leaf, table, top}
@@ -131,13 +131,15 @@ plain_made : (native : Option Arch) (made : Arch → Given) → option_and_then 
 plain_made None made = refl
 plain_made (Some n) made = refl
 
-certify_made : (native : Option Arch) (bundle filter : Text) (behind : Bool)
-    → option_and_then (λ n. cond behind (Some (CertifyBehind n bundle filter)) None) native
-    ≡ cond behind (option_map (λ n. CertifyBehind n bundle filter) native) None
-certify_made None bundle filter true = refl
-certify_made None bundle filter false = refl
-certify_made (Some n) bundle filter true = refl
-certify_made (Some n) bundle filter false = refl
+certify_made : (native : Option Arch) (bundle filter : Text) (behind all : Bool)
+    → option_and_then (λ n. cond behind (Some (CertifyBehind n bundle filter)) (cond all (Some (CertifyAll n bundle filter)) None)) native
+    ≡ cond behind (option_map (λ n. CertifyBehind n bundle filter) native) (cond all (option_map (λ n. CertifyAll n bundle filter) native) None)
+certify_made None bundle filter true all = refl
+certify_made None bundle filter false true = refl
+certify_made None bundle filter false false = refl
+certify_made (Some n) bundle filter true all = refl
+certify_made (Some n) bundle filter false true = refl
+certify_made (Some n) bundle filter false false = refl
 
 pub certify_reading : (parts : List Text) → Reading (shape_called (codes "certify")) parts found.certify_in (given.certify parts)
 unfolding values_fault defaults_fault
@@ -145,7 +147,7 @@ certify_reading [] = inr (tt, refl)
 certify_reading (a ∷ []) = inr (tt, refl)
 certify_reading (a ∷ b ∷ []) = inr (tt, refl)
 certify_reading (a ∷ b ∷ c ∷ []) = inl (refl, plain_made (native_called a) (λ n. Certify n b c))
-certify_reading (a ∷ b ∷ c ∷ d ∷ []) = inl (refl, certify_made (native_called a) b c (bytes_eq d (codes "runc")))
+certify_reading (a ∷ b ∷ c ∷ d ∷ []) = inl (refl, certify_made (native_called a) b c (bytes_eq d (codes "runc")) (bytes_eq d (codes "all")))
 certify_reading (a ∷ b ∷ c ∷ d ∷ e ∷ more) = inr (tt, refl)
 
 compare_made : (native : Option Arch) (old new : Text) (at_most filters : Bool)

@@ -34,6 +34,7 @@ pub data Given : Type 0 where
   Check : (native : Arch) → (bundle filter cert : List ℕ) → Given
   Certify : (native : Arch) → (bundle filter : List ℕ) → Given
   CertifyBehind : (native : Arch) → (bundle filter : List ℕ) → Given
+  CertifyAll : (native : Arch) → (bundle filter : List ℕ) → Given
   Export : (native : Arch) → (bundle : List ℕ) → (form : Form) → Given
   Run : (native : Arch) → (bundles : List (List ℕ)) → Given
   Explain : (native : Arch) → (bundle : List ℕ) → (call : List (List ℕ)) → Given
@@ -56,6 +57,7 @@ given (command.Verdict filter rec) = Verdict filter.now rec.now
 given (command.Check native bundle filter cert) = Check native bundle.now filter.now cert.now
 given (command.Certify native bundle filter) = Certify native bundle.now filter.now
 given (command.CertifyBehind native bundle filter) = CertifyBehind native bundle.now filter.now
+given (command.CertifyAll native bundle filter) = CertifyAll native bundle.now filter.now
 given (command.Export native bundle form) = Export native bundle.now form
 given (command.Run native bundles) = Run native (map (λ b. b.now) bundles.now)
 given (command.Explain native bundle call) = Explain native bundle.now (map (λ c. c.now) call.now)
@@ -87,11 +89,13 @@ abbrev pub check : List (List ℕ) → Option Given
 check (machine ∷ bundle ∷ filter ∷ cert ∷ []) = option_map (λ native. Check native bundle filter cert) (native_called machine)
 check _ = None
 
--- the argument `runc` may stand behind the files
+-- the argument `runc` or `all` may stand behind the files
 abbrev pub certify : List (List ℕ) → Option Given
 certify (machine ∷ bundle ∷ filter ∷ []) = option_map (λ native. Certify native bundle filter) (native_called machine)
 certify (machine ∷ bundle ∷ filter ∷ last ∷ []) =
-    if bytes_eq last (codes "runc") then option_map (λ native. CertifyBehind native bundle filter) (native_called machine) else None
+    if bytes_eq last (codes "runc") then option_map (λ native. CertifyBehind native bundle filter) (native_called machine)
+    else if bytes_eq last (codes "all") then option_map (λ native. CertifyAll native bundle filter) (native_called machine)
+    else None
 certify _ = None
 
 abbrev pub export_in : List ℕ → List ℕ → Option Form → Option Given

@@ -59,6 +59,12 @@ pub enum Command<'a> {
         bundle: &'a str,
         filter: &'a str,
     },
+    /// The same, with a record of each call that is found on which they differ.
+    CertifyAll {
+        native: Arch,
+        bundle: &'a str,
+        filter: &'a str,
+    },
     /// The filter that is compiled for a bundle, read for a native machine, once it is certified and checked. The bundle
     /// is given as the name of a file.
     Export {

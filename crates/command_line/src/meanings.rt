@@ -10,7 +10,7 @@ pub enum Meaning {
     New,
     Compared,
     Filter,
-    Stub,
+    Certified,
     Record,
     Certificate,
     Listing,
@@ -39,8 +39,8 @@ impl Meaning {
                 "all that is asked is that the new bundle allows no more; or both files are filters\n[possible values: atmost, filters]"
             }
             Meaning::Filter => { "a file with instructions of eight bytes" }
-            Meaning::Stub => {
-                "the filter is of runc, which puts its ENOSYS stub in front\n[possible values: runc]"
+            Meaning::Certified => {
+                "the filter is of runc, which puts its ENOSYS stub in front; or all calls are reported that differ\n[possible values: runc, all]"
             }
             Meaning::Record => { "a file with the 64 bytes of struct seccomp_data" }
             Meaning::Certificate => { "a file that certify wrote" }

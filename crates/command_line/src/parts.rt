@@ -81,6 +81,13 @@ fn certified_as<'a>(
             filter,
         });
     }
+    if last == "all" {
+        return Some(Command::CertifyAll {
+            native,
+            bundle,
+            filter,
+        });
+    }
     None
 }
 

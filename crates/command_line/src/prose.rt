@@ -46,6 +46,7 @@ const CERTIFY: &str =
 it does not, and explains it on standard error.
 With runc, the stub that runc puts in front of a filter is taken for what it is: on standard error
 stand the calls that it answers ENOSYS, and the certificate is of the filter behind it.
+With all, a filter without a certificate gets a record of each call that is found on which it differs.
 Status 0, or 1 and a line that begins with 'no' or 'refused'.
 
 Example: ccell certify linux-x86-64 web.json web.bpf > web.cert

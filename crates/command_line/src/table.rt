@@ -26,7 +26,7 @@ const COMPARED: Part = ("WORD", 0, 1, Meaning::Compared);
 
 const FILTER: Part = ("FILTER", 1, 1, Meaning::Filter);
 
-const STUB: Part = ("WORD", 0, 1, Meaning::Stub);
+const CERTIFIED: Part = ("WORD", 0, 1, Meaning::Certified);
 
 const RECORD: Part = ("RECORD", 1, 1, Meaning::Record);
 
@@ -66,7 +66,7 @@ pub const COMMANDS: &[Entry] = &[
     ),
     (
         "certify",
-        &[MACHINE, BUNDLE, FILTER, STUB],
+        &[MACHINE, BUNDLE, FILTER, CERTIFIED],
         "a certificate for any filter, or a call that convicts it",
         Page::Certify,
     ),

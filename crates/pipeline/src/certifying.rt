@@ -47,8 +47,8 @@ fn line_text(alloc: Global, bytes: &[u8], given: Word, said: Word) -> Result<Str
     line_with(alloc, digits.as_str(), given, said)
 }
 
-// The line that tells a conviction.
-fn line_of(alloc: Global, found: &Conviction) -> Result<String, AllocError>
+/// The line that tells a conviction.
+pub fn line_of(alloc: Global, found: &Conviction) -> Result<String, AllocError>
     ensures { IfOk result (λ line. IsLine (words found.now.call) found.now.given found.now.said (string_bytes line)) }
 {
     let bytes = found.call.to_bytes();

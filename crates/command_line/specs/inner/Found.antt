@@ -8,7 +8,7 @@ use Rattle.call_tables.specs.Arch.{native_called}
 use Rattle.clap.specs.Words.{Row, Text, all_of, first_of}
 use Rattle.export.specs.declared.form.Form.{Form}
 use Rattle.command_line.specs.Arguments.{Given, form_called}
-use Rattle.command_line.specs.Arguments.Given.{Verdict, Check, Certify, CertifyBehind, Export, Run, Explain, Read, Record}
+use Rattle.command_line.specs.Arguments.Given.{Verdict, Check, Certify, CertifyBehind, CertifyAll, Export, Run, Explain, Read, Record}
 use Rattle.command_line.specs.Arguments.Given.{Assemble, Annotate, Draw, Lint, Compare, CompareFilters, Adapt, Learn, Replay}
 use Rattle.command_line.specs.Arguments.Given.{Manual, Version}
 
@@ -49,7 +49,10 @@ with_files one other rows made = with_part one rows (λ first. with_part other r
 -- the command of certifying that the part that may stand last asks for
 abbrev pub certified_as : Option Text → Arch → Text → Text → Option Given
 certified_as None native bundle filter = Some (Certify native bundle filter)
-certified_as (Some last) native bundle filter = if bytes_eq last (codes "runc") then Some (CertifyBehind native bundle filter) else None
+certified_as (Some last) native bundle filter =
+    if bytes_eq last (codes "runc") then Some (CertifyBehind native bundle filter)
+    else if bytes_eq last (codes "all") then Some (CertifyAll native bundle filter)
+    else None
 
 abbrev pub certify_in : List Row → Option Given
 certify_in rows = with_files (codes "BUNDLE") (codes "FILTER") rows (certified_as (first_of (codes "WORD") rows))

@@ -1,0 +1,6 @@
+use Rattle.std.proofs.Common.{inl, inr}
+use Rattle.cli.proofs.all.judge.Goals as goal
+
+pub returns-clause-written : goal.returns-clause-written
+returns-clause-written g c =
+    inl (c.write_judged.ensures.found c.args.native c.args.bundle.now c.args.filter.now c.judge_bundle-judged.ensures.found)

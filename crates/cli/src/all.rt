@@ -1,0 +1,90 @@
+//! What `ccell certify` does that does not stop at the first call.
+ghost use Rattle.std.specs.Prelude.{◌≡◌, ◌⊎◌, OnErr, Ok, true};
+ghost use Rattle.convictions.specs.All.{Convicts, TellsAll};
+ghost use Rattle.pipeline.specs.Certified.{Certifies};
+ghost use Rattle.cli.specs.Dispatch.{AnswersAll};
+
+use crate::comparing::tell_why;
+use crate::files::{Files, read, read_filter};
+use crate::stops::Stop;
+use call_tables::Arch;
+use convictions::{convictions_of, write_convictions};
+use pipeline::{Conviction, Evidence, judge_bundle, write_judged};
+use std::alloc::Global;
+use streams::{Sink, WriteFault};
+
+// Explains each record that was told, if there is memory.
+fn tell_each<E: Sink>(alloc: Global, native: Arch, bundle: &[u8], all: &[Conviction], err: &mut E) {
+    for found in all {
+        tell_why(alloc, native, bundle, found, err);
+    }
+}
+
+// Writes the lines of all records that are found to convict a filter, beside the first, and explains each.
+fn write_each<O: Sink, E: Sink>(
+    alloc: Global,
+    native: Arch,
+    bundle: &[u8],
+    filter: &[u8],
+    found: &Conviction,
+    out: &mut O,
+    err: &mut E,
+) -> Result<bool, WriteFault>
+    requires { Convicts native bundle.now filter.now found.now }
+    ensures told { TellsAll O.held O.failures out.old out.new native bundle.now filter.now result }
+    ensures stopped { OnErr result (err.new ≡ err.old) }
+    ensures quiet { result ≡ Ok true → err.new ≡ err.old }
+{
+    let all = match convictions_of(alloc, native, bundle, filter, found) {
+        Ok(all) => all,
+        Err(_no_memory) => return Err(WriteFault::OutOfMemory),
+    };
+    match write_convictions(alloc, &all, out) {
+        Err(fault) => Err(fault),
+        Ok(true) => Ok(true),
+        Ok(false) => {
+            tell_each(alloc, native, bundle, &all, err);
+            Ok(false)
+        }
+    }
+}
+
+// Writes what is judged of a bundle and a filter, and of a filter that is convicted all records that are found.
+fn judge<O: Sink, E: Sink>(
+    alloc: Global,
+    native: Arch,
+    bundle: &[u8],
+    filter: &[u8],
+    out: &mut O,
+    err: &mut E,
+) -> Result<bool, WriteFault>
+    ensures written { Certifies O.held O.failures out.old out.new native bundle.now filter.now result
+        ⊎ TellsAll O.held O.failures out.old out.new native bundle.now filter.now result }
+    ensures stopped { OnErr result (err.new ≡ err.old) }
+    ensures quiet { result ≡ Ok true → err.new ≡ err.old }
+{
+    let judged = judge_bundle(alloc, native, bundle, filter);
+    if let Ok(Evidence::Convicting(found)) = &judged {
+        return write_each(alloc, native, bundle, filter, found, out, err);
+    }
+    write_judged(alloc, &judged, out)
+}
+
+/// Writes a certificate that a filter answers what a bundle says, or a record of each call that is found on which it does not.
+pub(crate) fn certify_all<'a, F: Files, O: Sink, E: Sink>(
+    alloc: Global,
+    native: Arch,
+    bundle: &'a str,
+    filter: &'a str,
+    files: &mut F,
+    out: &mut O,
+    err: &mut E,
+) -> Result<bool, Stop<'a>>
+    ensures answers { AnswersAll O.held O.failures (F.folder files.old) out.old out.new native bundle.entry.now filter.entry.now result }
+    ensures stopped { OnErr result (err.new ≡ err.old) }
+    ensures quiet { result ≡ Ok true → err.new ≡ err.old }
+{
+    let bundle = read(alloc, files, bundle)?;
+    let filter = read_filter(alloc, files, filter)?;
+    Ok(judge(alloc, native, &bundle, &filter, out, err)?)
+}

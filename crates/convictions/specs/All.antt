@@ -1,0 +1,41 @@
+-- All calls that are found of which a filter gives another verdict than a bundle says.
+use Rattle.std.specs.Prelude.{ℕ, ◌≡◌, ◌⊎◌, Bool, false, List, [], ◌∷◌, ◌++◌, Option, Result, IfOk}
+use Rattle.std.specs.List.{All}
+use Rattle.call_record.specs.Record.{words}
+use Rattle.call_tables.specs.declared.arch.Arch.{Arch}
+use Rattle.certify.specs.declared.evidence.Conviction.{Conviction}
+use Rattle.certify.specs.declared.evidence.Evidence.TheVariants.{Convicting}
+use Rattle.pipeline.specs.Certified.{IsEvidenceFor}
+use Rattle.pipeline.specs.Exported.{LacksMemory}
+use Rattle.pipeline.specs.Told.{IsLine}
+use Rattle.streams.specs.Failures.{Failures}
+use Rattle.streams.specs.Sink.{WritesMade}
+use Rattle.streams.specs.declared.fault.WriteFault.{WriteFault}
+
+-- the filter gives its record the one verdict, and the bundle says the other
+abbrev pub Convicts : Arch → List ℕ → List ℕ → Conviction → Type 0
+Convicts native bundle filter found = IsEvidenceFor native bundle filter (Convicting found)
+
+abbrev pub AllConvict : Arch → List ℕ → List ℕ → List Conviction → Type 0
+AllConvict native bundle filter all = All (Convicts native bundle filter) all
+
+-- the text tells each by its line, in order
+abbrev pub AreLines : List Conviction → List ℕ → Type 0
+AreLines [] text = text ≡ []
+AreLines (found ∷ more) text =
+    (line : List ℕ) × (rest : List ℕ) × IsLine (words found.call) found.given found.said line × AreLines more rest × (text ≡ line ++ rest)
+
+-- what was written are the lines of records that convict the filter, and the answer is false
+pub record WritesConvictions {S : Type 0} (held : S → Option (List ℕ)) (failures : S → Failures) (old new : S) (native : Arch)
+    (bundle filter : List ℕ) (result : Result Bool WriteFault) : Type 0 where
+  pub all : List Conviction
+  pub convict : AllConvict native bundle filter all
+  pub text : List ℕ
+  pub lines : AreLines all text
+  pub written : WritesMade held failures old new text result
+  pub told : IfOk result (λ done. done ≡ false)
+
+abbrev pub TellsAll : {S : Type 0} → (S → Option (List ℕ)) → (S → Failures) → S → S → Arch → List ℕ → List ℕ
+    → Result Bool WriteFault → Type 0
+TellsAll held failures old new native bundle filter result =
+    WritesConvictions held failures old new native bundle filter result ⊎ LacksMemory old new result
