@@ -203,7 +203,8 @@ module _ {I O : Type 0} (left : I → Option (List ℕ)) (given : I → Failures
   Does (Annotate native filter) result =
       (input' ≡ input) × AnswersTold held taken folder out out' (filter ∷ []) (of_one IsAnnotated) result
   Does (Draw native filter) result = (input' ≡ input) × AnswersTold held taken folder out out' (filter ∷ []) (of_one IsDrawn) result
-  Does (Lint native bundle) result = (input' ≡ input) × AnswersTold held taken folder out out' (bundle ∷ []) (of_one (IsLinted native)) result
+  Does (Lint native bundle) result =
+      (input' ≡ input) × AnswersTold held taken folder out out' (bundle ∷ []) (of_one (IsLinted native)) result
   Does (Compare native old new at_most) result =
       (input' ≡ input) × AnswersTold held taken folder out out' (old ∷ new ∷ []) (of_two (IsCompared at_most native)) result
   Does (CompareFilters native old new) result =
