@@ -23,7 +23,7 @@ static void tell(uint32_t call, uint64_t argument, size_t length) {
 }
 
 int main(void) {
-    /* write is allowed on descriptors 1 and 2, exit_group always, and all else answers EPERM */
+    /* write is allowed on descriptors 1 and 2, exit_group always, and each other call of x86-64 answers EPERM */
     struct ccell_rule rules[] = {
         {CCELL_X86_64, number("write"), SECCOMP_RET_ALLOW, 1, {{0, CCELL_EQ, 1, 0}}},
         {CCELL_X86_64, number("write"), SECCOMP_RET_ALLOW, 1, {{0, CCELL_EQ, 2, 0}}},
