@@ -1,1 +1,3 @@
 pub mod Adapted
+pub mod Words
+pub mod inner

@@ -1,4 +1,8 @@
 //! Capabilities (capabilities(7)), and those that containers of engines have by default.
+ghost use Rattle.std.specs.Prelude.{◌≡◌, ◌^◌, ◌<◌, ◌≤◌, IfSome, length, option_map, position};
+ghost use Rattle.std.specs.Str.{bytes_eq};
+ghost use Rattle.adapt.specs.Words.{capability_called};
+ghost use Rattle.adapt.specs.inner.Reading.{engine_called};
 
 /// A container engine.
 #[derive(Clone, Copy, Debug, PartialEq, Eq)]
@@ -8,7 +12,11 @@ pub enum Engine {
     Containerd,
 }
 
-pub(crate) fn engine_named(word: &str) -> Option<Engine> {
+/// The engine of a name.
+#[tactic(auto, unfolding(crate::specs::inner::Reading::engine_called))]
+pub(crate) fn engine_named(word: &str) -> Option<Engine>
+    ensures { result ≡ engine_called word.now }
+{
     match word {
         "docker" => Some(Engine::Docker),
         "podman" => Some(Engine::Podman),
@@ -91,33 +99,42 @@ fn is_one_of(names: &[&str], name: &str) -> bool {
     names.iter().any(|other| *other == name)
 }
 
-// The bit of a capability, 0 where there is no such.
-fn bit_of(name: &str) -> u64 {
-    let mut bit = 1u64;
-    for other in CAPABILITIES {
-        if *other == name {
-            return bit;
-        }
-        bit = bit.saturating_mul(2);
+// The place of a name among names.
+fn place_of(names: &[&str], name: &str) -> Option<usize>
+    ensures place { result ≡ position (λ n. bytes_eq n.now name.now) names.now }
+    ensures within { IfSome result (λ place. place < length names.now) }
+{
+    names.iter().position(|other| *other == name)
+}
+
+// The bit at the place of a name among names.
+fn bit_among(names: &[&str], name: &str) -> Option<u64>
+    requires { length names.now ≤ 64 }
+    ensures { result ≡ option_map (λ place. 2 ^ place) (position (λ n. bytes_eq n.now name.now) names.now) }
+{
+    match place_of(names, name) {
+        Some(place) => Some(1 << place),
+        None => None,
     }
-    0
+}
+
+/// The bits of a capability by its name, or of all.
+#[tactic(auto, unfolding(crate::specs::Words::capability_called))]
+pub(crate) fn capability_named(word: &str) -> Option<u64>
+    ensures { result ≡ capability_called word.now }
+{
+    if word == "all" {
+        Some(u64::MAX)
+    } else {
+        bit_among(CAPABILITIES, word)
+    }
 }
 
 impl Capabilities {
-    /// The bits of a capability by its name, or of all.
-    pub(crate) fn bits_of(word: &str) -> Option<u64> {
-        if word == "all" {
-            return Some(u64::MAX);
-        }
-        match bit_of(word) {
-            0 => None,
-            bit => Some(bit),
-        }
-    }
-
     /// Whether the container has a capability.
     pub(crate) fn have(self, name: &str) -> bool {
-        if self.more & bit_of(name) != 0 || is_one_of(PODMAN, name) {
+        let bit = bit_among(CAPABILITIES, name).unwrap_or(0);
+        if self.more & bit != 0 || is_one_of(PODMAN, name) {
             return true;
         }
         self.engine != Engine::Podman && is_one_of(DOCKER_BESIDES, name)

@@ -1,5 +1,10 @@
 //! Editions of kernels.
+ghost use Rattle.std.specs.Prelude.{◌≡◌, ◌^◌, nat_lt, Some, None, if◌then◌else◌};
+ghost use Rattle.std.specs.Str.Parse.{IsNumeral, digits_value};
+ghost use Rattle.adapt.specs.Words.{edition_called, number_at};
+
 use std::fmt;
+use texts::{is_decimal, split};
 
 /// A kernel's edition, as `6.12`: what stands before the dot and behind it.
 #[derive(Clone, Copy, Debug, PartialEq, Eq)]
@@ -31,27 +36,32 @@ impl fmt::Display for Kernel {
     }
 }
 
-// A number by its digits.
-fn number_of(text: &str) -> Option<u32> {
-    if text.is_empty() || text.len() > 6 {
-        return None;
-    }
-    let mut number = 0u32;
-    for byte in text.bytes() {
-        if !byte.is_ascii_digit() {
-            return None;
-        }
-        let digit = u32::from(byte.saturating_sub(b'0'));
-        number = number.saturating_mul(10).saturating_add(digit);
-    }
-    Some(number)
+// The number that digits write, where 32 bits hold it.
+fn value(digits: &str) -> Option<u32>
+    requires { IsNumeral 10 digits.now }
+    ensures { result ≡ (if nat_lt (digits_value 10 digits.now) (2 ^ 32) then Some (digits_value 10 digits.now) else None) }
+{
+    u32::from_str_radix(digits, 10).ok()
+}
+
+// The number of decimal digits, where 32 bits hold it.
+#[tactic(auto, unfolding(crate::specs::Words::number_at))]
+fn number_of(text: &str) -> Option<u32>
+    ensures { result ≡ number_at text.now }
+{
+    if is_decimal(text) { value(text) } else { None }
 }
 
 /// The edition of a text.
-pub(crate) fn kernel_of(text: &str) -> Option<Kernel> {
-    let (major, minor) = text.split_once('.')?;
-    Some(Kernel {
-        major: number_of(major)?,
-        minor: number_of(minor)?,
-    })
+#[tactic(auto, unfolding(crate::specs::Words::edition_called))]
+pub(crate) fn kernel_of(text: &str) -> Option<Kernel>
+    ensures { result ≡ edition_called text.now }
+{
+    match split(text, '.') {
+        Some((major, minor)) => Some(Kernel {
+            major: number_of(major)?,
+            minor: number_of(minor)?,
+        }),
+        None => None,
+    }
 }

@@ -1,5 +1,10 @@
 //! What is asked of a configuration: the words behind its name.
-use crate::capabilities::{Capabilities, Engine, engine_named};
+ghost use Rattle.std.specs.Prelude.{◌≡◌, ◌↔◌, Some, map};
+ghost use Rattle.adapt.specs.Words.{AskFor};
+ghost use Rattle.adapt.specs.declared.words.Wanted.{Wanted as TheWanted};
+ghost use Rattle.adapt.specs.inner.Reading as spec;
+
+use crate::capabilities::{Capabilities, Engine, capability_named, engine_named};
 use crate::kernels::{Kernel, TABLES, kernel_of};
 use settling::Choice;
 
@@ -20,20 +25,8 @@ pub struct Wanted {
     pub container: Option<Container>,
 }
 
-impl Wanted {
-    /// What is asked by `widen` alone, or by no word.
-    pub fn plain(may_widen: bool) -> Wanted {
-        Wanted {
-            may_widen,
-            logs: false,
-            choice: None,
-            container: None,
-        }
-    }
-}
-
 // What the next word may be.
-#[derive(Clone, Copy, PartialEq, Eq)]
+#[derive(Clone, Copy)]
 enum Awaits {
     Word,
     Engine,
@@ -46,15 +39,19 @@ enum Awaits {
 // The words as far as they were read.
 #[derive(Clone, Copy)]
 struct Words {
-    wanted: Wanted,
+    may_widen: bool,
+    logs: bool,
+    choice: Option<Choice>,
     engine: Option<Engine>,
-    has_capabilities: bool,
-    more: u64,
+    more: Option<u64>,
     kernel: Option<Kernel>,
     awaits: Awaits,
 }
 
-fn choice_named(word: &str) -> Option<Choice> {
+#[tactic(auto, unfolding(crate::specs::inner::Reading::choice_called))]
+fn choice_named(word: &str) -> Option<Choice>
+    ensures { result ≡ spec.choice_called word.now }
+{
     match word {
         "first" => Some(Choice::First),
         "looser" => Some(Choice::Looser),
@@ -64,69 +61,67 @@ fn choice_named(word: &str) -> Option<Choice> {
     }
 }
 
+// What was read with a word, unless such a word stood before.
+fn unless(stood: bool, words: Words) -> Option<Words>
+    ensures { result ≡ spec.unless stood words }
+{
+    if stood { None } else { Some(words) }
+}
+
 // With a word that settles overlaps, of which there may be one.
-fn with_choice(words: Words, word: &str) -> Option<Words> {
+fn with_choice(words: Words, word: &str) -> Option<Words>
+    ensures { result ≡ spec.with_choice words word.now }
+{
     let choice = choice_named(word)?;
-    if words.wanted.choice.is_some() {
-        return None;
-    }
-    let wanted = Wanted {
+    let next = Words {
         choice: Some(choice),
-        ..words.wanted
+        ..words
     };
-    Some(Words { wanted, ..words })
-}
-
-// With `widen`, unless it stands twice.
-fn with_widening(words: Words) -> Option<Words> {
-    if words.wanted.may_widen {
-        return None;
-    }
-    let wanted = Wanted {
-        may_widen: true,
-        ..words.wanted
-    };
-    Some(Words { wanted, ..words })
-}
-
-// With `log`, unless it stands twice.
-fn with_logs(words: Words) -> Option<Words> {
-    if words.wanted.logs {
-        return None;
-    }
-    let wanted = Wanted {
-        logs: true,
-        ..words.wanted
-    };
-    Some(Words { wanted, ..words })
-}
-
-// With a word that others have to follow, unless it stood before.
-fn awaiting(words: Words, awaits: Awaits, stood: bool) -> Option<Words> {
-    if stood {
-        return None;
-    }
-    Some(Words { awaits, ..words })
+    unless(words.choice.is_some(), next)
 }
 
 // With a word that begins what is asked. A further one is a row here.
-fn with_word(words: Words, word: &str) -> Option<Words> {
+#[tactic(auto, unfolding(crate::specs::inner::Reading::with_word))]
+fn with_word(words: Words, word: &str) -> Option<Words>
+    ensures { result ≡ spec.with_word words word.now }
+{
     let words = Words {
         awaits: Awaits::Word,
         ..words
     };
     match word {
-        "widen" => with_widening(words),
-        "log" => with_logs(words),
+        "widen" => unless(
+            words.may_widen,
+            Words {
+                may_widen: true,
+                ..words
+            },
+        ),
+        "log" => unless(
+            words.logs,
+            Words {
+                logs: true,
+                ..words
+            },
+        ),
         "for" => awaiting(words, Awaits::Engine, words.engine.is_some()),
-        "cap" => awaiting(words, Awaits::Capability, words.has_capabilities),
+        "cap" => awaiting(words, Awaits::Capability, words.more.is_some()),
         "kernel" => awaiting(words, Awaits::Kernel, words.kernel.is_some()),
         _ => with_choice(words, word),
     }
 }
 
+// With a word that others have to follow, unless it stood before.
+fn awaiting(words: Words, awaits: Awaits, stood: bool) -> Option<Words>
+    ensures { result ≡ spec.unless stood (record words { awaits = awaits }) }
+{
+    unless(stood, Words { awaits, ..words })
+}
+
 // With the name of an engine behind `for`.
-fn with_engine(words: Words, word: &str) -> Option<Words> {
+fn with_engine(words: Words, word: &str) -> Option<Words>
+    ensures { result ≡ spec.with_engine words word.now }
+{
     let engine = engine_named(word)?;
     Some(Words {
         engine: Some(engine),
@@ -136,7 +131,9 @@ fn with_engine(words: Words, word: &str) -> Option<Words> {
 }
 
 // With the edition of a kernel behind `kernel`.
-fn with_kernel(words: Words, word: &str) -> Option<Words> {
+fn with_kernel(words: Words, word: &str) -> Option<Words>
+    ensures { result ≡ spec.with_kernel words word.now }
+{
     let kernel = kernel_of(word)?;
     Some(Words {
         kernel: Some(kernel),
@@ -145,38 +142,42 @@ fn with_kernel(words: Words, word: &str) -> Option<Words> {
     })
 }
 
-// With a capability behind `cap`, or with the word behind the last one.
-fn with_capability(words: Words, word: &str) -> Option<Words> {
-    match Capabilities::bits_of(word) {
-        Some(bits) => Some(Words {
-            has_capabilities: true,
-            more: words.more | bits,
-            awaits: Awaits::More,
-            ..words
-        }),
-        None => {
-            if words.awaits == Awaits::Capability {
-                return None;
-            }
-            with_word(words, word)
-        }
+// With the bits of a capability behind `cap`.
+fn with_bits(words: Words, bits: u64) -> Words
+    ensures { result ≡ spec.with_bits words bits }
+{
+    Words {
+        more: Some(words.more.unwrap_or(0) | bits),
+        awaits: Awaits::More,
+        ..words
     }
 }
 
-fn with_next(words: Words, word: &str) -> Option<Words> {
+// With the next word.
+fn with_next(words: Words, word: &str) -> Option<Words>
+    ensures { result ≡ spec.with_next words word.now }
+{
     match words.awaits {
         Awaits::Word => with_word(words, word),
         Awaits::Engine => with_engine(words, word),
         Awaits::Kernel => with_kernel(words, word),
-        Awaits::Capability => with_capability(words, word),
-        Awaits::More => with_capability(words, word),
+        Awaits::Capability => match capability_named(word) {
+            Some(bits) => Some(with_bits(words, bits)),
+            None => None,
+        },
+        Awaits::More => match capability_named(word) {
+            Some(bits) => Some(with_bits(words, bits)),
+            None => with_word(words, word),
+        },
     }
 }
 
 // The container of the words. Capabilities and a kernel are those of the container that an engine starts.
-fn container_of(words: Words) -> Option<Option<Container>> {
+fn container_of(words: Words) -> Option<Option<Container>>
+    ensures { result ≡ spec.container_of words.engine words.more words.kernel }
+{
     let Some(engine) = words.engine else {
-        if words.has_capabilities || words.kernel.is_some() {
+        if words.more.is_some() || words.kernel.is_some() {
             return None;
         }
         return Some(None);
@@ -184,40 +185,56 @@ fn container_of(words: Words) -> Option<Option<Container>> {
     Some(Some(Container {
         capabilities: Capabilities {
             engine,
-            more: words.more,
+            more: words.more.unwrap_or(0),
         },
         kernel: words.kernel.unwrap_or(TABLES),
     }))
 }
 
 // What is asked by words that were read to their end.
-fn finished(words: Words) -> Option<Wanted> {
-    if words.awaits != Awaits::Word && words.awaits != Awaits::More {
-        return None;
+fn finished(words: Words) -> Option<Wanted>
+    ensures { result ≡ spec.finished words }
+{
+    match words.awaits {
+        Awaits::Word | Awaits::More => {
+            let container = container_of(words)?;
+            Some(Wanted {
+                may_widen: words.may_widen,
+                logs: words.logs,
+                choice: words.choice,
+                container,
+            })
+        }
+        Awaits::Engine | Awaits::Kernel | Awaits::Capability => None,
     }
-    let container = container_of(words)?;
-    Some(Wanted {
-        container,
-        ..words.wanted
-    })
 }
 
-/// What words ask for: `widen`, `log`, one of `first`, `looser`, `stricter` and `like-libseccomp`, `for` an engine, `cap`
-/// capabilities, and `kernel` an edition, in any order, each once. `None` where they ask for nothing.
-pub fn wanted_of(words: &[&str]) -> Option<Wanted> {
-    let mut read = Words {
-        wanted: Wanted::plain(false),
+// What is asked, word by word.
+fn read(words: &[&str]) -> Option<Wanted>
+    ensures { result ≡ spec.asked (map (λ w. w.now) words.now) }
+{
+    let mut so_far = Words {
+        may_widen: false,
+        logs: false,
+        choice: None,
         engine: None,
-        has_capabilities: false,
-        more: 0,
+        more: None,
         kernel: None,
         awaits: Awaits::Word,
     };
     for word in words {
-        match with_next(read, *word) {
-            Some(next) => read = next,
+        match with_next(so_far, *word) {
+            Some(next) => so_far = next,
             None => return None,
         }
     }
-    finished(read)
+    finished(so_far)
+}
+
+/// What words ask for: `widen`, `log`, one of `first`, `looser`, `stricter` and `like-libseccomp`, `for` an engine, `cap`
+/// capabilities, and `kernel` an edition, in any order, each once. `None` where they ask for nothing.
+pub fn wanted_of(words: &[&str]) -> Option<Wanted>
+    ensures { (wanted : TheWanted) → (result ≡ Some wanted) ↔ AskFor (map (λ w. w.now) words.now) wanted }
+{
+    read(words)
 }

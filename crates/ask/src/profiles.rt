@@ -11,8 +11,7 @@ use crate::question::Question;
 use crate::rules::rules_in;
 use bpf_insn::Program;
 use cert_check::check;
-use cert_paths::by_paths;
-use certify::certify;
+use certify::{CertifyError, by_paths};
 use kernel_check::accept;
 use profile::Profile;
 use profile_json::read_bundle;
@@ -118,7 +117,10 @@ fn tell_parts(out: &mut Answers, profile: &Profile) {
 fn certified(out: &mut Answers, profile: &Profile, filter: &[u8]) -> Vec<u8> {
     match Program::view(filter) {
         Ok(program) => {
-            let made = certify(out.alloc, profile, &program);
+            let made = match accept(&program) {
+                Ok(accepted) => evidence::certified(out.alloc, profile, &accepted),
+                Err(refused) => Err(CertifyError::Undecided(refused.pc)),
+            };
             out.tell_made(made)
         }
         Err(_) => {

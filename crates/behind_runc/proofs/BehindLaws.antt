@@ -4,8 +4,8 @@ use Rattle.std.specs.Prelude.{IsTrue}
 use Rattle.call_record.specs.Record.{words}
 use Rattle.call_record.specs.Words.{IsRecord}
 use Rattle.call_tables.specs.declared.arch.Arch.{Arch}
-use Rattle.certify.specs.declared.evidence.Conviction.{Conviction}
-use Rattle.certify.specs.declared.evidence.Evidence.TheVariants.{Convicting}
+use Rattle.evidence.specs.declared.evidence.Conviction.{Conviction}
+use Rattle.evidence.specs.declared.evidence.Evidence.TheVariants.{Convicting}
 use Rattle.pipeline.specs.Certified.{IsEvidenceFor}
 use Rattle.runc_stub.specs.declared.calls.Calls.{Calls}
 use Rattle.runc_stub.specs.Stub.{IsAnswered, IsOf, enosys}

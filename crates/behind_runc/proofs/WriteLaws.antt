@@ -2,7 +2,7 @@
 use Rattle.std.proofs.Common.{◌≡◌, ℕ, List, sym, subst, inl, inr}
 use Rattle.std.specs.Prelude.{Bool, Option, Result, Ok, Err}
 use Rattle.call_tables.specs.declared.arch.Arch.{Arch}
-use Rattle.certify.specs.declared.evidence.Evidence.{Evidence}
+use Rattle.evidence.specs.declared.evidence.Evidence.{Evidence}
 use Rattle.pipeline.specs.Certified.{Certifies, CertifiesOwn, IsJudgement, IsOwnJudgement}
 use Rattle.pipeline.specs.Exported.{Refuses}
 use Rattle.pipeline.specs.declared.unready.Unready.{Unready}

@@ -3,8 +3,8 @@ use Rattle.std.specs.Prelude.{ℕ, ◌≡◌, ◌⊎◌, ⊤, Bool, List, [], Op
 use Rattle.call_tables.specs.declared.arch.Arch.{Arch}
 use Rattle.bpf_insn.specs.Bytes.{insns_of, view_fault}
 use Rattle.kernel_check.specs.Accepted.{IsAccepted}
-use Rattle.certify.specs.Conviction.{IsCertificate}
-use Rattle.certify.specs.declared.evidence.Evidence.{Evidence}
+use Rattle.evidence.specs.Conviction.{IsCertificate}
+use Rattle.evidence.specs.declared.evidence.Evidence.{Evidence}
 use Rattle.pipeline.specs.Certified.{Certifies, IsJudgement, WritesCertificate, WritesOpen}
 use Rattle.pipeline.specs.Exported.{LacksMemory}
 use Rattle.pipeline.specs.declared.unready.Unready.{Unready}

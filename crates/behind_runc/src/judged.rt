@@ -2,8 +2,8 @@
 ghost use Rattle.std.specs.Prelude.{◌≡◌, IfSome, ℕ, List, Ok};
 ghost use Rattle.call_record.specs.Record.{words};
 ghost use Rattle.call_tables.specs.declared.arch.Arch.{Arch as TheArch};
-ghost use Rattle.certify.specs.declared.evidence.Conviction.{Conviction as TheConviction};
-ghost use Rattle.certify.specs.declared.evidence.Evidence.TheVariants.{Convicting};
+ghost use Rattle.evidence.specs.declared.evidence.Conviction.{Conviction as TheConviction};
+ghost use Rattle.evidence.specs.declared.evidence.Evidence.TheVariants.{Convicting};
 ghost use Rattle.pipeline.specs.Certified.{IsJudgement};
 ghost use Rattle.pipeline.specs.Told.{Tells};
 ghost use Rattle.behind_runc.specs.Behind.{IsBehind, IsJudgedBehind, WritesBehind};
@@ -11,7 +11,7 @@ ghost use Rattle.behind_runc.specs.Behind.{IsBehind, IsJudgedBehind, WritesBehin
 use crate::behind::Behind;
 use call_record::{Word, words_are_a_record};
 use call_tables::Arch;
-use certify::{Conviction, Evidence};
+use evidence::{Conviction, Evidence};
 use pipeline::{Unready, judge_bundle, refuse, write_judged};
 use runc_stub::is_answered;
 use std::alloc::Global;

@@ -16,3 +16,5 @@ pub mod FirstLaws
 pub mod ValidLaws
 pub mod CheckLaws
 pub mod SharedLaws
+pub mod NumberLaws
+pub mod CallLaws

@@ -8,12 +8,13 @@ ghost use Rattle.cert_state.specs.Literals.{all_bits};
 ghost use Rattle.cert_state.specs.Entailment.{Entails};
 ghost use Rattle.cert_check.specs.inner.Asked.{known_of, met_of, out_of};
 ghost use Rattle.cert_check.specs.Agree.{Agrees, ForeignNumbersAgree, IsAmong, IsLeft, IsYesRule, ListedAgrees, MachineAgrees, OneSays, RulesAgree};
-ghost use Rattle.cert_check.specs.inner.Judged.{AreJudgedAt, AreKnownNumbers, Bears, IsAnswered, IsJudgedAt, IsKnownNumber, IsRuleJudged, SaysAt};
+ghost use Rattle.cert_check.specs.inner.Judged.{AreJudgedAt, Bears, IsAnswered, IsJudgedAt, IsKnownNumber, IsRuleJudged, NumberLies, SaysAt};
 
 use crate::answered::{answer_of, no_answer};
 use crate::claims::{Mets, Outs};
 use crate::conditions::judge_left;
 use crate::judged::{Answered, Bearing, Judged, Number};
+use crate::numbers::{NUMBER, ask_number, number_of, number_range};
 use call_record::Word;
 use call_tables::{Arch, Numbers};
 use cert_state::{Facts, Knowledge, Lit, State};
@@ -29,38 +30,8 @@ pub(crate) struct Agreement<'a, S: State> {
     pub(crate) word: Word,
 }
 
-// The words of a record that hold the call's number and the machine's token.
-pub(crate) const NUMBER: u8 = 0;
-
+// The word of a record that holds the machine's token.
 pub(crate) const TOKEN: u8 = 1;
-
-// What is known of a number.
-fn ask_number<S: State>(facts: &Facts<'_, S>, nr: u32) -> Number
-    ensures { IsKnownNumber (S.known facts.now.state.now) nr result }
-{
-    Number {
-        own: facts.entails(&Lit::Bits(NUMBER, u32::MAX, nr)),
-        other: facts.entails(&Lit::NotBits(NUMBER, u32::MAX, nr)),
-    }
-}
-
-// What is known of a number, asked once for each of the least ones: the numbers of all calls are among them.
-fn number_of<S: State>(facts: &Facts<'_, S>, numbers: &mut [Option<Number>; 512], nr: u32) -> Number
-    requires { AreKnownNumbers (S.known facts.now.state.now) numbers.old }
-    ensures number { IsKnownNumber (S.known facts.now.state.now) nr result }
-    ensures kept { AreKnownNumbers (S.known facts.now.state.now) numbers.new }
-{
-    if nr >= 512 {
-        return ask_number(facts, nr);
-    }
-    let i = nr as usize;
-    if let Some(number) = numbers[i] {
-        return number;
-    }
-    let number = ask_number(facts, nr);
-    numbers[i] = Some(number);
-    number
-}
 
 // Whether a rule is for the machine.
 fn is_for(rule: &Rule, arch: Arch) -> bool
@@ -164,9 +135,9 @@ impl<S: State> Agreement<'_, S> {
         }
     }
 
-    // How the rule of the record's machine at a place bears on the verdict, with the last answer to conditions. That of a rule
-    // of another number is not asked for.
-    fn weigh<'r>(
+    /// How the rule of the record's machine at a place bears on the verdict, with the last answer to conditions. That of a rule
+    /// of another number is not asked for.
+    pub(crate) fn weigh<'r>(
         &self,
         place: usize,
         rule: &'r Rule,
@@ -214,8 +185,8 @@ impl<S: State> Agreement<'_, S> {
         }
     }
 
-    // Whether a rule at a place is of this number, says the verdict, is left for the machine, and is yes.
-    fn says_at(&self, place: usize, rule: &Rule, arch: Arch, nr: u32) -> bool
+    /// Whether a rule at a place is of this number, says the verdict, is left for the machine, and is yes.
+    pub(crate) fn says_at(&self, place: usize, rule: &Rule, arch: Arch, nr: u32) -> bool
         requires { place < 8192 }
         ensures { IsTrue result → SaysAt (out_of self.now) (met_of self.now) (known_of self.now) self.now.word arch place rule.now }
     {
@@ -266,18 +237,12 @@ impl<S: State> Agreement<'_, S> {
         if self.one_met_says(arch, least) {
             return true;
         }
-        let rules = self.profile.rules();
-        for place in 0..rules.len() {
-            let rule = &rules[place];
-            if rule.nr == least && self.says_at(place, rule, arch, least) {
-                return true;
-            }
-        }
-        false
+        self.call_says(arch, least)
     }
 
-    // Whether the rules that are left for a machine agree with the verdict, each of which is asked.
-    fn all_rules_agree(&self, arch: Arch) -> bool
+    // Whether the rules that are left for a machine agree with the verdict, each of which is asked if its number is possible.
+    fn rules_agree_within(&self, arch: Arch, range: (u32, u32)) -> bool
+        requires { NumberLies (known_of self.now) range.0 range.1 }
         ensures { let a = self.now in IsTrue result ↔ RulesAgree a.profile.now (out_of a) (met_of a) (known_of a) a.word arch }
     {
         let mut others = false;
@@ -290,7 +255,7 @@ impl<S: State> Agreement<'_, S> {
         };
         for rule in self.profile.rules() {
             if self.is_left(place, rule, arch) {
-                let number = number_of(self.facts, &mut numbers, rule.nr);
+                let number = number_of(self.facts, range, &mut numbers, rule.nr);
                 let (bearing, answer) = self.weigh(place, rule, number, last);
                 last = answer;
                 match bearing {
@@ -305,6 +270,17 @@ impl<S: State> Agreement<'_, S> {
             return false;
         }
         self.profile.default_word() == self.word
+    }
+
+    // The same. Where but one number is possible, the rules for other calls are not looked at.
+    fn all_rules_agree(&self, arch: Arch) -> bool
+        ensures { let a = self.now in IsTrue result ↔ RulesAgree a.profile.now (out_of a) (met_of a) (known_of a) a.word arch }
+    {
+        let (least, greatest) = number_range(self.facts);
+        if least == greatest {
+            return self.call_agrees(arch, least);
+        }
+        self.rules_agree_within(arch, (least, greatest))
     }
 
     // Whether the rules that are left for a machine agree with the verdict.

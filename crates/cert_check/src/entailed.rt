@@ -14,7 +14,7 @@ ghost use Rattle.cert_check.specs.inner.Ways.{edge_list, edge_of};
 use crate::edges::{Way, Ways};
 use crate::passage::{Origin, Passage};
 use cert_form::{Kind, NodeView};
-use cert_state::{AVal, Facts, Knowledge, Lit, State, With, dead};
+use cert_state::{AVal, Facts, Knowledge, Lit, Room, State, With, dead};
 
 // Whether a node may say this of a register of which that is known.
 fn allows(there: AVal, here: AVal) -> bool
@@ -120,11 +120,12 @@ fn follow_from<S: State, T: State>(
     there: &T,
     start: usize,
     first: usize,
+    room: &mut Room,
 ) -> bool
     requires { AreAmong (S.rest known.now.state.now first) (S.known known.now.state.now) }
     ensures { IsTrue result ↔ All (Entails (S.known known.now.state.now ++ option_to_list known.now.more)) (T.rest there.now start) }
 {
-    let facts = Facts::of(known);
+    let facts = Facts::of(known, room);
     let mut at = start;
     let mut from = first;
     while let Some((literal, next)) = there.next(at) {
@@ -138,39 +139,39 @@ fn follow_from<S: State, T: State>(
 }
 
 // Whether each literal that a node says follows.
-fn entails_all<S: State, T: State>(known: &With<'_, S>, there: &T) -> bool
+fn entails_all<S: State, T: State>(known: &With<'_, S>, there: &T, room: &mut Room) -> bool
     ensures { IsTrue result ↔ All (Entails (S.known known.now.state.now ++ option_to_list known.now.more)) (T.known there.now) }
 {
     let (at, from) = first_out_of_turn(known, there);
     if there.next(at).is_none() {
         return true;
     }
-    follow_from(known, there, at, from)
+    follow_from(known, there, at, from, room)
 }
 
 impl Passage<'_> {
     // Whether all that the node there claims follows. Mostly its new claims tell that.
-    fn claims_follow(&self) -> bool
+    fn claims_follow(&self, room: &mut Room) -> bool
         ensures { IsTrue result ↔ ClaimsFollow self.now }
     {
-        if self.new_claims_follow() {
+        if self.new_claims_follow(room) {
             return true;
         }
         let known = With {
             state: self.node,
             more: self.way.fact,
         };
-        if !entails_all(&known, self.there) {
+        if !entails_all(&known, self.there, room) {
             return false;
         }
-        if !self.outs_follow() {
+        if !self.outs_follow(room) {
             return false;
         }
-        self.mets_follow()
+        self.mets_follow(room)
     }
 
     // Whether what is known on the way gives what the node there says.
-    fn carries(&self) -> bool
+    fn carries(&self, room: &mut Room) -> bool
         ensures { let p = self.now in
             IsTrue result ↔ Carries p.profile.now (says p.node.now) (edge_of p.way.now) (says p.there.now) }
     {
@@ -184,7 +185,7 @@ impl Passage<'_> {
         if !allows_scratch(&regs.scratch, &self.way.regs.scratch) {
             return false;
         }
-        self.claims_follow()
+        self.claims_follow(room)
     }
 }
 
@@ -202,7 +203,7 @@ fn dead_is_dead(node: &NodeView<'_>) -> bool
 
 impl Origin<'_> {
     // Whether what is known on a way gives what the node there says.
-    fn carries_to(&self, way: &Way) -> bool
+    fn carries_to(&self, way: &Way, room: &mut Room) -> bool
         requires { way.now.to < length (nodes_of self.now.view.now) }
         ensures { let o = self.now in
             IsTrue result ↔ CarriesTo o.profile.now (nodes_of o.view.now) (says o.node.now) (edge_of way.now) }
@@ -215,35 +216,35 @@ impl Origin<'_> {
             there: &there,
             placed: self.placed,
         };
-        passage.carries()
+        passage.carries(room)
     }
 
     // Whether each way carries what its node says.
-    fn all_carry(&self, ways: &Ways) -> bool
+    fn all_carry(&self, ways: &Ways, room: &mut Room) -> bool
         requires { All (λ e. e.to < length (nodes_of self.now.view.now)) (edge_list ways.now) }
         ensures { let o = self.now in
             IsTrue result ↔ All (CarriesTo o.profile.now (nodes_of o.view.now) (says o.node.now)) (edge_list ways.now) }
     {
         match ways {
             Ways::Nowhere => true,
-            Ways::One(way) => self.carries_to(way),
+            Ways::One(way) => self.carries_to(way, room),
             Ways::Two(first, second) => {
-                if !self.carries_to(first) {
+                if !self.carries_to(first, room) {
                     return false;
                 }
-                self.carries_to(second)
+                self.carries_to(second, room)
             }
         }
     }
 
     /// Whether each way carries what its node says, and a dead node can hold no record.
-    pub(crate) fn entail_is_kept(&self, ways: &Ways) -> bool
+    pub(crate) fn entail_is_kept(&self, ways: &Ways, room: &mut Room) -> bool
         requires { All (λ e. e.to < length (nodes_of self.now.view.now)) (edge_list ways.now) }
         ensures { let o = self.now in
             IsTrue result ↔ All (CarriesTo o.profile.now (nodes_of o.view.now) (says o.node.now)) (edge_list ways.now)
             × ((says o.node.now).kind ≡ kind.Dead → IsDead (says o.node.now).known) }
     {
-        if !self.all_carry(ways) {
+        if !self.all_carry(ways, room) {
             return false;
         }
         dead_is_dead(self.node)

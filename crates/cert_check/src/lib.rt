@@ -3,6 +3,7 @@
 
 mod agree;
 mod answered;
+mod calls;
 mod checked;
 mod checking;
 mod claims;
@@ -13,6 +14,7 @@ mod fault;
 mod judged;
 mod law;
 mod nodes;
+mod numbers;
 mod passage;
 mod returned;
 mod root;

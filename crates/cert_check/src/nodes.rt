@@ -14,6 +14,7 @@ use crate::returned::return_is_kept;
 use crate::root::root_is_kept;
 use crate::split::split_is_kept;
 use cert_form::CertView;
+use cert_state::Room;
 use kernel_check::Accepted;
 use profile::Profile;
 
@@ -24,6 +25,7 @@ fn check_node(
     view: &CertView<'_>,
     i: u32,
     placed: bool,
+    room: &mut Room,
 ) -> Result<(), CheckError>
     requires within { i < length (nodes_of view.now) }
     requires placed { IsTrue placed → All (IsPlaced profile.now) (all_claims view.now) }
@@ -48,10 +50,10 @@ fn check_node(
         node: &node,
         placed,
     };
-    if !origin.entail_is_kept(&ways) {
+    if !origin.entail_is_kept(&ways, room) {
         return Err(CheckError::Entail(i));
     }
-    if !return_is_kept(profile, &insn, &node) {
+    if !return_is_kept(profile, &insn, &node, room) {
         return Err(CheckError::Return(i));
     }
     Ok(())
@@ -73,8 +75,9 @@ pub(crate) fn check_nodes(
         return Err(CheckError::Root);
     }
     let placed = are_placed(profile, view);
+    let mut room = Room::new();
     for i in 0..view.len() {
-        check_node(profile, accepted, view, i as u32, placed)?;
+        check_node(profile, accepted, view, i as u32, placed, &mut room)?;
     }
     Ok(())
 }

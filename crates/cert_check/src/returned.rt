@@ -14,7 +14,7 @@ use crate::claims::{FEW_RULES, Mets, Outs, has_no_met, has_none, mark_mets, mark
 use bpf_insn::{Insn, Operation};
 use call_record::Word;
 use cert_form::{Kind, NodeView};
-use cert_state::{AVal, Facts, Regs, State};
+use cert_state::{AVal, Facts, Regs, Room, State};
 use profile::{MAX_RULES, Profile};
 
 // The verdict that a return gives, where it is known.
@@ -38,12 +38,13 @@ fn agrees_with(
     outs: Outs<'_, '_>,
     mets: Mets<'_, '_>,
     word: Word,
+    room: &mut Room,
 ) -> bool
     requires outs { outs_of outs.node ≡ (says node.now).out }
     requires mets { mets_of mets.node ≡ (says node.now).met }
     ensures { let n = says node.now in IsTrue result ↔ Agrees profile.now n.out n.met n.known word }
 {
-    let facts = Facts::of(node);
+    let facts = Facts::of(node, room);
     let agreement = Agreement {
         profile,
         outs,
@@ -61,77 +62,101 @@ fn agrees_by(
     outs: Outs<'_, '_>,
     word: Word,
     table: &mut [bool],
+    room: &mut Room,
 ) -> bool
     requires outs { outs_of outs.node ≡ (says node.now).out }
     requires table { IsClear table.old }
     ensures { let n = says node.now in IsTrue result ↔ Agrees profile.now n.out n.met n.known word }
 {
     mark_mets(node, table);
-    agrees_with(profile, node, outs, Mets::of(node, table), word)
+    agrees_with(profile, node, outs, Mets::of(node, table), word, room)
 }
 
 // The same where the profile has few rules. A table is made in a function of its own, and where the node names something
 // alone: so no other return makes room for it.
 #[inline(never)]
-fn agrees_by_few(profile: &Profile, node: &NodeView<'_>, outs: Outs<'_, '_>, word: Word) -> bool
+fn agrees_by_few(
+    profile: &Profile,
+    node: &NodeView<'_>,
+    outs: Outs<'_, '_>,
+    word: Word,
+    room: &mut Room,
+) -> bool
     requires { outs_of outs.node ≡ (says node.now).out }
     ensures { let n = says node.now in IsTrue result ↔ Agrees profile.now n.out n.met n.known word }
 {
-    agrees_by(profile, node, outs, word, &mut [false; 6 * FEW_RULES])
+    agrees_by(profile, node, outs, word, &mut [false; 6 * FEW_RULES], room)
 }
 
 // The same where it has many.
 #[inline(never)]
-fn agrees_by_many(profile: &Profile, node: &NodeView<'_>, outs: Outs<'_, '_>, word: Word) -> bool
+fn agrees_by_many(
+    profile: &Profile,
+    node: &NodeView<'_>,
+    outs: Outs<'_, '_>,
+    word: Word,
+    room: &mut Room,
+) -> bool
     requires { outs_of outs.node ≡ (says node.now).out }
     ensures { let n = says node.now in IsTrue result ↔ Agrees profile.now n.out n.met n.known word }
 {
-    agrees_by(profile, node, outs, word, &mut [false; 6 * MAX_RULES])
+    agrees_by(profile, node, outs, word, &mut [false; 6 * MAX_RULES], room)
 }
 
 // Whether the profile says a verdict of all that a node knows, of which these rules are out.
-fn agrees_but_for(profile: &Profile, node: &NodeView<'_>, outs: Outs<'_, '_>, word: Word) -> bool
+fn agrees_but_for(
+    profile: &Profile,
+    node: &NodeView<'_>,
+    outs: Outs<'_, '_>,
+    word: Word,
+    room: &mut Room,
+) -> bool
     requires { outs_of outs.node ≡ (says node.now).out }
     ensures { let n = says node.now in IsTrue result ↔ Agrees profile.now n.out n.met n.known word }
 {
     if has_no_met(node) {
-        return agrees_with(profile, node, outs, Mets::none(), word);
+        return agrees_with(profile, node, outs, Mets::none(), word, room);
     }
     if profile.rules().len() <= FEW_RULES {
-        return agrees_by_few(profile, node, outs, word);
+        return agrees_by_few(profile, node, outs, word, room);
     }
-    agrees_by_many(profile, node, outs, word)
+    agrees_by_many(profile, node, outs, word, room)
 }
 
 // The same by a table of the rules that the node says to be out.
 #[inline(never)]
-fn agrees_by_outs(profile: &Profile, node: &NodeView<'_>, word: Word) -> bool
+fn agrees_by_outs(profile: &Profile, node: &NodeView<'_>, word: Word, room: &mut Room) -> bool
     ensures { let n = says node.now in IsTrue result ↔ Agrees profile.now n.out n.met n.known word }
 {
     let mut marked = [false; 8192];
     mark_outs(node, &mut marked);
-    agrees_but_for(profile, node, Outs::of(node, &marked), word)
+    agrees_but_for(profile, node, Outs::of(node, &marked), word, room)
 }
 
 // Whether the instruction returns a verdict that is known, and the profile's on all that the node knows.
-fn returns(profile: &Profile, insn: &Insn, node: &NodeView<'_>) -> bool
+fn returns(profile: &Profile, insn: &Insn, node: &NodeView<'_>, room: &mut Room) -> bool
     ensures { IsTrue result ↔ ReturnsAt profile.now insn.now (says node.now) }
 {
     let Some(word) = returned_by(insn, &node.regs()) else {
         return false;
     };
     if has_none(node) {
-        return agrees_but_for(profile, node, Outs::none(), Word(word));
+        return agrees_but_for(profile, node, Outs::none(), Word(word), room);
     }
-    agrees_by_outs(profile, node, Word(word))
+    agrees_by_outs(profile, node, Word(word), room)
 }
 
 /// Whether a node, if it is a return, returns the profile's verdict at its instruction.
-pub(crate) fn return_is_kept(profile: &Profile, insn: &Insn, node: &NodeView<'_>) -> bool
+pub(crate) fn return_is_kept(
+    profile: &Profile,
+    insn: &Insn,
+    node: &NodeView<'_>,
+    room: &mut Room,
+) -> bool
     ensures { IsTrue result ↔ ((says node.now).kind ≡ kind.Return → ReturnsAt profile.now insn.now (says node.now)) }
 {
     match node.kind() {
-        Kind::Return => returns(profile, insn, node),
+        Kind::Return => returns(profile, insn, node, room),
         Kind::Step(_, _) => true,
         Kind::Split(_, _, _, _) => true,
         Kind::Dead => true,

@@ -5,7 +5,7 @@ ghost use Rattle.cert_check.specs.Agree.{Agrees};
 use crate::agree::Agreement;
 use crate::claims::{Mets, Outs};
 use call_record::Word;
-use cert_state::{Facts, State};
+use cert_state::{Facts, Room, State};
 use profile::Profile;
 
 /// Whether the profile says a verdict of each record of which a state knows: the rule of returns, where no rule is said to be
@@ -13,7 +13,8 @@ use profile::Profile;
 pub fn is_settled<S: State>(profile: &Profile, state: &S, word: Word) -> bool
     ensures { IsTrue result ↔ Agrees profile.now [] [] (S.known state.now) word }
 {
-    let facts = Facts::of(state);
+    let mut room = Room::new();
+    let facts = Facts::of(state, &mut room);
     let agreement = Agreement {
         profile,
         outs: Outs::none(),

@@ -6,11 +6,11 @@ use crate::fault::OutlineError;
 use crate::listing::Listing;
 use crate::maker::Maker;
 use crate::needs::Needs;
-use crate::parts::{Chains, Marks, NOBODY, listed};
+use crate::parts::{Chains, Marks, NOBODY, are_many, listed};
 use crate::spot::Spot;
 use crate::words::{Told, Words};
 use cert_form::{Claim, Kind};
-use cert_state::{AVal, Facts, Knowledge, Lit};
+use cert_state::{AVal, Facts, Knowledge, Lit, Room};
 use std::alloc::AllocError;
 
 /// What is kept on the ways to a spot: what the chains of all spots before it have in common, and what the only way tells.
@@ -129,12 +129,24 @@ impl<'a> Maker<'a> {
         known.add_of(&stated)?;
         known.add_of(claims)?;
         let whole = listed(&known.whole);
-        let facts = Facts::of(&whole);
-        let known = known.told(&facts);
         let marks = Marks::of(self.alloc, &stated)?;
+        if !are_many(open.len(), known.whole.len()) {
+            return self.not_following(&known.told(&whole), &marks, &open);
+        }
+        let mut room = Room::new();
+        self.not_following(&known.told(&Facts::of(&whole, &mut room)), &marks, &open)
+    }
+
+    // Those of some claims that do not follow from literals.
+    fn not_following<K: Knowledge>(
+        &self,
+        known: &Told<'_, K>,
+        stated: &Marks,
+        claims: &[Claim],
+    ) -> Result<Vec<Claim>, AllocError> {
         let mut lacking = Vec::new(self.alloc);
-        for claim in &open {
-            if !self.follows(&known, &marks, *claim) {
+        for claim in claims {
+            if !self.follows(known, stated, *claim) {
                 lacking.push(*claim)?;
             }
         }

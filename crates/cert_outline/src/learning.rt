@@ -5,15 +5,12 @@ use crate::conditions::{Answer, bits_of, by_all, by_bits, by_high, by_low, low_w
 use crate::fault::OutlineError;
 use crate::maker::Maker;
 use crate::numbers::NUMBER;
-use crate::parts::listed;
+use crate::parts::{are_many, listed};
 use crate::spot::{Spot, Which};
 use crate::words::{Told, Words};
-use cert_state::{Facts, Knowledge, Lit};
+use cert_state::{Facts, Knowledge, Lit, Room};
 use profile::{Cond, Op, Rule};
 use std::alloc::{AllocError, Global};
-
-// From how many rules on what is known is gathered before they are asked.
-const MANY: usize = 6;
 
 // The bit of a condition, by its place among those of its rule.
 fn bit_of(place: usize) -> u32 {
@@ -150,10 +147,11 @@ impl<'a> Maker<'a> {
     // of what is gathered once.
     fn rules_left(&self, known: &Words, left: &Left, word: u8) -> Result<Left, AllocError> {
         let whole = listed(&known.whole);
-        if left.rules.len() < MANY {
+        if !are_many(left.rules.len(), known.whole.len()) {
             return self.rules_left_by(&known.told(&whole), left, word);
         }
-        self.rules_left_by(&known.told(&Facts::of(&whole)), left, word)
+        let mut room = Room::new();
+        self.rules_left_by(&known.told(&Facts::of(&whole, &mut room)), left, word)
     }
 
     fn rules_left_by<K: Knowledge>(

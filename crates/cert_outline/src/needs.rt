@@ -4,17 +4,23 @@
 use crate::conditions::{Answer, by_all, low_word};
 use crate::fault::OutlineError;
 use crate::maker::Maker;
-use crate::parts::{NOBODY, listed};
+use crate::parts::{NOBODY, are_many, listed};
 use crate::spot::{Spot, Which};
 use crate::words::Told;
 use cert_form::{Claim, Kind};
-use cert_state::{Facts, Knowledge, Lit};
+use cert_state::{Facts, Knowledge, Lit, Room};
 use std::alloc::{AllocError, Global};
+
+// Where the bits of a set stand that has no rule.
+const NOWHERE: usize = usize::MAX;
 
 /// For each spot a set of rules, by bits.
 #[derive(Drop)]
 struct Sets {
+    /// In how many parts the bits of a set stand.
     width: usize,
+    /// For each spot, where its bits begin. A set that has no rule has none.
+    begins: Vec<usize>,
     bits: Vec<u64>,
 }
 
@@ -25,18 +31,24 @@ fn bit_of(rule: usize) -> u64 {
 impl Sets {
     // Empty sets for so many spots, of so many rules.
     fn new(alloc: Global, spots: usize, rules: usize) -> Result<Sets, AllocError> {
-        let width = (rules / 64).saturating_add(1);
         Ok(Sets {
-            width,
-            bits: vec![in alloc; 0u64; spots.saturating_mul(width)]?,
+            width: (rules / 64).saturating_add(1),
+            begins: vec![in alloc; NOWHERE; spots]?,
+            bits: Vec::new(alloc),
         })
+    }
+
+    // Where the bits of a set begin.
+    fn begin(&self, spot: u32) -> usize {
+        match self.begins.get(spot as usize) {
+            Some(begin) => *begin,
+            None => NOWHERE,
+        }
     }
 
     // Where the bit of a rule stands.
     fn place(&self, spot: u32, rule: usize) -> usize {
-        (spot as usize)
-            .saturating_mul(self.width)
-            .saturating_add(rule / 64)
+        self.begin(spot).saturating_add(rule / 64)
     }
 
     fn has(&self, spot: u32, rule: usize) -> bool {
@@ -46,11 +58,28 @@ impl Sets {
         }
     }
 
-    fn add(&mut self, spot: u32, rule: usize) {
+    // Makes room for the bits of a set, if it has none.
+    fn open(&mut self, spot: u32) -> Result<(), AllocError> {
+        if self.begin(spot) != NOWHERE {
+            return Ok(());
+        }
+        let end = self.bits.len();
+        for _ in 0..self.width {
+            self.bits.push(0)?;
+        }
+        if let Some(begin) = self.begins.get_mut(spot as usize) {
+            *begin = end;
+        }
+        Ok(())
+    }
+
+    fn add(&mut self, spot: u32, rule: usize) -> Result<(), AllocError> {
+        self.open(spot)?;
         let place = self.place(spot, rule);
         if let Some(bits) = self.bits.get_mut(place) {
             *bits |= bit_of(rule);
         }
+        Ok(())
     }
 
     // Whether a set has none of the 64 rules that stand with this one.
@@ -64,6 +93,9 @@ impl Sets {
     // The rules of a set.
     fn rules(&self, alloc: Global, spot: u32) -> Result<Vec<usize>, AllocError> {
         let mut rules = Vec::new(alloc);
+        if self.begin(spot) == NOWHERE {
+            return Ok(rules);
+        }
         for part in 0..self.width {
             let first = part.saturating_mul(64);
             if self.has_none(spot, first) {
@@ -125,7 +157,7 @@ impl<'a> Maker<'a> {
             return Ok(());
         };
         for own in &left.rules {
-            needs.held.add(place, own.rule as usize);
+            needs.held.add(place, own.rule as usize)?;
         }
         if left.holds {
             return Ok(());
@@ -136,7 +168,7 @@ impl<'a> Maker<'a> {
                 && let Some(rule) = self.rule(number)
                 && rule.word != default
             {
-                needs.outs.add(place, number as usize);
+                needs.outs.add(place, number as usize)?;
             }
         }
         Ok(())
@@ -159,11 +191,27 @@ impl<'a> Maker<'a> {
         };
         let words = words.with(self.alloc, literal)?;
         let whole = listed(&words.whole);
-        let facts = Facts::of(&whole);
-        let known = words.told(&facts);
+        if !are_many(rules.len(), words.whole.len()) {
+            return self.not_refuted(&words.told(&whole), &rules, literal.word());
+        }
+        let mut room = Room::new();
+        self.not_refuted(
+            &words.told(&Facts::of(&whole, &mut room)),
+            &rules,
+            literal.word(),
+        )
+    }
+
+    // Those of some rules that are not refuted by what is known of a word.
+    fn not_refuted<K: Knowledge>(
+        &self,
+        known: &Told<'_, K>,
+        rules: &[usize],
+        word: u8,
+    ) -> Result<Vec<usize>, OutlineError> {
         let mut left = Vec::new(self.alloc);
-        for rule in &rules {
-            if !self.is_refuted(&known, *rule, literal.word()) {
+        for rule in rules {
+            if !self.is_refuted(known, *rule, word) {
                 left.push(*rule)?;
             }
         }
@@ -182,10 +230,10 @@ impl<'a> Maker<'a> {
             return Ok(());
         };
         for rule in &self.outs_before(needs, spot, next, told)? {
-            needs.outs.add(place, *rule);
+            needs.outs.add(place, *rule)?;
         }
         for rule in &needs.held.rules(self.alloc, next)? {
-            needs.held.add(place, *rule);
+            needs.held.add(place, *rule)?;
         }
         Ok(())
     }

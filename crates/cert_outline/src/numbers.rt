@@ -2,11 +2,12 @@
 
 use crate::conditions::{Answer, below, beside, by_all, told_apart};
 use crate::maker::Maker;
-use crate::parts::{Cut, listed};
+use crate::parts::{Cut, are_many, listed};
+use crate::rules::Numbered;
 use crate::spot::Which;
 use crate::words::{Told, Words};
 use call_tables::Arch;
-use cert_state::{Facts, Knowledge, Listed, Lit, range};
+use cert_state::{Facts, Knowledge, Lit, Room, range};
 use profile::{Rule, foreign_numbers};
 use std::alloc::{AllocError, Global};
 
@@ -48,9 +49,8 @@ impl<'a> Maker<'a> {
         Which::Plain
     }
 
-    // The first listed machine with the token that the call is known to have.
-    fn machine(&self, known: &Words) -> Option<Arch> {
-        let token = only(known, TOKEN)?;
+    // The first listed machine with a token.
+    fn machine(&self, token: u32) -> Option<Arch> {
         for machine in self.profile.machines() {
             if machine.token() == token {
                 return Some(*machine);
@@ -80,9 +80,9 @@ impl<'a> Maker<'a> {
     }
 
     // Whether the number of a rule has to be told apart where a return gives a verdict.
-    fn is_told<K: Knowledge>(
+    fn is_told<N: Knowledge, K: Knowledge>(
         &self,
-        known: &Facts<'_, Listed<'_>>,
+        known: &N,
         arguments: &Told<'_, K>,
         rule: &Rule,
         verdict: u32,
@@ -106,17 +106,32 @@ impl<'a> Maker<'a> {
     ) -> Result<Vec<u32>, AllocError> {
         let all = all_of(self.alloc, known)?;
         let state = listed(&all);
-        let facts = Facts::of(&state);
         let whole = listed(&arguments.whole);
-        let of_arguments = Facts::of(&whole);
-        let arguments = arguments.told(&of_arguments);
-        let mut numbers = Vec::new(self.alloc);
-        let Some((least, greatest)) = facts.range(NUMBER) else {
-            return Ok(numbers);
+        let Some((least, greatest)) = range(&state, NUMBER) else {
+            return Ok(Vec::new(self.alloc));
         };
-        for (_token, number, place) in self.rules.among(token, least, greatest) {
+        let rules = self.rules.among(token, least, greatest);
+        if !are_many(rules.len(), all.len().saturating_add(arguments.whole.len())) {
+            return self.numbers_told(&state, &arguments.told(&whole), rules, verdict);
+        }
+        let (mut room, mut other) = (Room::new(), Room::new());
+        let facts = Facts::of(&state, &mut room);
+        let of_arguments = Facts::of(&whole, &mut other);
+        self.numbers_told(&facts, &arguments.told(&of_arguments), rules, verdict)
+    }
+
+    // The same among some rules.
+    fn numbers_told<N: Knowledge, K: Knowledge>(
+        &self,
+        known: &N,
+        arguments: &Told<'_, K>,
+        rules: &[Numbered],
+        verdict: u32,
+    ) -> Result<Vec<u32>, AllocError> {
+        let mut numbers = Vec::new(self.alloc);
+        for (_token, number, place) in rules {
             if let Some(rule) = self.rule(*place)
-                && self.is_told(&facts, &arguments, rule, verdict)
+                && self.is_told(known, arguments, rule, verdict)
             {
                 numbers.push(*number)?;
             }
@@ -160,16 +175,16 @@ impl<'a> Maker<'a> {
         arguments: &Words,
         verdict: u32,
     ) -> Result<Option<Cut>, AllocError> {
-        if let Some(cut) = self.cut_of_machines(known) {
-            return Ok(Some(cut));
-        }
-        let Some(machine) = self.machine(known) else {
+        let Some(token) = only(known, TOKEN) else {
+            return Ok(self.cut_of_machines(known));
+        };
+        let Some(machine) = self.machine(token) else {
             return Ok(None);
         };
         if self.is_foreign(known, machine) {
             return Ok(None);
         }
-        let numbers = self.numbers_to_tell(known, arguments, machine.token(), verdict)?;
+        let numbers = self.numbers_to_tell(known, arguments, token, verdict)?;
         if numbers.is_empty() && verdict == self.profile.default_word().0 && verdict == 0 {
             return Ok(None);
         }
@@ -182,22 +197,36 @@ impl<'a> Maker<'a> {
         }
     }
 
+    // The numbers of a machine's calls of which rules ask for arguments, without those that are excluded, in order.
+    fn numbers_asked(&self, known: &[Lit], token: u32) -> Result<Vec<u32>, AllocError> {
+        let state = listed(known);
+        let mut numbers = if are_many(self.calls.len(), known.len()) {
+            let mut room = Room::new();
+            self.numbers_open(&Facts::of(&state, &mut room), token)?
+        } else {
+            self.numbers_open(&state, token)?
+        };
+        numbers.sort()?;
+        Ok(numbers)
+    }
+
+    // The same in the order of the calls.
+    fn numbers_open<K: Knowledge>(&self, known: &K, token: u32) -> Result<Vec<u32>, AllocError> {
+        let mut numbers = Vec::new(self.alloc);
+        for call in self.calls {
+            if call.token == token && !known.entails(&Lit::NotBits(NUMBER, u32::MAX, call.number)) {
+                numbers.push(call.number)?;
+            }
+        }
+        Ok(numbers)
+    }
+
     /// Where several calls are cut that come to the first load of an argument: at the number of one of which rules ask for it.
     pub(crate) fn cut_of_asked(&self, known: &Words) -> Result<Option<Cut>, AllocError> {
         let Some(token) = only(known, TOKEN) else {
             return Ok(None);
         };
-        let all = all_of(self.alloc, known)?;
-        let state = listed(&all);
-        let facts = Facts::of(&state);
-        let mut numbers = Vec::new(self.alloc);
-        for call in self.calls {
-            let excluded = facts.entails(&Lit::NotBits(NUMBER, u32::MAX, call.number));
-            if call.token == token && !excluded {
-                numbers.push(call.number)?;
-            }
-        }
-        numbers.sort()?;
+        let numbers = self.numbers_asked(&all_of(self.alloc, known)?, token)?;
         match numbers.get(numbers.len() / 2) {
             Some(number) => Ok(beside(known, NUMBER, *number)),
             None => Ok(None),

@@ -11,5 +11,5 @@ pub(crate) use chains::{Chains, Stated};
 pub(crate) use cuts::{Cut, cut_below, cut_of_bits};
 pub(crate) use kinds::{NOBODY, followers, leading_to};
 pub(crate) use marks::Marks;
-pub(crate) use states::listed;
+pub(crate) use states::{are_many, listed};
 pub(crate) use table::{Item, Table, bits, mixed};

@@ -3,9 +3,9 @@
 use crate::asked::{Left, LeftRule};
 use crate::learning::{all_bits, left_by_all};
 use crate::maker::Maker;
-use crate::parts::listed;
+use crate::parts::{are_many, listed};
 use crate::words::{Told, Words};
-use cert_state::{Facts, Knowledge};
+use cert_state::{Facts, Knowledge, Room};
 use std::alloc::AllocError;
 
 impl<'a> Maker<'a> {
@@ -50,14 +50,32 @@ impl<'a> Maker<'a> {
             _ => return Ok(left),
         };
         let whole = listed(&known.whole);
-        let facts = Facts::of(&whole);
-        let known = known.told(&facts);
-        let mut holding = *own;
+        let mut count = 0usize;
         for part in later {
+            count = count.saturating_add(part.len());
+        }
+        if !are_many(count, known.whole.len()) {
+            let holding = self.simplest_of(&known.told(&whole), *own, later);
+            return Left::holding(self.alloc, holding);
+        }
+        let mut room = Room::new();
+        let holding = self.simplest_of(&known.told(&Facts::of(&whole, &mut room)), *own, later);
+        Left::holding(self.alloc, holding)
+    }
+
+    // The same among the rules of some parts.
+    fn simplest_of<K: Knowledge>(
+        &self,
+        known: &Told<'_, K>,
+        own: LeftRule,
+        parts: &[Vec<u32>],
+    ) -> LeftRule {
+        let mut holding = own;
+        for part in parts {
             for number in part {
-                holding = self.simpler(&known, holding, *number);
+                holding = self.simpler(known, holding, *number);
             }
         }
-        Left::holding(self.alloc, holding)
+        holding
     }
 }

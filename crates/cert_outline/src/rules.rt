@@ -4,7 +4,7 @@ use profile::Profile;
 use std::alloc::{AllocError, Global};
 
 /// The token of a rule's machine, its number, and its place in the profile's order.
-type Numbered = (u32, u32, u32);
+pub(crate) type Numbered = (u32, u32, u32);
 
 /// The rules of a profile in the order of these three.
 #[derive(Drop)]

@@ -64,23 +64,23 @@ fn tells(literal: Lit, low: u32, high: u32) -> bool {
     }
 }
 
-// The literals of a whole word in short: where it lies, and what is excluded. Where they contradict each other they stay.
-fn in_short(alloc: Global, own: &[Lit], word: u8) -> Result<Vec<Lit>, AllocError> {
+// Adds the literals of a whole word in short: where it lies, and what is excluded. Where they contradict each other they stay.
+fn add_in_short(lits: &mut Vec<Lit>, own: &[Lit], word: u8) -> Result<(), AllocError> {
     let Some((low, high)) = range(&listed(own), word) else {
-        return Vec::from_slice(alloc, own);
+        lits.extend_from_slice(own)?;
+        return Ok(());
     };
-    let mut kept = Vec::new(alloc);
     if low == high {
-        kept.push(Lit::Bits(word, u32::MAX, low))?;
+        lits.push(Lit::Bits(word, u32::MAX, low))?;
     } else if low != 0 || high != u32::MAX {
-        kept.push(Lit::In(word, low, high))?;
+        lits.push(Lit::In(word, low, high))?;
     }
     for literal in own {
         if tells(*literal, low, high) {
-            kept.push(*literal)?;
+            lits.push(*literal)?;
         }
     }
-    Ok(kept)
+    Ok(())
 }
 
 // Adds the literals of a list that are of the words from one to another, which is none of them.
@@ -154,10 +154,9 @@ impl Words {
         let mut own = Vec::with_capacity(alloc, count)?;
         add_words(&mut own, &self.whole, word, next)?;
         own.push(literal)?;
-        let kept = in_short(alloc, &own, word)?;
         let mut lits = Vec::with_capacity(alloc, count.saturating_add(1))?;
         add_words(&mut lits, &self.whole, 0, word)?;
-        lits.extend_from_slice(&kept)?;
+        add_in_short(&mut lits, &own, word)?;
         add_words(&mut lits, &self.whole, next, u8::MAX)?;
         Ok(lits)
     }
@@ -176,6 +175,9 @@ impl Words {
 
     // Whether those of one word can not all be true.
     fn are_dead_at(&self, alloc: Global, word: u8) -> Result<bool, AllocError> {
+        if !self.masked.iter().any(|literal| literal.word() == word) {
+            return Ok(is_dead_at(&listed(&self.whole), word));
+        }
         let next = word.saturating_add(1);
         let mut own = Vec::with_capacity(alloc, self.whole.len().saturating_add(1))?;
         add_words(&mut own, &self.whole, word, next)?;

@@ -4,7 +4,6 @@
 //! such as the filter's comparisons tell apart. It is not trusted: whoever takes a record asks filter and profile for their verdicts.
 #![tactic(auto)]
 
-mod fault;
 mod rules;
 mod search;
 mod trace;
@@ -12,5 +11,4 @@ mod trials;
 mod words;
 mod work;
 
-pub use fault::CertifyError;
 pub use search::{find_beside_rules, find_record};

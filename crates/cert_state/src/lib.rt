@@ -32,5 +32,5 @@ pub use literal::{AVal, Lit, Regs};
 pub use one_word::LearnedWord;
 pub use points::range;
 pub use sharp::{is_bit, lowest_bit, sharp_fact};
-pub use sorted::Facts;
+pub use sorted::{Facts, Room};
 pub use state::{Listed, State, With};

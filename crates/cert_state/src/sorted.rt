@@ -2,7 +2,7 @@
 ghost use Rattle.std.specs.Prelude.{◌≡◌, ◌<◌, ◌≤◌, [], ℕ, IfSome, drop, length, slice_range, take, true};
 ghost use Rattle.std.specs.Int.{bit_at};
 ghost use Rattle.cert_state.specs.inner.Gathered.{AreFactsOf};
-ghost use Rattle.cert_state.specs.inner.Sorted.{IsPartOf, IsSorted, IsSorted-prop, lits_in, of_word};
+ghost use Rattle.cert_state.specs.inner.Sorted.{IsPartOf, IsSorted, IsSorted-prop, of_word};
 
 use crate::entailment::entails;
 use crate::gathered::{NOTHING, WordFacts, facts_of, gives};
@@ -11,11 +11,8 @@ use crate::literal::{Lit, Regs};
 use crate::points::range;
 use crate::state::State;
 
-// Room for the literals of a node, and for one more.
+// How many literals a node has at most, and one more.
 const ROOM: usize = 513;
-
-// Room for those of most nodes.
-const FEW: usize = 24;
 
 const NO_LITERAL: Lit = Lit::In(0, 0, 0);
 
@@ -65,32 +62,31 @@ const NO_PART: Part = Part {
     facts: NOTHING,
 };
 
-/// A table of literals, which is made anew for each state: it is a short one where that will do.
+/// Room for the literals of a state, those of a word in a row. It serves one state after the other.
 #[derive(Drop)]
-enum Table {
-    Few([Lit; FEW]),
-    Many([Lit; ROOM]),
+pub struct Room {
+    /// The literals as they come.
+    copy: [Lit; ROOM],
+    lits: [Lit; ROOM],
+    parts: [Part; 16],
 }
 
-impl Table {
-    // Its literals.
-    fn lits(&self) -> &[Lit]
-        ensures { result.now ≡ lits_in self.now }
-    {
-        match self {
-            Table::Few(lits) => lits,
-            Table::Many(lits) => lits,
+impl Room {
+    /// Room for any state of a node.
+    pub fn new() -> Room {
+        Room {
+            copy: [NO_LITERAL; ROOM],
+            lits: [NO_LITERAL; ROOM],
+            parts: [NO_PART; 16],
         }
     }
-}
 
-/// The literals of a state, those of a word in a row.
-#[derive(Drop)]
-struct Sorted {
-    table: Table,
-    parts: [Part; 16],
-    /// Whether there was room for all.
-    all: bool,
+    // The literals by their words.
+    fn lits(&self) -> &[Lit]
+        ensures { result.now ≡ self.now.lits }
+    {
+        &self.lits
+    }
 }
 
 // A bit for each word of which a literal speaks.
@@ -174,67 +170,35 @@ fn copy_all<S: State>(state: &S, lits: &mut [Lit]) -> Option<usize>
     Some(count)
 }
 
-// Puts the literals of a state by their words, and tells where those of each word stand, if there is room for them.
-fn by_words<S: State>(state: &S, lits: &mut [Lit]) -> Option<[Part; 16]>
-    ensures { IfSome result (IsSorted (S.known state.now) lits.new) }
+// Puts the literals of a state by their words, with where those of each word stand. False says that there is no room for them.
+fn by_words<S: State>(state: &S, lits: &mut [Lit], parts: &mut [Part; 16]) -> bool
+    ensures { result ≡ true → IsSorted (S.known state.now) lits.new parts.new }
 {
-    let mut parts = [NO_PART; 16];
     let seen = spoken(state);
     let mut from = 0;
     for i in 0..16_usize {
-        let to = put_word(state, seen, i as u8, lits, from)?;
+        let Some(to) = put_word(state, seen, i as u8, lits, from) else {
+            return false;
+        };
         parts[i] = part_of(state, i as u8, lits, from, to);
         from = to;
     }
-    Some(parts)
+    true
 }
 
-// The literals of a state by their words, where they are many.
-fn sort_many<S: State>(state: &S) -> Sorted
-    ensures { result.all ≡ true → IsSorted (S.known state.now) (lits_in result.table) result.parts }
+// The literals of a state by their words. The state is read once: its literals may stand far apart.
+fn sort<S: State>(state: &S, room: &mut Room) -> bool
+    ensures { result ≡ true → IsSorted (S.known state.now) room.new.lits room.new.parts }
 {
-    let mut copy = [NO_LITERAL; ROOM];
-    if let Some(count) = copy_all(state, &mut copy) {
-        let own = OfWord {
-            state,
-            lits: &copy[0..count],
-        };
-        let mut lits = [NO_LITERAL; ROOM];
-        if let Some(parts) = by_words(&own, &mut lits) {
-            return Sorted {
-                table: Table::Many(lits),
-                parts,
-                all: true,
-            };
-        }
-    }
-    Sorted {
-        table: Table::Few([NO_LITERAL; FEW]),
-        parts: [NO_PART; 16],
-        all: false,
-    }
-}
-
-// The literals of a state by their words. The state is read once, where they are few: its literals may stand far apart.
-fn sort<S: State>(state: &S) -> Sorted
-    ensures { result.all ≡ true → IsSorted (S.known state.now) (lits_in result.table) result.parts }
-{
-    let mut copy = [NO_LITERAL; FEW];
-    if let Some(count) = copy_all(state, &mut copy) {
-        let own = OfWord {
-            state,
-            lits: &copy[0..count],
-        };
-        let mut lits = [NO_LITERAL; FEW];
-        if let Some(parts) = by_words(&own, &mut lits) {
-            return Sorted {
-                table: Table::Few(lits),
-                parts,
-                all: true,
-            };
-        }
-    }
-    sort_many(state)
+    let Room { copy, lits, parts } = room;
+    let Some(count) = copy_all(state, copy) else {
+        return false;
+    };
+    let own = OfWord {
+        state,
+        lits: &copy[0..count],
+    };
+    by_words(&own, lits, parts)
 }
 
 /// A state with what it says of each word, gathered once, for many questions. A question costs a few comparisons, or at
@@ -242,31 +206,31 @@ fn sort<S: State>(state: &S) -> Sorted
 #[derive(Drop)]
 pub struct Facts<'a, S: State> {
     pub state: &'a S,
-    sorted: Sorted,
-    ghost so: { sorted.all ≡ true → IsSorted (S.known state.now) (lits_in sorted.table) sorted.parts } by { IsSorted-prop (S.known state.now) (lits_in sorted.table) sorted.parts sorted.all },
+    room: &'a Room,
+    /// Whether there was room for all.
+    all: bool,
+    ghost so: { all ≡ true → IsSorted (S.known state.now) room.now.lits room.now.parts } by { IsSorted-prop (S.known state.now) room.now.lits room.now.parts all },
 }
 
 impl<'a, S: State> Facts<'a, S> {
     ghost use Rattle.std.specs.Prelude.{◌≡◌, ◌<◌};
-    ghost use Rattle.cert_state.specs.inner.Sorted.{IsPartOf, lits_in};
+    ghost use Rattle.cert_state.specs.inner.Sorted.{IsPartOf};
 
-    /// What a state says of each word.
-    pub fn of(state: &'a S) -> Facts<'a, S>
+    /// What a state says of each word, in this room.
+    pub fn of(state: &'a S, room: &'a mut Room) -> Facts<'a, S>
         ensures { result.state.now ≡ state.now }
     {
-        Facts {
-            state,
-            sorted: sort(state),
-        }
+        let all = sort(state, room);
+        Facts { state, room, all }
     }
 
     // The part of a word.
     fn part(&self, word: u8) -> Part
         requires word { word < 16 }
-        requires all { self.now.sorted.all ≡ true }
-        ensures { IsPartOf (S.known self.now.state.now) (lits_in self.now.sorted.table) word result }
+        requires all { self.now.all ≡ true }
+        ensures { IsPartOf (S.known self.now.state.now) self.now.room.now.lits word result }
     {
-        self.sorted.parts[word as usize]
+        self.room.parts[word as usize]
     }
 }
 
@@ -275,19 +239,19 @@ impl<S: State> Knowledge for Facts<'_, S> {
 
     fn entails(&self, literal: &Lit) -> bool {
         let word = literal.word();
-        if !self.sorted.all || word > 15 {
+        if !self.all || word > 15 {
             return entails(self.state, literal);
         }
         let part = self.part(word);
         let own = OfWord {
             state: self.state,
-            lits: &self.sorted.table.lits()[part.from..part.to],
+            lits: &self.room.lits()[part.from..part.to],
         };
         gives(&own, &part.facts, literal)
     }
 
     fn range(&self, word: u8) -> Option<(u32, u32)> {
-        if !self.sorted.all {
+        if !self.all {
             return range(self.state, word);
         }
         let facts = self.part(word).facts;

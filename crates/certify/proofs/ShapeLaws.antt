@@ -25,8 +25,8 @@ use Rattle.profile.specs.Policy.{IsNative, Policy, Says}
 use Rattle.profile.specs.Said.{said}
 use Rattle.profile.proofs.SaidLaws.{each_record_is_said_one_verdict}
 use Rattle.rule_compile.specs.Moves.{Goes, move_at}
-use Rattle.rule_compile.specs.Shape.{IsPlain, IsPlainRule, answer, answer_by, call}
-use Rattle.certify.specs.Right.{ShapeIsRight}
+use Rattle.rule_compile.specs.Shape.{IsCallFilter, IsPlain, IsPlainRule, answer, answer_by, call}
+use Rattle.cert_check.specs.Right.{IsRight}
 use Rattle.rule_compile.proofs.RangeLaws.{call_is_record}
 
 given_after : (e : Ending) → option_map (λ (end : ℕ × ℕ). end.0) (after_one e) ≡ option_map (λ (end : ℕ × ℕ). end.0) e
@@ -133,7 +133,7 @@ says_like policy r q v plain number machine says = record {
 
 -- ---- a filter of the shape is right
 
-pub right : ShapeIsRight
+pub right : (policy : Policy) (p : List Insn) → IsPlain policy → IsCallFilter policy p → IsRight policy p
 right policy p plain shape r rec v =
     let t = word r 1 in
     let u = word r 0 in

@@ -1,36 +1,23 @@
 -- What is promised of a certificate that is made of a filter, and of the error in its place.
 use Rattle.std.specs.Global.{Vec}
-use Rattle.std.specs.Prelude.{◌≡◌, ℕ, List, Option, Some, None, Result, IfErr, IfOk}
+use Rattle.std.specs.Prelude.{◌≡◌, ℕ, List, Result, IfErr, IfOk}
 use Rattle.bpf_insn.specs.declared.instruction.Insn.{Insn}
 use Rattle.profile.specs.Policy.{Policy}
 use Rattle.rule_compile.specs.Shape.{IsCallFilter, IsPlain}
 use Rattle.rule_compile.specs.Steady.{IsSteady, Nothing}
 use Rattle.cert_check.specs.Right.{IsRight}
 use Rattle.cert_check.specs.Valid.{IsValidCertificate}
-use Rattle.cert_paths.specs.Telling.{IsTelling}
-use Rattle.cert_search.specs.declared.fault.CertifyError.{CertifyError}
-use Rattle.cert_search.specs.declared.fault.CertifyError.TheVariants.{OutOfMemory}
-use Rattle.certify.specs.Fault.{IsOfSize}
-
--- a certificate is at hand, and keeps each rule of the checker
-abbrev pub IsValidOne : Policy → List Insn → Option (Vec ℕ) → Type 0
-IsValidOne policy p None = ⊥
-IsValidOne policy p (Some bytes) = IsValidCertificate policy p bytes.items
-
--- so it is of a filter that has the shape of a plain profile's
-abbrev pub HasOwnValid : Policy → List Insn → Result (Option (Vec ℕ)) CertifyError → Type 0
-HasOwnValid policy p result = IsPlain policy → IsCallFilter policy p → IfOk result (IsValidOne policy p)
+use Rattle.certify.specs.Telling.{IsTelling}
+use Rattle.certify.specs.declared.error.CertifyError.{CertifyError}
+use Rattle.certify.specs.declared.error.CertifyError.TheVariants.{OutOfMemory}
+use Rattle.certify.specs.Error.{IsOfSize}
 
 module _ (policy : Policy) (p : List Insn) (result : Result (Vec ℕ) CertifyError) where
   -- a certificate keeps each rule of the checker
   abbrev pub MakesValid : Type 0
   MakesValid = IfOk result (λ bytes. IsValidCertificate policy p bytes.items)
 
-  -- so does one of a filter that has the shape of a plain profile's
-  abbrev pub MakesOwnValid : Type 0
-  MakesOwnValid = IsPlain policy → IsCallFilter policy p → MakesValid
-
-  -- of such a filter an error is want of memory
+  -- of a filter that has the shape of a plain profile's an error is want of memory
   abbrev pub OwnLacksMemory : Type 0
   OwnLacksMemory = IsPlain policy → IsCallFilter policy p → IfErr result (λ e. e ≡ OutOfMemory)
 

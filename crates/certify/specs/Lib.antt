@@ -1,5 +1,6 @@
+pub mod Chains
 pub mod Fault
-pub mod Tables
+pub mod Telling
+pub mod Error
 pub mod Certificates
-pub mod Conviction
-pub mod Right
+pub mod inner

@@ -1,21 +1,7 @@
-//! Profiles that are plain, and filters that are right, as laws of the definitions.
-ghost use Rattle.certify.specs.Right.{CompiledIsRight, ShapeIsRight};
-ghost use Rattle.certify.specs.Tables.{TableProfilesArePlain};
+//! Filters of which each comparison tells all that it asks, as a law of the definitions.
+ghost use Rattle.certify.specs.Telling.{SteadyIsTelling};
 
-/// A profile without conditions, for machines with two tokens at most and x32 beside x86-64 alone, whose calls stand in tables
-/// of small numbers, is one that `certify` promises a certificate for.
-pub fn table_profiles_are_plain()
-    ensures { TableProfilesArePlain }
-{}
-
-/// A filter that has the shape of the filters of a profile without conditions is right: the kernel's machine gives each
-/// call record the verdict that the profile says.
-pub fn shape_is_right()
-    ensures { ShapeIsRight }
-{}
-
-/// A filter of the compiler is right in the checker's terms: on each call record it gives the verdict that the profile says,
-/// and no other.
-pub fn compiled_is_right()
-    ensures { CompiledIsRight }
+/// Each filter that compares steadily, as those of the compiler do, is one of which each comparison tells all that it asks.
+pub fn steady_is_telling()
+    ensures { SteadyIsTelling }
 {}

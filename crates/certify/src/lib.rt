@@ -1,19 +1,33 @@
-//! The evidence on a filter: a certificate that it is right, or a call record on which it is wrong.
+//! Certificates that follow each path of a filter, or the record on which it is wrong.
 //!
-//! The maker is not trusted. Whether a certificate shows what it is to show is left to the checker, which stands on
-//! none of this. What the maker owes is that the checker accepts its work, and that it is small. There are two ways. Of a filter
-//! which the compiler makes of a profile with conditions, the certificate is written from the compiler's outline, by `cert_outline`. Of
-//! any other filter each path is followed, by `cert_paths`, which gives a certificate or a record; for profiles without conditions
-//! it is proved that the certificate is found. Where the paths are too many, `cert_search` looks for a record.
+//! At each place of a path a node says what the comparisons on the way there have told, and what the registers hold, as far as that
+//! is known. At a return what is known is cut in two, again and again, until the checker's own question says that the profile is
+//! settled. So the certificate keeps each rule of the checker, whatever the filter. At each return that is not settled a record is
+//! tried that may come there: a record that is told is one on which filter and profile differ. Where each comparison of a filter tells
+//! all that it asks, as in the compiler's, there is one of the two, if memory and the limits of the format allow it: where all words
+//! of a record are told, the profile is settled, and if it says another verdict then, the record tells that the filter is wrong.
+//! A certificate grows with the number of paths.
+//! What is known at a place is lent as a [`Chain`] of literals.
 #![tactic(auto)]
 
-mod asked;
-mod evidence;
+mod action;
+mod calls;
+mod certifying;
+mod chain;
+mod cuts;
+mod error;
+mod fault;
+mod following;
 mod law;
-mod maker;
-mod own;
+mod masks;
+mod paths;
+mod place;
+mod told;
+mod unlike;
 
-pub use cert_search::CertifyError;
-pub use evidence::{Conviction, Evidence, convict, judge};
-pub use law::{compiled_is_right, shape_is_right, table_profiles_are_plain};
-pub use maker::{certify, certify_accepted, follow, propose, propose_shared};
+pub use certifying::{certify, certify_accepted};
+pub use chain::Chain;
+pub use error::CertifyError;
+pub use fault::PathsError;
+pub use following::by_paths;
+pub use law::steady_is_telling;

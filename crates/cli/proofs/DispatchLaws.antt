@@ -2,7 +2,7 @@
 use Rattle.std.proofs.Common.{◌≡◌, ◌⊎◌, ℕ, ◌+◌, ◌<◌, inl, inr, List, [], ◌∷◌, ◌++◌, ap, drop, get_or, length, map, refl, subst, sym, take, ◌∙◌}
 use Rattle.std.proofs.lemmas.List.{get_or_default, map-append, take_more}
 use denote.Ref.{Bor}
-use Rattle.std.specs.Prelude.{Bool, false, IfOk, Option, None, Some, Result, Ok, Err}
+use Rattle.std.specs.Prelude.{Bool, IfOk, Option, None, Some, Result, Ok, Err}
 use Rattle.call_tables.specs.declared.arch.Arch.{Arch}
 use Rattle.streams.specs.Failures.{Failures}
 use Rattle.streams.specs.declared.fault.WriteFault.{WriteFault}
@@ -34,6 +34,7 @@ use Rattle.cli.specs.Stop.{Reports, line_of, status_of, stop_at_misuse}
 use Rattle.cli.specs.Explained.{TellsBehind}
 use Rattle.cli.specs.Files.{Folder, HasBytes, HasEnough}
 use Rattle.cli.specs.Running.{told_line}
+use Rattle.cli.proofs.NamedLaws.{named_of}
 use Rattle.cli.proofs.TurnLaws.{cut_at}
 use Rattle.cli.proofs.FileLaws.{behind_of_file, certified_of_file, check_of_file, tells_all_of_file, tells_of_file, verdict_of_files}
 
@@ -241,7 +242,7 @@ module _ {O : Type 0} (held : O → Option (List ℕ)) (failures : O → Failure
   pub answers_adapted : (native : Arch) (config : List ℕ) (words : List (List ℕ)) (result : Result Bool Stop) (both : Result Both Stop)
       → IsAdaptedOf folder native config words (told_in both) → TellsOn held failures old new (told_in both) result
       → AnswersAdapt held failures folder old new native config words result
-  answers_adapted native config words result both (inl is) h = inl (stopped_at result (told_in both) is h)
+  answers_adapted native config words result both (inl is) h = inl (is.0, stopped_at result (told_in both) is.1 h)
   answers_adapted native config words result both (inr is) h =
       inr (answers_told held failures folder (config ∷ []) (of_one (λ text. OfArguments (IsMadeAs native) words)) old new result
       (told_in both) is h)
@@ -320,7 +321,8 @@ module _ {I O : Type 0} (left : I → Option (List ℕ)) (given : I → Failures
   not_begun (CompareFilters native old new) = (refl, inl (stops_early folder out (old ∷ new ∷ [])))
   not_begun (Adapt native config words) = (refl, inr (inl (stops_early folder out (config ∷ []))))
   not_begun (Learn native words) = refl
-  not_begun (Replay native bundle words) = (refl, (words, false, refl, inl (stops_early folder out (bundle ∷ words))))
+  not_begun (Replay native bundle words) =
+      let is = named_of words in (refl, (is.logs, is.unused, is.named, inl (stops_early folder out (bundle ∷ is.logs))))
   not_begun (Manual name) = (refl, inr (inl (stops_early folder out [])))
   not_begun Version = (refl, inl (stops_early folder out []))
 

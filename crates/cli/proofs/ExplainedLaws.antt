@@ -3,9 +3,9 @@ use Rattle.std.proofs.Common.{◌≡◌, ◌⊎◌, ℕ, List, Bool, true, false
 use Rattle.std.specs.Prelude.{Err, IfErr, IfOk, Ok, Option, Result}
 use Rattle.call_record.specs.Record.{words}
 use Rattle.call_tables.specs.declared.arch.Arch.{Arch}
-use Rattle.certify.specs.declared.evidence.Conviction.{Conviction}
-use Rattle.certify.specs.declared.evidence.Evidence.{Evidence}
-use Rattle.certify.specs.declared.evidence.Evidence.TheVariants.{Certificate, Convicting}
+use Rattle.evidence.specs.declared.evidence.Conviction.{Conviction}
+use Rattle.evidence.specs.declared.evidence.Evidence.{Evidence}
+use Rattle.evidence.specs.declared.evidence.Evidence.TheVariants.{Certificate, Convicting}
 use Rattle.pipeline.specs.Told.{Tells}
 use Rattle.pipeline.specs.declared.unready.Unready.{Unready}
 use Rattle.streams.specs.Failures.{Failures}

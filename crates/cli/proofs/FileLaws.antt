@@ -25,7 +25,7 @@ use Rattle.pipeline.specs.declared.verdict.Answer.TheVariants.{Verdict, NoRecord
 use Rattle.describe.specs.Shown.{IsShown}
 use Rattle.explain.specs.declared.told.Told.{Told}
 use Rattle.runc_stub.specs.declared.calls.Calls.{Calls}
-use Rattle.certify.specs.declared.evidence.Conviction.{Conviction}
+use Rattle.evidence.specs.declared.evidence.Conviction.{Conviction}
 use Rattle.convictions.specs.All.{AllConvict, Convicts, TellsAll}
 use Rattle.cli.specs.Explained.{MayTellStub, TellsBehind, WritesSome}
 use Rattle.cli.specs.Files.{IsEnough}
@@ -113,12 +113,10 @@ module _ (native : Arch) (bundle filter f : List ℕ) (enough : IsEnough 32768 f
     pub tells_all_of_file : (result : Result Bool WriteFault) → TellsAll held failures old new native bundle f result
         → TellsAll held failures old new native bundle filter result
     tells_all_of_file result (inl h) = inl (record {
+      found = h.found;
       all = h.all;
-      convict = all_of_file h.all h.convict;
-      text = h.text;
-      lines = h.lines;
+      are = record { further = h.are.further; first = h.are.first; convict = all_of_file h.all h.are.convict };
       written = h.written;
-      told = h.told;
     })
     tells_all_of_file result (inr lacks) = inr lacks
 

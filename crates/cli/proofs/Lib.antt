@@ -4,7 +4,11 @@ mod HeadlineLaws
 mod ReportLaws
 mod EnoughLaws
 mod FileLaws
+mod FoundLaws
+mod NamedLaws
+mod WantedLaws
 mod DispatchLaws
 mod ExplainedLaws
 mod StatusLaws
 mod LogLaws
+mod ReadLaws

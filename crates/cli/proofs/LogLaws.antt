@@ -1,8 +1,6 @@
 -- Logs by their names and their texts, and the words that name them.
-use Rattle.std.proofs.Common.{◌≡◌, ℕ, ◌+◌, ◌-◌, ◌<◌, ◌≤◌, true, List, [], ◌∷◌, ◌++◌, Vec, Global, ap, arith, get_or, length, map, refl, subst, suc, sym, take, ◌∙◌}
-use Rattle.std.proofs.lemmas.Bool.Decides.{Decides-eqb}
-use Rattle.std.proofs.lemmas.List.{get_or_default, length-map, length-take-le, map-append, take_all, take_more}
-use Rattle.std.proofs.lemmas.Slice.Eq.{slice_eq-Decides}
+use Rattle.std.proofs.Common.{◌≡◌, ℕ, ◌+◌, ◌<◌, List, [], ◌∷◌, ◌++◌, Vec, Global, ap, arith, get_or, length, map, refl, subst, suc, sym, take, ◌∙◌}
+use Rattle.std.proofs.lemmas.List.{get_or_default, length-map, length-take-le, map-append, take_more}
 use Rattle.std.specs.List.{zip}
 use Rattle.std.specs.Prelude.{Bool, Option, Result, Ok, Err}
 use Rattle.call_tables.specs.declared.arch.Arch.{Arch}
@@ -11,7 +9,6 @@ use denote.Ref.{Bor}
 use Rattle.learn.specs.Logged.{parts_of}
 use Rattle.learn.specs.Replayed.{TellsReplayed}
 use Rattle.learn.specs.declared.logs.Log.{Log}
-use Rattle.processes.specs.Views.{same_text}
 use Rattle.cli.specs.declared.stops.Stop.{Stop}
 use Rattle.cli.specs.Dispatch.{FirstUnread, HaveBytes}
 use Rattle.cli.specs.Files.{Folder, HasBytes}
@@ -47,24 +44,6 @@ taken_with name text ns ts i n t same lt en et =
     length-map (take i ns) name ∙ length-take-le i ns (omega (arith, same, lt))
     ∙ sym (length-map (take i ts) text ∙ length-take-le i ts (omega (arith, lt))) in
     rw (names, texts) (sym (zip_more (map name (take i ns)) (map text (take i ts)) (name n) (text t) sizes))
-
--- two texts that are alike, letter by letter
-same_of : (a b : List ℕ) → true ≡ same_text a b → a ≡ b
-same_of a b e = (slice_eq-Decides Decides-eqb a b (same_text a b) refl).0 (sym e)
-
--- words of which the last one is this text
-pub last_is : (words : List (Bor (List ℕ))) (d : Bor (List ℕ)) (text : List ℕ) → 1 ≤ length words
-    → true ≡ same_text (get_or words (length words - 1) d).now text
-    → map now_of words ≡ map now_of (take (length words - 1) words) ++ text ∷ []
-last_is words d text some e =
-    let i = length words - 1 in
-    let lt : i < length words = omega (arith, some) in
-    let w = get_or words i d in
-    let all : words ≡ take i words ++ w ∷ [] =
-    sym (take_all (i + 1) words (omega (arith, some))) ∙ take_more words i w lt
-    ∙ ap (λ x. take i words ++ x ∷ []) (sym (get_or_default words i d w lt)) in
-    ap (map now_of) all ∙ map-append now_of (take i words) (w ∷ [])
-    ∙ ap (λ t. map now_of (take i words) ++ t ∷ []) (same_of w.now text e)
 
 -- one more log
 pub one_more_log : (names : List (Bor (List ℕ))) (texts : List (Vec ℕ Global)) (logs more : List Log) (i : ℕ) (d t : Bor (List ℕ))

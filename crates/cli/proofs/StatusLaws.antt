@@ -1,17 +1,16 @@
 -- What a status of 0 says, of what the program did.
-use Rattle.std.proofs.Common.{◌≡◌, ℕ, Bool, true, false, inl, inr, List, ◌++◌, refl, ap, sym, subst, ◌∙◌}
-use Rattle.std.specs.Prelude.{Option, Some, None, Result, Ok, Err}
+use Rattle.std.proofs.Common.{◌≡◌, ℕ, Bool, true, inl, inr, List, ◌++◌, refl, subst, ◌∙◌}
+use Rattle.std.specs.Prelude.{Option, Some, Result, Ok, Err}
 use Rattle.call_tables.specs.declared.arch.Arch.{Arch}
-use Rattle.command_line.specs.Arguments.Given.{Check, Run}
 use Rattle.streams.specs.Failures.{Failures}
 use Rattle.streams.specs.declared.fault.WriteFault.{WriteFault}
-use Rattle.pipeline.specs.Finding.{IsFinding, TellsFinding, WritesFinding, is_yes}
+use Rattle.pipeline.specs.Finding.{IsFinding, WritesFinding, is_yes}
 use Rattle.pipeline.specs.declared.check.Finding.{Finding}
 use Rattle.pipeline.specs.declared.check.Finding.TheVariants.{Yes, No, NoProfile}
 use Rattle.cli.specs.declared.stops.Stop.{Stop}
 use Rattle.cli.specs.declared.stops.Stop.TheVariants.{Usage, CannotRead, Read, Write, OutOfMemory}
-use Rattle.cli.specs.Dispatch.{AnswersCheck, AnswersRun, HaveBytes}
-use Rattle.cli.specs.Files.{Folder, HasBytes}
+use Rattle.cli.specs.Dispatch.{AnswersCheck, AnswersRun}
+use Rattle.cli.specs.Files.{Folder}
 use Rattle.cli.specs.Running.{HasAnswered, told_line}
 use Rattle.cli.specs.Headline.{IsAnswerTo}
 use Rattle.cli.specs.Statuses.{AreRight, HasRun}

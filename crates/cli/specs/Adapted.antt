@@ -1,8 +1,11 @@
 -- The bundle that `adapt` makes of an engine's configuration.
-use Rattle.std.specs.Prelude.{ℕ, ◌≡◌, ◌⊎◌, true, false, List, Option, codes}
+use Rattle.std.specs.Prelude.{ℕ, ◌≡◌, ◌≤◌, ◌⊎◌, Bool, true, false, List, Option, codes, filter, length, map, not}
 use Rattle.std.specs.List.{Any}
+use Rattle.std.specs.Str.{bytes_eq}
 use denote.Ref.{Bor}
 use Rattle.adapt.specs.Adapted.{IsMade}
+use Rattle.adapt.specs.Words.{AskFor}
+use Rattle.adapt.specs.declared.words.Wanted.{Wanted}
 use Rattle.call_tables.specs.declared.arch.Arch.{Arch}
 use Rattle.explain.specs.declared.told.Told.{Told}
 use Rattle.narrow.specs.Narrow.{IsTold}
@@ -12,16 +15,35 @@ use Rattle.settling.specs.declared.choice.Choice.{Choice}
 abbrev pub AsksNarrow : List (Bor (List ℕ)) → Type 0
 AsksNarrow words = Any (λ word. word.now ≡ codes "narrow") words
 
+abbrev pub is_narrow : List ℕ → Bool
+is_narrow word = bytes_eq word (codes "narrow")
+
+-- `narrow` stands once at most, and the other words ask for this
+pub record AskToAdapt (words : List (List ℕ)) (wanted : Wanted) : Type 0 where
+  pub once : length (filter is_narrow words) ≤ 1
+  pub others : AskFor (filter (λ word. not (is_narrow word)) words) wanted
+
+-- the words ask for nothing
+abbrev pub AskNothing : List (List ℕ) → Type 0
+AskNothing words = (wanted : Wanted) → ¬ AskToAdapt words wanted
+
 -- a bundle that means a profile, which settles the entries of a draft if a choice is made
-abbrev pub IsMadeOfDraft : Arch → Told → Type 0
-IsMadeOfDraft native told = (choice : Option Choice) × (draft : List ℕ) × IsMade native choice draft told
+abbrev pub IsMadeOfDraft : Arch → Option Choice → Told → Type 0
+IsMadeOfDraft native choice told = (draft : List ℕ) × IsMade native choice draft told
 
 -- the narrowed bundle of one that was made; or none was made, which is told
-pub record IsNarrowedOne (native : Arch) (told : Told) : Type 0 where
+pub record IsNarrowedOne (native : Arch) (choice : Option Choice) (told : Told) : Type 0 where
   pub made : Told
-  pub is_made : IsMadeOfDraft native made
+  pub is_made : IsMadeOfDraft native choice made
   pub is_narrowed : ((made.done ≡ true) × IsTold native made.bytes.items told) ⊎ ((made.done ≡ false) × (told ≡ made))
 
--- a bundle that was made, or the narrowed one of it, as the words ask
-abbrev pub IsMadeAs : Arch → List (Bor (List ℕ)) → Told → Type 0
-IsMadeAs native words told = (AsksNarrow words × IsNarrowedOne native told) ⊎ (¬ AsksNarrow words × IsMadeOfDraft native told)
+-- a bundle that was made, or the narrowed one of it if `narrow` is one of the words
+abbrev pub IsMadeBy : Arch → Option Choice → List (Bor (List ℕ)) → Told → Type 0
+IsMadeBy native choice words told =
+    (AsksNarrow words × IsNarrowedOne native choice told) ⊎ (¬ AsksNarrow words × IsMadeOfDraft native choice told)
+
+-- such a bundle, by the choice that the words name, if they name one
+pub record IsMadeAs (native : Arch) (words : List (Bor (List ℕ))) (told : Told) : Type 0 where
+  pub wanted : Wanted
+  pub asked : AskToAdapt (map (λ w. w.now) words) wanted
+  pub made : IsMadeBy native wanted.choice words told

@@ -1,8 +1,7 @@
 -- THE PROGRAM. What it writes and the status that it ends with, of a command, of files, and of what is read on standard input.
-use Rattle.std.specs.Prelude.{ℕ, ◌≡◌, ◌⊎◌, Bool, true, false, List, [], ◌∷◌, map, codes}
+use Rattle.std.specs.Prelude.{ℕ, ◌≡◌, ◌⊎◌, Bool, true, false, List, [], ◌∷◌, codes}
 use Rattle.std.specs.Prelude.{if◌then◌else◌, Option, Some, None, Result, Ok, Err}
 use Rattle.std.specs.Str.{bytes_eq}
-use denote.Ref.{Bor}
 use Rattle.call_tables.specs.declared.arch.Arch.{Arch}
 use Rattle.command_line.specs.Arguments.{Given}
 use Rattle.command_line.specs.Arguments.Given.{Verdict, Check, Certify, CertifyBehind, CertifyAll, Export, Run, Explain, Record, Assemble}
@@ -27,7 +26,8 @@ use Rattle.pipeline.specs.Finding.{WritesFinding}
 use Rattle.cli.specs.declared.stops.Stop.{Stop}
 use Rattle.cli.specs.declared.stops.Stop.TheVariants.{CannotRead, OutOfMemory, Usage, Write}
 use Rattle.cli.specs.Explained.{TellsBehind, TellsRecord}
-use Rattle.cli.specs.Adapted.{IsMadeAs}
+use Rattle.cli.specs.Adapted.{AskNothing, IsMadeAs}
+use Rattle.cli.specs.Read.{TellsRead}
 use Rattle.cli.specs.Told.{IsManual, IsNoCommand, IsReplayed, NamesLogs, of_none, of_one, of_two, OfArguments}
 use Rattle.cli.specs.Files.{CannotBeRead, Folder, HasBytes, HasEnough}
 use Rattle.cli.specs.Running.{RunsBundles, told_line}
@@ -142,10 +142,11 @@ module _ {O : Type 0} (held : O → Option (List ℕ)) (failures : O → Failure
   abbrev pub StopsAtWords : Result Bool Stop → Type 0
   StopsAtWords result = (result ≡ Err Usage) × (new ≡ old)
 
-  -- the bundle that is made of a configuration
+  -- the bundle that is made of a configuration, unless the words ask for nothing
   abbrev pub AnswersAdapt : Arch → List ℕ → List (List ℕ) → Result Bool Stop → Type 0
   AnswersAdapt native config words result =
-      StopsAtWords result ⊎ AnswersTold (config ∷ []) (of_one (λ text. OfArguments (IsMadeAs native) words)) result
+      (AskNothing words × StopsAtWords result)
+      ⊎ AnswersTold (config ∷ []) (of_one (λ text. OfArguments (IsMadeAs native) words)) result
 
   -- what a bundle says of the calls of logs
   abbrev pub AnswersReplay : Arch → List ℕ → List (List ℕ) → Result Bool Stop → Type 0
@@ -199,7 +200,7 @@ module _ {I O : Type 0} (left : I → Option (List ℕ)) (given : I → Failures
       (input' ≡ input) × AnswersTold held taken folder out out' [] (of_none (OfArguments (IsRecorded native) call)) result
   Does (Assemble text) result = (input' ≡ input) × AnswersTold held taken folder out out' (text ∷ []) (of_one IsAssembled) result
   Does (Read native bundle) result =
-      (input' ≡ input) × AnswersTold held taken folder out out' (bundle ∷ []) (of_one (λ text told. Unit {0})) result
+      (input' ≡ input) × AnswersTold held taken folder out out' (bundle ∷ []) (of_one (TellsRead native)) result
   Does (Annotate native filter) result =
       (input' ≡ input) × AnswersTold held taken folder out out' (filter ∷ []) (of_one IsAnnotated) result
   Does (Draw native filter) result = (input' ≡ input) × AnswersTold held taken folder out out' (filter ∷ []) (of_one IsDrawn) result

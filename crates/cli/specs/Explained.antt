@@ -6,8 +6,8 @@ use Rattle.call_tables.specs.declared.arch.Arch.{Arch}
 use Rattle.call_tables.specs.Arch.{family_of}
 use Rattle.behind_runc.specs.Behind.{IsBehind, WritesBehind}
 use Rattle.behind_runc.specs.Told.{stub_text}
-use Rattle.certify.specs.Conviction.{IsCertificate}
-use Rattle.certify.specs.declared.evidence.Evidence.{Evidence}
+use Rattle.evidence.specs.Conviction.{IsCertificate}
+use Rattle.evidence.specs.declared.evidence.Evidence.{Evidence}
 use Rattle.explain.specs.Explanation.{Explains}
 use Rattle.pipeline.specs.Told.{IsLine}
 use Rattle.pipeline.specs.declared.unready.Unready.{Unready}

@@ -9,3 +9,4 @@ pub mod Dispatch
 pub mod Headline
 pub mod Statuses
 pub mod inner
+pub mod Read

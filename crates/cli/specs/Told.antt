@@ -1,5 +1,5 @@
 -- What commands tell of the texts of files, and of none.
-use Rattle.std.specs.Prelude.{ℕ, ◌≡◌, Bool, true, false, List, [], ◌∷◌, ◌++◌, map, codes, Option, Some, None}
+use Rattle.std.specs.Prelude.{ℕ, ◌≡◌, ◌≢◌, Bool, true, false, List, [], ◌∷◌, ◌++◌, map, codes, Option, Some, None}
 use Rattle.std.specs.List.{zip}
 use denote.Ref.{Bor}
 use Rattle.call_tables.specs.declared.arch.Arch.{Arch}
@@ -37,10 +37,15 @@ abbrev pub IsNoCommand : Option (List ℕ) → Type 0
 IsNoCommand None = ⊥
 IsNoCommand (Some name) = row_called name rows ≡ None
 
--- the words are the names of logs, and the word `unused` may stand behind them
+-- `unused` stands behind the names of logs, one at least
+pub record AskUnused (words logs : List (List ℕ)) : Type 0 where
+  pub split : words ≡ logs ++ codes "unused" ∷ []
+  pub some : logs ≢ []
+
+-- `unused` stands behind the names of logs; or else all words are such names
 abbrev pub NamesLogs : List (List ℕ) → List (List ℕ) → Bool → Type 0
-NamesLogs words logs true = words ≡ logs ++ codes "unused" ∷ []
-NamesLogs words logs false = words ≡ logs
+NamesLogs words logs true = AskUnused words logs
+NamesLogs words logs false = (words ≡ logs) × ((others : List (List ℕ)) → ¬ AskUnused words others)
 
 -- what is told of the logs of these names, played through a bundle, whose text is the first one
 abbrev pub IsReplayed : Arch → Bool → List (List ℕ) → List (List ℕ) → Told → Type 0

@@ -1,6 +1,8 @@
 //! What `ccell adapt` does.
-ghost use Rattle.std.specs.Prelude.{◌≡◌, ◌↔◌, [], ◌∷◌, IfOk, IsTrue, map};
-ghost use Rattle.cli.specs.Adapted.{AsksNarrow, IsMadeAs, IsMadeOfDraft, IsNarrowedOne};
+ghost use Rattle.std.specs.Prelude.{◌≡◌, ◌↔◌, [], ◌∷◌, IfOk, IsTrue, Option, Some, filter, map, not};
+ghost use Rattle.adapt.specs.declared.words.Wanted.{Wanted as TheWanted};
+ghost use Rattle.settling.specs.declared.choice.Choice.{Choice as TheChoice};
+ghost use Rattle.cli.specs.Adapted.{AskToAdapt, AsksNarrow, IsMadeAs, IsMadeBy, IsMadeOfDraft, IsNarrowedOne, is_narrow};
 ghost use Rattle.cli.specs.Told.{OfArguments, of_one};
 ghost use Rattle.cli.specs.inner.Telling.{IsAdaptedOf, IsToldOf, told_in};
 
@@ -27,7 +29,9 @@ fn has_narrow(words: &[&str]) -> bool
 }
 
 // The words but for `narrow`.
-fn without_narrow<'a>(alloc: Global, words: &[&'a str]) -> Result<Vec<&'a str>, AllocError> {
+fn without_narrow<'a>(alloc: Global, words: &[&'a str]) -> Result<Vec<&'a str>, AllocError>
+    ensures { IfOk result (λ rest. map (λ w. w.now) rest.items ≡ filter (λ word. not (is_narrow word)) (map (λ w. w.now) words.now)) }
+{
     let mut rest = Vec::new(alloc);
     for word in words {
         if *word != "narrow" {
@@ -38,9 +42,11 @@ fn without_narrow<'a>(alloc: Global, words: &[&'a str]) -> Result<Vec<&'a str>, 
 }
 
 // What the words ask for beside `narrow`, which stands once at most.
-fn wanted(alloc: Global, words: &[&str]) -> Result<Option<Wanted>, AllocError> {
+fn wanted(alloc: Global, words: &[&str]) -> Result<Option<Wanted>, AllocError>
+    ensures { IfOk result (λ o. (w : TheWanted) → (o ≡ Some w) ↔ AskToAdapt (map (λ w. w.now) words.now) w) }
+{
     let rest = without_narrow(alloc, words)?;
-    if rest.len().saturating_add(1) < words.len() {
+    if words.len().saturating_sub(rest.len()) > 1 {
         return Ok(None);
     }
     Ok(wanted_of(&rest))
@@ -48,7 +54,7 @@ fn wanted(alloc: Global, words: &[&str]) -> Result<Option<Wanted>, AllocError> {
 
 // The narrowed bundle of a bundle that was made, with the changes of both.
 fn narrowed(alloc: Global, native: Arch, made: Adapted) -> Result<Both, AllocError>
-    ensures { IsMadeOfDraft native made.told → IfOk result (λ both. IsNarrowedOne native both.told) }
+    ensures { (choice : Option TheChoice) → IsMadeOfDraft native choice made.told → IfOk result (λ both. IsNarrowedOne native choice both.told) }
 {
     let Adapted {
         told,
@@ -99,7 +105,7 @@ fn made_of(
     wanted: &Wanted,
     words: &[&str],
 ) -> Result<Both, AllocError>
-    ensures { IfOk result (λ both. IsMadeAs native words.now both.told) }
+    ensures { IfOk result (λ both. IsMadeBy native wanted.now.choice words.now both.told) }
 {
     let made = adapt(alloc, native, config, wanted)?;
     if has_narrow(words) {
@@ -117,6 +123,7 @@ fn made_of_file<'a, F: Files>(
     words: &[&str],
     files: &mut F,
 ) -> Result<Both, Stop<'a>>
+    requires { AskToAdapt (map (λ w. w.now) words.now) wanted.now }
     ensures { IsToldOf (F.folder files.old) (config.entry.now ∷ []) (of_one (λ text. OfArguments (IsMadeAs native) (map (λ w. w.now) words.now))) (told_in result) }
 {
     match read(alloc, files, config) {

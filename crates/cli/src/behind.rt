@@ -1,6 +1,5 @@
 //! What `ccell certify` does of a filter behind the stub that runc puts in front of it.
-ghost use Rattle.std.specs.Prelude.{◌≡◌, ◌-◌, IfOk, Ok, OnErr, length};
-ghost use Rattle.call_tables.specs.Arch.{family_of};
+ghost use Rattle.std.specs.Prelude.{◌≡◌, IfOk, Ok, OnErr};
 ghost use Rattle.behind_runc.specs.Behind.{CertifiesBehind};
 ghost use Rattle.cli.specs.Dispatch.{AnswersBehind, ExplainsBehind};
 ghost use Rattle.cli.specs.Explained.{MayTellStub, TellsBehind};

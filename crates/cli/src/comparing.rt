@@ -1,9 +1,9 @@
 //! What `ccell certify` writes, and what it says of a record on standard error.
 ghost use Rattle.std.specs.Prelude.{◌≡◌, ◌⊎◌, Ok, OnErr, false, string_bytes, true};
 ghost use Rattle.cli.specs.Explained.{HasNoRecord, MayTellWhy, TellsRecord, WritesSome};
-ghost use Rattle.certify.specs.declared.evidence.Conviction.{Conviction as TheConviction};
-ghost use Rattle.certify.specs.declared.evidence.Evidence.TheVariants.{Convicting};
-ghost use Rattle.certify.specs.Conviction.{IsCertificate};
+ghost use Rattle.evidence.specs.declared.evidence.Conviction.{Conviction as TheConviction};
+ghost use Rattle.evidence.specs.declared.evidence.Evidence.TheVariants.{Convicting};
+ghost use Rattle.evidence.specs.Conviction.{IsCertificate};
 ghost use Rattle.pipeline.specs.Certified.{Certifies};
 
 use call_tables::Arch;

@@ -1,5 +1,5 @@
 //! What `ccell learn` and `ccell replay` do with logs.
-ghost use Rattle.std.specs.Prelude.{◌≡◌, ◌∷◌, IfOk, length, map};
+ghost use Rattle.std.specs.Prelude.{◌≡◌, ◌≢◌, ◌↔◌, [], ◌∷◌, IfOk, IsTrue, codes, length, map};
 ghost use Rattle.std.specs.List.{zip};
 ghost use Rattle.learn.specs.Logged.{parts_of};
 ghost use Rattle.learn.specs.Replayed.{TellsReplayed};
@@ -81,13 +81,23 @@ pub fn learned<'a, F: Files>(
     })
 }
 
+// Whether the last word is `unused` and stands behind others.
+fn is_unused(before: &[&str], last: &str) -> bool
+    ensures { IsTrue result ↔ ((last.now ≡ codes "unused") × (before.now ≢ [])) }
+{
+    match before {
+        [] => false,
+        [_, ..] => last == "unused",
+    }
+}
+
 // The names of logs, and whether `unused` stands behind them.
 fn names_in<'a>(words: &'a [&'a str]) -> (&'a [&'a str], bool)
     ensures { NamesLogs (map (λ w. w.now) words.now) (map (λ n. n.now) result.0.now) result.1 }
 {
     match words {
         [first @ .., last] => {
-            if *last == "unused" && !first.is_empty() {
+            if is_unused(first, last) {
                 return (first, true);
             }
             (words, false)

@@ -1,5 +1,5 @@
 //! What `ccell manual` and `ccell version` tell.
-ghost use Rattle.std.specs.Prelude.{◌≡◌, List, ℕ, [], Option, option_map};
+ghost use Rattle.std.specs.Prelude.{[], Option, option_map};
 ghost use Rattle.explain.specs.Told.{IsVersion};
 ghost use Rattle.cli.specs.Files.{Folder};
 ghost use Rattle.cli.specs.Told.{of_none};

@@ -1,6 +1,8 @@
 //! What `ccell read`, `ccell annotate` and `ccell draw` tell.
-ghost use Rattle.std.specs.Prelude.{[], ◌∷◌, ⊤};
+ghost use Rattle.std.specs.Prelude.{◌≡◌, [], ◌∷◌, IfOk, true};
+ghost use Rattle.describe.specs.Read.{IsReadOut};
 ghost use Rattle.describe.specs.Shown.{IsAnnotated, IsDrawn};
+ghost use Rattle.cli.specs.Read.{HasHint, TellsRead};
 ghost use Rattle.cli.specs.Told.{of_one};
 ghost use Rattle.cli.specs.inner.Telling.{IsToldOf};
 
@@ -49,16 +51,35 @@ pub(crate) fn drawn<'a, F: Files>(
 // Behind what a bundle means, if a call gets past it.
 const HINT: &str = "ccell lint reports calls that get past this bundle\n";
 
-// What a bundle means, or where it is wrong, and whether `lint` has a call to report.
-fn described(alloc: Global, native: Arch, bundle: &[u8]) -> Result<Told, AllocError> {
-    let Told { mut bytes, done } = describe::read_out(alloc, native, bundle)?;
-    if done {
-        let is_passed = lint::hint(alloc, native, bundle)?;
-        if is_passed {
-            bytes.extend_from_slice(HINT.as_bytes())?;
-        }
-    }
+// What was told, with the line behind it.
+fn with_hint(told: Told) -> Result<Told, AllocError>
+    ensures { told.done ≡ true → IfOk result (HasHint told) }
+{
+    let Told { mut bytes, done } = told;
+    bytes.extend_from_slice(HINT.as_bytes())?;
     Ok(Told { bytes, done })
+}
+
+// The same, if `lint` has a call to report.
+fn hinted(alloc: Global, native: Arch, bundle: &[u8], told: Told) -> Result<Told, AllocError>
+    ensures { IsReadOut native bundle.now told → IfOk result (TellsRead native bundle.now) }
+{
+    if !told.done {
+        return Ok(told);
+    }
+    let is_passed = lint::hint(alloc, native, bundle)?;
+    if !is_passed {
+        return Ok(told);
+    }
+    with_hint(told)
+}
+
+// What a bundle means, or where it is wrong, and whether `lint` has a call to report.
+fn described(alloc: Global, native: Arch, bundle: &[u8]) -> Result<Told, AllocError>
+    ensures { IfOk result (TellsRead native bundle.now) }
+{
+    let told = describe::read_out(alloc, native, bundle)?;
+    hinted(alloc, native, bundle, told)
 }
 
 /// What a bundle means, or where it is wrong.
@@ -68,7 +89,7 @@ pub(crate) fn read_out<'a, F: Files>(
     bundle: &'a str,
     files: &mut F,
 ) -> Result<Told, Stop<'a>>
-    ensures { IsToldOf (F.folder files.old) (bundle.entry.now ∷ []) (of_one (λ text told. ⊤)) result }
+    ensures { IsToldOf (F.folder files.old) (bundle.entry.now ∷ []) (of_one (TellsRead native)) result }
 {
     match read(alloc, files, bundle) {
         Ok(text) => match described(alloc, native, &text) {

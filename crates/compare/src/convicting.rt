@@ -3,7 +3,7 @@ ghost use Rattle.std.specs.Prelude.{IfSome, string_bytes};
 ghost use Rattle.explain.specs.Explanation.{Explains};
 
 use call_tables::Arch;
-use certify::Conviction;
+use evidence::Conviction;
 use explain::explanation;
 use std::alloc::Global;
 

@@ -9,7 +9,8 @@ ghost use Rattle.compare.specs.Sameness.{IsSameness};
 
 use call_record::words_are_a_record;
 use cert_check::valid_is_right;
-use certify::{CertifyError, Conviction, certify_accepted, convict};
+use certify::CertifyError;
+use evidence::{Conviction, certified, convict};
 use kernel_check::Accepted;
 use profile::Profile;
 use std::alloc::{AllocError, Global};
@@ -29,7 +30,7 @@ fn is_right(alloc: Global, profile: &Profile, program: &Accepted<'_>) -> Result<
     ensures { IfOk result (λ shown. shown ≡ true → IsRight profile.now (accepted_insns program.now)) }
 {
     valid_shows(profile, program);
-    match certify_accepted(alloc, profile, program) {
+    match certified(alloc, profile, program) {
         Ok(_certificate) => Ok(true),
         Err(CertifyError::OutOfMemory) => Err(AllocError),
         Err(_) => Ok(false),

@@ -1,7 +1,7 @@
 -- Lines of records, one after another.
 use Rattle.std.proofs.Common.{ℕ, List, [], ◌∷◌, ◌++◌, append-nil, append_assoc, ap, refl, sym, ◌∙◌}
 use Rattle.call_record.specs.Record.{words}
-use Rattle.certify.specs.declared.evidence.Conviction.{Conviction}
+use Rattle.evidence.specs.declared.evidence.Conviction.{Conviction}
 use Rattle.pipeline.specs.Told.{IsLine}
 use Rattle.convictions.specs.All.{AreLines}
 

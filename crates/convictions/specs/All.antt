@@ -3,8 +3,8 @@ use Rattle.std.specs.Prelude.{ℕ, ◌≡◌, ◌⊎◌, Bool, false, List, [], 
 use Rattle.std.specs.List.{All}
 use Rattle.call_record.specs.Record.{words}
 use Rattle.call_tables.specs.declared.arch.Arch.{Arch}
-use Rattle.certify.specs.declared.evidence.Conviction.{Conviction}
-use Rattle.certify.specs.declared.evidence.Evidence.TheVariants.{Convicting}
+use Rattle.evidence.specs.declared.evidence.Conviction.{Conviction}
+use Rattle.evidence.specs.declared.evidence.Evidence.TheVariants.{Convicting}
 use Rattle.pipeline.specs.Certified.{IsEvidenceFor}
 use Rattle.pipeline.specs.Exported.{LacksMemory}
 use Rattle.pipeline.specs.Told.{IsLine}
@@ -25,15 +25,27 @@ AreLines [] text = text ≡ []
 AreLines (found ∷ more) text =
     (line : List ℕ) × (rest : List ℕ) × IsLine (words found.call) found.given found.said line × AreLines more rest × (text ≡ line ++ rest)
 
--- what was written are the lines of records that convict the filter, and the answer is false
-pub record WritesConvictions {S : Type 0} (held : S → Option (List ℕ)) (failures : S → Failures) (old new : S) (native : Arch)
-    (bundle filter : List ℕ) (result : Result Bool WriteFault) : Type 0 where
-  pub all : List Conviction
+-- What was found of a filter: the record that was found first, and then further ones. Each convicts it.
+pub record AreFound (native : Arch) (bundle filter : List ℕ) (found : Conviction) (all : List Conviction) : Type 0 where
+  pub further : List Conviction
+  pub first : all ≡ found ∷ further
   pub convict : AllConvict native bundle filter all
+
+-- what was written are the lines of these records, all of them in order, and the answer is false
+pub record WritesLines {S : Type 0} (held : S → Option (List ℕ)) (failures : S → Failures) (old new : S) (all : List Conviction)
+    (result : Result Bool WriteFault) : Type 0 where
   pub text : List ℕ
   pub lines : AreLines all text
   pub written : WritesMade held failures old new text result
   pub told : IfOk result (λ done. done ≡ false)
+
+-- what was written are the lines of records that were found, one at least
+pub record WritesConvictions {S : Type 0} (held : S → Option (List ℕ)) (failures : S → Failures) (old new : S) (native : Arch)
+    (bundle filter : List ℕ) (result : Result Bool WriteFault) : Type 0 where
+  pub found : Conviction
+  pub all : List Conviction
+  pub are : AreFound native bundle filter found all
+  pub written : WritesLines held failures old new all result
 
 abbrev pub TellsAll : {S : Type 0} → (S → Option (List ℕ)) → (S → Failures) → S → S → Arch → List ℕ → List ℕ
     → Result Bool WriteFault → Type 0

@@ -1,18 +1,18 @@
 //! The records that convict a filter, beside a bundle.
-ghost use Rattle.std.specs.Prelude.{◌≡◌, ◌∷◌, [], None, ℕ, List, IfOk, IfSome, OnSome};
+ghost use Rattle.std.specs.Prelude.{◌≡◌, ◌∷◌, None, ℕ, List, IfOk, IfSome, OnOk, OnSome};
 ghost use Rattle.bpf_insn.specs.Bytes.{insns_of, view_fault};
 ghost use Rattle.call_tables.specs.declared.arch.Arch.{Arch as TheArch};
 ghost use Rattle.kernel_check.specs.Accepted.{IsAccepted};
 ghost use Rattle.kernel_check.specs.Lent.{accepted_insns};
 ghost use Rattle.pipeline.specs.Certified.{AreJudged};
-ghost use Rattle.convictions.specs.All.{AllConvict, Convicts};
+ghost use Rattle.convictions.specs.All.{AllConvict, AreFound, Convicts};
 
 use crate::search::add_each;
 use bpf_insn::Program;
 use call_record::Record;
 use call_tables::{Arch, Family};
-use certify::Conviction;
 use differ::find_differences;
+use evidence::Conviction;
 use kernel_check::{Accepted, accept};
 use profile::Profile;
 use profile_json::read_bundle;
@@ -83,13 +83,12 @@ fn add_all(
     add_beside(alloc, native.family(), &read.profile, &program, told, all)
 }
 
-// The list of one.
-fn only(alloc: Global, found: &Conviction) -> Result<Vec<Conviction>, AllocError>
-    ensures { IfOk result (λ all. all.items ≡ found.now ∷ []) }
+// Puts a record before all others.
+fn put_first(found: &Conviction, all: &mut Vec<Conviction>) -> Result<(), AllocError>
+    ensures { OnOk result (all.new.items ≡ found.now ∷ all.old.items) }
 {
-    let mut all = Vec::new(alloc);
-    all.push(*found)?;
-    Ok(all)
+    all.insert(0, *found)?;
+    Ok(())
 }
 
 /// The record that was found to convict a filter, and one of each further call that is found of which the filter gives another verdict than
@@ -102,9 +101,10 @@ pub fn convictions_of(
     found: &Conviction,
 ) -> Result<Vec<Conviction>, AllocError>
     requires { Convicts native bundle.now filter.now found.now }
-    ensures { IfOk result (λ all. AllConvict native bundle.now filter.now all.items) }
+    ensures { IfOk result (λ all. AreFound native bundle.now filter.now found.now all.items) }
 {
-    let mut all = only(alloc, found)?;
+    let mut all = Vec::new(alloc);
     add_all(alloc, native, bundle, filter, &found.call, &mut all)?;
+    put_first(found, &mut all)?;
     Ok(all)
 }

@@ -1,9 +1,9 @@
 //! The lines of records that convict a filter.
-ghost use Rattle.std.specs.Prelude.{◌≡◌, ℕ, List, IfOk, string_bytes};
-ghost use Rattle.call_tables.specs.declared.arch.Arch.{Arch as TheArch};
-ghost use Rattle.convictions.specs.All.{AllConvict, AreLines, TellsAll};
+ghost use Rattle.std.specs.Prelude.{◌⊎◌, IfOk, string_bytes};
+ghost use Rattle.convictions.specs.All.{AreLines, WritesLines};
+ghost use Rattle.pipeline.specs.Exported.{LacksMemory};
 
-use certify::Conviction;
+use evidence::Conviction;
 use pipeline::line_of;
 use std::alloc::{AllocError, Global};
 use streams::{Sink, WriteFault, write_all};
@@ -20,14 +20,13 @@ fn lines_of(alloc: Global, all: &[Conviction]) -> Result<String, AllocError>
     Ok(text)
 }
 
-/// Writes the lines of records that convict a filter. The answer is false.
+/// Writes the lines of records that convict a filter, each in order. The answer is false.
 pub fn write_convictions<S: Sink>(
     alloc: Global,
     all: &[Conviction],
     sink: &mut S,
 ) -> Result<bool, WriteFault>
-    ensures { (native : TheArch) (bundle filter : List ℕ) → AllConvict native bundle filter all.now
-        → TellsAll S.held S.failures sink.old sink.new native bundle filter result }
+    ensures { WritesLines S.held S.failures sink.old sink.new all.now result ⊎ LacksMemory sink.old sink.new result }
 {
     let Ok(text) = lines_of(alloc, all) else {
         return Err(WriteFault::OutOfMemory);

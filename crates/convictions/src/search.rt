@@ -3,14 +3,14 @@ ghost use Rattle.std.specs.Prelude.{◌≡◌, ℕ, List, IfOk, IfSome};
 ghost use Rattle.bpf_insn.specs.Bytes.{insns_of};
 ghost use Rattle.call_tables.specs.declared.arch.Arch.{Arch as TheArch};
 ghost use Rattle.kernel_check.specs.Lent.{accepted_insns};
-ghost use Rattle.certify.specs.Conviction.{IsConviction};
+ghost use Rattle.evidence.specs.Conviction.{IsConviction};
 ghost use Rattle.pipeline.specs.Certified.{AreJudged};
 ghost use Rattle.convictions.specs.All.{AllConvict, Convicts};
 
 use bpf_interp::verdict;
 use call_record::Record;
-use certify::Conviction;
 use compare::Difference;
+use evidence::Conviction;
 use kernel_check::Accepted;
 use profile::Profile;
 use std::alloc::AllocError;

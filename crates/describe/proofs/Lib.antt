@@ -1,1 +1,3 @@
 mod LineLaws
+mod Results
+mod EntryLaws

@@ -1,4 +1,14 @@
 //! What a bundle means, or where it is wrong.
+ghost use Rattle.std.specs.Prelude.{◌≡◌, ◌≢◌, ◌≤◌, ◌⊎◌, ◌++◌, ◌∷◌, [], ℕ, List, IfOk, IfSome, codes, false, length, string_bytes};
+ghost use Rattle.texts.specs.Lines.{line_feed};
+ghost use Rattle.profile_json.specs.Breaks.{Breaks};
+ghost use Rattle.profile_json.specs.ByEntry.{AreRulesOf};
+ghost use Rattle.profile_json.specs.Fault.{fault_of, text_of};
+ghost use Rattle.profile_json.specs.Meaning.{IsText, Means};
+ghost use Rattle.serde_json.specs.Data.{Data};
+ghost use Rattle.explain.specs.Told.{TellsText};
+ghost use Rattle.describe.specs.Read as spec;
+
 use crate::edition::{READ, of_first_edition};
 use crate::entries::put_bundle;
 use crate::near::put_nearest;
@@ -8,7 +18,7 @@ use call_tables::{Arch, Family};
 use explain::{Told, refused_profile};
 use json_text::{Trimmed, fault_of, without_unread};
 use profile::Profile;
-use profile_json::{ProfileError, read_bundle, rules_by_entry};
+use profile_json::{EntryRules, ProfileError, read_bundle, rules_by_entry};
 use serde_json::Value;
 use std::alloc::{AllocError, Global};
 use std::fmt::Write;
@@ -167,39 +177,72 @@ pub fn fault_in(
     Ok(text)
 }
 
-// Adds why and where a bundle is refused.
-fn refused(
-    mut text: String,
+// The line of the place of a fault.
+fn place_line(
     alloc: Global,
     family: Family,
     bundle: &[u8],
-    error: ProfileError,
-) -> Result<Told, AllocError> {
-    writeln!(text, "refused profile {error}")?;
-    put_fault(&mut text, alloc, family, bundle, &error)?;
+    error: &ProfileError,
+) -> Result<String, AllocError> {
+    let mut text = String::new(alloc);
+    put_fault(&mut text, alloc, family, bundle, error)?;
+    Ok(text)
+}
+
+// Adds why a bundle is refused, and the line of the place.
+fn refused_at(mut text: String, place: &str, error: ProfileError) -> Result<Told, AllocError>
+    ensures text { IfOk result (λ told. told.bytes.items
+        ≡ string_bytes text ++ (codes "refused profile " ++ (text_of error ++ line_feed ∷ place.now))) }
+    ensures done { IfOk result (λ told. told.done ≡ false) }
+{
+    write!(text, "refused profile {error}\n{place}")?;
     Ok(Told {
         bytes: text.into_bytes(),
         done: false,
     })
 }
 
-// Adds what a bundle means, by its profile.
-fn meaning(
-    mut text: String,
+// Adds why and where a bundle is refused.
+fn refused(
+    text: String,
     alloc: Global,
-    native: Arch,
+    family: Family,
     bundle: &[u8],
-    profile: &Profile,
-) -> Result<Told, AllocError> {
-    let all = match rules_by_entry(alloc, bundle, native) {
-        Ok(all) => all,
-        Err(error) => return refused_profile(alloc, error),
-    };
-    put_bundle(&mut text, profile, &all)?;
+    error: ProfileError,
+) -> Result<Told, AllocError>
+    ensures { IfOk result (λ told. (told.done ≡ false) × ((place : List ℕ) × (told.bytes.items
+        ≡ string_bytes text ++ (codes "refused profile " ++ (text_of error ++ line_feed ∷ place))))) }
+{
+    let place = place_line(alloc, family, bundle, &error)?;
+    refused_at(text, &place, error)
+}
+
+// What a bundle means, behind a text.
+fn meaning_of(mut text: String, profile: &Profile, all: &EntryRules) -> Result<Told, AllocError>
+    ensures { IfOk result (TellsText (string_bytes text ++ spec.bundle_text profile.now all.now.rules.items all.now.ends.items)) }
+{
+    put_bundle(&mut text, profile, all)?;
     Ok(Told {
         bytes: text.into_bytes(),
         done: true,
     })
+}
+
+// What a bundle means, by its profile, behind a text.
+fn meaning(
+    text: String,
+    alloc: Global,
+    native: Arch,
+    bundle: &[u8],
+    profile: &Profile,
+) -> Result<Told, AllocError>
+    ensures { string_bytes text ≡ [] → (t : Data) → IsText bundle.now t → Means t native profile.now
+        → IfOk result (spec.IsRead native bundle.now) }
+{
+    match rules_by_entry(alloc, bundle, native) {
+        Ok(all) => meaning_of(text, profile, &all),
+        Err(error) => refused_profile(alloc, error),
+    }
 }
 
 // Adds what a bundle means, or why and where it is refused.
@@ -225,9 +268,43 @@ fn read_trimmed(alloc: Global, native: Arch, bundle: &[u8]) -> Result<Told, Allo
     }
 }
 
+// Tells why and where a bundle is refused. One with another edition may be read as the first.
+fn not_read(
+    alloc: Global,
+    native: Arch,
+    bundle: &[u8],
+    error: ProfileError,
+) -> Result<Told, AllocError>
+    ensures { IfSome (fault_of error) (Breaks bundle.now native) → IfOk result (spec.IsRead native bundle.now) }
+{
+    match error {
+        ProfileError::OutOfMemory => Err(AllocError),
+        ProfileError::Version => read_trimmed(alloc, native, bundle),
+        _ => refused(String::new(alloc), alloc, native.family(), bundle, error),
+    }
+}
+
+// The same of a bundle of which all members are read.
+fn read_whole(alloc: Global, native: Arch, bundle: &[u8]) -> Result<Told, AllocError>
+    ensures { IfOk result (spec.IsRead native bundle.now) }
+{
+    match read_bundle(alloc, bundle, native) {
+        Ok(read) => meaning(String::new(alloc), alloc, native, bundle, &read.profile),
+        Err(error) => not_read(alloc, native, bundle, error),
+    }
+}
+
+// How many bytes of a bundle are read as they are: of a longer one what is not read is left out first.
+const MOST_WHOLE: usize = 1 << 20;
+
 /// Tells what a bundle, which is read for a native machine, means: its machines, what is said of calls that no entry
 /// matches, and a line for each entry. Of a bundle that is refused, why, and the place of the fault.
-pub fn read_out(alloc: Global, native: Arch, bundle: &[u8]) -> Result<Told, AllocError> {
+pub fn read_out(alloc: Global, native: Arch, bundle: &[u8]) -> Result<Told, AllocError>
+    ensures { IfOk result (spec.IsReadOut native bundle.now) }
+{
+    if bundle.len() <= MOST_WHOLE {
+        return read_whole(alloc, native, bundle);
+    }
     match without_unread(alloc, bundle, READ)? {
         Some(Trimmed { text, .. }) => read_trimmed(alloc, native, &text),
         None => read_trimmed(alloc, native, bundle),

@@ -145,13 +145,3 @@ pub record Replays (native : Arch) (bundle : List ℕ) (logs : List (List ℕ ×
 abbrev pub TellsReplayed : Arch → Bool → List ℕ → List (List ℕ × List ℕ) → Told → Type 0
 TellsReplayed native unused bundle logs told =
     RefusesBundle native bundle told ⊎ (RefusesLog native logs told ⊎ Replays native bundle logs unused told)
-
--- logs by their names and their texts, as far as there are both
-abbrev pub named_texts : List (List ℕ) → List (List ℕ) → List (List ℕ × List ℕ)
-named_texts (name ∷ names) (text ∷ texts) = (name, text) ∷ named_texts names texts
-named_texts names texts = []
-
--- what is told of the bytes of a bundle's file, and of those of the logs of these names behind it
-abbrev pub TellsReplayedFiles : Arch → Bool → List (List ℕ) → List (List ℕ) → Told → Type 0
-TellsReplayedFiles native unused names [] told = ⊥
-TellsReplayedFiles native unused names (bundle ∷ texts) told = TellsReplayed native unused bundle (named_texts names texts) told

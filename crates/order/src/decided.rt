@@ -16,7 +16,8 @@ use crate::nothing::nothing;
 use bpf_insn::{Insn, MAX_INSNS, Program, encode_into};
 use call_record::{Record, Word, words_are_a_record};
 use cert_check::valid_is_right;
-use certify::{CertifyError, certify_accepted, convict};
+use certify::CertifyError;
+use evidence::{certified, convict};
 use kernel_check::{Accepted, accept};
 use profile::Profile;
 use rule_compile::plan;
@@ -89,7 +90,7 @@ fn is_certified(alloc: Global, profile: &Profile, filter: &Accepted<'_>) -> Resu
     ensures { IfOk result (λ shown. shown ≡ true → IsRight profile.now (accepted_insns filter.now)) }
 {
     valid_shows(profile, filter);
-    match certify_accepted(alloc, profile, filter) {
+    match certified(alloc, profile, filter) {
         Ok(_certificate) => Ok(true),
         Err(CertifyError::OutOfMemory) => Err(AllocError),
         Err(_) => Ok(false),

@@ -19,8 +19,8 @@ use Rattle.profile_json.specs.Rules.{rules_of, rules_of_entry, rules_under}
 use Rattle.profile_json.proofs.Lists.{contains_flat_back, contains_map}
 use Rattle.profile_json.proofs.clashing.Clashing.{IsUnder, under_back}
 use Rattle.rule_compile.specs.Shape.{IsPlain, IsPlainRule, tokens}
-use Rattle.certify.specs.Tables.{HasSmallNumbers, IsX32Beside}
-use Rattle.certify.proofs.TableLaws.{beside_small, table_rule_is_plain}
+use Rattle.evidence.specs.Tables.{HasSmallNumbers, IsX32Beside}
+use Rattle.evidence.proofs.TableLaws.{beside_small, table_rule_is_plain}
 use Rattle.pipeline.specs.Finding.{IsBundle}
 use Rattle.pipeline.specs.Plain.{BundlesArePlain, HasNoConditions}
 

@@ -16,14 +16,14 @@ use Rattle.cert_check.proofs.Right.{right}
 use Rattle.cert_check.specs.Right.{IsRight}
 use Rattle.cert_check.specs.Valid.{IsValidCertificate}
 use Rattle.cert_check.proofs.ValidLaws.{kept}
-use Rattle.cert_search.specs.declared.fault.CertifyError.{CertifyError}
-use Rattle.cert_search.specs.declared.fault.CertifyError.TheVariants as maker
+use Rattle.certify.specs.declared.error.CertifyError.{CertifyError}
+use Rattle.certify.specs.declared.error.CertifyError.TheVariants as maker
 use Rattle.call_record.specs.Record.{words}
-use Rattle.certify.specs.Conviction.{Convicts, IsConviction, IsEvidence}
-use Rattle.certify.specs.declared.evidence.Conviction.{Conviction}
-use Rattle.certify.specs.declared.evidence.Evidence.{Evidence}
-use Rattle.certify.specs.declared.evidence.Evidence.TheVariants.{Certificate, Convicting}
-use Rattle.certify.specs.Fault.{IsOfSize}
+use Rattle.evidence.specs.Conviction.{Convicts, IsConviction, IsEvidence}
+use Rattle.evidence.specs.declared.evidence.Conviction.{Conviction}
+use Rattle.evidence.specs.declared.evidence.Evidence.{Evidence}
+use Rattle.evidence.specs.declared.evidence.Evidence.TheVariants.{Certificate, Convicting}
+use Rattle.certify.specs.Error.{IsOfSize}
 use Rattle.rule_compile.specs.Steady.{IsSteady, Nothing}
 use Rattle.streams.specs.Failures.{Failures}
 use Rattle.streams.specs.Sink.{StopsAt, Writes, WritesMade}

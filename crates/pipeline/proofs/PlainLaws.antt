@@ -16,10 +16,10 @@ use Rattle.kernel_check.specs.Accepted.{IsAccepted}
 use Rattle.cert_check.specs.Right.{IsRight}
 use Rattle.cert_check.specs.Valid.{IsValidCertificate}
 use Rattle.cert_check.proofs.ValidLaws.{kept}
-use Rattle.cert_search.specs.declared.fault.CertifyError.{CertifyError}
-use Rattle.cert_search.specs.declared.fault.CertifyError.TheVariants as maker
-use Rattle.certify.specs.Fault.{IsOfSize}
-use Rattle.certify.proofs.CompiledLaws.{compiled}
+use Rattle.certify.specs.declared.error.CertifyError.{CertifyError}
+use Rattle.certify.specs.declared.error.CertifyError.TheVariants as maker
+use Rattle.certify.specs.Error.{IsOfSize}
+use Rattle.evidence.proofs.CompiledLaws.{compiled}
 use Rattle.streams.specs.Failures.{Failures}
 use Rattle.streams.specs.declared.fault.WriteFault.{WriteFault}
 use Rattle.export.specs.declared.form.Form.{Form}

@@ -11,11 +11,11 @@ use Rattle.kernel_check.specs.Accepted.{IsAccepted}
 use Rattle.profile.specs.Policy.{Policy}
 use Rattle.rule_compile.specs.Shape.{IsCallFilter, IsPlain}
 use Rattle.rule_compile.specs.Steady.{IsSteady, Nothing}
-use Rattle.certify.specs.Conviction.{Convicts, IsCertificate, IsConviction}
-use Rattle.certify.specs.declared.evidence.Evidence.{Evidence}
-use Rattle.certify.specs.declared.evidence.Evidence.TheVariants.{Certificate, Convicting}
-use Rattle.cert_search.specs.declared.fault.CertifyError.{CertifyError}
-use Rattle.cert_search.specs.declared.fault.CertifyError.TheVariants as maker
+use Rattle.evidence.specs.Conviction.{Convicts, IsCertificate, IsConviction}
+use Rattle.evidence.specs.declared.evidence.Evidence.{Evidence}
+use Rattle.evidence.specs.declared.evidence.Evidence.TheVariants.{Certificate, Convicting}
+use Rattle.certify.specs.declared.error.CertifyError.{CertifyError}
+use Rattle.certify.specs.declared.error.CertifyError.TheVariants as maker
 use Rattle.cert_check.specs.Certified.{IsFirst}
 use Rattle.cert_check.specs.declared.fault.CheckError.{CheckError}
 use Rattle.cert_check.specs.declared.fault.CheckError.TheVariants as error

@@ -7,8 +7,8 @@ use Rattle.profile_json.specs.Breaks.{Breaks}
 use Rattle.profile_json.specs.Fault.{fault_of, text_of as refusal_text}
 use Rattle.rule_compile.specs.declared.fault.CompileError.TheVariants as compiler
 use Rattle.rule_compile.specs.Fault.{text_of as compile_text}
-use Rattle.cert_search.specs.declared.fault.CertifyError.TheVariants as maker
-use Rattle.cert_search.specs.Fault.{text_of as certify_text}
+use Rattle.certify.specs.declared.error.CertifyError.TheVariants as maker
+use Rattle.certify.specs.Error.{text_of as certify_text}
 use Rattle.cert_check.specs.declared.checked.Checked.{Checked}
 use Rattle.cert_check.specs.Checked.{profile_of, program_of}
 use Rattle.cert_check.specs.Fault.{text_of as error_text}

@@ -7,7 +7,7 @@ use Rattle.call_tables.specs.Arch.{family_of}
 use Rattle.profile.specs.declared.rules.Rule.{Rule}
 use Rattle.profile.specs.Policy.{Policy}
 use Rattle.rule_compile.specs.Shape.{IsPlain, tokens}
-use Rattle.certify.specs.Tables.{HasSmallNumbers, IsX32Beside}
+use Rattle.evidence.specs.Tables.{HasSmallNumbers, IsX32Beside}
 use Rattle.pipeline.specs.Finding.{IsBundle}
 
 -- the bundle means a plain profile

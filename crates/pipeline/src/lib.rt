@@ -11,9 +11,9 @@ mod shared;
 mod unready;
 mod verdict;
 
-pub use certify::{Conviction, Evidence};
 pub use certifying::{certify_bundle, judge_bundle, line_of, write_judged};
 pub use check::{Finding, check_line, finding_of};
+pub use evidence::{Conviction, Evidence};
 pub use exporting::export_bundle;
 pub use law::{bundles_are_plain, evidence_excludes, findings_exclude, one_answer};
 pub use pipeline::Prepared;

@@ -7,7 +7,8 @@ use crate::unready::Unready;
 use bpf_insn::Program;
 use call_tables::Arch;
 use cert_check::{CheckError, Checked, check};
-use certify::{follow, propose};
+use certify::certify_accepted;
+use evidence::propose;
 use kernel_check::accept;
 use profile::Profile;
 use profile_json::read_bundle;
@@ -191,7 +192,7 @@ impl Prepared {
         let Ok(accepted) = accept(&program) else {
             unreachable!();
         };
-        self.certificate = follow(alloc, &self.profile, &accepted)?;
+        self.certificate = certify_accepted(alloc, &self.profile, &accepted)?;
         Ok(())
     }
 

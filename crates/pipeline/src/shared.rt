@@ -5,7 +5,8 @@ ghost use Rattle.pipeline.specs.declared.unready.Unready.TheVariants.{OutOfMemor
 
 use crate::unready::Unready;
 use bpf_insn::Program;
-use certify::{CertifyError, propose_shared};
+use certify::CertifyError;
+use evidence::propose_shared;
 use kernel_check::accept;
 use profile::Profile;
 use rule_compile::share_searches;

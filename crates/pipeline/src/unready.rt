@@ -1,7 +1,7 @@
 //! Why a bundle has no checked filter.
 ghost use Rattle.profile_json.specs.declared.fault.ProfileError.TheVariants as refusal;
 ghost use Rattle.rule_compile.specs.declared.fault.CompileError.TheVariants as compiler;
-ghost use Rattle.cert_search.specs.declared.fault.CertifyError.TheVariants as maker;
+ghost use Rattle.certify.specs.declared.error.CertifyError.TheVariants as maker;
 ghost use Rattle.cert_check.specs.declared.fault.CheckError.TheVariants as checker;
 ghost use Rattle.pipeline.specs.Exported.{IsToldAs, Refuses};
 ghost use Rattle.pipeline.specs.declared.unready.Unready.TheVariants.{Profile, Compile, Certify, Check};

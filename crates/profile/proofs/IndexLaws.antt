@@ -16,7 +16,8 @@ use Rattle.std.proofs.Math.Seq.{get_or-append_seam}
 use Rattle.call_tables.specs.Arch.{token_of}
 use Rattle.profile.specs.declared.rules.Rule.{Rule}
 use Rattle.profile.specs.declared.index.Index.{Index}
-use Rattle.profile.specs.inner.Places.{IsFor, StandsAt, IsLatest, IsIndexOf, call_cmp, latest_of, earlier_of}
+use Rattle.profile.specs.Latest.{IsFor, StandsAt, IsLatest}
+use Rattle.profile.specs.inner.Places.{IsIndexOf, call_cmp, latest_of, earlier_of}
 use Rattle.profile.proofs.KeptLaws.{slice_get_left, slice_get_last, place_cases, push_length}
 
 same_call : (a m b n : ℕ) → a ≡ b → m ≡ n → is_eq (call_cmp (a, m) (b, n)) ≡ true

@@ -7,7 +7,8 @@ use Rattle.std.proofs.lemmas.Bool.{cases_lt, cases_eq}
 use Rattle.std.proofs.lemmas.Option.{same_Some, slice_get_within, slice_get-get_or}
 use Rattle.profile.specs.declared.rules.Rule.{Rule}
 use Rattle.profile.specs.declared.index.Index.{Index}
-use Rattle.profile.specs.inner.Places.{IsFor, StandsAt, IsLatest, IsIndexOf, earlier_of}
+use Rattle.profile.specs.Latest.{IsFor, StandsAt, IsLatest}
+use Rattle.profile.specs.inner.Places.{IsIndexOf, earlier_of}
 
 -- how many places a walk has before it at most
 abbrev pub height : Option ℕ → ℕ

@@ -4,6 +4,7 @@ pub mod Rule
 pub mod Machines
 pub mod Policy
 pub mod Said
+pub mod Latest
 pub mod Build
 pub mod Fault
 pub mod inner

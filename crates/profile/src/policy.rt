@@ -47,8 +47,11 @@ impl Model for Profile {
 }
 
 impl Profile {
-    ghost use Rattle.std.specs.Prelude.{IfOk, IfErr};
+    ghost use Rattle.std.specs.Prelude.{◌<◌, IfOk, IfErr, Some, length, slice_get};
+    ghost use Rattle.call_tables.specs.Arch.{token_of};
     ghost use Rattle.call_record.specs.Record.{words};
+    ghost use Rattle.profile.specs.declared.rules.Rule.{Rule as TheRule};
+    ghost use Rattle.profile.specs.Latest.{IsLatest};
     ghost use Rattle.profile.specs.Policy.{Says, IsProfile, IsNative};
     ghost use Rattle.profile.specs.Build.{IsBuiltOf, IsFirstCause};
 
@@ -123,6 +126,22 @@ impl Profile {
         ensures is_profile { IsProfile self.now }
     {
         &self.rules
+    }
+
+    /// The place of the last rule for a call, by its machine's token and its number.
+    pub fn latest(&self, token: u32, number: u32) -> Option<usize>
+        ensures { IsLatest self.now.rules token number (length self.now.rules) result }
+    {
+        self.index.latest(token, number)
+    }
+
+    /// The place of the last rule before a place that is for the same call.
+    pub fn earlier(&self, place: usize) -> Option<usize>
+        requires { place < length self.now.rules }
+        ensures { (rule : TheRule) → slice_get self.now.rules place ≡ Some rule
+            → IsLatest self.now.rules (token_of rule.arch) rule.nr place result }
+    {
+        self.index.earlier(place)
     }
 
     /// The verdict of a record. It is [`Word::KILL_THREAD`] where the record is no call of a listed

@@ -18,14 +18,14 @@ use Rattle.rule_compile.specs.declared.question.Subject.{Subject}
 use Rattle.rule_compile.specs.declared.ranges.Leaf.{Leaf}
 use Rattle.rule_compile.specs.declared.ranges.Leaf.TheVariants as leaf
 use Rattle.rule_compile.specs.declared.ranges.Range.{Range}
-use Rattle.rule_compile.specs.Decides.{Comes, Decides, IsWithin, StandsFor, by_block, by_verdict}
+use Rattle.rule_compile.specs.Decides.{Comes, Decides, IsWithin, StandsFor, Tiles, by_block, by_verdict}
 use Rattle.rule_compile.specs.Questions.{bits}
 use Rattle.rule_compile.specs.Rules.{IsClearAt, SomeMet, begins_here, put_first, rules_of, answer_of}
 use Rattle.rule_compile.specs.inner.Built.{IsFoundAt, IsKept, IsReached}
 use Rattle.rule_compile.specs.inner.Left.{AreAlikeAt, AreRules, AreStarts, AsksFor, IsOffset, IsQuestion, IsRule, weight, weight_of}
-use Rattle.rule_compile.specs.inner.Numbers.{IsExtended, Tiles, more, nothing, wider}
+use Rattle.rule_compile.specs.inner.Numbers.{IsExtended, more, nothing, wider}
 use Rattle.rule_compile.specs.inner.Runs.{AreBefore, IsBefore}
-use Rattle.rule_compile.specs.inner.Stands.{AreBlocks, AreRanged, AreSound, AreSpans, BlocksStand, HasMore, IsBlock, IsFound, KnownStands, part_of}
+use Rattle.rule_compile.specs.inner.Stands.{AreBlocks, AreRanged, AreSound, AreSpans, BlocksStand, DecidesFor, HasMore, IsBlock, IsFound, KnownStands, part_of}
 use Rattle.rule_compile.proofs.DecidesLaws.{before_le, before_more, decides_less, decides_more, get_less}
 use Rattle.rule_compile.proofs.FindLaws.{all_left, all_right}
 use Rattle.rule_compile.proofs.RangeLaws.{tiles_back, tiles_extended}
@@ -42,10 +42,20 @@ module _ (old new : List Block) (g : HasMore old new) (blocks : AreBlocks new) w
   comes_less os other r v before come =
       elim come [ inl met ↦ inl met | inr none ↦ inr (none.0, decides_less old new g blocks before none.1) ]
 
-  pub stands_more : (to : Leaf) (os : List Open) (other : Leaf) → IsBefore (length old) other → StandsFor old to os other
-      → StandsFor new to os other
+  pub stands_more : (to : Leaf) (os : List Open) (other : Leaf) → IsBefore (length old) other → DecidesFor old to os other
+      → DecidesFor new to os other
   stands_more to os other before stands r rec clear v come =
       decides_more old new g (stands r rec clear v (comes_less os other r v before come))
+
+  comes_more : (os : List Open) (other : Leaf) (r : List ℕ) (v : ℕ) → Comes old os other r v → Comes new os other r v
+  comes_more os other r v come = elim come [ inl met ↦ inl met | inr none ↦ inr (none.0, decides_more old new g none.1) ]
+
+  pub stands_still : (to : Leaf) (os : List Open) (other : Leaf) → IsBefore (length old) to → IsBefore (length old) other
+      → StandsFor old to os other → StandsFor new to os other
+  stands_still to os other before_to before stands r rec clear v = (
+    λ d. comes_more os other r v ((stands r rec clear v).0 (decides_less old new g blocks before_to d)),
+    λ come. decides_more old new g ((stands r rec clear v).1 (comes_less os other r v before come)),
+  )
 
   pub found_more : (os : List Open) (other to : Leaf) → IsBefore (length old) other → IsFound old os other to → IsFound new os other to
   found_more os other to before found = record {
@@ -155,7 +165,7 @@ module _ (old new : List Block) (block : Block) (is : new ≡ old ++ block ∷ [
     | inr here ↦ subst (λ n. IsBlock n b) (sym here.0) (subst (IsBlock (length old)) (sym here.1) own)
   ]
 
-  pushed_stands : StandsFor new (leaf.Block (length old)) block.rules.items block.other
+  pushed_stands : DecidesFor new (leaf.Block (length old)) block.rules.items block.other
   pushed_stands r rec clear v come =
       let there = range_at block.ranges.items 0 (2 ^ 32) (bits block.subject r) ranged.tiles (omega arith) (bits_small block.subject r rec) in
       let Told : Range → Type 0 = λ x. (r : List ℕ) → IsRecord r → IsClearAt block.rules.items r → IsWithin x (bits block.subject r) → (v : ℕ)
@@ -175,8 +185,8 @@ module _ (old new : List Block) (block : Block) (is : new ≡ old ++ block ∷ [
         stands_more old new pushed_more pushed_blocks (leaf.Block place) b.rules.items b.other
         (before_le place (length old) (omega (arith, inside)) b.other (blocks place b before).goes_on) (stand place b before)
     | inr here ↦
-        subst (λ n. StandsFor new (leaf.Block n) b.rules.items b.other) (sym here.0)
-        (subst (λ (x : Block). StandsFor new (leaf.Block (length old)) x.rules.items x.other) (sym here.1) pushed_stands)
+        subst (λ n. DecidesFor new (leaf.Block n) b.rules.items b.other) (sym here.0)
+        (subst (λ (x : Block). DecidesFor new (leaf.Block (length old)) x.rules.items x.other) (sym here.1) pushed_stands)
   ]
 
 pub pushed_sound : (a b : Blocks) (block : Block) → b.blocks.items ≡ a.blocks.items ++ block ∷ [] → b.known.items ≡ a.known.items

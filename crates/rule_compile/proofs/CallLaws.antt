@@ -25,12 +25,13 @@ use Rattle.rule_compile.specs.declared.label.Exits.{Exits}
 use Rattle.rule_compile.specs.declared.ranges.Leaf.TheVariants.{Verdict}
 use Rattle.rule_compile.specs.declared.ranges.Range.{Range}
 use Rattle.rule_compile.specs.Moves.{move_at}
+use Rattle.rule_compile.specs.Decides.{Tiles}
 use Rattle.rule_compile.specs.Shape.{IsCallFilter, IsPlain, answer, answer_by, call, depth, depth_by, has_token, tokens, weight, weight_by}
 use Rattle.rule_compile.specs.inner.Calls.{AnswersMachine, AnswersThese, Apart, CallsOf, IsOneOf}
 use Rattle.rule_compile.specs.inner.Code.{Grows, IsStart, IsTarget, insn_of, position}
 use Rattle.rule_compile.specs.inner.Emitted.{AreFine, loads}
 use Rattle.rule_compile.specs.inner.Goes.{Branches, Reaches, cost, deep, goes}
-use Rattle.rule_compile.specs.inner.Numbers.{IsListed, HasVerdict, Tiles, said_of}
+use Rattle.rule_compile.specs.inner.Numbers.{IsListed, HasVerdict, said_of}
 use Rattle.rule_compile.specs.inner.Ranges.{AreOfVerdicts, Found, IsAtFront, Searched, loads as loads_word, returns}
 use Rattle.rule_compile.proofs.AcceptLaws.{fine_is_accepted}
 use Rattle.rule_compile.proofs.FindLaws.{branch_cost, branch_deep, branch_goes}

@@ -26,22 +26,24 @@ use Rattle.rule_compile.specs.inner.Noted.{AreEarly, AreCalls, ArePartsOf, AsksO
 use Rattle.rule_compile.specs.inner.Numbers.{IsFor}
 use Rattle.rule_compile.specs.inner.Runs.{IsBefore}
 use Rattle.rule_compile.specs.inner.Stands.{AreAmong, AreBlocks, AreThose, DecidesRules, HasMore, IsFound}
-use Rattle.rule_compile.proofs.BlocksLaws.{stands_more}
+use Rattle.rule_compile.proofs.BlocksLaws.{stands_still}
 use Rattle.rule_compile.proofs.DecidesLaws.{before_more, decides_more}
 use Rattle.rule_compile.proofs.HeldLaws.{held_of_record}
 use Rattle.rule_compile.proofs.LeadsLaws.{verdict_decided}
 use Rattle.rule_compile.proofs.SaysLaws.{clear_on, native_own, said_is}
 use Rattle.rule_compile.proofs.ThoseLaws.{by_those, held_matches}
-use Rattle.rule_compile.proofs.TurnLaws.{in_turn}
+use Rattle.rule_compile.proofs.TurnLaws.{in_turn, stands_both}
 
 -- ---- parts
 
-pub stand_in_turn : (blocks : List Block) (os : List Open) (other : Leaf) (parts : List Part) (whole : Leaf)
-    → ArePartsOf blocks os other parts whole → StandInTurn blocks other parts whole
-stand_in_turn blocks os other [] whole is = is
-stand_in_turn blocks os other (part ∷ parts) whole is =
-    let found : IsFound blocks part.rules.items other part.leaf = is.0 in
-    (found.stands, stand_in_turn blocks os part.leaf parts whole is.2)
+pub stand_in_turn : (blocks : List Block) → AreBlocks blocks → (os : List Open) (other : Leaf) (parts : List Part) (whole : Leaf)
+    → IsBefore (length blocks) other → ArePartsOf blocks os other parts whole → StandInTurn blocks other parts whole
+stand_in_turn blocks are os other [] whole before is = is
+stand_in_turn blocks are os other (part ∷ parts) whole before is =
+    let found : IsFound blocks part.rules.items other part.leaf = is.0 in (
+      stands_both blocks are part.leaf part.rules.items other before found.stands,
+      stand_in_turn blocks are os part.leaf parts whole found.before is.2,
+    )
 
 parts_before : (blocks : List Block) (os : List Open) (other : Leaf) (parts : List Part) (whole : Leaf)
     → ArePartsOf blocks os other parts whole → All (λ (part : Part). IsBefore (length blocks) part.leaf) parts
@@ -107,7 +109,7 @@ module _ (p : Policy) (clear : IsClear p.rules) (m : Arch) (number : ℕ) (is_ow
       (λ part among v w met_v met_w.
       held_clear r of_call v w (says r of_call.is_record v (among r v met_v)) (says r of_call.is_record w (among r w met_w))) are in
       record {
-        stand = stand_in_turn blocks os default parts.items call.leaf are;
+        stand = stand_in_turn blocks are_blocks os default parts.items call.leaf tt are;
         clear = clear;
         come = λ r of_call.
             in_turn blocks are_blocks r of_call.is_record os default parts.items call.leaf (λ w. w ≡ p.default_word) (said p r) tt
@@ -132,7 +134,8 @@ module _ (p : Policy) (old new : List Block) (g : HasMore old new) (blocks : Are
       → All (λ (part : Part). IsBefore (length old) part.leaf) parts → StandInTurn old other parts whole → StandInTurn new other parts whole
   turn_more other [] whole before all is = is
   turn_more other (part ∷ parts) whole before all is = (
-    stands_more old new g blocks part.leaf part.rules.items other before is.0,
+    stands_still old new g blocks part.leaf part.rules.items other (All-head (λ (part : Part). IsBefore (length old) part.leaf) part parts all)
+        before is.0,
     turn_more part.leaf parts whole (All-head (λ (part : Part). IsBefore (length old) part.leaf) part parts all)
         (All-tail (λ (part : Part). IsBefore (length old) part.leaf) part parts all) is.1,
   )

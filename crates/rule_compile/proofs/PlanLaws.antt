@@ -4,6 +4,7 @@ use Rattle.std.specs.List.{All}
 use Rattle.std.specs.Prelude.{Err, IfOk, IsErrOf, Ok, Result}
 use Rattle.std.proofs.lemmas.Bool.{cases_lt}
 use Rattle.std.proofs.lemmas.List.Elements.{All-head, All-tail}
+use Rattle.std.proofs.lemmas.Option.{slice_get-get_or, slice_get_within}
 use Rattle.bpf_insn.specs.Bytes.{insns_of, max_insns}
 use Rattle.bpf_insn.specs.declared.instruction.Insn.{Insn}
 use Rattle.call_tables.specs.declared.arch.Arch.{Arch}
@@ -11,10 +12,16 @@ use Rattle.profile.specs.Policy.{Policy}
 use Rattle.rule_compile.specs.declared.fault.CompileError.{CompileError}
 use Rattle.rule_compile.specs.declared.fault.CompileError.TheVariants.{TooLong}
 use Rattle.rule_compile.specs.declared.filter.Made.{Made}
+use Rattle.rule_compile.specs.declared.outline.Outline.{Outline}
+use Rattle.rule_compile.specs.declared.ranges.Leaf.TheVariants as leaf
+use Rattle.rule_compile.specs.Outline.{IsCallOf, IsOutlineOf}
 use Rattle.rule_compile.specs.Plan.{IsPlanOf}
 use Rattle.rule_compile.specs.Right.{IsRightFilter}
 use Rattle.rule_compile.specs.inner.Numbers.{IsListed}
+use Rattle.rule_compile.specs.inner.Stands.{AreBlocks, BlocksStand}
+use Rattle.rule_compile.proofs.DecidesLaws.{before_le}
 use Rattle.rule_compile.proofs.FindLaws.{list_parts}
+use Rattle.rule_compile.proofs.TurnLaws.{one_verdict, stands_both}
 
 -- the first of listed machines is listed
 pub listed_first : (p : Policy) (a : Arch) (archs : List Arch) → All (IsListed p) (a ∷ archs) → IsListed p a
@@ -32,6 +39,21 @@ others_listed p [] some all = absurd (omega (arith, some))
 others_listed p (a ∷ archs) some all =
     All-tail (IsListed p) a (take (length (a ∷ archs) - 1) (drop 1 (a ∷ archs)))
     (subst (All (IsListed p)) (head_parts (a ∷ archs) a some) all)
+
+-- ---- the outline
+
+pub outline_is : (policy : Policy) (outline : Outline) → AreBlocks outline.blocks.items → BlocksStand outline.blocks.items
+    → All (IsCallOf policy outline.blocks.items) outline.calls.items → IsOutlineOf policy outline
+outline_is policy outline are stand calls =
+    let blocks = outline.blocks.items in
+    record {
+      blocks = λ place block at.
+          let before = before_le place (length blocks) (omega (arith, slice_get_within blocks place block at)) block.other (are place block at).goes_on in
+          stands_both blocks are (leaf.Block place) block.rules.items block.other before (stand place block at);
+      ranges = λ k d inside. (are k (get_or blocks k d) (slice_get-get_or blocks k d inside)).tiles;
+      one = λ place inside. one_verdict blocks are (leaf.Block place) inside;
+      calls = calls;
+    }
 
 -- ---- from a plan to a filter
 

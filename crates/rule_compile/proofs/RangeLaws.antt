@@ -25,8 +25,8 @@ use Rattle.rule_compile.specs.declared.ranges.Leaf.TheVariants.{Verdict}
 use Rattle.rule_compile.specs.declared.ranges.Range.{Range}
 use Rattle.rule_compile.specs.Shape.{IsPlain, IsPlainRule, call}
 use Rattle.rule_compile.specs.inner.Numbers.{AreFew, AreOwn, AreUnconditional, Between, IsExtended, IsFor, IsListed, IsNext, HasVerdict}
-use Rattle.rule_compile.specs.inner.Numbers.{LeafFor, NoneFor, Reached, Tiles, more, nothing, ruled, said_of, unruled, wider}
-use Rattle.rule_compile.specs.Decides.{IsWithin}
+use Rattle.rule_compile.specs.inner.Numbers.{LeafFor, NoneFor, Reached, more, nothing, ruled, said_of, unruled, wider}
+use Rattle.rule_compile.specs.Decides.{IsWithin, Tiles}
 use Rattle.rule_compile.specs.inner.Ranges.{AreInOrder}
 use Rattle.rule_compile.proofs.FindLaws.{all_left, all_right}
 use Rattle.rule_compile.proofs.ForeignLaws.{EndsAt, StandsAt, ends_at, foreign_split, native_not_foreign, stands_at}

@@ -1,27 +1,33 @@
 -- The rules for a number, as they are gathered, and what they decide.
-use Rattle.std.proofs.Common.{◌≡◌, ℕ, ◌+◌, ◌<◌, ◌⊎◌, List, [], ◌∷◌, ◌++◌, length, inl, inr, ap, sym, ◌∙◌, subst, arith, length-append}
-use Rattle.std.specs.Prelude.{Err, IfOk, Ok, Result, Some, slice_get, slice_index, slice_index_or}
+use Rattle.std.proofs.Common.{◌≡◌, ℕ, ◌+◌, ◌<◌, ◌≤◌, List, [], ◌∷◌, ◌++◌, length, get_or, inl, inr, ap, sym, ◌∙◌, refl, subst, arith, length-append}
+use Rattle.std.specs.Prelude.{Err, IfOk, IfSome, None, Ok, Option, Result, Some, slice_get, slice_index}
 use Rattle.std.specs.List.{All, Any, Contains}
-use Rattle.std.proofs.lemmas.Bool.{cases_lt}
+use Rattle.std.specs.List.Sorted.{IsPermutation}
+use Rattle.std.specs.Option.{IsSomeAnd}
+use Rattle.std.proofs.lemmas.Bool.{cases_eq}
 use Rattle.std.proofs.lemmas.List.{get_or_append_left, get_or_default}
-use Rattle.std.proofs.lemmas.Option.{slice_get-get_or}
-use Rattle.std.proofs.lemmas.List.Elements.{All-append, All-cons, All-contains, All-nil}
+use Rattle.std.proofs.lemmas.Option.{get_or_from_slice_get, same_Some, slice_get-get_or}
+use Rattle.std.proofs.lemmas.List.Elements.{All-append, All-cons, All-contains, All-head, All-nil, All-weaker}
+use Rattle.std.proofs.lemmas.List.Sorted.{All-permutation, Contains-permutation}
 use Rattle.std.proofs.Math.Seq.{get_or-append_seam}
 use Rattle.call_record.specs.Words.{IsRecord}
 use Rattle.call_tables.specs.Arch.{token_of}
 use Rattle.profile.specs.declared.rules.Rule.{Rule}
 use Rattle.profile.specs.Condition.{Meets}
+use Rattle.profile.specs.Latest.{IsLatest, StandsAt}
 use Rattle.profile.specs.Rule.{Matches, argument_of}
+use Rattle.profile.proofs.Walks.{height}
 use Rattle.rule_compile.specs.declared.asked.Placed.{Placed}
 use Rattle.rule_compile.specs.declared.outline.Block.{Block}
 use Rattle.rule_compile.specs.declared.ranges.Leaf.{Leaf}
 use Rattle.rule_compile.specs.declared.ranges.Leaf.TheVariants.{Verdict}
 use Rattle.rule_compile.specs.Decides.{Decides, by_verdict}
 use Rattle.rule_compile.specs.inner.Left.{SomeHeld}
-use Rattle.rule_compile.specs.inner.Numbers.{IsFor}
-use Rattle.rule_compile.specs.inner.Stands.{AreThose, DecidesNumber, DecidesRules, IsClearOn, IsSaidBy, SaysNumber}
+use Rattle.rule_compile.specs.inner.Numbers.{AreUnconditional, IsFor, LeafFor, ruled, unruled}
+use Rattle.rule_compile.specs.inner.Stands.{AreThose, AreThoseBehind, DecidesNumber, DecidesRules, HaveNoCondition, IsClearOn, IsLeafOf, IsSaidBy}
+use Rattle.rule_compile.specs.inner.Stands.{SaysNumber, by_default, by_rule}
 use Rattle.rule_compile.proofs.HeldLaws.{held_of_record}
-use Rattle.rule_compile.proofs.SaysLaws.{said_one}
+use Rattle.rule_compile.proofs.SaysLaws.{said_one, says_default, says_unconditional}
 
 any_left : {X : Type 0} (P : X → Type 0) (xs ys : List X) → Any P xs → Any P (xs ++ ys)
 any_left P xs ys (k, x, inside, at, p) =
@@ -30,64 +36,161 @@ any_left P xs ys (k, x, inside, at, p) =
 any_last : {X : Type 0} (P : X → Type 0) (xs : List X) (x : X) → P x → Any P (xs ++ x ∷ [])
 any_last P xs x p = (length xs, x, omega (arith, length-append xs (x ∷ [])), get_or-append_seam xs x [] x, p)
 
-module _ (rules : List Rule) (token nr n : ℕ) (own : List Placed) (x : Rule) (inside : n < length rules) (is : x ≡ slice_index_or rules n x)
-    (all : (k : ℕ) (d : Rule) → k < n → IsFor token nr (slice_index_or rules k d)
-    → Any (λ (placed : Placed). placed.rule.now ≡ slice_index_or rules k d) own) where
-  which : (k : ℕ) (d : Rule) → k < n + 1 → (k < n) ⊎ (slice_index_or rules k d ≡ x)
-  which k d below = elim (cases_lt k n) [
-    | inl less ↦ inl less
-    | inr not ↦
-        let e : k ≡ n = omega (arith, below, not) in
-        inr (ap (λ i. slice_index_or rules i d) e ∙ get_or_default rules n d x inside ∙ sym is)
-  ]
+module _ (rules : List Rule) (token nr : ℕ) where
+  pub those_none : (next : Option ℕ) → IsLatest rules token nr (length rules) next → AreThoseBehind rules token nr next []
+  those_none next latest = record {
+    those = All-nil (λ (placed : Placed). Contains rules placed.rule.now × IsFor token nr placed.rule.now);
+    places = All-nil (λ (placed : Placed). slice_get rules placed.place ≡ Some placed.rule.now);
+    stands = latest.stands;
+    left = λ k at. inl (latest.greatest k at);
+  }
 
-  pub none_more : (IsFor token nr x → ⊥) → (k : ℕ) (d : Rule) → k < n + 1 → IsFor token nr (slice_index_or rules k d)
-      → Any (λ (placed : Placed). placed.rule.now ≡ slice_index_or rules k d) own
-  none_more not k d below fits = elim (which k d below) [
-    | inl less ↦ all k d less fits
-    | inr e ↦ absurd (not (subst (IsFor token nr) e fits))
-  ]
+  -- the next place is one of a rule
+  pub behind_within : (next : Option ℕ) (place : ℕ) (own : List Placed) → AreThoseBehind rules token nr next own → next ≡ Some place
+      → place < length rules
+  behind_within next place own behind is =
+      let at : StandsAt rules token nr (length rules) place =
+      subst (λ (o : Option ℕ). IfSome o (StandsAt rules token nr (length rules))) is behind.stands in
+      at.before
 
-  module _ (placed : Placed) (of_x : placed.rule.now ≡ x) where
-    pub one_more : (k : ℕ) (d : Rule) → k < n + 1 → IsFor token nr (slice_index_or rules k d)
-        → Any (λ (placed : Placed). placed.rule.now ≡ slice_index_or rules k d) (own ++ placed ∷ [])
-    one_more k d below fits =
-        let P : Placed → Type 0 = λ placed. placed.rule.now ≡ slice_index_or rules k d in
-        elim (which k d below) [
-          | inl less ↦ any_left P own (placed ∷ []) (all k d less fits)
-          | inr e ↦ any_last P own placed (of_x ∙ sym e)
-        ]
+  -- the rule at the next place is for the number
+  module _ (place : ℕ) (own : List Placed) (placed : Placed) (behind : AreThoseBehind rules token nr (Some place) own)
+      (at : slice_get rules place ≡ Some placed.rule.now) where
+    here : StandsAt rules token nr (length rules) place
+    here = behind.stands
 
-    pub those_more : All (λ (placed : Placed). Contains rules placed.rule.now × IsFor token nr placed.rule.now) own → IsFor token nr x
-        → All (λ (placed : Placed). Contains rules placed.rule.now × IsFor token nr placed.rule.now) (own ++ placed ∷ [])
-    those_more those fits =
+    same : here.rule ≡ placed.rule.now
+    same = same_Some here.rule placed.rule.now (sym here.at ∙ at)
+
+    fits : IsFor token nr placed.rule.now
+    fits = subst (IsFor token nr) same (here.is_for.machine, here.is_for.number)
+
+    latest_for : (more : Option ℕ) → ((x : Rule) → slice_get rules place ≡ Some x → IsLatest rules (token_of x.arch) x.nr place more)
+        → IsLatest rules token nr place more
+    latest_for more earlier =
+        subst (λ n. IsLatest rules token n place more) here.is_for.number
+        (subst (λ t. IsLatest rules t here.rule.nr place more) here.is_for.machine (earlier here.rule here.at))
+
+    earlier_stands : (more : Option ℕ) → IfSome more (StandsAt rules token nr place) → IfSome more (StandsAt rules token nr (length rules))
+    earlier_stands None is = tt
+    earlier_stands (Some k) is = record {
+      rule = is.rule;
+      before = omega (arith, is.before, here.before);
+      at = is.at;
+      is_for = is.is_for;
+    }
+
+    those_more : All (λ (placed : Placed). Contains rules placed.rule.now × IsFor token nr placed.rule.now) (own ++ placed ∷ [])
+    those_more =
         let P : Placed → Type 0 = λ placed. Contains rules placed.rule.now × IsFor token nr placed.rule.now in
-        let has : Contains rules x = (n, inside, sym is) in
-        All-append P own (placed ∷ []) those
-        (All-cons P placed [] (subst (λ y. Contains rules y × IsFor token nr y) (sym of_x) (has, fits)) (All-nil P))
+        let has : Contains rules placed.rule.now = (place, here.before, get_or_from_slice_get rules place placed.rule.now placed.rule.now at) in
+        All-append P own (placed ∷ []) behind.those (All-cons P placed [] (has, fits) (All-nil P))
 
-    pub places_more : placed.place ≡ n → All (λ (placed : Placed). slice_get rules placed.place ≡ Some placed.rule.now) own
-        → All (λ (placed : Placed). slice_get rules placed.place ≡ Some placed.rule.now) (own ++ placed ∷ [])
-    places_more at places =
+    places_more : placed.place ≡ place → All (λ (placed : Placed). slice_get rules placed.place ≡ Some placed.rule.now) (own ++ placed ∷ [])
+    places_more is =
         let P : Placed → Type 0 = λ placed. slice_get rules placed.place ≡ Some placed.rule.now in
-        let here : slice_get rules n ≡ Some x = slice_get-get_or rules n x inside ∙ ap Some (sym is) in
-        All-append P own (placed ∷ []) places
-        (All-cons P placed [] (ap (slice_get rules) at ∙ here ∙ ap Some (sym of_x)) (All-nil P))
+        All-append P own (placed ∷ []) behind.places (All-cons P placed [] (ap (slice_get rules) is ∙ at) (All-nil P))
 
-pub those_all : (rules : List Rule) (token nr : ℕ) (own : List Placed)
-    → All (λ (placed : Placed). Contains rules placed.rule.now × IsFor token nr placed.rule.now) own
-    → ((k : ℕ) (d : Rule) → k < length rules → IsFor token nr (slice_index_or rules k d)
-    → Any (λ (placed : Placed). placed.rule.now ≡ slice_index_or rules k d) own)
-    → All (λ (placed : Placed). slice_get rules placed.place ≡ Some placed.rule.now) own
-    → AreThose rules token nr own
-those_all rules token nr own those all places = record {
-  places = places;
-  those = those;
-  all = λ rule has fits.
-      let e : slice_index_or rules has.0 rule ≡ rule = has.2 in
-      subst (λ y. Any (λ (placed : Placed). placed.rule.now ≡ y) own) e
-      (all has.0 rule has.1 (subst (IsFor token nr) (sym e) fits));
-}
+    pub those_next : placed.place ≡ place → (more : Option ℕ)
+        → ((x : Rule) → slice_get rules place ≡ Some x → IsLatest rules (token_of x.arch) x.nr place more)
+        → AreThoseBehind rules token nr more (own ++ placed ∷ [])
+    those_next is more earlier =
+        let latest = latest_for more earlier in
+        record {
+          those = those_more;
+          places = places_more is;
+          stands = earlier_stands more latest.stands;
+          left = λ k other.
+              let P : Placed → Type 0 = λ placed. placed.rule.now ≡ other.rule in
+              elim (behind.left k other) [
+                | inr any ↦ inr (any_left P own (placed ∷ []) any)
+                | inl before ↦ elim (cases_eq k place) [
+                  | inl e ↦ inr (any_last P own placed
+                      (same_Some placed.rule.now other.rule (sym at ∙ ap (slice_get rules) (sym e) ∙ other.at)))
+                  | inr not ↦ inl (latest.greatest k (record {
+                    rule = other.rule;
+                    before = omega (arith, before, not);
+                    at = other.at;
+                    is_for = other.is_for;
+                  }))
+                ]
+              ];
+        }
+
+  pub those_down : (place : ℕ) (own : List Placed) → AreThoseBehind rules token nr (Some place) own → (more : Option ℕ)
+      → ((x : Rule) → slice_get rules place ≡ Some x → IsLatest rules (token_of x.arch) x.nr place more) → height more < place + 1
+  those_down place own behind more earlier =
+      let here : StandsAt rules token nr (length rules) place = behind.stands in
+      let latest : IsLatest rules (token_of here.rule.arch) here.rule.nr place more = earlier here.rule here.at in
+      down (token_of here.rule.arch) here.rule.nr place more latest.stands
+    where
+      down : (t n place : ℕ) (more : Option ℕ) → IfSome more (StandsAt rules t n place) → height more < place + 1
+      down t n place None is = omega arith
+      down t n place (Some k) is = omega (arith, is.before)
+
+  -- all of them, in another order
+  pub those_turned : (next : Option ℕ) (own turned : List Placed) → next ≡ None → AreThoseBehind rules token nr next own → IsPermutation own turned
+      → AreThose rules token nr turned
+  those_turned next own turned none behind moves = record {
+    those = All-permutation (λ (placed : Placed). Contains rules placed.rule.now × IsFor token nr placed.rule.now) own turned moves behind.those;
+    places = All-permutation (λ (placed : Placed). slice_get rules placed.place ≡ Some placed.rule.now) own turned moves behind.places;
+    all = λ rule has fits.
+        let at : StandsAt rules token nr (length rules) has.0 = record {
+          rule = rule;
+          before = has.1;
+          at = slice_get-get_or rules has.0 rule has.1 ∙ ap Some has.2;
+          is_for = record { machine = fits.0; number = fits.1 };
+        } in
+        elim (behind.left has.0 at) [
+          | inl more ↦ absurd (subst (λ (o : Option ℕ). IsSomeAnd o (λ place. has.0 ≤ place)) none more)
+          | inr (k, placed, inside, is, e) ↦
+              let moved = Contains-permutation own turned placed moves (k, inside, is) in
+              (moved.0, placed, moved.1, moved.2, e)
+        ];
+  }
+
+-- ---- what decides the number by them
+
+module _ (rules : List Rule) (token nr default : ℕ) (own : List Placed) (those : AreThose rules token nr own) where
+  one_of : (placed : Placed) → Contains own placed → Contains rules placed.rule.now × IsFor token nr placed.rule.now
+  one_of placed has =
+      All-contains (λ (placed : Placed). Contains rules placed.rule.now × IsFor token nr placed.rule.now) own placed those.those has
+
+  pub leaf_says : (to : Leaf) → IsLeafOf own default to → (word : ℕ) × (to ≡ Verdict word) × SaysNumber rules token nr default word
+  leaf_says to (by_rule placed has none is) =
+      let of = one_of placed has in
+      (placed.rule.now.word, is, says_unconditional rules token nr default placed.rule.now of.0 of.1 none)
+  leaf_says to (by_default all is) = (
+    default,
+    is,
+    says_default rules token nr default
+        (λ rule has fits.
+        let one = those.all rule has fits in
+        let e : one.1.rule.now ≡ rule = one.4 in
+        sym (ap (λ (x : Rule). x.word) e)
+        ∙ All-contains (λ (placed : Placed). placed.rule.now.word ≡ default) own one.1 all (one.0, one.2, one.3)),
+  )
+
+  pub without_conditions : AreUnconditional rules → HaveNoCondition own
+  without_conditions none =
+      All-weaker (λ (placed : Placed). Contains rules placed.rule.now × IsFor token nr placed.rule.now)
+      (λ placed. placed.rule.now.conds.items ≡ [])
+      (λ placed is. All-contains (λ (rule : Rule). rule.conds.items ≡ []) rules placed.rule.now none is.0) own those.those
+
+pub leaf_for : (rules : List Rule) (token nr default : ℕ) (own : List Placed) → AreThose rules token nr own → (to : Leaf)
+    → IsLeafOf own default to → LeafFor rules token nr default to
+leaf_for rules token nr default own those to (by_rule placed has none is) =
+    let of = one_of rules token nr default own those placed has in
+    ruled placed.rule.now of.0 of.1 is
+leaf_for rules token nr default [] those to (by_default all is) =
+    unruled
+    (λ k d inside fits.
+    let one = those.all (get_or rules k d) (k, inside, sym (get_or_default rules k d (get_or rules k d) inside)) fits in
+    absurd (omega (arith, one.2)))
+    is
+leaf_for rules token nr default (x ∷ xs) those to (by_default all is) =
+    let of = one_of rules token nr default (x ∷ xs) those x (0, omega arith, refl) in
+    ruled x.rule.now of.0 of.1 (is ∙ ap Verdict (sym (All-head (λ (placed : Placed). placed.rule.now.word ≡ default) x xs all)))
 
 -- ---- what they decide
 

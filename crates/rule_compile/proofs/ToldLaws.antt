@@ -17,8 +17,8 @@ use Rattle.rule_compile.specs.declared.outline.Block.{Block}
 use Rattle.rule_compile.specs.declared.ranges.Leaf.{Leaf}
 use Rattle.rule_compile.specs.declared.ranges.Leaf.TheVariants.{Verdict}
 use Rattle.rule_compile.specs.declared.ranges.Range.{Range}
-use Rattle.rule_compile.specs.Decides.{Decides, by_verdict}
-use Rattle.rule_compile.specs.inner.Numbers.{AreOwn, IsExtended, IsFor, IsListed, IsNext, NoneFor, Tiles, more, nothing, wider}
+use Rattle.rule_compile.specs.Decides.{Decides, Tiles, by_verdict}
+use Rattle.rule_compile.specs.inner.Numbers.{AreOwn, IsExtended, IsFor, IsListed, IsNext, NoneFor, more, nothing, wider}
 use Rattle.rule_compile.specs.inner.Runs.{IsBefore}
 use Rattle.rule_compile.specs.inner.Stands.{DecidesCalls, DecidesNumber, HasMore}
 use Rattle.rule_compile.specs.inner.Told.{ToldSoFar}

@@ -11,14 +11,14 @@ use Rattle.rule_compile.specs.declared.outline.Part.{Part}
 use Rattle.rule_compile.specs.declared.ranges.Leaf.{Leaf}
 use Rattle.rule_compile.specs.declared.ranges.Leaf.TheVariants as leaf
 use Rattle.rule_compile.specs.declared.ranges.Range.{Range}
-use Rattle.rule_compile.specs.Decides.{Decides, IsWithin, by_block, by_verdict}
+use Rattle.rule_compile.specs.Decides.{Comes, Decides, DecidesOne, IsWithin, StandsFor, by_block, by_verdict}
 use Rattle.rule_compile.specs.Outline.{ComeInTurn}
 use Rattle.rule_compile.specs.Questions.{bits}
 use Rattle.rule_compile.specs.Rules.{IsClearAt, SomeMet}
 use Rattle.rule_compile.specs.inner.Noted.{ArePartsOf}
 use Rattle.rule_compile.specs.inner.Ranges.{AreInOrder}
 use Rattle.rule_compile.specs.inner.Runs.{IsBefore}
-use Rattle.rule_compile.specs.inner.Stands.{AreBlocks, IsFound}
+use Rattle.rule_compile.specs.inner.Stands.{AreBlocks, DecidesFor, IsFound}
 use Rattle.rule_compile.proofs.BlocksLaws.{bits_small, range_at}
 use Rattle.rule_compile.proofs.DecidesLaws.{before_le}
 use Rattle.rule_compile.proofs.LeadsLaws.{block_decided, verdict_decided}
@@ -84,8 +84,30 @@ module _ (blocks : List Block) (are : AreBlocks blocks) (r : List ℕ) where
         let rest = decides_below n (omega (arith, within)) there.range.leaf (before_le place n (omega (arith, before)) there.range.leaf early) in
         (rest.0, by_block place b there.range found.1 there.has there.within rest.1)
 
-    -- ---- parts in turn
+-- ---- what stands for questions decides nothing else
 
+module _ (blocks : List Block) (are : AreBlocks blocks) where
+  pub one_verdict : (to : Leaf) → IsBefore (length blocks) to → DecidesOne blocks to
+  one_verdict to before r is_r =
+      let told = decides_below blocks are r is_r (length blocks) (omega arith) to before in
+      (told.0, told.1, λ w d. decides_one blocks are r w told.0 to d told.1)
+
+  pub stands_both : (to : Leaf) (os : List Open) (other : Leaf) → IsBefore (length blocks) other → DecidesFor blocks to os other
+      → StandsFor blocks to os other
+  stands_both to os other before stands r is_r clear v =
+      let back : Decides blocks r v to → Comes blocks os other r v = λ d.
+      elim (met_some os r) [
+        | inl met ↦ inl (subst (SomeMet os r) (decides_one blocks are r met.0 v to (stands r is_r clear met.0 (inl met.1)) d) met.1)
+        | inr none ↦
+            let told = decides_below blocks are r is_r (length blocks) (omega arith) other before in
+            let same = decides_one blocks are r told.0 v to (stands r is_r clear told.0 (inr (none, told.1))) d in
+            inr (none, subst (λ x. Decides blocks r x other) same told.1)
+      ] in
+      (back, stands r is_r clear v)
+
+  -- ---- parts in turn
+
+  module _ (r : List ℕ) (is_r : IsRecord r) where
     pub in_turn : (os : List Open) (other : Leaf) (parts : List Part) (whole : Leaf) (Other : ℕ → Type 0) (v : ℕ)
         → IsBefore (length blocks) other → ((w : ℕ) → Decides blocks r w other → Other w)
         → All (λ (part : Part). IsClearAt part.rules.items r) parts → ArePartsOf blocks os other parts whole → Decides blocks r v whole
@@ -96,14 +118,8 @@ module _ (blocks : List Block) (are : AreBlocks blocks) (r : List ℕ) where
         let Clear : Part → Type 0 = λ part. IsClearAt part.rules.items r in
         let own : IsClearAt qs r = All-head Clear part parts clear in
         let found : IsFound blocks qs other part.leaf = is.0 in
+        let stands = stands_both part.leaf qs other before found.stands in
         let Next : ℕ → Type 0 = λ w. SomeMet qs r w ⊎ (((u : ℕ) → SomeMet qs r u → ⊥) × Other w) in
         let next : (w : ℕ) → Decides blocks r w part.leaf → Next w = λ w e.
-        elim (met_some qs r) [
-          | inl met ↦
-              inl (subst (SomeMet qs r) (decides_one met.0 w part.leaf (found.stands r is_r own met.0 (inl met.1)) e) met.1)
-          | inr none ↦
-              let told = decides_below (length blocks) (omega arith) other before in
-              let same : told.0 ≡ w = decides_one told.0 w part.leaf (found.stands r is_r own told.0 (inr (none, told.1))) e in
-              inr (none, come w (subst (λ x. Decides blocks r x other) same told.1))
-        ] in
+        elim ((stands r is_r own w).0 e) [ inl met ↦ inl met | inr none ↦ inr (none.0, come w none.1) ] in
         in_turn os part.leaf parts whole Next v found.before next (All-tail Clear part parts clear) is.2 d

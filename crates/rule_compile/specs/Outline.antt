@@ -1,5 +1,5 @@
 -- What the outline of a plan says: what is asked where, and what follows where it is answered.
-use Rattle.std.specs.Prelude.{◌≡◌, ◌⊎◌, ℕ, List, [], ◌∷◌, Some, slice_get, slice_index}
+use Rattle.std.specs.Prelude.{◌≡◌, ◌<◌, ◌^◌, ◌⊎◌, ℕ, List, [], ◌∷◌, Some, length, slice_get, slice_index}
 use Rattle.std.specs.List.{All}
 use Rattle.call_record.specs.Words.{IsRecord}
 use Rattle.profile.specs.declared.rules.Rule.{Rule}
@@ -14,7 +14,7 @@ use Rattle.rule_compile.specs.declared.outline.Outline.{Outline}
 use Rattle.rule_compile.specs.declared.outline.Part.{Part}
 use Rattle.rule_compile.specs.declared.ranges.Leaf.{Leaf}
 use Rattle.rule_compile.specs.declared.ranges.Leaf.TheVariants as leaf
-use Rattle.rule_compile.specs.Decides.{Decides, StandsFor}
+use Rattle.rule_compile.specs.Decides.{Decides, DecidesOne, StandsFor, Tiles}
 use Rattle.rule_compile.specs.Rules.{IsClearAt, SomeMet}
 
 -- the record is one of the call
@@ -54,8 +54,11 @@ pub record IsCallOf (policy : Policy) (blocks : List Block) (call : Call) : Type
   pub decides : (r : List ℕ) → IsOfCall call r → Decides blocks r (said policy r) call.leaf
   pub asked : IsAskedOf policy blocks call call.asked
 
--- each block stands for the questions that are open there
+-- The ranges of each block hold each number of 32 bits once, each block gives each record one verdict, and it stands for the questions
+-- that are open there.
 pub record IsOutlineOf (policy : Policy) (outline : Outline) : Type 0 where
   pub blocks : (place : ℕ) (block : Block) → slice_get outline.blocks.items place ≡ Some block
       → StandsFor outline.blocks.items (leaf.Block place) block.rules.items block.other
+  pub ranges : All (λ block. Tiles 0 block.ranges.items (2 ^ 32)) outline.blocks.items
+  pub one : (place : ℕ) → place < length outline.blocks.items → DecidesOne outline.blocks.items (leaf.Block place)
   pub calls : All (IsCallOf policy outline.blocks.items) outline.calls.items

@@ -66,7 +66,7 @@ impl Open {
 }
 
 /// Whether both are the same questions, whoever asks them.
-pub fn are_alike(these: &[Open], others: &[Open]) -> bool
+pub(crate) fn are_alike(these: &[Open], others: &[Open]) -> bool
     ensures { IsTrue result → AreSame these.now others.now }
 {
     if these.len() != others.len() {
@@ -93,7 +93,7 @@ struct Argument {
 
 /// What rules come to.
 #[derive(Drop)]
-pub enum Rest {
+pub(crate) enum Rest {
     /// The rule at this place of the profile's order holds, and this is its verdict.
     Met(usize, Word),
     /// What is left to ask of those that may hold.

@@ -28,12 +28,10 @@ mod shared;
 mod starts;
 mod written;
 
-pub use asked::{Asker, Open, Rest, are_alike};
+pub use asked::{Asker, Open};
 pub use fault::CompileError;
 pub use filter::{Made, Planned, compile, make, plan};
 pub use outline::{Asked, Block, Call, Outline, Part};
 pub use question::{Comparison, Question, Subject};
 pub use ranges::{Leaf, Range};
-pub use remaining::left;
 pub use shared::share_searches;
-pub use starts::{starts_of, subject_of};

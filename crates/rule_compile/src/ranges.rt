@@ -3,12 +3,13 @@ ghost use Rattle.std.specs.Prelude.{◌≡◌, ◌↔◌, ◌≤◌, ◌<◌, �
 ghost use Rattle.std.specs.Prelude.{ℕ};
 ghost use Rattle.call_tables.specs.Arch.{token_of};
 ghost use Rattle.profile.specs.Policy.{IsClear};
+ghost use Rattle.rule_compile.specs.Decides.{Tiles};
 ghost use Rattle.rule_compile.specs.Shape.{IsPlain};
-ghost use Rattle.rule_compile.specs.inner.Numbers.{AreOwn, AreUnconditional, IsExtended, IsFor, IsLastAlike, IsListed, IsNext, HasVerdict, LeafFor, Reached, Tiles, said_of};
+ghost use Rattle.rule_compile.specs.inner.Numbers.{AreOwn, AreUnconditional, HasVerdict, IsExtended, IsLastAlike, IsListed, IsNext, LeafFor, Reached, said_of};
 ghost use Rattle.rule_compile.specs.inner.Noted.{AreCalls, NotesNumber};
 ghost use Rattle.rule_compile.specs.inner.Ranges.{IsLike};
 ghost use Rattle.rule_compile.specs.inner.Runs.{AreBefore, IsBefore};
-ghost use Rattle.rule_compile.specs.inner.Stands.{AreSound, AreThose, DecidesCalls, DecidesNumber, HasMore, SaysNumber};
+ghost use Rattle.rule_compile.specs.inner.Stands.{AreSound, AreThose, DecidesCalls, DecidesNumber, HasMore, HaveNoCondition, IsLeafOf};
 ghost use Rattle.rule_compile.specs.inner.Told.{ToldSoFar};
 
 use crate::asked::Placed;
@@ -29,23 +30,20 @@ pub enum Leaf {
 }
 
 impl Leaf {
-    // What decides the calls of a number of the machine with the token, where it is a verdict. Where a
-    // rule for it has no conditions, the others that match have its verdict, since no record matches two
-    // rules with unlike verdicts.
-    fn of(rules: &[Rule], token: u32, number: u32, default: Word) -> Option<Leaf>
-        ensures told { IfSome result (λ leaf. (word : ℕ) × (leaf ≡ Leaf.Verdict word) × SaysNumber rules.now token number default word) }
-        ensures some { AreUnconditional rules.now → IsSome result }
-        ensures verdict { AreUnconditional rules.now → IfSome result (LeafFor rules.now token number default) }
+    // What decides the calls of a number, by the rules for it, where it is a verdict. Where one of them has
+    // no conditions, the others that match have its verdict, since no record matches two rules with unlike
+    // verdicts.
+    fn of(own: &[Placed<'_>], default: Word) -> Option<Leaf>
+        ensures leaf { IfSome result (IsLeafOf own.now default) }
+        ensures some { HaveNoCondition own.now → IsSome result }
     {
         let mut conditions = false;
-        for rule in rules {
-            if is_for(rule, token, number) {
-                if rule.conds.is_empty() {
-                    return Some(Leaf::Verdict(rule.word));
-                }
-                if rule.word != default {
-                    conditions = true;
-                }
+        for placed in own {
+            if placed.rule.conds.is_empty() {
+                return Some(Leaf::Verdict(placed.rule.word));
+            }
+            if placed.rule.word != default {
+                conditions = true;
             }
         }
         if conditions {
@@ -253,13 +251,12 @@ impl Ranges {
     {
         let token = machine.token();
         let default = profile.default_word();
-        let rules = profile.rules();
-        let next = next_number(rules, token, self.end, end);
+        let next = next_number(profile.rules(), token, self.end, end);
         self.extend(next, Leaf::Verdict(default))?;
         if next == end {
             return Ok(());
         }
-        let leaf = leaf_of(alloc, rules, token, next as u32, default, blocks)?;
+        let leaf = leaf_of(alloc, profile, token, next as u32, blocks)?;
         self.extend(next + 1, leaf)?;
         Ok(())
     }
@@ -269,45 +266,46 @@ impl Ranges {
 // to the others.
 fn leaf_of(
     alloc: Global,
-    rules: &[Rule],
+    profile: &Profile,
     token: u32,
     number: u32,
-    default: Word,
     blocks: &mut Blocks,
 ) -> Result<Leaf, AllocError>
     requires sound { AreSound blocks.old }
     ensures sound { OnOk result (AreSound blocks.new) }
     ensures more { OnOk result (HasMore blocks.old.blocks.items blocks.new.blocks.items) }
     ensures before { IfOk result (IsBefore (vec_len blocks.new.blocks)) }
-    ensures decides { IfOk result (DecidesNumber rules.now token number default blocks.new.blocks.items) }
-    ensures no_block { AreUnconditional rules.now → OnOk result (blocks.new ≡ blocks.old) }
-    ensures verdict { AreUnconditional rules.now → IfOk result (LeafFor rules.now token number default) }
-    ensures notes { OnOk result (NotesNumber blocks.old blocks.new rules.now token number default) }
+    ensures decides { IfOk result (DecidesNumber profile.now.rules token number profile.now.default_word blocks.new.blocks.items) }
+    ensures no_block { AreUnconditional profile.now.rules → OnOk result (blocks.new ≡ blocks.old) }
+    ensures verdict { AreUnconditional profile.now.rules → IfOk result (LeafFor profile.now.rules token number profile.now.default_word) }
+    ensures notes { OnOk result (NotesNumber blocks.old blocks.new profile.now.rules token number profile.now.default_word) }
 {
-    match Leaf::of(rules, token, number, default) {
+    let default = profile.default_word();
+    let own = rules_for(alloc, profile, token, number)?;
+    match Leaf::of(&own, default) {
         Some(leaf) => Ok(leaf),
-        None => {
-            let own = rules_for(alloc, rules, token, number)?;
-            blocks.leaf_of(alloc, token, number, &own, default)
-        }
+        None => blocks.leaf_of(alloc, token, number, &own, default),
     }
 }
 
 // The rules for a number of the machine with the token, in order.
 fn rules_for(
     alloc: Global,
-    rules: &[Rule],
+    profile: &Profile,
     token: u32,
     number: u32,
 ) -> Result<Vec<Placed<'_>>, AllocError>
-    ensures { IfOk result (λ own. AreThose rules.now token number own.items) }
+    ensures { IfOk result (λ own. AreThose profile.now.rules token number own.items) }
 {
+    let rules = profile.rules();
     let mut own = Vec::new(alloc);
-    for (place, rule) in rules.iter().enumerate() {
-        if is_for(rule, token, number) {
-            own.push(Placed { place, rule })?;
-        }
+    let mut next = profile.latest(token, number);
+    while let Some(place) = next {
+        let rule = &rules[place];
+        own.push(Placed { place, rule })?;
+        next = profile.earlier(place);
     }
+    own.reverse();
     Ok(own)
 }
 
@@ -344,13 +342,6 @@ pub(crate) fn ranges_of(
     Ok(ranges.ranges)
 }
 
-// Whether the rule is for the number of the machine with the token.
-fn is_for(rule: &Rule, token: u32, number: u32) -> bool
-    ensures { IsTrue result ↔ IsFor token number rule.now }
-{
-    rule.arch.token() == token && rule.nr == number
-}
-
 // The least number, from one on, that has a rule of the machine with the token, or else the end.
 fn next_number(rules: &[Rule], token: u32, from: u64, end: u64) -> u64
     requires { from ≤ end }
@@ -368,7 +359,7 @@ fn next_number(rules: &[Rule], token: u32, from: u64, end: u64) -> u64
 
 // Whether the rule is for a number of the machine with the token, from one number on.
 fn is_after(rule: &Rule, token: u32, from: u64) -> bool
-    ensures { IsTrue result ↔ (token_of rule.now.arch ≡ token) × (from ≤ rule.now.nr) }
+    ensures { IsTrue result ↔ (from ≤ rule.now.nr) × (token_of rule.now.arch ≡ token) }
 {
-    rule.arch.token() == token && from <= u64::from(rule.nr)
+    from <= u64::from(rule.nr) && rule.arch.token() == token
 }

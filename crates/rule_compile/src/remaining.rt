@@ -10,7 +10,7 @@ use crate::question::{Reply, Subject};
 use std::alloc::{AllocError, Global};
 
 /// What is left to ask of rules where these bits are this number.
-pub fn left(
+pub(crate) fn left(
     alloc: Global,
     rules: &[Open],
     subject: Subject,

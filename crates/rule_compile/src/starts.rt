@@ -8,7 +8,7 @@ use std::alloc::{AllocError, Global};
 
 /// The bits that are asked for first: a low word where the high one is known, or those of the first
 /// question.
-pub fn subject_of(rules: &[Open]) -> Option<Subject>
+pub(crate) fn subject_of(rules: &[Open]) -> Option<Subject>
     ensures none { (result ≡ None) → (rules.now ≡ []) }
     ensures some { IfSome result (AsksFor rules.now) }
 {
@@ -22,7 +22,11 @@ pub fn subject_of(rules: &[Open]) -> Option<Subject>
 }
 
 /// The numbers of the bits from which on something else may be left to ask, in order, from 0 on.
-pub fn starts_of(alloc: Global, rules: &[Open], subject: Subject) -> Result<Vec<u32>, AllocError>
+pub(crate) fn starts_of(
+    alloc: Global,
+    rules: &[Open],
+    subject: Subject,
+) -> Result<Vec<u32>, AllocError>
     ensures { IfOk result (λ starts. AreStarts rules.now subject starts.items) }
 {
     let mut starts = turns_of(alloc, rules, subject)?;

@@ -67,6 +67,18 @@ abbrev pub IsKnownNumber : List Lit → ℕ → Number → Type 0
 IsKnownNumber known nr number =
     (IsTrue number.own ↔ Entails known (Bits 0 all_bits nr)) × (IsTrue number.other ↔ Entails known (NotBits 0 all_bits nr))
 
+-- the number is known to be another than this one, and is not said to be this one
+abbrev pub IsOtherNumber : List Lit → ℕ → Type 0
+IsOtherNumber known nr = Entails known (NotBits 0 all_bits nr) × (Entails known (Bits 0 all_bits nr) → ⊥)
+
+-- it is known to be none of those below the first and of those above the second
+abbrev pub NumberLies : List Lit → ℕ → ℕ → Type 0
+NumberLies known least greatest = (nr : ℕ) → nr < 2 ^ 32 → (nr < least) ⊎ (greatest < nr) → IsOtherNumber known nr
+
+-- it is known to be none but this one
+abbrev pub IsOnlyNumber : List Lit → ℕ → Type 0
+IsOnlyNumber known nr = (n : ℕ) → n ≢ nr → IsOtherNumber known n
+
 -- and so for each of the least numbers that was asked for
 abbrev pub AreKnownNumbers : List Lit → List (Option Number) → Type 0
 AreKnownNumbers known numbers = (n : ℕ) (d : Option Number) → n < 512 → IfSome (slice_index_or numbers n d) (IsKnownNumber known n)

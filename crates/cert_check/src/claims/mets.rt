@@ -12,7 +12,7 @@ use crate::conditions::judge_condition;
 use crate::judged::Judged;
 use crate::passage::Passage;
 use cert_form::NodeView;
-use cert_state::{Facts, State, With};
+use cert_state::{Facts, Room, State, With};
 use profile::{Cond, MAX_RULES, Profile};
 
 /// The conditions that a node says to be met, each marked at its place in a table of six for each of the first rules: a
@@ -188,11 +188,12 @@ fn all_are_met<S: State>(
     known: &With<'_, S>,
     here: &Mets<'_, '_>,
     there: &NodeView<'_>,
+    room: &mut Room,
 ) -> bool
     ensures { IsTrue result ↔ All (IsMetBy profile.now (mets_of here.now.node)
         (S.known known.now.state.now ++ option_to_list known.now.more)) (says there.now).met }
 {
-    let facts = Facts::of(known);
+    let facts = Facts::of(known, room);
     let mut at = there.first_met();
     while let Some((place, next)) = there.next_met(at) {
         if !is_met(profile, &facts, here, place) {
@@ -206,7 +207,7 @@ fn all_are_met<S: State>(
 impl Passage<'_> {
     // Whether each condition that the node there says to be met is met on the way to it, by a table for those that the node
     // before says to be met.
-    fn mets_follow_by(&self, table: &mut [bool]) -> bool
+    fn mets_follow_by(&self, table: &mut [bool], room: &mut Room) -> bool
         requires { IsClear table.old }
         ensures { IsTrue result ↔ MetsFollow self.now }
     {
@@ -220,28 +221,29 @@ impl Passage<'_> {
             &known,
             &Mets::of(self.node, table),
             self.there,
+            room,
         )
     }
 
     // The same where the profile has few rules. A table is made in a function of its own, so that no other way makes room
     // for it.
     #[inline(never)]
-    fn mets_follow_by_few(&self) -> bool
+    fn mets_follow_by_few(&self, room: &mut Room) -> bool
         ensures { IsTrue result ↔ MetsFollow self.now }
     {
-        self.mets_follow_by(&mut [false; 6 * FEW_RULES])
+        self.mets_follow_by(&mut [false; 6 * FEW_RULES], room)
     }
 
     // The same where it has many.
     #[inline(never)]
-    fn mets_follow_by_many(&self) -> bool
+    fn mets_follow_by_many(&self, room: &mut Room) -> bool
         ensures { IsTrue result ↔ MetsFollow self.now }
     {
-        self.mets_follow_by(&mut [false; 6 * MAX_RULES])
+        self.mets_follow_by(&mut [false; 6 * MAX_RULES], room)
     }
 
     /// Whether each condition that the node there says to be met is met on the way to it.
-    pub(crate) fn mets_follow(&self) -> bool
+    pub(crate) fn mets_follow(&self, room: &mut Room) -> bool
         ensures { IsTrue result ↔ MetsFollow self.now }
     {
         if has_no_met(self.there) {
@@ -252,11 +254,11 @@ impl Passage<'_> {
                 state: self.node,
                 more: self.way.fact,
             };
-            return all_are_met(self.profile, &known, &Mets::none(), self.there);
+            return all_are_met(self.profile, &known, &Mets::none(), self.there, room);
         }
         if self.profile.rules().len() <= FEW_RULES {
-            return self.mets_follow_by_few();
+            return self.mets_follow_by_few(room);
         }
-        self.mets_follow_by_many()
+        self.mets_follow_by_many(room)
     }
 }

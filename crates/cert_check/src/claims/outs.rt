@@ -10,12 +10,13 @@ ghost use Rattle.cert_check.specs.Judged.{IsJudged};
 ghost use Rattle.cert_check.specs.inner.Judged.{AreOutSoFar, AreYes, IsOutThen};
 ghost use Rattle.cert_check.specs.inner.Passed.{OutsFollow};
 
-use crate::agree::{NUMBER, TOKEN};
+use crate::agree::TOKEN;
 use crate::answered::answer_of;
 use crate::judged::{Answered, Judged};
+use crate::numbers::NUMBER;
 use crate::passage::Passage;
 use cert_form::NodeView;
-use cert_state::{Facts, Knowledge, Lit, State, With};
+use cert_state::{Facts, Knowledge, Lit, Room, State, With};
 use profile::{Profile, Rule};
 
 /// The rules that a node says to be out, each marked at its place: a profile has at most 8,192 rules. Without a node none is.
@@ -153,11 +154,12 @@ fn all_are_out<S: State>(
     known: &With<'_, S>,
     here: &Outs<'_, '_>,
     there: &Outs<'_, '_>,
+    room: &mut Room,
 ) -> bool
     ensures { IsTrue result ↔ ((k : ℕ) (rule : TheRule) → slice_get profile.now.rules k ≡ Some rule
         → IsOutThen (outs_of here.now.node) (outs_of there.now.node) (S.known known.now.state.now ++ option_to_list known.now.more) k rule) }
 {
-    let facts = Facts::of(known);
+    let facts = Facts::of(known, room);
     let mut last = Answered {
         narrow: false,
         conds: &[],
@@ -178,7 +180,7 @@ fn all_are_out<S: State>(
 
 impl Passage<'_> {
     /// Whether each rule that the node there says to be out is out on the way to it.
-    pub(crate) fn outs_follow(&self) -> bool
+    pub(crate) fn outs_follow(&self, room: &mut Room) -> bool
         ensures { IsTrue result ↔ OutsFollow self.now }
     {
         if has_none(self.there) {
@@ -195,10 +197,16 @@ impl Passage<'_> {
         mark_outs(self.there, &mut newly);
         let there = Outs::of(self.there, &newly);
         if has_none(self.node) {
-            return all_are_out(self.profile, &known, &Outs::none(), &there);
+            return all_are_out(self.profile, &known, &Outs::none(), &there, room);
         }
         let mut marked = [false; 8192];
         mark_outs(self.node, &mut marked);
-        all_are_out(self.profile, &known, &Outs::of(self.node, &marked), &there)
+        all_are_out(
+            self.profile,
+            &known,
+            &Outs::of(self.node, &marked),
+            &there,
+            room,
+        )
     }
 }

@@ -10,7 +10,7 @@ use crate::claims::outs::refutes;
 use crate::conditions::judge_conditions;
 use crate::passage::Passage;
 use cert_form::{CertView, Claim, NodeView};
-use cert_state::{Facts, Knowledge, Lit, State, With};
+use cert_state::{Facts, Knowledge, Lit, Room, State, With};
 use profile::Profile;
 
 // Whether a number is below another.
@@ -117,11 +117,12 @@ fn are_shown<S: State>(
     node: &NodeView<'_>,
     from: usize,
     shared: usize,
+    room: &mut Room,
 ) -> bool
     ensures { let all = S.known known.now.state.now ++ option_to_list known.now.more in
         IsTrue result → AreBut (IsShown profile.now all) (claims_from node.now shared) (claims_from node.now from) }
 {
-    let facts = Facts::of(known);
+    let facts = Facts::of(known, room);
     let mut at = from;
     while at != shared {
         let Some((claim, next)) = node.next_claim(at) else {
@@ -139,7 +140,7 @@ impl Passage<'_> {
     /// Whether all that the node there claims is seen to follow by its new claims alone: the others are claims of the node
     /// before, since their chains are one from where they meet. Where it is not, it may follow all the same, as where
     /// `placed` does not tell that the profile has the rules of all claims.
-    pub(crate) fn new_claims_follow(&self) -> bool
+    pub(crate) fn new_claims_follow(&self, room: &mut Room) -> bool
         ensures { IsTrue result → ClaimsFollow self.now }
     {
         if !self.placed {
@@ -157,6 +158,6 @@ impl Passage<'_> {
             state: self.node,
             more: self.way.fact,
         };
-        are_shown(self.profile, &known, self.there, from, shared)
+        are_shown(self.profile, &known, self.there, from, shared, room)
     }
 }

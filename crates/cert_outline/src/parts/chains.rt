@@ -158,7 +158,7 @@ impl Chains {
             return Err(FormError::BadCount);
         }
         let (mut begun, is_whole) = self.begun_as(alloc, before, &lasting)?;
-        if !is_whole {
+        if !is_whole && !begun.left.is_empty() {
             let other = self.begun(alloc, 0, lasting)?;
             if other.left.len() < begun.left.len() {
                 begun = other;
@@ -180,6 +180,9 @@ impl Chains {
     ) -> Result<u32, FormError> {
         if self.length(before).saturating_add(lacking.len()) <= MAX_LITERALS {
             let begun = self.begun(alloc, before, lacking)?;
+            if begun.left.is_empty() {
+                return Ok(begun.chain);
+            }
             let other = self.begun(alloc, 0, all)?;
             if begun.left.len() <= other.left.len() {
                 return self.with_left(&begun);

@@ -17,3 +17,11 @@ pub fn listed(lits: &[Lit]) -> Listed<'_> {
         more: None,
     }
 }
+
+// How many comparisons cost what it costs to fill the room in which facts are gathered.
+const MANY: usize = 1024;
+
+/// Whether so many questions about so many literals are better asked of facts that are gathered first.
+pub fn are_many(questions: usize, literals: usize) -> bool {
+    questions.saturating_mul(literals) >= MANY
+}

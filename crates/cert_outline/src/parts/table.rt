@@ -18,6 +18,8 @@ pub trait Item {
 #[derive(Drop)]
 pub struct Table<T> {
     items: Vec<T>,
+    // The keys of the items.
+    keys: Vec<u32>,
     // For each place the last one before it in its list, and for each list the last place. There are twice as many lists each
     // time when there are as many items as lists.
     before: Vec<usize>,
@@ -52,6 +54,7 @@ impl<T: Item + PartialEq + Drop> Table<T> {
     pub fn new(alloc: Global) -> Table<T> {
         Table {
             items: Vec::new(alloc),
+            keys: Vec::new(alloc),
             before: Vec::new(alloc),
             latest: Vec::new(alloc),
         }
@@ -75,7 +78,7 @@ impl<T: Item + PartialEq + Drop> Table<T> {
     fn find_by(&self, key: u32, item: &T) -> Option<usize> {
         let mut place = at(&self.latest, list_of(key, self.latest.len()));
         for _ in 0..self.items.len() {
-            if self.items.get(place)? == item {
+            if *self.keys.get(place)? == key && self.items.get(place)? == item {
                 return Some(place);
             }
             place = at(&self.before, place);
@@ -94,6 +97,7 @@ impl<T: Item + PartialEq + Drop> Table<T> {
         }
         let place = self.items.len();
         self.list(key)?;
+        self.keys.push(key)?;
         self.items.push(item)?;
         Ok(place)
     }
@@ -116,8 +120,8 @@ impl<T: Item + PartialEq + Drop> Table<T> {
     }
 
     fn key_at(&self, place: usize) -> u32 {
-        match self.items.get(place) {
-            Some(item) => item.key(),
+        match self.keys.get(place) {
+            Some(key) => *key,
             None => 0,
         }
     }

@@ -3,8 +3,6 @@ use Rattle.std.specs.Prelude.{◌≡◌, ◌==◌, ℕ, ◌<◌, ◌≤◌, Bool
 use Rattle.std.proofs.Props.{props}
 use Rattle.cert_state.specs.declared.literal.Lit.{Lit}
 use Rattle.cert_state.specs.declared.sorted.Part.{Part}
-use Rattle.cert_state.specs.declared.sorted.Table.{Table}
-use Rattle.cert_state.specs.declared.sorted.Table.TheVariants.{Few, Many}
 use Rattle.cert_state.specs.Literals.{index_of}
 use Rattle.cert_state.specs.inner.Gathered.{AreFactsOf, AreFactsOf-prop}
 
@@ -12,11 +10,6 @@ use Rattle.cert_state.specs.inner.Gathered.{AreFactsOf, AreFactsOf-prop}
 abbrev pub of_word : ℕ → List Lit → List Lit
 of_word w [] = []
 of_word w (l ∷ lits) = if index_of l == w then l ∷ of_word w lits else of_word w lits
-
--- the literals of a table
-abbrev pub lits_in : Table → List Lit
-lits_in (Few lits) = lits
-lits_in (Many lits) = lits
 
 -- the part of a table where the literals of w stand, with what they say
 pub record IsPartOf (known table : List Lit) (w : ℕ) (part : Part) : Type 0 where

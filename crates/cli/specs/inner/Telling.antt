@@ -8,7 +8,7 @@ use Rattle.cli.specs.declared.adapting.Both.{Both}
 use Rattle.cli.specs.declared.stops.Stop.TheVariants.{OutOfMemory, Usage}
 use Rattle.cli.specs.Dispatch.{FirstUnread, HaveBytes, WritesTold}
 use Rattle.cli.specs.Files.{Folder}
-use Rattle.cli.specs.Adapted.{IsMadeAs}
+use Rattle.cli.specs.Adapted.{AskNothing, IsMadeAs}
 use Rattle.cli.specs.Told.{IsManual, IsNoCommand, IsReplayed, NamesLogs, OfArguments, of_none, of_one}
 
 -- the files are read, and what is so of their bytes is told; or the program stops there
@@ -38,7 +38,8 @@ IsManualOf folder name told = (IsNoCommand name × (told ≡ Err Usage)) ⊎ IsT
 -- the bundle that is made of a configuration, unless the words ask for nothing
 abbrev pub IsAdaptedOf : Option Folder → Arch → List ℕ → List (List ℕ) → Result Told Stop → Type 0
 IsAdaptedOf folder native config words told =
-    (told ≡ Err Usage) ⊎ IsToldOf folder (config ∷ []) (of_one (λ text. OfArguments (IsMadeAs native) words)) told
+    (AskNothing words × (told ≡ Err Usage))
+    ⊎ IsToldOf folder (config ∷ []) (of_one (λ text. OfArguments (IsMadeAs native) words)) told
 
 -- what a bundle says of the calls of the logs that the words name
 pub record IsReplayOf (folder : Option Folder) (native : Arch) (bundle : List ℕ) (words : List (List ℕ)) (told : Result Told Stop)

@@ -12,7 +12,7 @@ use Rattle.rule_compile.specs.declared.ranges.Leaf.{Leaf}
 use Rattle.rule_compile.specs.declared.ranges.Leaf.TheVariants.{Verdict}
 use Rattle.rule_compile.specs.declared.ranges.Range.{Range}
 use Rattle.rule_compile.specs.Shape.{IsPlain, call}
-use Rattle.rule_compile.specs.Decides.{IsWithin}
+use Rattle.rule_compile.specs.Decides.{IsWithin, Tiles}
 
 -- ---- rules
 
@@ -58,11 +58,6 @@ pub data IsExtended (old : List Range) (from end : ℕ) (leaf : Leaf) (new : Lis
   more : from < end → new ≡ old ++ record { first = from; last = end - 1; leaf = leaf } ∷ [] → IsExtended old from end leaf new
   wider : from < end → (front : List Range) (x : Range) → old ≡ front ++ x ∷ [] → x.leaf ≡ leaf
       → new ≡ front ++ record { first = x.first; last = end - 1; leaf = leaf } ∷ [] → IsExtended old from end leaf new
-
--- the ranges follow one another from a number up to an end
-abbrev pub Tiles : ℕ → List Range → ℕ → Type 0
-Tiles from [] end = from ≡ end
-Tiles from (x ∷ xs) end = (x.first ≡ from) × (from ≤ x.last) × Tiles (x.last + 1) xs end
 
 -- each number of the range has its verdict
 abbrev pub HasVerdict : (ℕ → ℕ) → Range → Type 0

@@ -1,11 +1,13 @@
 -- What blocks are, and what they stand for.
-use Rattle.std.specs.Prelude.{◌≡◌, ◌^◌, ◌++◌, ◌⊎◌, ℕ, List, [], ◌∷◌, Some, drop, length, slice_get, slice_index, take}
+use Rattle.std.specs.Prelude.{◌≡◌, ◌≤◌, ◌^◌, ◌++◌, ◌⊎◌, ℕ, List, [], ◌∷◌, IfSome, Option, Some, drop, length, slice_get, slice_index, take}
+use Rattle.std.specs.Option.{IsSomeAnd}
 use Rattle.std.specs.List.{All, Any, Contains}
 use Rattle.call_record.specs.Words.{IsRecord}
 use Rattle.bpf_insn.specs.declared.instruction.Insn.{Insn}
 use Rattle.call_tables.specs.declared.arch.Arch.{Arch}
 use Rattle.call_tables.specs.Arch.{token_of}
 use Rattle.profile.specs.declared.rules.Rule.{Rule}
+use Rattle.profile.specs.Latest.{StandsAt}
 use Rattle.profile.specs.Policy.{Policy}
 use Rattle.profile.specs.Rule.{Matches}
 use Rattle.profile.specs.Said.{said}
@@ -20,12 +22,12 @@ use Rattle.rule_compile.specs.declared.question.Subject.{Subject}
 use Rattle.rule_compile.specs.declared.ranges.Leaf.{Leaf}
 use Rattle.rule_compile.specs.declared.ranges.Leaf.TheVariants as leaf
 use Rattle.rule_compile.specs.declared.ranges.Range.{Range}
-use Rattle.rule_compile.specs.Decides.{Comes, Decides, IsWithin, StandsFor}
+use Rattle.rule_compile.specs.Decides.{Comes, Decides, IsWithin, Tiles}
 use Rattle.rule_compile.specs.Questions.{bits}
 use Rattle.rule_compile.specs.Rules.{IsClearAt, SomeMet}
 use Rattle.rule_compile.specs.inner.Calls.{IsOneOf}
 use Rattle.rule_compile.specs.inner.Left.{IsOffset, SomeHeld}
-use Rattle.rule_compile.specs.inner.Numbers.{IsFor, Tiles}
+use Rattle.rule_compile.specs.inner.Numbers.{IsFor}
 use Rattle.rule_compile.specs.inner.Runs.{AreBefore, IsBefore, runs}
 
 -- a block asks for bits of a word, its ranges have all numbers, and it goes on at blocks before it
@@ -38,16 +40,21 @@ pub record IsBlock (place : ℕ) (block : Block) : Type 0 where
 abbrev pub AreBlocks : List Block → Type 0
 AreBlocks blocks = (place : ℕ) (block : Block) → slice_get blocks place ≡ Some block → IsBlock place block
 
+-- the leaf decides what the questions come to
+abbrev pub DecidesFor : List Block → Leaf → List Open → Leaf → Type 0
+DecidesFor blocks leaf os other =
+    (r : List ℕ) → IsRecord r → IsClearAt os r → (v : ℕ) → Comes blocks os other r v → Decides blocks r v leaf
+
 -- each block stands for its rules and what it goes on at where none is met
 abbrev pub BlocksStand : List Block → Type 0
 BlocksStand blocks =
     (place : ℕ) (block : Block) → slice_get blocks place ≡ Some block
-    → StandsFor blocks (leaf.Block place) block.rules.items block.other
+    → DecidesFor blocks (leaf.Block place) block.rules.items block.other
 
 -- what is found for some questions
 pub record IsFound (blocks : List Block) (os : List Open) (other leaf : Leaf) : Type 0 where
   pub before : IsBefore (length blocks) leaf
-  pub stands : StandsFor blocks leaf os other
+  pub stands : DecidesFor blocks leaf os other
 
 -- the questions of a span
 abbrev pub part_of : List Open → Span → List Open
@@ -67,7 +74,7 @@ AreSpans blocks os other (span ∷ spans) whole =
 pub record KnownStands (blocks : List Block) (known : Known) : Type 0 where
   pub before : IsBefore (length blocks) known.leaf
   pub goes_on : IsBefore (length blocks) known.other
-  pub stands : StandsFor blocks known.leaf known.asked.items known.other
+  pub stands : DecidesFor blocks known.leaf known.asked.items known.other
   pub spans : AreSpans blocks known.asked.items known.other known.spans.items known.leaf
 
 pub record AreSound (blocks : Blocks) : Type 0 where
@@ -138,6 +145,24 @@ pub record AreThose (rules : List Rule) (token number : ℕ) (own : List Placed)
   pub those : All (λ placed. Contains rules placed.rule.now × IsFor token number placed.rule.now) own
   pub all : (rule : Rule) → Contains rules rule → IsFor token number rule → Any (λ placed. placed.rule.now ≡ rule) own
   pub places : All (λ placed. slice_get rules placed.place ≡ Some placed.rule.now) own
+
+-- the same as they are gathered, from the last to the first: each other one for the number stands at the next place or before
+pub record AreThoseBehind (rules : List Rule) (token number : ℕ) (next : Option ℕ) (own : List Placed) : Type 0 where
+  pub those : All (λ placed. Contains rules placed.rule.now × IsFor token number placed.rule.now) own
+  pub places : All (λ placed. slice_get rules placed.place ≡ Some placed.rule.now) own
+  pub stands : IfSome next (StandsAt rules token number (length rules))
+  pub left : (k : ℕ) (at : StandsAt rules token number (length rules) k)
+      → IsSomeAnd next (λ place. k ≤ place) ⊎ Any (λ placed. placed.rule.now ≡ at.rule) own
+
+-- none of the rules has a condition
+abbrev pub HaveNoCondition : List Placed → Type 0
+HaveNoCondition own = All (λ placed. placed.rule.now.conds.items ≡ []) own
+
+-- what decides a number, by the rules for it: the verdict of one that has no condition, or the default one where it is that of each
+pub data IsLeafOf (own : List Placed) (default : ℕ) (to : Leaf) : Type 0 where
+  by_rule : (placed : Placed) → Contains own placed → placed.rule.now.conds.items ≡ [] → to ≡ leaf.Verdict placed.rule.now.word
+      → IsLeafOf own default to
+  by_default : All (λ placed. placed.rule.now.word ≡ default) own → to ≡ leaf.Verdict default → IsLeafOf own default to
 
 -- the ranges so far decide the calls of the machine
 abbrev pub TellsSoFar : Policy → Arch → List Block → List Range → Type 0

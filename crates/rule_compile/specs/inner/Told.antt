@@ -6,7 +6,8 @@ use Rattle.call_tables.specs.Arch.{token_of}
 use Rattle.profile.specs.Policy.{Policy}
 use Rattle.rule_compile.specs.declared.outline.Block.{Block}
 use Rattle.rule_compile.specs.declared.ranges.Range.{Range}
-use Rattle.rule_compile.specs.inner.Numbers.{IsListed, Tiles}
+use Rattle.rule_compile.specs.Decides.{Tiles}
+use Rattle.rule_compile.specs.inner.Numbers.{IsListed}
 use Rattle.rule_compile.specs.inner.Runs.{AreBefore}
 use Rattle.rule_compile.specs.inner.Stands.{DecidesCalls}
 

@@ -15,7 +15,7 @@ loop-i-preserved g c =
     let so = c.loop-i.invariant in
     let size = so.sixteen in
     let one = c.part_of.result in
-    let put = c.in_ok-to.ensures.put in
+    let put = c.in-Some.ensures.put in
     let room : length lits ≡ length c.args.lits.now = omega arith in
     record {
       within = omega (arith, put.1, so.room);
@@ -24,12 +24,12 @@ loop-i-preserved g c =
       parts = λ w d lt.
           elim (cases_eq w i) [
             | inl same ↦
-                subst (λ k. (IsPartOf known lits k (slice_index_or (slice_set parts i one) k d)) × ((slice_index_or (slice_set parts i one) k d).to ≤ c.in_ok-to.to)) (sym same)
+                subst (λ k. (IsPartOf known lits k (slice_index_or (slice_set parts i one) k d)) × ((slice_index_or (slice_set parts i one) k d).to ≤ c.in-Some.to)) (sym same)
                 (rw (get_or-set_same parts i one d (omega (arith, size))) (c.part_of.ensures.part, omega (arith, c.part_of.ensures.end)))
             | inr other ↦
                 rw (get_or-set_other parts i w one d other)
                 (let old = so.parts w d (omega arith) in (
-                  part_stays known c.loop-i.lits lits w c.loop-i.from (slice_index_or parts w d) old.1 (omega (arith, room, so.within)) c.in_ok-to.ensures.before old.0,
+                  part_stays known c.loop-i.lits lits w c.loop-i.from (slice_index_or parts w d) old.1 (omega (arith, room, so.within)) c.in-Some.ensures.before old.0,
                   omega (arith, old.1, put.0),
                 ))
           ];

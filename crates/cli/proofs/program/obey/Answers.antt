@@ -5,6 +5,7 @@ use Rattle.differ.specs.Told.{IsTold}
 use Rattle.explain.specs.Told.{IsAssembled, IsRecorded, IsVersion}
 use Rattle.lint.specs.Linted.{IsLinted}
 use Rattle.cli.specs.Dispatch.{any_call, explained_as}
+use Rattle.cli.specs.Read.{TellsRead}
 use Rattle.cli.specs.Told.{OfArguments, of_none, of_one, of_two}
 use Rattle.cli.proofs.DispatchLaws.{answers_adapted, answers_manual, answers_replayed, answers_told, now_of}
 use Rattle.cli.proofs.program.obey.Goals as goal
@@ -68,7 +69,7 @@ pub returns-in-Read-clause-does : goal.returns-in-Read-clause-does
 returns-in-Read-clause-does g c = rw c.in-Read.is (
   refl,
   answers_told g.O.Sink.held g.O.Sink.failures
-      (g.F.Files.folder c.args.files.now) (c.in-Read.bundle.now ∷ []) (of_one (λ text told. Unit {0}))
+      (g.F.Files.folder c.args.files.now) (c.in-Read.bundle.now ∷ []) (of_one (TellsRead c.in-Read.native))
       c.args.out.now c.tell-in-Read.new.out c.tell-in-Read.result c.read_out.result c.read_out.ensures c.tell-in-Read.ensures,
 )
 

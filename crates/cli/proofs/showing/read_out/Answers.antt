@@ -6,5 +6,5 @@ pub returns-in-Ok-described : goal.returns-in-Ok-described
 returns-in-Ok-described g c = (
   c.deref.result.now ∷ [],
   (subst (λ (b : List ℕ). HasBytes (g.F.Files.folder c.args.files.now) c.args.bundle.now b) (sym c.deref.ensures.value) c.in-Ok.ensures.ok, tt),
-  tt,
+  c.in-Ok-described.ensures,
 )

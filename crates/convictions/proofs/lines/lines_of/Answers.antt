@@ -1,7 +1,7 @@
 use Rattle.std.proofs.Common.{ℕ, List, [], ◌∷◌, ◌++◌, ap, subst, sym, take, ◌∙◌}
 use Rattle.std.proofs.lemmas.List.{take_more}
 use Rattle.std.specs.Prelude.{string_bytes}
-use Rattle.certify.specs.declared.evidence.Conviction.{Conviction}
+use Rattle.evidence.specs.declared.evidence.Conviction.{Conviction}
 use Rattle.convictions.specs.All.{AreLines}
 use Rattle.convictions.proofs.LineLaws.{one_more}
 use Rattle.convictions.proofs.lines.lines_of.Goals as goal

@@ -1,7 +1,7 @@
 use Rattle.std.proofs.Common.{List, subst, sym}
 use Rattle.std.proofs.lemmas.List.Elements.{All-push}
 use Rattle.std.specs.Prelude.{IfSome, Option}
-use Rattle.certify.specs.declared.evidence.Conviction.{Conviction}
+use Rattle.evidence.specs.declared.evidence.Conviction.{Conviction}
 use Rattle.convictions.specs.All.{AllConvict, Convicts}
 use Rattle.convictions.proofs.search.add.Goals as goal
 

@@ -1,6 +1,6 @@
 use Rattle.std.proofs.Common.{subst}
 use Rattle.std.specs.Prelude.{Result}
-use Rattle.certify.specs.declared.evidence.Evidence.{Evidence}
+use Rattle.evidence.specs.declared.evidence.Evidence.{Evidence}
 use Rattle.pipeline.specs.Certified.{IsJudgement}
 use Rattle.pipeline.specs.declared.unready.Unready.{Unready}
 use Rattle.pipeline.proofs.certifying.write_judged.Goals as goal

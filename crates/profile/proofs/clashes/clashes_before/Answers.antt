@@ -4,7 +4,7 @@ use Rattle.std.proofs.lemmas.Option.{same_Some, slice_get-get_or}
 use Rattle.call_tables.specs.Arch.{token_of}
 use Rattle.profile.specs.declared.rules.Rule.{Rule}
 use Rattle.profile.specs.Rule.{Clash}
-use Rattle.profile.specs.inner.Places.{IsLatest}
+use Rattle.profile.specs.Latest.{IsLatest}
 use Rattle.profile.proofs.Walks.{IsOf, IsNext, begins, next_within, comes_to, passes, goes_down, ends}
 use Rattle.profile.proofs.clashes.clashes_before.Goals as goal
 

@@ -4,7 +4,8 @@ use Rattle.std.proofs.lemmas.List.{get_or_default}
 use Rattle.std.proofs.lemmas.List.Elements.{All-contains}
 use Rattle.call_tables.specs.Arch.{token_of}
 use Rattle.profile.specs.declared.rules.Rule.{Rule}
-use Rattle.profile.specs.inner.Places.{IsLatest, latest_of}
+use Rattle.profile.specs.Latest.{IsLatest}
+use Rattle.profile.specs.inner.Places.{latest_of}
 use Rattle.profile.proofs.Walks.{IsOf, IsNext, begins, next_within, comes_to, passes, goes_down, all_fail}
 use Rattle.profile.proofs.distinct.contains.Goals as goal
 

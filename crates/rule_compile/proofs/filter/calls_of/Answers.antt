@@ -1,8 +1,8 @@
 use Rattle.std.proofs.Common.{◌≡◌, ◌∙◌, ◌^◌, ap, subst, sym, vec_len}
 use Rattle.call_tables.specs.Arch.{token_of}
 use Rattle.rule_compile.specs.declared.blocks.Blocks.{Blocks}
+use Rattle.rule_compile.specs.Decides.{Tiles}
 use Rattle.rule_compile.specs.Shape.{IsPlain}
-use Rattle.rule_compile.specs.inner.Numbers.{Tiles}
 use Rattle.rule_compile.specs.inner.Ranges.{Searched}
 use Rattle.rule_compile.specs.inner.Runs.{AreWritten, LeadsByWord}
 use Rattle.rule_compile.specs.inner.Steadily.{AreSteady}

@@ -2,9 +2,10 @@ use Rattle.std.proofs.Common.{◌≡◌, sym, subst}
 use Rattle.std.specs.List.{All}
 use Rattle.rule_compile.specs.Outline.{IsCallOf}
 use Rattle.rule_compile.specs.Plan.{IsPlanOf}
-use Rattle.rule_compile.specs.inner.Stands.{BlocksStand}
+use Rattle.rule_compile.specs.inner.Stands.{AreBlocks, BlocksStand}
 use Rattle.rule_compile.proofs.AcceptLaws.{fine_has_no_cause}
 use Rattle.rule_compile.proofs.NotedLaws.{calls_are}
+use Rattle.rule_compile.proofs.PlanLaws.{outline_is}
 use Rattle.rule_compile.proofs.filter.plan.Goals as goal
 
 pub returns-clause-plans : goal.returns-clause-plans
@@ -24,9 +25,8 @@ returns-clause-outline c =
     let b = c.filter.new.blocks in
     let o = c.into_outline.result in
     let blocks : o.blocks.items ≡ b.blocks.items = c.into_outline.ensures.blocks in
-    record {
-      blocks = subst BlocksStand (sym blocks) c.in_ok-filter.ensures.sound.stand;
-      calls = subst (λ bs. All (IsCallOf p bs) o.calls.items) (sym blocks)
-          (subst (All (IsCallOf p b.blocks.items)) (sym c.into_outline.ensures.calls)
-          (calls_are p b.blocks.items b.calls.items c.in_ok-filter.ensures.calls));
-    }
+    outline_is p o (subst AreBlocks (sym blocks) c.in_ok-filter.ensures.sound.blocks_are)
+    (subst BlocksStand (sym blocks) c.in_ok-filter.ensures.sound.stand)
+    (subst (λ bs. All (IsCallOf p bs) o.calls.items) (sym blocks)
+    (subst (All (IsCallOf p b.blocks.items)) (sym c.into_outline.ensures.calls)
+    (calls_are p b.blocks.items b.calls.items c.in_ok-filter.ensures.calls)))

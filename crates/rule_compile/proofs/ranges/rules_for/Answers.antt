@@ -1,49 +1,57 @@
-use Rattle.std.proofs.Common.{◌≡◌, ◌∙◌, List, ap, arith, subst, sym, refl}
-use Rattle.std.specs.Prelude.{Some, slice_get, slice_index_or}
-use Rattle.std.specs.List.{All, Any, Contains}
-use Rattle.rule_compile.specs.declared.asked.Placed.{Placed}
-use Rattle.rule_compile.specs.inner.Numbers.{IsFor}
-use Rattle.rule_compile.proofs.ThoseLaws.{none_more, one_more, places_more, those_all, those_more}
-use Rattle.rule_compile.proofs.ranges.rules_for.Goals.{then-is_for+in_ok-push, else-is_for}
+use Rattle.std.proofs.Common.{◌≡◌, ◌<◌, ◌∙◌, List, Option, Some, ap, arith, get_or, length, refl, subst, sym}
+use Rattle.std.specs.Prelude.{slice_get}
+use Rattle.std.proofs.lemmas.Option.{slice_get-get_or}
+use Rattle.profile.specs.declared.rules.Rule.{Rule}
+use Rattle.profile.proofs.Walks.{height}
+use Rattle.rule_compile.specs.inner.Stands.{AreThoseBehind}
+use Rattle.rule_compile.proofs.ThoseLaws.{behind_within, those_down, those_next, those_none, those_turned}
 use Rattle.rule_compile.proofs.ranges.rules_for.Goals as goal
 
-pub loop-place-preserved : goal.loop-place-preserved
-loop-place-preserved c =
-    let rs = c.args.rules.now in
-    let t = c.args.token in
-    let nr = c.args.number in
-    let n = c.loop-place.place in
+pub loop-next-init : goal.loop-next-init
+loop-next-init c =
+    let rs = c.args.profile.now.rules in
+    subst (AreThoseBehind rs c.args.token c.args.number c.latest-next.result) (sym c.new-own.ensures.items)
+    (those_none rs c.args.token c.args.number c.latest-next.result c.latest-next.ensures)
+
+pub bounds-rules-place : goal.bounds-rules-place
+bounds-rules-place c =
+    let rs = c.args.profile.now.rules in
+    let within : c.in-Some.place < length rs =
+    behind_within rs c.args.token c.args.number c.loop-next.next c.in-Some.place c.loop-next.own.items c.loop-next.invariant c.in-Some.is in
+    omega (arith, within, ap length c.rules-rules.ensures.rules)
+
+pub earlier-next-requires : goal.earlier-next-requires
+earlier-next-requires c =
+    behind_within c.args.profile.now.rules c.args.token c.args.number c.loop-next.next c.in-Some.place c.loop-next.own.items
+    c.loop-next.invariant c.in-Some.is
+
+pub loop-next-preserved : goal.loop-next-preserved
+loop-next-preserved c =
+    let rs = c.args.profile.now.rules in
+    let place = c.in-Some.place in
     let x = c.index-rules-place.result in
-    let own : List Placed = c.loop-place.own.items in
-    let those = c.loop-place.invariant.those in
-    let all = c.loop-place.invariant.all in
-    elim c.if-is_for.branch [
-      | then-is_for+in_ok-push w ↦
-          let items = ap (λ v. v.items) w.own-is ∙ w.in_ok-push.ensures.items in
-          record {
-            those = subst (λ own. All (λ (placed : Placed). Contains rs placed.rule.now × IsFor t nr placed.rule.now) own) (sym items)
-                (those_more rs t nr n own x c.loop-place-test.true c.index-rules-place.is all _ refl those (w.if-is_for.ensures.0 refl));
-            places = subst (λ own. All (λ (placed : Placed). slice_get rs placed.place ≡ Some placed.rule.now) own) (sym items)
-                (places_more rs t nr n own x c.loop-place-test.true c.index-rules-place.is all _ refl refl c.loop-place.invariant.places);
-            all = λ k d below fits.
-                subst (λ own. Any (λ (placed : Placed). placed.rule.now ≡ slice_index_or rs k d) own) (sym items)
-                (one_more rs t nr n own x c.loop-place-test.true c.index-rules-place.is all _ refl k d below fits);
-          }
-      | else-is_for w ↦
-          let items = ap (λ v. v.items) w.own-is in
-          record {
-            those = subst (λ own. All (λ (placed : Placed). Contains rs placed.rule.now × IsFor t nr placed.rule.now) own) (sym items) those;
-            places = subst (λ own. All (λ (placed : Placed). slice_get rs placed.place ≡ Some placed.rule.now) own) (sym items)
-                c.loop-place.invariant.places;
-            all = λ k d below fits.
-                subst (λ own. Any (λ (placed : Placed). placed.rule.now ≡ slice_index_or rs k d) own) (sym items)
-                (none_more rs t nr n own x c.loop-place-test.true c.index-rules-place.is all
-                (λ is. let no = w.if-is_for.ensures.1 is in cc) k d below fits);
-          }
-    ]
+    let own = c.loop-next.own.items in
+    let more = c.earlier-next.result in
+    let within = behind_within rs c.args.token c.args.number c.loop-next.next place own c.loop-next.invariant c.in-Some.is in
+    let is : x ≡ get_or rs place x = subst (λ (xs : List Rule). x ≡ get_or xs place x) c.rules-rules.ensures.rules c.index-rules-place.is in
+    let at : slice_get rs place ≡ Some x = slice_get-get_or rs place x within ∙ ap Some (sym is) in
+    let behind : AreThoseBehind rs c.args.token c.args.number (Some place) own =
+    subst (λ (o : Option _). AreThoseBehind rs c.args.token c.args.number o own) c.in-Some.is c.loop-next.invariant in
+    subst (AreThoseBehind rs c.args.token c.args.number more) (sym c.in_ok-push.ensures.items)
+    (those_next rs c.args.token c.args.number place own _ behind at refl more c.earlier-next.ensures)
+
+pub loop-next-smaller : goal.loop-next-smaller
+loop-next-smaller c =
+    let rs = c.args.profile.now.rules in
+    let place = c.in-Some.place in
+    let own = c.loop-next.own.items in
+    let more = c.earlier-next.result in
+    let behind : AreThoseBehind rs c.args.token c.args.number (Some place) own =
+    subst (λ (o : Option _). AreThoseBehind rs c.args.token c.args.number o own) c.in-Some.is c.loop-next.invariant in
+    subst (λ (o : Option _). height more < height o) (sym c.in-Some.is)
+    (those_down rs c.args.token c.args.number place own behind more c.earlier-next.ensures)
 
 pub returns : goal.returns
 returns c =
-    those_all c.args.rules.now c.args.token c.args.number c.loop-place.own.items c.loop-place.invariant.those
-    (λ k d inside. c.loop-place.invariant.all k d (omega (arith, inside, c.loop-place-test.false)))
-    c.loop-place.invariant.places
+    those_turned c.args.profile.now.rules c.args.token c.args.number c.loop-next.next c.loop-next.own.items c.reverse.new.self.items
+    c.in_default.is c.loop-next.invariant c.reverse.ensures.permutation

@@ -3,7 +3,7 @@ use Rattle.bpf_insn.specs.Bytes.{insns_of}
 use Rattle.kernel_check.specs.Accepted.{IsRefusal}
 use Rattle.kernel_check.proofs.RefusalLaws.{one}
 use Rattle.rule_compile.specs.declared.fault.CompileError.TheVariants as compiler
-use Rattle.cert_search.specs.declared.fault.CertifyError.TheVariants as maker
+use Rattle.certify.specs.declared.error.CertifyError.TheVariants as maker
 use Rattle.pipeline.specs.declared.unready.Unready.TheVariants.{Compile, Certify}
 use Rattle.pipeline.proofs.PlainLaws.{certifies, seen, sizes, told_certify, told_compile, told_memory, unbroken}
 use Rattle.pipeline.proofs.pipeline.Prepared.proposed_for.Goals as goal

@@ -6,7 +6,8 @@ use Rattle.call_record.proofs.RecordLemmas.{words-is_record}
 use Rattle.profile.specs.declared.rules.Rule.{Rule}
 use Rattle.profile.specs.Rule.{Matches}
 use Rattle.profile.specs.Policy.{Policy, Says, IsNative, IsClear, IsProfile}
-use Rattle.profile.specs.inner.Places.{IsIndexOf, IsLatest}
+use Rattle.profile.specs.Latest.{IsLatest}
+use Rattle.profile.specs.inner.Places.{IsIndexOf}
 use Rattle.profile.proofs.Saying.{says_match, says_default}
 use Rattle.profile.proofs.Walks.{IsOf, IsNext, begins, next_within, comes_to, passes, goes_down, all_fail}
 use Rattle.profile.proofs.policy.Profile.decide.Goals as goal

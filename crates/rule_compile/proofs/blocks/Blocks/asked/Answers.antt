@@ -1,9 +1,8 @@
 use Rattle.std.proofs.Common.{◌≡◌, ◌∙◌, ◌++◌, ◌<◌, ap, length, refl, rules, subst, sym, vec_len}
 use Rattle.std.specs.List.{All}
-use Rattle.rule_compile.specs.Decides.{StandsFor}
 use Rattle.rule_compile.specs.inner.Runs.{IsBefore}
 use Rattle.rule_compile.specs.inner.Noted.{AreBySpans, ArePartsOf}
-use Rattle.rule_compile.specs.inner.Stands.{AreSpans, KnownStands}
+use Rattle.rule_compile.specs.inner.Stands.{AreSpans, DecidesFor, KnownStands}
 use Rattle.rule_compile.proofs.DecidesLaws.{before_more}
 use Rattle.rule_compile.proofs.PartLaws.{all_stand, parts_by_spans, spans_same}
 use Rattle.rule_compile.proofs.StandsLaws.{known_found, known_sound}
@@ -62,7 +61,7 @@ returns-clause-sound c =
     (record {
       before = found.before;
       goes_on = other;
-      stands = subst (λ xs. StandsFor c.add.new.self.blocks.items c.in_ok-leaf.leaf xs c.args.other.now) (sym same) found.stands;
+      stands = subst (λ xs. DecidesFor c.add.new.self.blocks.items c.in_ok-leaf.leaf xs c.args.other.now) (sym same) found.stands;
       spans = spans_of c;
     })
 

@@ -1,13 +1,10 @@
 use Rattle.std.specs.Prelude.{ℕ, ◌≡◌, ◌<◌, false, slice_index_or}
-use Rattle.profile.specs.declared.rules.Rule.{Rule}
-use Rattle.rule_compile.specs.inner.Numbers.{AreUnconditional, IsFor}
+use Rattle.rule_compile.specs.declared.asked.Placed.{Placed}
+use Rattle.rule_compile.specs.inner.Stands.{HaveNoCondition}
 use Rattle.rule_compile.proofs.ranges.Leaf.of.Given as goal
 
-abbrev pub invariant-loop-rule : goal.invariant-loop-rule
-invariant-loop-rule l = record {
-  unconditional : AreUnconditional l.rules
-      → (l.conditions ≡ false) × ((k : ℕ) (d : Rule) → k < l.rule-index → IsFor l.token l.number (slice_index_or l.rules k d) → ⊥);
-  default : l.conditions ≡ false
-      → (k : ℕ) (d : Rule) → k < l.rule-index → IsFor l.token l.number (slice_index_or l.rules k d)
-      → (slice_index_or l.rules k d).word ≡ l.default;
+abbrev pub invariant-loop-placed : goal.invariant-loop-placed
+invariant-loop-placed l = record {
+  unconditional : HaveNoCondition l.own → l.conditions ≡ false;
+  default : l.conditions ≡ false → (k : ℕ) (d : Placed) → k < l.placed-index → (slice_index_or l.own k d).rule.now.word ≡ l.default;
 }

@@ -21,7 +21,7 @@ returns-then-next-end-clause-reached c most many reached =
     let next = c.next_number-next.result in
     let old = c.args.self.now.ranges.items in
     let mid = c.extend.new.self.ranges.items in
-    let is_next = next_is p m t from end next c.rules-rules.result.now c.token-token.ensures c.rules-rules.ensures.rules
+    let is_next = next_is p m t from end next c.rules.result.now c.token-token.ensures c.rules.ensures.rules
     c.next_number-next.ensures in
     let first : IsExtended old from next (Verdict p.default_word) mid =
     subst (λ w. IsExtended old from next (Verdict w) mid) c.default_word-default.ensures c.in_ok-extend.ensures.extended in
@@ -39,18 +39,14 @@ returns-clause-reached c most many reached =
     let next = c.next_number-next.result in
     let old = c.args.self.now.ranges.items in
     let mid = c.extend.new.self.ranges.items in
-    let is_next = next_is p m t from end next c.rules-rules.result.now c.token-token.ensures c.rules-rules.ensures.rules
+    let is_next = next_is p m t from end next c.rules.result.now c.token-token.ensures c.rules.ensures.rules
     c.next_number-next.ensures in
     let first : IsExtended old from next (Verdict p.default_word) mid =
     subst (λ w. IsExtended old from next (Verdict w) mid) c.default_word-default.ensures c.in_ok-extend.ensures.extended in
     let new = c.extend-2.new.self.ranges.items in
     let leaf = c.in_ok-leaf.leaf in
-    let of_rules : AreUnconditional p.rules → LeafFor p.rules t next c.default_word-default.result leaf =
-    subst (λ rs. AreUnconditional rs → LeafFor rs t next c.default_word-default.result leaf) c.rules-rules.ensures.rules
-    c.in_ok-leaf.ensures.verdict in
     let decided : AreUnconditional p.rules → LeafFor p.rules (token_of m) next p.default_word leaf =
-    subst (λ n. AreUnconditional p.rules → LeafFor p.rules n next p.default_word leaf) c.token-token.ensures
-    (subst (λ w. AreUnconditional p.rules → LeafFor p.rules t next w leaf) c.default_word-default.ensures of_rules) in
+    subst (λ n. AreUnconditional p.rules → LeafFor p.rules n next p.default_word leaf) c.token-token.ensures c.in_ok-leaf.ensures.verdict in
     let inside : next < end = omega (arith, c.if-next-end.false, is_next.most) in
     let one : IsExtended mid (max from next) (next + 1) leaf new =
     subst (λ n. IsExtended mid n (next + 1) leaf new) c.in_ok-extend.ensures.end c.in_ok-extend-2.ensures.extended in
@@ -71,12 +67,12 @@ returns-then-next-end-clause-told c told =
     let old = c.args.self.now.ranges.items in
     let mid = c.extend.new.self.ranges.items in
     let blocks = c.args.blocks.now.blocks.items in
-    let is_next = next_is p m t from end next c.rules-rules.result.now c.token-token.ensures c.rules-rules.ensures.rules
+    let is_next = next_is p m t from end next c.rules.result.now c.token-token.ensures c.rules.ensures.rules
     c.next_number-next.ensures in
     let first : IsExtended old from next (Verdict p.default_word) mid =
     subst (λ w. IsExtended old from next (Verdict w) mid) c.default_word-default.ensures c.in_ok-extend.ensures.extended in
     subst (λ n. ToldSoFar p m blocks n mid) (sym c.in_ok-extend.ensures.end)
-    (told_first p m blocks c.rules-rules.ensures.is_profile.clear from end next old mid c.requires.before c.requires.own told is_next first)
+    (told_first p m blocks c.rules.ensures.is_profile.clear from end next old mid c.requires.before c.requires.own told is_next first)
 
 pub returns-clause-told : goal.returns-clause-told
 returns-clause-told c told =
@@ -92,22 +88,19 @@ returns-clause-told c told =
     let blocks = c.args.blocks.now.blocks.items in
     let grown = c.leaf_of.new.blocks.blocks.items in
     let leaf = c.in_ok-leaf.leaf in
-    let is_next = next_is p m t from end next c.rules-rules.result.now c.token-token.ensures c.rules-rules.ensures.rules
+    let is_next = next_is p m t from end next c.rules.result.now c.token-token.ensures c.rules.ensures.rules
     c.next_number-next.ensures in
     let first : IsExtended old from next (Verdict p.default_word) mid =
     subst (λ w. IsExtended old from next (Verdict w) mid) c.default_word-default.ensures c.in_ok-extend.ensures.extended in
-    let of_rules : DecidesNumber p.rules t next c.default_word-default.result grown leaf =
-    subst (λ rs. DecidesNumber rs t next c.default_word-default.result grown leaf) c.rules-rules.ensures.rules c.in_ok-leaf.ensures.decides in
     let decided : DecidesNumber p.rules (token_of m) next p.default_word grown leaf =
-    subst (λ n. DecidesNumber p.rules n next p.default_word grown leaf) c.token-token.ensures
-    (subst (λ w. DecidesNumber p.rules t next w grown leaf) c.default_word-default.ensures of_rules) in
+    subst (λ n. DecidesNumber p.rules n next p.default_word grown leaf) c.token-token.ensures c.in_ok-leaf.ensures.decides in
     let inside : next < end = omega (arith, c.if-next-end.false, is_next.most) in
     let one : IsExtended mid (max from next) (next + 1) leaf new =
     subst (λ n. IsExtended mid n (next + 1) leaf new) c.in_ok-extend.ensures.end c.in_ok-extend-2.ensures.extended in
     let at : c.extend-2.new.self.end ≡ max (max from next) (next + 1) =
     c.in_ok-extend-2.ensures.end ∙ ap (λ n. max n (next + 1)) c.in_ok-extend.ensures.end in
     subst (λ n. ToldSoFar p m grown n new) (sym at)
-    (told_next p m blocks c.rules-rules.ensures.is_profile.clear from end next old mid c.requires.before c.requires.own told is_next first
+    (told_next p m blocks c.rules.ensures.is_profile.clear from end next old mid c.requires.before c.requires.own told is_next first
     grown c.in_ok-leaf.ensures.more leaf new inside
     (before_le (vec_len c.leaf_of.new.blocks.blocks) (length grown) (omega (arith, c.leaf_of.new.blocks.blocks.ok)) leaf c.in_ok-leaf.ensures.before)
     decided one)
@@ -122,13 +115,10 @@ returns-clause-calls c listed all =
     let next = c.next_number-next.result in
     let a = c.args.blocks.now in
     let b = c.leaf_of.new.blocks in
-    let is_next = next_is p m t from end next c.rules-rules.result.now c.token-token.ensures c.rules-rules.ensures.rules
+    let is_next = next_is p m t from end next c.rules.result.now c.token-token.ensures c.rules.ensures.rules
     c.next_number-next.ensures in
     let inside : next < end = omega (arith, c.if-next-end.false, is_next.most) in
-    let of_rules : NotesNumber a b p.rules t next c.default_word-default.result =
-    subst (λ rs. NotesNumber a b rs t next c.default_word-default.result) c.rules-rules.ensures.rules c.in_ok-leaf.ensures.notes in
     let noted : NotesNumber a b p.rules (token_of m) next p.default_word =
-    subst (λ n. NotesNumber a b p.rules n next p.default_word) c.token-token.ensures
-    (subst (λ w. NotesNumber a b p.rules t next w) c.default_word-default.ensures of_rules) in
-    calls_noted p c.rules-rules.ensures.is_profile.clear m next a b (c.requires.own next is_next.least inside listed) c.in_ok-leaf.ensures.more
+    subst (λ n. NotesNumber a b p.rules n next p.default_word) c.token-token.ensures c.in_ok-leaf.ensures.notes in
+    calls_noted p c.rules.ensures.is_profile.clear m next a b (c.requires.own next is_next.least inside listed) c.in_ok-leaf.ensures.more
     c.in_ok-leaf.ensures.sound.blocks_are noted all

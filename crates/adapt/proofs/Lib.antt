@@ -1,0 +1,4 @@
+mod ReadLaws
+mod ItemLaws
+mod AskedLaws
+mod HeardLaws

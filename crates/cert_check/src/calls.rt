@@ -1,0 +1,56 @@
+//! The rules for the one call that is possible on a machine, from the last to the first.
+ghost use Rattle.std.specs.Prelude.{◌≡◌, ◌↔◌, IsTrue};
+ghost use Rattle.cert_check.specs.inner.Asked.{known_of, met_of, out_of};
+ghost use Rattle.cert_check.specs.Agree.{OneSays, RulesAgree};
+ghost use Rattle.cert_check.specs.inner.Judged.{IsOnlyNumber};
+
+use crate::agree::Agreement;
+use crate::answered::no_answer;
+use crate::judged::Bearing;
+use crate::numbers::ask_number;
+use call_tables::Arch;
+use cert_state::State;
+
+impl<S: State> Agreement<'_, S> {
+    /// Whether a rule for a call is seen to say the verdict.
+    pub(crate) fn call_says(&self, arch: Arch, number: u32) -> bool
+        ensures { let a = self.now in IsTrue result → OneSays a.profile.now (out_of a) (met_of a) (known_of a) a.word arch }
+    {
+        let rules = self.profile.rules();
+        let mut next = self.profile.latest(arch.token(), number);
+        while let Some(place) = next {
+            if self.says_at(place, &rules[place], arch, number) {
+                return true;
+            }
+            next = self.profile.earlier(place);
+        }
+        false
+    }
+
+    /// Whether the rules that are left for a machine agree with the verdict, where the number is known to be no other one: those
+    /// for other calls are refuted.
+    pub(crate) fn call_agrees(&self, arch: Arch, nr: u32) -> bool
+        requires { IsOnlyNumber (known_of self.now) nr }
+        ensures { let a = self.now in IsTrue result ↔ RulesAgree a.profile.now (out_of a) (met_of a) (known_of a) a.word arch }
+    {
+        let rules = self.profile.rules();
+        let number = ask_number(self.facts, nr);
+        let mut others = false;
+        let mut next = self.profile.latest(arch.token(), nr);
+        while let Some(place) = next {
+            if !self.outs.has(place) {
+                let (bearing, _) = self.weigh(place, &rules[place], number, no_answer());
+                match bearing {
+                    Bearing::Settles => return true,
+                    Bearing::Agrees => {}
+                    Bearing::Differs => others = true,
+                }
+            }
+            next = self.profile.earlier(place);
+        }
+        if others {
+            return false;
+        }
+        self.profile.default_word() == self.word
+    }
+}

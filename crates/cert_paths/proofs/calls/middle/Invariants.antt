@@ -1,8 +1,0 @@
-use Rattle.std.proofs.Common.{ℕ, ◌<◌}
-use Rattle.std.specs.Prelude.{slice_index_or}
-use Rattle.call_tables.specs.declared.numbers.Numbers.{Numbers}
-use Rattle.cert_paths.specs.inner.Leaf.{BeginsWithin}
-use Rattle.cert_paths.proofs.calls.middle.Given as goal
-
-abbrev pub invariant-loop-numbers : goal.invariant-loop-numbers
-invariant-loop-numbers l = (k : ℕ) (d : Numbers) → k < l.numbers-index → BeginsWithin l.low l.high (slice_index_or l.foreign k d) → ⊥

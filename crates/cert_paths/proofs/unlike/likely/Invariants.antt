@@ -1,6 +1,0 @@
-use Rattle.std.proofs.Common.{length}
-use Rattle.cert_form.specs.Nodes.{literals}
-use Rattle.cert_paths.proofs.unlike.likely.Given as goal
-
-abbrev pub decreases-loop-literal : goal.decreases-loop-literal
-decreases-loop-literal l = length (literals l.known.entries.now l.at)

@@ -1,4 +1,0 @@
-pub mod Chains
-pub mod Fault
-pub mod Telling
-pub mod inner

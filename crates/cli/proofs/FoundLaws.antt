@@ -1,0 +1,19 @@
+-- What is told of the records that were found.
+use Rattle.std.proofs.Common.{◌≡◌, ◌⊎◌, ℕ, List, inl, inr, subst}
+use Rattle.std.specs.Prelude.{Bool, Option, Result}
+use Rattle.call_tables.specs.declared.arch.Arch.{Arch}
+use Rattle.convictions.specs.All.{AreFound, TellsAll, WritesLines}
+use Rattle.evidence.specs.declared.evidence.Conviction.{Conviction}
+use Rattle.pipeline.specs.Exported.{LacksMemory}
+use Rattle.streams.specs.Failures.{Failures}
+use Rattle.streams.specs.declared.fault.WriteFault.{WriteFault}
+
+pub tells_found : {S : Type 0} (held : S → Option (List ℕ)) (failures : S → Failures) (old new : S) (native : Arch) (bundle filter : List ℕ)
+    (found : Conviction) (all : List Conviction) → AreFound native bundle filter found all → (answer result : Result Bool WriteFault)
+    → answer ≡ result → WritesLines held failures old new all answer ⊎ LacksMemory old new answer
+    → TellsAll held failures old new native bundle filter result
+tells_found held failures old new native bundle filter found all are answer result same (inl lines) =
+    subst (λ r. TellsAll held failures old new native bundle filter r) same
+    (inl (record { found = found; all = all; are = are; written = lines }))
+tells_found held failures old new native bundle filter found all are answer result same (inr lacks) =
+    subst (λ r. TellsAll held failures old new native bundle filter r) same (inr lacks)

@@ -1,0 +1,83 @@
+//! Certificates of the compiler's filters, from their outlines.
+ghost use Rattle.std.specs.Prelude.{◌≡◌, IfErr};
+ghost use Rattle.certify.specs.declared.error.CertifyError.TheVariants.{OutOfMemory};
+
+use crate::asked::asked_calls;
+use cert_outline::{OutlineError, outlined};
+use certify::CertifyError;
+use kernel_check::Accepted;
+use profile::Profile;
+use rule_compile::{CompileError, Outline, make, share_searches};
+use std::alloc::Global;
+
+// The certificate of a filter that is written from its outline, unless it comes out too large.
+fn written(
+    alloc: Global,
+    profile: &Profile,
+    program: Accepted<'_>,
+    outline: &Outline,
+) -> Result<Option<Vec<u8>>, CertifyError>
+    ensures { IfErr result (λ e. e ≡ OutOfMemory) }
+{
+    let Ok(calls) = asked_calls(alloc, outline) else {
+        return Err(CertifyError::OutOfMemory);
+    };
+    match outlined(alloc, profile, &program.program(), &calls) {
+        Ok(bytes) => Ok(Some(bytes)),
+        Err(OutlineError::OutOfMemory) => Err(CertifyError::OutOfMemory),
+        Err(_) => Ok(None),
+    }
+}
+
+// The same of a filter that is not the compiler's first one, if it is the other one, in which machines share searches.
+fn of_shared(
+    alloc: Global,
+    profile: &Profile,
+    program: Accepted<'_>,
+) -> Result<Option<Vec<u8>>, CertifyError>
+    ensures { IfErr result (λ e. e ≡ OutOfMemory) }
+{
+    match share_searches(alloc, profile) {
+        Ok(Some(made)) if made.bytes.as_slice() == program.program().bytes() => {
+            written(alloc, profile, program, &made.outline)
+        }
+        Ok(_) => Ok(None),
+        Err(_) => Err(CertifyError::OutOfMemory),
+    }
+}
+
+// The same of a filter that anyone made, if the compiler makes it too.
+fn of_anyone(
+    alloc: Global,
+    profile: &Profile,
+    program: Accepted<'_>,
+) -> Result<Option<Vec<u8>>, CertifyError>
+    ensures { IfErr result (λ e. e ≡ OutOfMemory) }
+{
+    match make(alloc, profile) {
+        Ok(made) => {
+            if made.bytes.as_slice() == program.program().bytes() {
+                return written(alloc, profile, program, &made.outline);
+            }
+            of_shared(alloc, profile, program)
+        }
+        Err(CompileError::OutOfMemory) => Err(CertifyError::OutOfMemory),
+        Err(CompileError::TooLong) => of_shared(alloc, profile, program),
+    }
+}
+
+/// The certificate that is written from a filter's outline, which is given where the compiler made it: of any other filter there is
+/// one where the compiler makes the same. None, where there is no outline, or the certificate comes out too large.
+pub(crate) fn by_outline(
+    alloc: Global,
+    profile: &Profile,
+    program: Accepted<'_>,
+    outline: Option<&Outline>,
+) -> Result<Option<Vec<u8>>, CertifyError>
+    ensures { IfErr result (λ e. e ≡ OutOfMemory) }
+{
+    match outline {
+        Some(outline) => written(alloc, profile, program, outline),
+        None => of_anyone(alloc, profile, program),
+    }
+}
