@@ -21,7 +21,7 @@ KINDS = {
     "refused kernel": "kernel_check",
     "refused profile": "profile_json",
     "refused compile": "rule_compile",
-    "refused certify": "cert_search",
+    "refused certify": "certify",
     "refused listing": "bpf_asm",
     "no": "cert_check",
 }
@@ -31,7 +31,7 @@ FAULTS = {
     "FILTERS.md": ["kernel_check", "bpf_asm"],
     "PROFILES.md": ["profile", "profile_json"],
     "COMPILER.md": ["rule_compile"],
-    "CERTIFICATES.md": ["cert_search", "cert_form"],
+    "CERTIFICATES.md": ["certify", "cert_form"],
 }
 
 
@@ -63,7 +63,8 @@ def tables(text):
 
 def labels(crate):
     """The numbers and names of a crate's faults, as its definition has them."""
-    return re.findall(r'^label_of .* = \((\d+), codes "(\w+)"\)', read(f"crates/{crate}/specs/Fault.antt"), re.M)
+    name = "Error" if crate == "certify" else "Fault"
+    return re.findall(r'^label_of .* = \((\d+), codes "(\w+)"\)', read(f"crates/{crate}/specs/{name}.antt"), re.M)
 
 
 def faults_of_labels(page, text):

@@ -3,8 +3,10 @@ use Rattle.std.specs.Prelude.{◌≡◌, ◌==◌, ◌≤◌, ◌⊎◌, ◌&&�
 use Rattle.std.specs.List.{All, Contains}
 use Rattle.call_record.specs.Words.{IsRecord}
 use Rattle.call_record.specs.Verdict.{is_stricter}
+use Rattle.profile.specs.declared.conditions.Cond.{Cond}
 use Rattle.profile.specs.declared.rules.Rule.{Rule}
-use Rattle.profile.specs.Rule.{Matches}
+use Rattle.profile.specs.Condition.{Meets}
+use Rattle.profile.specs.Rule.{Matches, argument_of}
 use Rattle.profile.specs.Policy.{Policy, Says, IsNative}
 use Rattle.settling.specs.declared.choice.Choice.{Choice}
 use Rattle.settling.specs.declared.choice.Choice.TheVariants.{First, Looser, Stricter, LikeLibseccomp}
@@ -36,6 +38,13 @@ pub record Settles (choice : Choice) (rules : List Rule) (p : Policy) : Type 0 w
   pub unmatched : (r : List ℕ) → IsNative p r → All (λ rule. ¬ Matches rule r) rules → Says p r p.default_word
 
 -- ---- how it is checked
+
+-- what the record has in a condition's argument meets it
+abbrev pub IsMet : List ℕ → Cond → Type 0
+IsMet r c = Meets c (argument_of r c.index)
+
+abbrev pub AreMet : List ℕ → List Cond → Type 0
+AreMet r conds = All (IsMet r) conds
 
 -- each record that the second matches is matched by the first
 abbrev pub Covers : Rule → Rule → Type 0
