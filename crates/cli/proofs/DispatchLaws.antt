@@ -320,7 +320,7 @@ module _ {I O : Type 0} (left : I → Option (List ℕ)) (given : I → Failures
   not_begun (Compare native old new at_most) = (refl, inl (stops_early folder out (old ∷ new ∷ [])))
   not_begun (CompareFilters native old new) = (refl, inl (stops_early folder out (old ∷ new ∷ [])))
   not_begun (Adapt native config words) = (refl, inr (inl (stops_early folder out (config ∷ []))))
-  not_begun (Learn native words) = refl
+  not_begun (Learn native words) = (refl, inr (inl (refl, refl)))
   not_begun (Replay native bundle words) =
       let is = named_of words in (refl, (is.logs, is.unused, is.named, inl (stops_early folder out (bundle ∷ is.logs))))
   not_begun (Manual name) = (refl, inr (inl (stops_early folder out [])))

@@ -1,20 +1,29 @@
 -- Logs by their names and their texts, and the words that name them.
-use Rattle.std.proofs.Common.{◌≡◌, ℕ, ◌+◌, ◌<◌, List, [], ◌∷◌, ◌++◌, Vec, Global, ap, arith, get_or, length, map, refl, subst, suc, sym, take, ◌∙◌}
+use Rattle.std.proofs.Common.{◌≡◌, ℕ, ◌+◌, ◌<◌, List, [], ◌∷◌, ◌++◌, Vec, Global, ap, append-nil, arith, drop, get_or, inl, inr, length, map, refl, subst, suc, sym, take, ◌∙◌}
 use Rattle.std.proofs.lemmas.List.{get_or_default, length-map, length-take-le, map-append, take_more}
 use Rattle.std.specs.List.{zip}
-use Rattle.std.specs.Prelude.{Bool, Option, Result, Ok, Err}
+use Rattle.std.specs.Io.KnownBytes.{Consumes, IsAtEnd}
+use Rattle.std.specs.Prelude.{Bool, true, false, Option, None, Some, Result, Ok, Err}
 use Rattle.call_tables.specs.declared.arch.Arch.{Arch}
 use Rattle.explain.specs.declared.told.Told.{Told}
+use Rattle.streams.specs.Failures.{Failures}
+use Rattle.cli.specs.declared.adapting.Both.{Both}
 use denote.Ref.{Bor}
+use Rattle.learn.specs.Given.{GivesAll}
 use Rattle.learn.specs.Logged.{parts_of}
 use Rattle.learn.specs.Replayed.{TellsReplayed}
 use Rattle.learn.specs.declared.logs.Log.{Log}
+use Rattle.learn.specs.declared.lists.Runtime.{Runtime}
+use Rattle.learn.specs.declared.reading.Shown.{Shown}
+use Rattle.learn.specs.inner.Taken.{HaveShown}
 use Rattle.cli.specs.declared.stops.Stop.{Stop}
-use Rattle.cli.specs.Dispatch.{FirstUnread, HaveBytes}
-use Rattle.cli.specs.Files.{Folder, HasBytes}
+use Rattle.cli.specs.declared.stops.Stop.TheVariants.{Usage, CannotRead, Read, Write, OutOfMemory}
+use Rattle.cli.specs.Dispatch.{AnswersLearn, AnswersLogs, FirstUnread, HaveBytes, StopsAtLog}
+use Rattle.cli.specs.Files.{Folder, HasBytes, IsOpened}
 use Rattle.cli.specs.Told.{IsReplayed}
-use Rattle.cli.specs.inner.Telling.{IsToldOf}
-use Rattle.cli.proofs.DispatchLaws.{behind, now_of}
+use Rattle.cli.specs.inner.Telling.{IsLearnedFrom, IsLearnedOf, IsToldOf, ShowEach, ShowsMore, StopsAtName, TellsOn, told_in}
+use Rattle.cli.proofs.DispatchLaws.{behind, now_of, read_on}
+use Rattle.cli.proofs.TurnLaws.{cut_at}
 
 abbrev pub bytes_of : Vec ℕ Global → List ℕ
 bytes_of t = t.items
@@ -80,3 +89,79 @@ told_behind folder later same native unused bundle text names has (Ok told) (tex
     (text ∷ texts, (has, subst (λ d. HaveBytes d names texts) same have), is)
 told_behind folder later same native unused bundle text names has (Err stop) h =
     behind folder bundle text names stop has (subst (λ d. FirstUnread d names stop) same h)
+
+-- ---- logs that are learned from
+
+-- a file that was opened has bytes
+has_bytes : (folder : Option Folder) (name : List ℕ) (left : Option (List ℕ)) → IsOpened folder name left
+    → (bytes : List ℕ) × HasBytes folder name bytes
+has_bytes None name left opened = ([], tt)
+has_bytes (Some f) name left opened = (opened.0, opened.1)
+
+all_given : (bytes text : List ℕ) (new : Option (List ℕ)) → Consumes (Some bytes) new text → IsAtEnd new → bytes ≡ text
+all_given bytes text None taken end = absurd taken
+all_given bytes text (Some rest) taken end = taken ∙ ap (λ r. text ++ r) end ∙ append-nil text
+
+-- they are what its source gives to its end
+gives_bytes : (folder : Option Folder) (name : List ℕ) (left new : Option (List ℕ)) (text : List ℕ) → IsOpened folder name left
+    → GivesAll left new text → HasBytes folder name text
+gives_bytes None name left new text opened gives = tt
+gives_bytes (Some f) name left new text opened gives =
+    opened.1 ∙ ap Some (all_given opened.0 text new (subst (λ l. Consumes l new text) opened.2 gives.taken) gives.end)
+
+-- one more log, which may lack a record
+pub shown_more : (folder : Option Folder) (name : List ℕ) (left new : Option (List ℕ)) → IsOpened folder name left → (native : Arch)
+    (texts : List (List ℕ)) (shown : Shown)
+    → (shown.is_lacking ≡ false → (text : List ℕ) × GivesAll left new text × HaveShown native (texts ++ text ∷ []) shown)
+    → ShowsMore folder native name texts shown
+shown_more folder name left new opened native texts shown whole = by shown.is_lacking refl where
+  by : (lacking : Bool) → shown.is_lacking ≡ lacking → ShowsMore folder native name texts shown
+  by false e =
+      let read = whole e in
+      (read.0, gives_bytes folder name left new read.0 opened read.1, read.2)
+  by true e =
+      let some = has_bytes folder name left opened in
+      (some.0, some.1, λ no. cc)
+
+-- the logs up to one more
+pub each_more : (folder later : Option Folder) → later ≡ folder → (native : Arch) (ns : List (Bor (List ℕ))) (i : ℕ) (d : Bor (List ℕ))
+    → i < length ns → (old new : Shown) → ShowEach folder native (map now_of (take i ns)) old
+    → ((texts : List (List ℕ)) → HaveShown native texts old → ShowsMore later native (get_or ns i d).now texts new)
+    → ShowEach folder native (map now_of (take (i + 1) ns)) new
+each_more folder later same native ns i d lt old new (texts, read, have) more =
+    let m = more texts have in
+    (texts ++ m.0 ∷ [], read_on folder later same ns texts i d lt read m.0 (texts ++ m.0 ∷ []) refl m.1, m.2)
+
+-- the program stops at one of them
+pub stops_at_log : (folder : Option Folder) (native : Arch) (ns : List (Bor (List ℕ))) (i : ℕ) (d : Bor (List ℕ)) → i < length ns
+    → (shown : Shown) → ShowEach folder native (map now_of (take i ns)) shown → (stop : Stop) → StopsAtName (get_or ns i d).now stop
+    → StopsAtLog folder (map now_of ns) stop
+stops_at_log folder native ns i d lt shown (texts, read, have) (CannotRead told) at =
+    let n = get_or ns i d in record {
+      before = map now_of (take i ns);
+      after = map now_of (drop (i + 1) ns);
+      split =
+          ap (map now_of) (cut_at ns i n lt (get_or_default ns i d n lt)) ∙ map-append now_of (take i ns) (n ∷ drop (i + 1) ns)
+          ∙ ap (λ m. map now_of (take i ns) ++ m ∷ map now_of (drop (i + 1) ns)) (sym at);
+      texts = texts;
+      read = read;
+    }
+stops_at_log folder native ns i d lt shown each OutOfMemory at = tt
+stops_at_log folder native ns i d lt shown each Usage at = absurd at
+stops_at_log folder native ns i d lt shown each (Read line) at = absurd at
+stops_at_log folder native ns i d lt shown each (Write out) at = absurd at
+
+-- what is told of them is written
+module _ {O : Type 0} (held : O → Option (List ℕ)) (failures : O → Failures) (folder : Option Folder) (old new : O) (native : Arch)
+    (result : Result Bool Stop) where
+  answers_logs : (logs : List (List ℕ)) (runtime : Option Runtime) (told : Result Told Stop) → IsLearnedFrom folder native logs runtime told
+      → TellsOn held failures old new told result → AnswersLogs held failures folder old new native logs runtime result
+  answers_logs logs runtime (Ok told) is h = inr (is.0, told, is.1, is.2, h)
+  answers_logs logs runtime (Err stop) at h = inl (stop, at, h.0, h.1)
+
+  pub answers_learned : (words : List (List ℕ)) (both : Result Both Stop) → IsLearnedOf folder native words (told_in both)
+      → TellsOn held failures old new (told_in both) result → AnswersLearn held failures folder old new native words result
+  answers_learned words both (inl is) h = inl (subst (λ t. TellsOn held failures old new t result) is h)
+  answers_learned words both (inr (inl is)) h = inr (inl (subst (λ t. TellsOn held failures old new t result) is h))
+  answers_learned words both (inr (inr (logs, runtime, otherwise, asks, is))) h =
+      inr (inr (logs, runtime, otherwise, asks, answers_logs logs runtime (told_in both) is h))

@@ -1,5 +1,5 @@
 -- THE PROGRAM. What it writes and the status that it ends with, of a command, of files, and of what is read on standard input.
-use Rattle.std.specs.Prelude.{ℕ, ◌≡◌, ◌⊎◌, Bool, true, false, List, [], ◌∷◌, codes}
+use Rattle.std.specs.Prelude.{ℕ, ◌≡◌, ◌⊎◌, Bool, true, false, List, [], ◌∷◌, ◌++◌, codes}
 use Rattle.std.specs.Prelude.{if◌then◌else◌, Option, Some, None, Result, Ok, Err}
 use Rattle.std.specs.Str.{bytes_eq}
 use Rattle.call_tables.specs.declared.arch.Arch.{Arch}
@@ -19,6 +19,10 @@ use Rattle.behind_runc.specs.Behind.{CertifiesBehind}
 use Rattle.convictions.specs.All.{TellsAll}
 use Rattle.compare.specs.Told.{IsCompared}
 use Rattle.differ.specs.Told.{IsTold}
+use Rattle.learn.specs.Learned.{TellsLearned}
+use Rattle.learn.specs.Wish.{AskFor}
+use Rattle.learn.specs.declared.lists.Otherwise.{Otherwise}
+use Rattle.learn.specs.declared.lists.Runtime.{Runtime}
 use Rattle.pipeline.specs.Answer.{WritesAnswer}
 use Rattle.pipeline.specs.Certified.{Certifies}
 use Rattle.pipeline.specs.Exported.{Exports}
@@ -51,6 +55,20 @@ abbrev pub HaveBytes : Option Folder → List (List ℕ) → List (List ℕ) →
 HaveBytes folder [] [] = Unit {0}
 HaveBytes folder (name ∷ names) (bytes ∷ texts) = HasBytes folder name bytes × HaveBytes folder names texts
 HaveBytes folder names texts = ⊥
+
+-- one of the files is not read to its end, and those before it can be read
+pub record BreaksAt (folder : Option Folder) (names : List (List ℕ)) (name : List ℕ) : Type 0 where
+  pub before : List (List ℕ)
+  pub after : List (List ℕ)
+  pub split : names ≡ before ++ name ∷ after
+  pub texts : List (List ℕ)
+  pub read : HaveBytes folder before texts
+
+-- the program stops at one of the logs, which cannot be opened or fails while it is read; or for want of memory
+abbrev pub StopsAtLog : Option Folder → List (List ℕ) → Stop → Type 0
+StopsAtLog folder logs (CannotRead name) = BreaksAt folder logs name.now
+StopsAtLog folder logs OutOfMemory = Unit {0}
+StopsAtLog folder logs other = ⊥
 
 -- the exit status: 0 where the answer is yes or it was done, 1 where it was refused, 2 or 3 where the program stopped
 abbrev pub exit_status : Result Bool Stop → ℕ
@@ -154,6 +172,25 @@ module _ {O : Type 0} (held : O → Option (List ℕ)) (failures : O → Failure
       (logs : List (List ℕ)) × (unused : Bool) × NamesLogs words logs unused
       × AnswersTold (bundle ∷ logs) (IsReplayed native unused logs) result
 
+  -- What `learn` writes of logs: nothing where it stops at one; or what is told of their bytes, which is the bundle if it was done.
+  abbrev pub AnswersLogs : Arch → List (List ℕ) → Option Runtime → Result Bool Stop → Type 0
+  AnswersLogs native logs runtime result =
+      ((stop : Stop) × StopsAtLog folder logs stop × (result ≡ Err stop) × (new ≡ old))
+      ⊎ ((texts : List (List ℕ)) × (told : Told) × HaveBytes folder logs texts × TellsLearned native texts runtime told
+      × WritesTold held failures old new told result)
+
+  -- memory is refused before the words are read
+  abbrev pub StopsForMemory : Result Bool Stop → Type 0
+  StopsForMemory result = (result ≡ Err OutOfMemory) × (new ≡ old)
+
+  -- what is learned from the logs that the words name, for the runtime that they name
+  abbrev pub AnswersLearn : Arch → List (List ℕ) → Result Bool Stop → Type 0
+  AnswersLearn native words result =
+      StopsAtWords result
+      ⊎ (StopsForMemory result
+      ⊎ ((logs : List (List ℕ)) × (runtime : Option Runtime) × (otherwise : Otherwise) × AskFor words logs runtime otherwise
+      × AnswersLogs native logs runtime result))
+
   -- the commands, or the page of one
   abbrev pub AnswersManual : Option (List ℕ) → Result Bool Stop → Type 0
   AnswersManual name result = (IsNoCommand name × StopsAtWords result) ⊎ AnswersTold [] (of_none (IsManual name)) result
@@ -174,7 +211,7 @@ asks_audit (word ∷ []) = bytes_eq word (codes "audit")
 asks_audit call = false
 
 -- What the program does as a command. `run` reads its input, and so does `explain` where it is asked about a kernel's log. Of what it
--- tells then, of what `learn` does, and of what `read` tells, nothing more is said.
+-- tells then nothing more is said.
 module _ {I O : Type 0} (left : I → Option (List ℕ)) (given : I → Failures) (held : O → Option (List ℕ)) (taken : O → Failures)
     (folder : Option Folder) (input input' : I) (out out' : O) where
   abbrev pub AnswersRun : Arch → List (List ℕ) → Result Bool Stop → Type 0
@@ -214,7 +251,7 @@ module _ {I O : Type 0} (left : I → Option (List ℕ)) (given : I → Failures
   Does (Replay native bundle words) result = (input' ≡ input) × AnswersReplay held taken folder out out' native bundle words result
   Does (Manual name) result = (input' ≡ input) × AnswersManual held taken folder out out' name result
   Does Version result = (input' ≡ input) × AnswersTold held taken folder out out' [] (of_none IsVersion) result
-  Does (Learn native words) result = input' ≡ input
+  Does (Learn native words) result = (input' ≡ input) × AnswersLearn held taken folder out out' native words result
 
 -- What `certify` tells where its answer is no: nothing on standard error, or on standard output the line of a call record and on
 -- standard error an explanation of this very record.

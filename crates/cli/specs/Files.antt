@@ -17,6 +17,11 @@ abbrev pub CannotBeRead : Option Folder → List ℕ → Type 0
 CannotBeRead (Some folder) name = folder name ≡ None
 CannotBeRead None name = Unit {0}
 
+-- A file of that name was opened, and these bytes of it are left, where it is told what files have: all.
+abbrev pub IsOpened : Option Folder → List ℕ → Option (List ℕ) → Type 0
+IsOpened (Some folder) name left = (bytes : List ℕ) × (folder name ≡ Some bytes) × (left ≡ Some bytes)
+IsOpened None name left = Unit {0}
+
 -- why a file is not read; memory may be refused at any time
 abbrev pub IsUnread : Option Folder → List ℕ → FileFault → Type 0
 IsUnread folder name CannotRead = CannotBeRead folder name

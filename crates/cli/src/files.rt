@@ -13,7 +13,7 @@ use streams::Source;
 /// What reads files by their names.
 pub trait Files {
     ghost use Rattle.std.specs.Prelude.{Option};
-    ghost use Rattle.cli.specs.Files.{Folder, IsUnread};
+    ghost use Rattle.cli.specs.Files.{Folder, IsOpened, IsUnread};
 
     /// What gives the bytes of a file, a part at a time.
     type Opened: Source + Drop;
@@ -29,7 +29,9 @@ pub trait Files {
 
     /// Opens a file, which is then read by its source.
     fn open(&mut self, name: &str) -> Result<Self::Opened, FileFault>
-        ensures same { folder self.new ≡ folder self.old };
+        ensures same { folder self.new ≡ folder self.old }
+        ensures ok { IfOk result (λ opened. IsOpened (folder self.old) name.now (Self.Opened.left opened)) }
+        ensures err { IfErr result (λ fault. IsUnread (folder self.old) name.now fault) };
 
     /// The bytes of a file that is refused by its length alone where it has more than so many, a multiple of eight. Of
     /// a longer one it may be the first bytes: more than so many, and as many over a multiple of eight as the file has.

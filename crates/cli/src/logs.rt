@@ -1,10 +1,13 @@
 //! What `ccell learn` and `ccell replay` do with logs.
-ghost use Rattle.std.specs.Prelude.{◌≡◌, ◌≢◌, ◌↔◌, [], ◌∷◌, IfOk, IsTrue, codes, length, map};
+ghost use Rattle.std.specs.Prelude.{◌≡◌, ◌≢◌, ◌↔◌, [], ◌∷◌, ℕ, List, IfErr, IfOk, IsTrue, codes, length, map};
 ghost use Rattle.std.specs.List.{zip};
 ghost use Rattle.learn.specs.Logged.{parts_of};
 ghost use Rattle.learn.specs.Replayed.{TellsReplayed};
+ghost use Rattle.learn.specs.inner.Taken.{HaveShown};
+ghost use Rattle.cli.specs.Dispatch.{StopsAtLog};
+ghost use Rattle.cli.specs.Files.{IsOpened};
 ghost use Rattle.cli.specs.Told.{IsReplayed, NamesLogs};
-ghost use Rattle.cli.specs.inner.Telling.{IsReplayOf, IsToldOf};
+ghost use Rattle.cli.specs.inner.Telling.{IsLearnedFrom, IsLearnedOf, IsReplayOf, IsToldOf, ShowEach, ShowsMore, StopsAtName, told_in};
 
 use crate::adapting::Both;
 use crate::fault::FileFault;
@@ -12,7 +15,7 @@ use crate::files::{Files, read, read_each};
 use crate::stops::Stop;
 use call_tables::Arch;
 use explain::Told;
-use learn::{Keep, Learned, Log, LogFault, Shown, learn, replay, wish_of};
+use learn::{Keep, Learned, Log, LogFault, Shown, Wish, learn, replay, wish_of};
 use std::alloc::{AllocError, Global};
 
 // Logs by their names and their bytes.
@@ -35,7 +38,11 @@ fn logs_of<'a>(
 }
 
 // Opens a log.
-fn open<'a, F: Files>(files: &mut F, name: &'a str) -> Result<F::Opened, Stop<'a>> {
+fn open<'a, F: Files>(files: &mut F, name: &'a str) -> Result<F::Opened, Stop<'a>>
+    ensures same { F.folder files.new ≡ F.folder files.old }
+    ensures ok { IfOk result (λ opened. IsOpened (F.folder files.old) name.entry.now (F.Opened.left opened)) }
+    ensures err { IfErr result (λ stop. StopsAtName name.entry.now stop) }
+{
     match files.open(name) {
         Ok(log) => Ok(log),
         Err(FileFault::CannotRead) => Err(Stop::CannotRead(name)),
@@ -51,12 +58,61 @@ fn show<'a, F: Files>(
     name: &'a str,
     files: &mut F,
     shown: &mut Shown,
-) -> Result<(), Stop<'a>> {
-    let mut log = open(files, name)?;
-    match shown.read_log(alloc, native, keeps, name, &mut log) {
-        Ok(()) => Ok(()),
-        Err(LogFault::CannotRead) => Err(Stop::CannotRead(name)),
-        Err(LogFault::OutOfMemory) => Err(Stop::OutOfMemory),
+) -> Result<(), Stop<'a>>
+    ensures same { F.folder files.new ≡ F.folder files.old }
+    ensures ok { (texts : List (List ℕ)) → HaveShown native texts shown.old
+        → IfOk result (λ _. ShowsMore (F.folder files.old) native name.entry.now texts shown.new) }
+    ensures err { IfErr result (λ stop. StopsAtName name.entry.now stop) }
+{
+    match open(files, name) {
+        Ok(mut log) => match shown.read_log(alloc, native, keeps, name, &mut log) {
+            Ok(()) => Ok(()),
+            Err(LogFault::CannotRead) => Err(Stop::CannotRead(name)),
+            Err(LogFault::OutOfMemory) => Err(Stop::OutOfMemory),
+        },
+        Err(stop) => Err(stop),
+    }
+}
+
+// What logs show, one after the other.
+fn show_each<'a, F: Files>(
+    alloc: Global,
+    native: Arch,
+    keeps: &[Keep<'_>],
+    names: &[&'a str],
+    files: &mut F,
+) -> Result<Shown, Stop<'a>>
+    ensures ok { IfOk result (ShowEach (F.folder files.old) native (map (λ n. n.now) names.now)) }
+    ensures err { IfErr result (StopsAtLog (F.folder files.old) (map (λ n. n.now) names.now)) }
+{
+    let mut shown = Shown::new(alloc);
+    for name in names {
+        match show(alloc, native, keeps, *name, files, &mut shown) {
+            Ok(()) => {}
+            Err(stop) => return Err(stop),
+        }
+    }
+    Ok(shown)
+}
+
+// A bundle of the logs that words named.
+fn learned_of<'a, F: Files>(
+    alloc: Global,
+    native: Arch,
+    wish: &Wish<'a>,
+    files: &mut F,
+) -> Result<Both, Stop<'a>>
+    ensures { IsLearnedFrom (F.folder files.old) native (map (λ log. log.now) wish.now.logs.items) wish.now.runtime (told_in result) }
+{
+    match show_each(alloc, native, &wish.keeps, &wish.logs, files) {
+        Ok(shown) => match learn(alloc, native, &shown, wish) {
+            Ok(Learned { told, lines }) => Ok(Both {
+                told,
+                changes: lines,
+            }),
+            Err(_no_memory) => Err(Stop::OutOfMemory),
+        },
+        Err(stop) => Err(stop),
     }
 }
 
@@ -66,19 +122,14 @@ pub fn learned<'a, F: Files>(
     native: Arch,
     words: &'a [&'a str],
     files: &mut F,
-) -> Result<Both, Stop<'a>> {
-    let Some(wish) = wish_of(alloc, native, words)? else {
-        return Err(Stop::Usage);
-    };
-    let mut shown = Shown::new(alloc);
-    for name in &wish.logs {
-        show(alloc, native, &wish.keeps, *name, files, &mut shown)?;
+) -> Result<Both, Stop<'a>>
+    ensures { IsLearnedOf (F.folder files.old) native (map (λ w. w.now) words.entry.now) (told_in result) }
+{
+    match wish_of(alloc, native, words) {
+        Ok(Some(wish)) => learned_of(alloc, native, &wish, files),
+        Ok(None) => Err(Stop::Usage),
+        Err(_no_memory) => Err(Stop::OutOfMemory),
     }
-    let Learned { told, lines } = learn(alloc, native, &shown, &wish)?;
-    Ok(Both {
-        told,
-        changes: lines,
-    })
 }
 
 // Whether the last word is `unused` and stands behind others.

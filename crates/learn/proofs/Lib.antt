@@ -6,3 +6,4 @@ mod Results
 mod LoggedLaws
 mod RefusedLaws
 mod PlayedLaws
+mod WishLaws

@@ -1,4 +1,5 @@
 pub mod Lists
+pub mod Wish
 pub mod Given
 pub mod Kept
 pub mod Learned

@@ -1,8 +1,9 @@
 //! Names that a bundle gets beside those of the logs.
-ghost use Rattle.std.specs.Prelude.{◌≡◌};
+ghost use Rattle.std.specs.Prelude.{◌≡◌, IfSome};
 ghost use Rattle.std.specs.List.{list_any};
 ghost use Rattle.std.specs.Str.{bytes_eq};
 ghost use Rattle.learn.specs.Lists as spec;
+ghost use Rattle.learn.specs.Wish.{otherwise_word, runtime_word};
 
 /// What loads a filter and then starts the program.
 #[derive(Clone, Copy)]
@@ -105,7 +106,9 @@ pub(crate) const OF_BUBBLEWRAP: &[&str] = &["execve", "wait4"];
 
 impl Runtime {
     /// The runtime of this name.
-    pub fn called(name: &str) -> Option<Runtime> {
+    pub fn called(name: &str) -> Option<Runtime>
+        ensures { IfSome result (λ runtime. name.now ≡ runtime_word runtime) }
+    {
         match name {
             "crun" => Some(Runtime::Crun),
             "runc" => Some(Runtime::Runc),
@@ -215,7 +218,9 @@ pub(crate) fn is_listed(runtime: Option<Runtime>, name: &str) -> bool
 
 impl Otherwise {
     /// What this word asks for.
-    pub fn called(word: &str) -> Option<Otherwise> {
+    pub fn called(word: &str) -> Option<Otherwise>
+        ensures { IfSome result (λ otherwise. word.now ≡ otherwise_word otherwise) }
+    {
         match word {
             "errno" => Some(Otherwise::Errno),
             "enosys" => Some(Otherwise::Enosys),

@@ -1,4 +1,9 @@
 //! What the words of a command ask for.
+ghost use Rattle.std.specs.Prelude.{◌≡◌, ◌++◌, ◌∷◌, [], IfOk, IfSome, List, ℕ, codes, map, true};
+ghost use Rattle.learn.specs.Wish as spec;
+ghost use Rattle.learn.specs.Wish.{AskFor};
+ghost use Rattle.learn.specs.inner.Wished.{Asks, AsksTo, IsMark};
+
 use crate::keeps::Keep;
 use crate::lists::{Otherwise, Runtime};
 use call_tables::Arch;
@@ -15,18 +20,17 @@ pub struct Wish<'a> {
 }
 
 // Adds a call of which values are kept, unless the word asks for none or the call has some.
-fn put_keep<'a>(
-    native: Arch,
-    word: &'a str,
-    keeps: &mut Vec<Keep<'a>>,
-) -> Result<bool, AllocError> {
+fn put_keep<'a>(native: Arch, wish: &mut Wish<'a>, word: &'a str) -> Result<bool, AllocError>
+    ensures { (before : List (List ℕ)) → Asks before wish.old
+        → IfOk result (λ is_read. is_read ≡ true → Asks (before ++ codes "keep" ∷ word.entry.now ∷ []) wish.new) }
+{
     let Some(keep) = Keep::read(native, word) else {
         return Ok(false);
     };
-    if keeps.iter().any(|other| other.name == keep.name) {
+    if wish.keeps.iter().any(|other| other.name == keep.name) {
         return Ok(false);
     }
-    keeps.push(keep)?;
+    wish.keeps.push(keep)?;
     Ok(true)
 }
 
@@ -36,9 +40,13 @@ fn put_pair<'a>(
     wish: &mut Wish<'a>,
     word: &str,
     value: &'a str,
-) -> Result<bool, AllocError> {
+) -> Result<bool, AllocError>
+    requires { spec.is_mark word.now ≡ true }
+    ensures { (before : List (List ℕ)) → Asks before wish.old
+        → IfOk result (λ is_read. is_read ≡ true → Asks (before ++ word.now ∷ value.entry.now ∷ []) wish.new) }
+{
     if word == "keep" {
-        return put_keep(native, value, &mut wish.keeps);
+        return put_keep(native, wish, value);
     }
     if word == "for" {
         wish.runtime = Runtime::called(value);
@@ -54,7 +62,9 @@ fn put_pair<'a>(
 }
 
 // Whether a word asks for something by the word behind it.
-fn is_mark(word: &str) -> bool {
+fn is_mark(word: &str) -> bool
+    ensures { result ≡ spec.is_mark word.now }
+{
     word == "keep" || word == "for" || word == "else"
 }
 
@@ -64,7 +74,12 @@ fn put_word<'a>(
     wish: &mut Wish<'a>,
     mark: Option<&'a str>,
     word: &'a str,
-) -> Result<Option<Option<&'a str>>, AllocError> {
+) -> Result<Option<Option<&'a str>>, AllocError>
+    requires { IfSome mark IsMark }
+    ensures mark { IfOk result (λ next. IfSome next (λ m. IfSome m IsMark)) }
+    ensures asks { (before : List (List ℕ)) → AsksTo before mark.entry wish.old
+        → IfOk result (λ next. IfSome next (λ m. AsksTo (before ++ word.entry.now ∷ []) m wish.new)) }
+{
     if let Some(mark) = mark {
         let is_read = put_pair(native, wish, mark, word)?;
         return Ok(if is_read { Some(None) } else { None });
@@ -77,7 +92,9 @@ fn put_word<'a>(
 }
 
 // Adds what words ask for: false where one of them asks for nothing.
-fn put_words<'a>(native: Arch, wish: &mut Wish<'a>, words: &[&'a str]) -> Result<bool, AllocError> {
+fn put_words<'a>(native: Arch, wish: &mut Wish<'a>, words: &[&'a str]) -> Result<bool, AllocError>
+    ensures { Asks [] wish.old → IfOk result (λ is_read. is_read ≡ true → Asks (map (λ w. w.now) words.now) wish.new) }
+{
     let mut mark = None;
     for word in words {
         match put_word(native, wish, mark, word)? {
@@ -94,7 +111,10 @@ pub fn wish_of<'a>(
     alloc: Global,
     native: Arch,
     words: &[&'a str],
-) -> Result<Option<Wish<'a>>, AllocError> {
+) -> Result<Option<Wish<'a>>, AllocError>
+    ensures { IfOk result (λ asked. IfSome asked (λ wish.
+        AskFor (map (λ w. w.now) words.now) (map (λ log. log.now) wish.logs.items) wish.runtime wish.otherwise)) }
+{
     let mut wish = Wish {
         logs: Vec::new(alloc),
         keeps: Vec::new(alloc),

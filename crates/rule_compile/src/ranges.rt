@@ -251,7 +251,8 @@ impl Ranges {
     {
         let token = machine.token();
         let default = profile.default_word();
-        let next = next_number(profile.rules(), token, self.end, end);
+        profile.rules();
+        let next = next_of(profile, token, self.end, end);
         self.extend(next, Leaf::Verdict(default))?;
         if next == end {
             return Ok(());
@@ -342,7 +343,19 @@ pub(crate) fn ranges_of(
     Ok(ranges.ranges)
 }
 
-// The least number, from one on, that has a rule of the machine with the token, or else the end.
+// The least number, from one on, that has a rule of the machine with the token, or else the end: mostly it is the first one.
+fn next_of(profile: &Profile, token: u32, from: u64, end: u64) -> u64
+    requires before { from < end }
+    requires small { end ≤ 2 ^ 32 }
+    ensures { IsNext profile.now.rules token from end result }
+{
+    if profile.latest(token, from as u32).is_some() {
+        return from;
+    }
+    next_number(profile.rules(), token, from, end)
+}
+
+// The same, by all rules.
 fn next_number(rules: &[Rule], token: u32, from: u64, end: u64) -> u64
     requires { from ≤ end }
     ensures { IsNext rules.now token from end result }

@@ -1,13 +1,19 @@
 -- What functions tell of files, before it is written.
-use Rattle.std.specs.Prelude.{ℕ, ◌≡◌, ◌⊎◌, List, [], ◌∷◌, Bool, Option, Result, Ok, Err}
+use Rattle.std.specs.Prelude.{ℕ, ◌≡◌, ◌⊎◌, List, [], ◌∷◌, ◌++◌, Bool, Option, Result, Ok, Err}
 use Rattle.streams.specs.Failures.{Failures}
 use Rattle.explain.specs.declared.told.Told.{Told}
 use Rattle.cli.specs.declared.stops.Stop.{Stop}
 use Rattle.call_tables.specs.declared.arch.Arch.{Arch}
 use Rattle.cli.specs.declared.adapting.Both.{Both}
-use Rattle.cli.specs.declared.stops.Stop.TheVariants.{OutOfMemory, Usage}
-use Rattle.cli.specs.Dispatch.{FirstUnread, HaveBytes, WritesTold}
-use Rattle.cli.specs.Files.{Folder}
+use Rattle.cli.specs.declared.stops.Stop.TheVariants.{CannotRead, OutOfMemory, Usage}
+use Rattle.learn.specs.Learned.{TellsLearned}
+use Rattle.learn.specs.Wish.{AskFor}
+use Rattle.learn.specs.declared.lists.Otherwise.{Otherwise}
+use Rattle.learn.specs.declared.lists.Runtime.{Runtime}
+use Rattle.learn.specs.declared.reading.Shown.{Shown}
+use Rattle.learn.specs.inner.Taken.{HaveShown}
+use Rattle.cli.specs.Dispatch.{FirstUnread, HaveBytes, StopsAtLog, WritesTold}
+use Rattle.cli.specs.Files.{Folder, HasBytes}
 use Rattle.cli.specs.Adapted.{AskNothing, IsMadeAs}
 use Rattle.cli.specs.Told.{IsManual, IsNoCommand, IsReplayed, NamesLogs, OfArguments, of_none, of_one}
 
@@ -48,3 +54,31 @@ pub record IsReplayOf (folder : Option Folder) (native : Arch) (bundle : List �
   pub unused : Bool
   pub named : NamesLogs words logs unused
   pub is : IsToldOf folder (bundle ∷ logs) (IsReplayed native unused logs) told
+
+-- the program stops at the file of that name, or for want of memory
+abbrev pub StopsAtName : List ℕ → Stop → Type 0
+StopsAtName name (CannotRead told) = told.now ≡ name
+StopsAtName name OutOfMemory = Unit {0}
+StopsAtName name other = ⊥
+
+-- behind those of these texts, the calls of the bytes of one more log were gathered
+abbrev pub ShowsMore : Option Folder → Arch → List ℕ → List (List ℕ) → Shown → Type 0
+ShowsMore folder native name texts shown = (text : List ℕ) × HasBytes folder name text × HaveShown native (texts ++ text ∷ []) shown
+
+-- the calls of the bytes of logs were gathered
+abbrev pub ShowEach : Option Folder → Arch → List (List ℕ) → Shown → Type 0
+ShowEach folder native logs shown = (texts : List (List ℕ)) × HaveBytes folder logs texts × HaveShown native texts shown
+
+-- what is learned from logs, unless the program stops at one
+abbrev pub IsLearnedFrom : Option Folder → Arch → List (List ℕ) → Option Runtime → Result Told Stop → Type 0
+IsLearnedFrom folder native logs runtime (Ok told) =
+    (texts : List (List ℕ)) × HaveBytes folder logs texts × TellsLearned native texts runtime told
+IsLearnedFrom folder native logs runtime (Err stop) = StopsAtLog folder logs stop
+
+-- the same of the logs that the words name, unless it stops before
+abbrev pub IsLearnedOf : Option Folder → Arch → List (List ℕ) → Result Told Stop → Type 0
+IsLearnedOf folder native words told =
+    (told ≡ Err Usage)
+    ⊎ ((told ≡ Err OutOfMemory)
+    ⊎ ((logs : List (List ℕ)) × (runtime : Option Runtime) × (otherwise : Otherwise) × AskFor words logs runtime otherwise
+    × IsLearnedFrom folder native logs runtime told))

@@ -8,6 +8,7 @@ use Rattle.cli.specs.Dispatch.{any_call, explained_as}
 use Rattle.cli.specs.Read.{TellsRead}
 use Rattle.cli.specs.Told.{OfArguments, of_none, of_one, of_two}
 use Rattle.cli.proofs.DispatchLaws.{answers_adapted, answers_manual, answers_replayed, answers_told, now_of}
+use Rattle.cli.proofs.LogLaws.{answers_learned}
 use Rattle.cli.proofs.program.obey.Goals as goal
 
 pub returns-in-Explain-clause-does : goal.returns-in-Explain-clause-does
@@ -111,6 +112,14 @@ returns-in-Adapt-clause-does g c = rw c.in-Adapt.is (
   answers_adapted g.O.Sink.held g.O.Sink.failures (g.F.Files.folder c.args.files.now) c.args.out.now c.tell_both.new.out
       c.in-Adapt.native c.in-Adapt.config.now (map now_of c.in-Adapt.words.now) c.tell_both.result c.adapted.result c.adapted.ensures
       c.tell_both.ensures.told,
+)
+
+pub returns-in-Learn-clause-does : goal.returns-in-Learn-clause-does
+returns-in-Learn-clause-does g c = rw c.in-Learn.is (
+  refl,
+  answers_learned g.O.Sink.held g.O.Sink.failures (g.F.Files.folder c.args.files.now) c.args.out.now c.tell_both-in-Learn.new.out
+      c.in-Learn.native c.tell_both-in-Learn.result (map now_of c.in-Learn.words.now) c.learned.result c.learned.ensures
+      c.tell_both-in-Learn.ensures.told,
 )
 
 pub returns-in-Replay-clause-does : goal.returns-in-Replay-clause-does

@@ -1,4 +1,4 @@
-use Rattle.std.proofs.Common.{◌≡◌, ◌+◌, ◌<◌, ◌∙◌, ap, arith, length, max, subst, sym, vec_len}
+use Rattle.std.proofs.Common.{◌≡◌, ◌+◌, ◌<◌, ◌∙◌, ap, arith, length, max, refl, subst, sym, vec_len}
 use Rattle.call_tables.specs.Arch.{token_of}
 use Rattle.rule_compile.specs.declared.ranges.Leaf.TheVariants.{Verdict}
 use Rattle.rule_compile.specs.inner.Numbers.{AreUnconditional, IsExtended, LeafFor, Reached}
@@ -18,11 +18,11 @@ returns-then-next-end-clause-reached c most many reached =
     let t = c.token-token.result in
     let from = c.args.self.now.end in
     let end = c.args.end in
-    let next = c.next_number-next.result in
+    let next = c.next_of-next.result in
     let old = c.args.self.now.ranges.items in
     let mid = c.extend.new.self.ranges.items in
-    let is_next = next_is p m t from end next c.rules.result.now c.token-token.ensures c.rules.ensures.rules
-    c.next_number-next.ensures in
+    let is_next = next_is p m t from end next p.rules c.token-token.ensures refl
+    c.next_of-next.ensures in
     let first : IsExtended old from next (Verdict p.default_word) mid =
     subst (λ w. IsExtended old from next (Verdict w) mid) c.default_word-default.ensures c.in_ok-extend.ensures.extended in
     subst (λ n. Reached p m most end n mid) (sym c.in_ok-extend.ensures.end)
@@ -36,11 +36,11 @@ returns-clause-reached c most many reached =
     let t = c.token-token.result in
     let from = c.args.self.now.end in
     let end = c.args.end in
-    let next = c.next_number-next.result in
+    let next = c.next_of-next.result in
     let old = c.args.self.now.ranges.items in
     let mid = c.extend.new.self.ranges.items in
-    let is_next = next_is p m t from end next c.rules.result.now c.token-token.ensures c.rules.ensures.rules
-    c.next_number-next.ensures in
+    let is_next = next_is p m t from end next p.rules c.token-token.ensures refl
+    c.next_of-next.ensures in
     let first : IsExtended old from next (Verdict p.default_word) mid =
     subst (λ w. IsExtended old from next (Verdict w) mid) c.default_word-default.ensures c.in_ok-extend.ensures.extended in
     let new = c.extend-2.new.self.ranges.items in
@@ -63,12 +63,12 @@ returns-then-next-end-clause-told c told =
     let t = c.token-token.result in
     let from = c.args.self.now.end in
     let end = c.args.end in
-    let next = c.next_number-next.result in
+    let next = c.next_of-next.result in
     let old = c.args.self.now.ranges.items in
     let mid = c.extend.new.self.ranges.items in
     let blocks = c.args.blocks.now.blocks.items in
-    let is_next = next_is p m t from end next c.rules.result.now c.token-token.ensures c.rules.ensures.rules
-    c.next_number-next.ensures in
+    let is_next = next_is p m t from end next p.rules c.token-token.ensures refl
+    c.next_of-next.ensures in
     let first : IsExtended old from next (Verdict p.default_word) mid =
     subst (λ w. IsExtended old from next (Verdict w) mid) c.default_word-default.ensures c.in_ok-extend.ensures.extended in
     subst (λ n. ToldSoFar p m blocks n mid) (sym c.in_ok-extend.ensures.end)
@@ -81,15 +81,15 @@ returns-clause-told c told =
     let t = c.token-token.result in
     let from = c.args.self.now.end in
     let end = c.args.end in
-    let next = c.next_number-next.result in
+    let next = c.next_of-next.result in
     let old = c.args.self.now.ranges.items in
     let mid = c.extend.new.self.ranges.items in
     let new = c.extend-2.new.self.ranges.items in
     let blocks = c.args.blocks.now.blocks.items in
     let grown = c.leaf_of.new.blocks.blocks.items in
     let leaf = c.in_ok-leaf.leaf in
-    let is_next = next_is p m t from end next c.rules.result.now c.token-token.ensures c.rules.ensures.rules
-    c.next_number-next.ensures in
+    let is_next = next_is p m t from end next p.rules c.token-token.ensures refl
+    c.next_of-next.ensures in
     let first : IsExtended old from next (Verdict p.default_word) mid =
     subst (λ w. IsExtended old from next (Verdict w) mid) c.default_word-default.ensures c.in_ok-extend.ensures.extended in
     let decided : DecidesNumber p.rules (token_of m) next p.default_word grown leaf =
@@ -112,11 +112,11 @@ returns-clause-calls c listed all =
     let t = c.token-token.result in
     let from = c.args.self.now.end in
     let end = c.args.end in
-    let next = c.next_number-next.result in
+    let next = c.next_of-next.result in
     let a = c.args.blocks.now in
     let b = c.leaf_of.new.blocks in
-    let is_next = next_is p m t from end next c.rules.result.now c.token-token.ensures c.rules.ensures.rules
-    c.next_number-next.ensures in
+    let is_next = next_is p m t from end next p.rules c.token-token.ensures refl
+    c.next_of-next.ensures in
     let inside : next < end = omega (arith, c.if-next-end.false, is_next.most) in
     let noted : NotesNumber a b p.rules (token_of m) next p.default_word =
     subst (λ n. NotesNumber a b p.rules n next p.default_word) c.token-token.ensures c.in_ok-leaf.ensures.notes in
