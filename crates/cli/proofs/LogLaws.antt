@@ -15,7 +15,7 @@ use Rattle.learn.specs.Replayed.{TellsReplayed}
 use Rattle.learn.specs.declared.logs.Log.{Log}
 use Rattle.learn.specs.declared.lists.Runtime.{Runtime}
 use Rattle.learn.specs.declared.reading.Shown.{Shown}
-use Rattle.learn.specs.inner.Taken.{HaveShown}
+use Rattle.learn.specs.Taken.{HaveShown}
 use Rattle.cli.specs.declared.stops.Stop.{Stop}
 use Rattle.cli.specs.declared.stops.Stop.TheVariants.{Usage, CannotRead, Read, Write, OutOfMemory}
 use Rattle.cli.specs.Dispatch.{AnswersLearn, AnswersLogs, FirstUnread, HaveBytes, StopsAtLog}

@@ -3,7 +3,7 @@ ghost use Rattle.std.specs.Prelude.{◌≡◌, ◌≢◌, ◌↔◌, [], ◌∷�
 ghost use Rattle.std.specs.List.{zip};
 ghost use Rattle.learn.specs.Logged.{parts_of};
 ghost use Rattle.learn.specs.Replayed.{TellsReplayed};
-ghost use Rattle.learn.specs.inner.Taken.{HaveShown};
+ghost use Rattle.learn.specs.Taken.{HaveShown};
 ghost use Rattle.cli.specs.Dispatch.{StopsAtLog};
 ghost use Rattle.cli.specs.Files.{IsOpened};
 ghost use Rattle.cli.specs.Told.{IsReplayed, NamesLogs};

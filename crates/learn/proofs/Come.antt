@@ -7,7 +7,7 @@ use Rattle.call_tables.specs.declared.arch.Arch.{Arch}
 use Rattle.texts.specs.Lines.{line_feed}
 use Rattle.strace_log.specs.Lines.{lines_of}
 use Rattle.learn.specs.declared.calls.Seen.{Seen}
-use Rattle.learn.specs.inner.Taken.{AreTaken, HasCome, onto}
+use Rattle.learn.specs.Taken.{AreTaken, HasCome, onto}
 
 onto_nothing : (rest : List ℕ) → lines_of rest ≡ onto [] (lines_of rest)
 onto_nothing [] = refl

@@ -20,7 +20,7 @@ use Rattle.profile.specs.Policy.{IsNative, IsProfile, Policy, Says}
 use Rattle.profile.specs.Rule.{Matches}
 use Rattle.strace_log.specs.Line.{words_of_call}
 use Rattle.learn.specs.declared.calls.Seen.{Seen}
-use Rattle.learn.specs.inner.Taken.{Agree, AllowsEach, IsForEach, IsLow, IsWithin, OneAllows}
+use Rattle.learn.specs.Taken.{Agree, AllowsEach, IsForEach, IsLow, IsWithin, OneAllows}
 
 mask_within : (m b : ℕ) → m < 2 ^ b → bit_and (2 ^ b - 1) m ≡ m
 mask_within m b lt = and_comm (2 ^ b - 1) m ∙ and_mask m b ∙ mod-eq_of_lt lt

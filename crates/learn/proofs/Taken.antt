@@ -12,7 +12,7 @@ use Rattle.strace_log.specs.Lines.{lines_of}
 use Rattle.learn.specs.declared.calls.Seen.{Seen}
 use Rattle.learn.specs.Learned.{AllowsLine, AllowsText, IsSeen}
 use Rattle.learn.specs.inner.Seen.{AreSeen}
-use Rattle.learn.specs.inner.Taken.{AllowsEach, AreTaken, Grows, IsCovered, IsShown, LineIsCovered, lines_in}
+use Rattle.learn.specs.Taken.{AllowsEach, AreTaken, Grows, IsCovered, IsShown, LineIsCovered, lines_in}
 use Rattle.learn.proofs.Lines.{first_of, later_of}
 
 if_some_weaker : (P Q : CallParts → Type 0) → ((x : CallParts) → P x → Q x) → (o : Option CallParts) → IfSome o P → IfSome o Q

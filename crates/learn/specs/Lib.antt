@@ -1,6 +1,7 @@
 pub mod Lists
 pub mod Wish
 pub mod Given
+pub mod Taken
 pub mod Kept
 pub mod Learned
 pub mod Logged

@@ -1,5 +1,4 @@
 pub mod Seen
-pub mod Taken
 pub mod Wished
 pub mod Refusals
 pub mod Views

@@ -2,7 +2,7 @@
 ghost use Rattle.std.specs.Prelude.{◌≡◌, IfOk, []};
 ghost use Rattle.call_record.specs.Record.{words};
 ghost use Rattle.strace_log.specs.Line.{words_of_call};
-ghost use Rattle.learn.specs.inner.Taken.{Grows, IsCovered};
+ghost use Rattle.learn.specs.Taken.{Grows, IsCovered};
 
 use crate::covering::{fitting, is_noted, whole_of};
 use crate::keeps::{Keep, bits_of, keep_of, values_of};

@@ -1,6 +1,6 @@
 //! Whether a call is one of those that were gathered.
 ghost use Rattle.std.specs.Prelude.{◌≡◌, ◌<◌, ◌%◌, ◌^◌, IsTrue, slice_index};
-ghost use Rattle.learn.specs.inner.Taken.{Agree, Covers, IsNoted};
+ghost use Rattle.learn.specs.Taken.{Agree, Covers, IsNoted};
 
 use crate::calls::Seen;
 use crate::keeps::{WHOLE, low};

@@ -6,7 +6,7 @@ ghost use Rattle.call_tables.specs.Arch.{table_of};
 ghost use Rattle.call_tables.specs.Table.{number_in};
 ghost use Rattle.call_tables.specs.declared.arch.Arch.{Arch};
 ghost use Rattle.learn.specs.inner.Seen.{AreSeen};
-ghost use Rattle.learn.specs.inner.Taken.{AllowsEach, IsForEach, IsLow, IsWithin, OneAllows};
+ghost use Rattle.learn.specs.Taken.{AllowsEach, IsForEach, IsLow, IsWithin, OneAllows};
 ghost use Rattle.learn.specs.Learned.{IsNamed, IsOfRecord};
 
 use crate::calls::Seen;

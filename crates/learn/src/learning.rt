@@ -2,7 +2,7 @@
 ghost use Rattle.std.specs.Prelude.{◌≡◌, ℕ, List, IfOk, true, false, string_bytes};
 ghost use Rattle.call_tables.specs.declared.arch.Arch.{Arch};
 ghost use Rattle.learn.specs.inner.Seen.{IsWeighed};
-ghost use Rattle.learn.specs.inner.Taken.{AreTaken, HaveShown, lines_in};
+ghost use Rattle.learn.specs.Taken.{AreTaken, HaveShown, lines_in};
 ghost use Rattle.learn.specs.Learned.{TellsLearned};
 
 use crate::bundle::{bundle_of, machines_of};

@@ -2,7 +2,7 @@
 ghost use Rattle.std.specs.Prelude.{◌≡◌, ◌++◌, ℕ, List, [], ◌∷◌, true, false, IfOk, IsTrue};
 ghost use Rattle.strace_log.specs.Lines.{lines_of};
 ghost use Rattle.learn.specs.Given.{GivesAll};
-ghost use Rattle.learn.specs.inner.Taken.{AreTaken, HasCome, HaveShown};
+ghost use Rattle.learn.specs.Taken.{AreTaken, HasCome, HaveShown};
 
 use crate::calls::{Calls, see};
 use crate::keeps::Keep;

@@ -1,6 +1,6 @@
 //! What narrowing a bundle answers.
 ghost use Rattle.std.specs.Prelude.{◌≡◌, ◌++◌, ℕ, List, [], ◌∷◌, IfOk, IfSome, true, false};
-ghost use Rattle.narrowed.specs.inner.Cutting.{Suits};
+ghost use Rattle.narrowed.specs.Cutting.{Suits};
 ghost use Rattle.profile.specs.declared.rules.Rule.{Rule as TheRule};
 ghost use Rattle.narrow.specs.Narrow as spec;
 ghost use Rattle.narrowed.specs.Lowered.{AreLowered};

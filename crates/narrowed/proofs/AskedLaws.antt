@@ -13,8 +13,8 @@ use Rattle.profile.specs.Condition.{Meets}
 use Rattle.narrowed.specs.declared.patterns.Pattern.{Pattern}
 use Rattle.narrowed.specs.Counts.{most_by}
 use Rattle.narrowed.specs.Narrowed.{Has}
-use Rattle.narrowed.specs.inner.Patterns.{HasPattern, turns, one}
-use Rattle.narrowed.specs.inner.Parts.{ArePatterns}
+use Rattle.narrowed.specs.Patterns.{HasPattern, turns, one}
+use Rattle.narrowed.specs.Parts.{ArePatterns}
 use Rattle.narrowed.proofs.HasLaws.{Has-nil, Has-one, one-Has}
 use Rattle.narrowed.proofs.PatternLaws.{Beyond, turns_law, turns_low, turns_few}
 

@@ -12,7 +12,7 @@ use Rattle.profile.specs.Policy.{most_rules}
 use Rattle.narrowed.specs.Counts.{most_by, most_parts, most_lists, IsCutCause}
 use Rattle.narrowed.specs.declared.fault.CutError.{CutError}
 use Rattle.narrowed.specs.declared.fault.CutError.TheVariants.{TooMany, OutOfMemory}
-use Rattle.narrowed.specs.inner.Cutting.{with_each, extended}
+use Rattle.narrowed.specs.Cutting.{with_each, extended}
 
 leb_false : (a b : ℕ) → b < a → nat_le a b ≡ false
 leb_false a b lt = elim (leb_tells a b) [ inl t ↦ absurd (omega (arith, lt, t.1)) | inr f ↦ f.0 ]

@@ -8,8 +8,8 @@ use Rattle.std.proofs.lemmas.List.Elements.{All-nil, All-cons, All-append, All-p
 use Rattle.profile.specs.declared.conditions.Cond.{Cond}
 use Rattle.profile.specs.Condition.{Meets}
 use Rattle.narrowed.specs.Narrowed.{Has}
-use Rattle.narrowed.specs.inner.Parts.{cut, IsLow, AreParts}
-use Rattle.narrowed.specs.inner.Cutting.{Hold, HoldCut, with_each, extended, IsPartOf, IsPart, AreCombined}
+use Rattle.narrowed.specs.Parts.{cut, IsLow, AreParts}
+use Rattle.narrowed.specs.Cutting.{Hold, HoldCut, with_each, extended, IsPartOf, IsPart, AreCombined}
 use Rattle.narrowed.specs.Counts.{most_lists, most_parts}
 use Rattle.narrowed.proofs.CountLaws.{extended_few, one_more_list}
 use Rattle.narrowed.proofs.HasLaws.{Has-left, Has-right, Has-cases, Has-nil, Has-one, one-Has, Has-like, Has-map, map-Has}

@@ -9,7 +9,7 @@ use Rattle.std.proofs.lemmas.List.Elements.{All-nil, All-cons, All-append}
 use Rattle.std.proofs.lemmas.Nat.{pow_pos, mod_below, pow_below}
 use Rattle.narrowed.specs.declared.patterns.Pattern.{Pattern}
 use Rattle.narrowed.specs.Narrowed.{Has}
-use Rattle.narrowed.specs.inner.Patterns.{HasPattern, high, from_place, turn_at, turns_below, turns}
+use Rattle.narrowed.specs.Patterns.{HasPattern, high, from_place, turn_at, turns_below, turns}
 use Rattle.narrowed.proofs.TurnLaws.{Turns, turn_below, turn_above, has_raised, has_lowered}
 use Rattle.narrowed.proofs.HasLaws.{Has-left, Has-right, Has-cases, Has-nil, Has-one, one-Has}
 

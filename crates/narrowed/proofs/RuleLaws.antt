@@ -23,9 +23,9 @@ use Rattle.profile.specs.Rule.{argument_of, Matches}
 use Rattle.narrowed.specs.Alike.{read_of, Alike, IsCleared}
 use Rattle.narrowed.specs.Counts.{most_lists}
 use Rattle.narrowed.specs.Narrowed.{Has, Answers, MatchesRead, AreNarrowed}
-use Rattle.narrowed.specs.inner.Parts.{cut, IsLow}
-use Rattle.narrowed.specs.inner.Cutting.{Hold, HoldCut, IsPartOf, IsPart, AreCombined, IsLike, AreCut, SuitsAt, Suits}
-use Rattle.narrowed.specs.inner.Cutting.SuitsAt.{read, narrow, masked}
+use Rattle.narrowed.specs.Parts.{cut, IsLow}
+use Rattle.narrowed.specs.Cutting.{Hold, HoldCut, IsPartOf, IsPart, AreCombined, IsLike, AreCut, SuitsAt, Suits}
+use Rattle.narrowed.specs.Cutting.SuitsAt.{read, narrow, masked}
 use Rattle.narrowed.proofs.HasLaws.{Has-left, Has-right, Has-cases, Has-nil, Has-one, one-Has, Has-map, map-Has}
 use Rattle.narrowed.proofs.CutLaws.{all_from}
 use Rattle.narrowed.proofs.WidthLaws.{width, narrow_is, compared_read, compared_cleared, compared_fits, compared_below, low_bits}

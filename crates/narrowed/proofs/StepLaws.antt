@@ -15,10 +15,10 @@ use Rattle.profile.specs.Condition.{IsCondition, Meets}
 use Rattle.narrowed.specs.declared.patterns.Pattern.{Pattern}
 use Rattle.narrowed.specs.Counts.{most_by}
 use Rattle.narrowed.specs.Narrowed.{Has}
-use Rattle.narrowed.specs.inner.Patterns.{HasPattern}
-use Rattle.narrowed.specs.inner.Parts.{cut, IsLow, ArePatterns, AreOfPatterns, AreParts}
+use Rattle.narrowed.specs.Patterns.{HasPattern}
+use Rattle.narrowed.specs.Parts.{cut, IsLow, ArePatterns, AreOfPatterns, AreParts}
 use Rattle.profile.specs.declared.rules.Rule.{Rule}
-use Rattle.narrowed.specs.inner.Cutting.{with_each, extended, AreCombined, IsLike, AreCut}
+use Rattle.narrowed.specs.Cutting.{with_each, extended, AreCombined, IsLike, AreCut}
 use Rattle.narrowed.proofs.HasLaws.{Has-left, Has-right, Has-cases, Has-nil, Has-one, one-Has, Has-map}
 use Rattle.narrowed.proofs.CutLaws.{all_from}
 use Rattle.narrowed.proofs.CountLaws.{most_low, most_wide}

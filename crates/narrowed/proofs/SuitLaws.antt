@@ -6,8 +6,8 @@ use Rattle.call_tables.specs.Arch.{token_of}
 use Rattle.call_arguments.specs.Reads.{read_bits}
 use Rattle.profile.specs.declared.rules.Rule.{Rule}
 use Rattle.profile.specs.Rule.{is_narrow_rule}
-use Rattle.narrowed.specs.inner.Cutting.{SuitsAt, Suits, IsReadPlan}
-use Rattle.narrowed.specs.inner.Cutting.SuitsAt.{read, narrow, masked}
+use Rattle.narrowed.specs.Cutting.{SuitsAt, Suits, IsReadPlan}
+use Rattle.narrowed.specs.Cutting.SuitsAt.{read, narrow, masked}
 use Rattle.narrowed.proofs.CutLaws.{all_from}
 
 -- six numbers by their places

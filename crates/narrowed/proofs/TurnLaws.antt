@@ -5,7 +5,7 @@ use Rattle.std.proofs.lemmas.Bool.{cases_lt}
 use Rattle.std.proofs.lemmas.Nat.{shr-shr, shl-shr, shr_split, field_of, shr_below, pow_pos, le-div, mul-le}
 use Rattle.std.proofs.lemmas.Nat.Bits.{and_high}
 use Rattle.std.proofs.Math.Nat.{suc-mul, add-mul}
-use Rattle.narrowed.specs.inner.Patterns.{high}
+use Rattle.narrowed.specs.Patterns.{high}
 
 -- w turns up from v at a place
 abbrev pub Turns : ℕ → ℕ → ℕ → Type 0

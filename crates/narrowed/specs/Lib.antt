@@ -1,3 +1,6 @@
+pub mod Patterns
+pub mod Parts
+pub mod Cutting
 pub mod Alike
 pub mod Counts
 pub mod Lowered

@@ -2,7 +2,7 @@
 ghost use Rattle.std.specs.Prelude.{◌≡◌, ◌≢◌, ◌<◌, ◌≤◌, bit_and, max, IfOk};
 ghost use Rattle.profile.specs.Condition.{Meets};
 ghost use Rattle.narrowed.specs.Counts.{most_by};
-ghost use Rattle.narrowed.specs.inner.Parts.{ArePatterns};
+ghost use Rattle.narrowed.specs.Parts.{ArePatterns};
 
 use crate::patterns::{Pattern, one, power_of_two, turns};
 use profile::{Cond, Op};

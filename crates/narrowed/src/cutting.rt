@@ -2,7 +2,7 @@
 ghost use Rattle.std.specs.Prelude.{◌≡◌, ℕ, ◌++◌, ◌≤◌, ◌<◌, [], ◌∷◌, map, length, IfOk, IfErr};
 ghost use Rattle.std.specs.List.{All, flat_map};
 ghost use Rattle.narrowed.specs.Counts.{IsCutCause, most_lists};
-ghost use Rattle.narrowed.specs.inner.Cutting as spec;
+ghost use Rattle.narrowed.specs.Cutting as spec;
 
 use crate::fault::CutError;
 use crate::parts::parts;

@@ -1,7 +1,7 @@
 //! The conditions that stand for one on the lowest bits of its argument.
 ghost use Rattle.std.specs.Prelude.{◌≡◌, ◌<◌, ◌≤◌, ◌++◌, [], ◌∷◌, List, IfOk};
 ghost use Rattle.narrowed.specs.declared.patterns.Pattern.{Pattern as ThePattern};
-ghost use Rattle.narrowed.specs.inner.Parts.{AreOfPatterns, AreParts};
+ghost use Rattle.narrowed.specs.Parts.{AreOfPatterns, AreParts};
 
 use crate::asked::patterns;
 use crate::patterns::Pattern;

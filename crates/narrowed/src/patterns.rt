@@ -1,6 +1,6 @@
 //! Bits that a number has under a mask, in place of a comparison of its lowest bits.
 ghost use Rattle.std.specs.Prelude.{◌≡◌, ◌<◌, ◌≤◌, ◌^◌, IfOk};
-ghost use Rattle.narrowed.specs.inner.Patterns as spec;
+ghost use Rattle.narrowed.specs.Patterns as spec;
 
 use std::alloc::{AllocError, Global};
 
@@ -44,7 +44,7 @@ fn turn_at(bits: u32, value: u64, up: bool, down: bool, place: u32) -> Option<Pa
 }
 
 /// The patterns of numbers of so many bits that are above a value, or below it, or both: one for each place at which they turn.
-#[tactic(auto, unfolding(crate::specs::inner::Patterns::turns))]
+#[tactic(auto, unfolding(crate::specs::Patterns::turns))]
 pub(crate) fn turns(
     alloc: Global,
     bits: u32,

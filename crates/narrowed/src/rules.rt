@@ -3,7 +3,7 @@ ghost use Rattle.std.specs.Prelude.{◌≡◌, ◌++◌, [], ◌∷◌, ◌+◌,
 ghost use Rattle.narrowed.specs.Counts.{IsCutCause, most_lists, most_narrowed};
 ghost use Rattle.narrowed.specs.Narrowed.{AreNarrowed};
 ghost use Rattle.profile.specs.declared.rules.Rule.{Rule as TheRule};
-ghost use Rattle.narrowed.specs.inner.Cutting.{Suits};
+ghost use Rattle.narrowed.specs.Cutting.{Suits};
 
 use crate::cutting::{MOST_PARTS, cut};
 use crate::fault::CutError;

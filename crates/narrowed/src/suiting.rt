@@ -1,8 +1,8 @@
 //! To how many bits the arguments of a rule are cut.
 ghost use Rattle.std.specs.Prelude.{◌≡◌, IsTrue, All, slice_index};
 ghost use Rattle.narrowed.specs.Counts as counts;
-ghost use Rattle.narrowed.specs.inner.Parts.{IsLow};
-ghost use Rattle.narrowed.specs.inner.Cutting.{IsReadPlan, Suits, SuitsAt};
+ghost use Rattle.narrowed.specs.Parts.{IsLow};
+ghost use Rattle.narrowed.specs.Cutting.{IsReadPlan, Suits, SuitsAt};
 
 use crate::parts::WIDEST;
 use crate::patterns::power_of_two;

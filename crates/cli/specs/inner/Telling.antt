@@ -11,7 +11,7 @@ use Rattle.learn.specs.Wish.{AskFor}
 use Rattle.learn.specs.declared.lists.Otherwise.{Otherwise}
 use Rattle.learn.specs.declared.lists.Runtime.{Runtime}
 use Rattle.learn.specs.declared.reading.Shown.{Shown}
-use Rattle.learn.specs.inner.Taken.{HaveShown}
+use Rattle.learn.specs.Taken.{HaveShown}
 use Rattle.cli.specs.Dispatch.{FirstUnread, HaveBytes, StopsAtLog, WritesTold}
 use Rattle.cli.specs.Files.{Folder, HasBytes}
 use Rattle.cli.specs.Adapted.{AskNothing, IsMadeAs}

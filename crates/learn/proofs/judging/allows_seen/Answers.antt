@@ -3,7 +3,7 @@ use Rattle.std.specs.List.{All}
 use Rattle.std.proofs.lemmas.List.{take_all}
 use Rattle.std.proofs.lemmas.List.Elements.{All-more}
 use Rattle.learn.specs.declared.calls.Seen.{Seen}
-use Rattle.learn.specs.inner.Taken.{AllowsEach}
+use Rattle.learn.specs.Taken.{AllowsEach}
 use Rattle.learn.proofs.judging.allows_seen.Goals as goal
 
 pub loop-seen-preserved : goal.loop-seen-preserved

@@ -1,7 +1,7 @@
 -- The calls so far are allowed.
 use Rattle.std.proofs.Common.{take}
 use Rattle.std.specs.List.{All}
-use Rattle.learn.specs.inner.Taken.{AllowsEach}
+use Rattle.learn.specs.Taken.{AllowsEach}
 use Rattle.learn.proofs.judging.allows_seen.Given as goal
 
 abbrev pub invariant-loop-seen : goal.invariant-loop-seen

@@ -3,7 +3,7 @@ use Rattle.std.specs.List.{All}
 use Rattle.std.proofs.lemmas.List.{take_all}
 use Rattle.std.proofs.lemmas.List.Elements.{All-more}
 use Rattle.profile.specs.declared.conditions.Cond.{Cond}
-use Rattle.learn.specs.inner.Taken.{IsWithin}
+use Rattle.learn.specs.Taken.{IsWithin}
 use Rattle.learn.proofs.judging.are_within.Goals as goal
 
 pub loop-cond-preserved : goal.loop-cond-preserved

@@ -4,7 +4,7 @@ use Rattle.call_record.specs.Words.{IsRecord}
 use Rattle.strace_log.specs.Line.{words_of_call}
 use Rattle.profile.specs.declared.conditions.Cond.{Cond}
 use Rattle.profile.specs.Rule.{Matches}
-use Rattle.learn.specs.inner.Taken.{IsWithin}
+use Rattle.learn.specs.Taken.{IsWithin}
 use Rattle.learn.proofs.Rules.{for_each}
 use Rattle.learn.proofs.judging.is_for_each.Goals as goal
 

@@ -1,5 +1,5 @@
 use Rattle.std.proofs.Common.{ℕ, List, [], ◌∷◌, ◌++◌, subst, ◌∙◌}
-use Rattle.learn.specs.inner.Taken.{AreTaken}
+use Rattle.learn.specs.Taken.{AreTaken}
 use Rattle.learn.proofs.reading.end_line.Goals as goal
 
 pub returns-clause-taken : goal.returns-clause-taken

@@ -1,7 +1,7 @@
 -- What the source has given has come.
 use Rattle.std.proofs.Common.{◌≡◌, ℕ, List, []}
 use Rattle.std.specs.Io.KnownBytes.{Consumes}
-use Rattle.learn.specs.inner.Taken.{AreTaken, HasCome}
+use Rattle.learn.specs.Taken.{AreTaken, HasCome}
 use Rattle.learn.proofs.reading.take_all.Given as goal
 
 abbrev pub invariant-part : goal.invariant-part

@@ -1,5 +1,5 @@
 use Rattle.std.proofs.Common.{◌≡◌, ℕ, List, [], ◌∷◌, ◌++◌, IsTrue, sym, subst}
-use Rattle.learn.specs.inner.Taken.{AreTaken, HasCome}
+use Rattle.learn.specs.Taken.{AreTaken, HasCome}
 use Rattle.learn.proofs.Come.{byte_came, line_came}
 use Rattle.learn.proofs.Results.{if_ok_both}
 use Rattle.std.proofs.lemmas.Bool.{ne_eqb}

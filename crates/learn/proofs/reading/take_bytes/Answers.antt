@@ -1,6 +1,6 @@
 use Rattle.std.proofs.Common.{◌≡◌, ℕ, List, [], ◌∷◌, ◌++◌, ◌+◌, take, append_assoc, append-nil, get_or, sym, ap, subst, ◌∙◌}
 use Rattle.std.proofs.lemmas.List.{take_all, take_more}
-use Rattle.learn.specs.inner.Taken.{HasCome}
+use Rattle.learn.specs.Taken.{HasCome}
 use Rattle.learn.proofs.reading.take_bytes.Goals as goal
 
 pub loop-byte-init : goal.loop-byte-init

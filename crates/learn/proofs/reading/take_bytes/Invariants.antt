@@ -1,6 +1,6 @@
 -- The bytes so far have come.
 use Rattle.std.proofs.Common.{ℕ, List, ◌++◌, take}
-use Rattle.learn.specs.inner.Taken.{HasCome}
+use Rattle.learn.specs.Taken.{HasCome}
 use Rattle.learn.proofs.reading.take_bytes.Given as goal
 
 abbrev pub invariant-loop-byte : goal.invariant-loop-byte

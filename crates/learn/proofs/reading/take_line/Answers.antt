@@ -1,5 +1,5 @@
 use Rattle.std.proofs.Common.{[], ◌∷◌, ◌++◌, sym}
-use Rattle.learn.specs.inner.Taken.{AreTaken, Grows, IsCovered}
+use Rattle.learn.specs.Taken.{AreTaken, Grows, IsCovered}
 use Rattle.learn.proofs.Results.{if_ok_always, if_ok_both}
 use Rattle.learn.proofs.Taken.{taken_more, taken_none}
 use Rattle.learn.proofs.reading.take_line.Goals as goal

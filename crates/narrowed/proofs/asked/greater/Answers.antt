@@ -1,7 +1,7 @@
 use Rattle.std.proofs.Common.{◌≡◌, ◌≢◌, ℕ, true, false, ◌+◌, ◌-◌, ◌%◌, ◌^◌, ◌<◌, ◌≤◌, bit_and, sym, ◌∙◌, ap, arith}
-use Rattle.narrowed.specs.inner.Patterns.{turns, one}
+use Rattle.narrowed.specs.Patterns.{turns, one}
 use Rattle.std.specs.Prelude.{max}
-use Rattle.narrowed.specs.inner.Parts.{ArePatterns}
+use Rattle.narrowed.specs.Parts.{ArePatterns}
 use Rattle.narrowed.proofs.AskedLaws.{if_ok, all_asked, none_asked, greater_asked, lesser_asked, unlike_asked, equal_asked, masked_asked, unmasked_asked, asked_like}
 use Rattle.narrowed.proofs.asked.greater.Goals as goal
 

@@ -3,7 +3,7 @@ use Rattle.profile.specs.Condition.{Meets}
 use Rattle.profile.specs.declared.conditions.Op.TheVariants.{Ne, Lt, Le, Eq, Ge, Gt, MaskedEq}
 use Rattle.std.specs.Prelude.{max}
 use Rattle.narrowed.specs.Counts.{most_by}
-use Rattle.narrowed.specs.inner.Parts.{ArePatterns}
+use Rattle.narrowed.specs.Parts.{ArePatterns}
 use Rattle.narrowed.proofs.AskedLaws.{if_ok, of_op}
 use Rattle.narrowed.proofs.asked.patterns.Goals as goal
 

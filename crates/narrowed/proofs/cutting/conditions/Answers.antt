@@ -3,7 +3,7 @@ use Rattle.std.proofs.lemmas.List.{length-map, take_more}
 use Rattle.std.proofs.lemmas.List.Elements.{All-same}
 use Rattle.arrayvec.specs.declared.array_vec.ArrayVec.{ArrayVec}
 use Rattle.profile.specs.declared.conditions.Cond.{Cond}
-use Rattle.narrowed.specs.inner.Cutting.{AreCombined, extended}
+use Rattle.narrowed.specs.Cutting.{AreCombined, extended}
 use Rattle.narrowed.specs.Counts.{most_lists}
 use Rattle.narrowed.proofs.CountLaws.{taken_lists}
 use Rattle.narrowed.proofs.CutLaws.{combined_none, combined_more}

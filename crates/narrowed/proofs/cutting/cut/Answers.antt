@@ -1,6 +1,6 @@
 use Rattle.std.proofs.Common.{◌≡◌, map}
 use Rattle.std.specs.List.{All}
-use Rattle.narrowed.specs.inner.Cutting.{IsLike, AreCut}
+use Rattle.narrowed.specs.Cutting.{IsLike, AreCut}
 use Rattle.narrowed.specs.Counts.{most_lists}
 use Rattle.narrowed.proofs.StepLaws.{all_shown, cut_rules, if_both}
 use Rattle.narrowed.proofs.cutting.cut.Goals as goal

@@ -1,5 +1,5 @@
 use Rattle.std.proofs.Common.{◌≡◌, ◌++◌, ◌<◌, length, map, sym, ◌∙◌, ap, subst, arith}
-use Rattle.narrowed.specs.inner.Cutting.{with_each}
+use Rattle.narrowed.specs.Cutting.{with_each}
 use Rattle.narrowed.proofs.StepLaws.{extended_more}
 use Rattle.narrowed.proofs.cutting.extended.Goals as goal
 

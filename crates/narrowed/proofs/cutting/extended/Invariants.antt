@@ -1,5 +1,5 @@
 use Rattle.std.proofs.Common.{◌≡◌, map, take}
-use Rattle.narrowed.specs.inner.Cutting as spec
+use Rattle.narrowed.specs.Cutting as spec
 use Rattle.narrowed.proofs.cutting.extended.Given as goal
 
 abbrev pub invariant-loop-list : goal.invariant-loop-list

@@ -2,7 +2,7 @@ use Rattle.std.proofs.Common.{◌≡◌, ◌++◌, [], ◌∷◌, List, length, 
 use Rattle.std.specs.List.{All}
 use Rattle.std.proofs.lemmas.List.Elements.{All-push, same_from_all_zip}
 use Rattle.profile.specs.declared.rules.Rule.{Rule}
-use Rattle.narrowed.specs.inner.Cutting.{IsLike}
+use Rattle.narrowed.specs.Cutting.{IsLike}
 use Rattle.narrowed.proofs.StepLaws.{conds_more}
 use Rattle.narrowed.proofs.cutting.with_conds.Goals as goal
 

@@ -1,6 +1,6 @@
 use Rattle.std.proofs.Common.{◌≡◌, map, take}
 use Rattle.std.specs.List.{All}
-use Rattle.narrowed.specs.inner.Cutting as spec
+use Rattle.narrowed.specs.Cutting as spec
 use Rattle.narrowed.proofs.cutting.with_conds.Given as goal
 
 abbrev pub invariant-loop-list : goal.invariant-loop-list

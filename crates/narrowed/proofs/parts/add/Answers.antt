@@ -1,7 +1,7 @@
 use Rattle.std.proofs.Common.{◌≡◌, [], ◌∷◌, ◌++◌, List, sym, ap, subst}
 use Rattle.profile.specs.declared.conditions.Cond.{Cond}
 use Rattle.narrowed.specs.declared.patterns.Pattern.{Pattern}
-use Rattle.narrowed.specs.inner.Parts.{AreOfPatterns}
+use Rattle.narrowed.specs.Parts.{AreOfPatterns}
 use Rattle.narrowed.proofs.AskedLaws.{if_ok}
 use Rattle.narrowed.proofs.StepLaws.{missing_some, patterns_more, patterns_skip}
 use Rattle.narrowed.proofs.parts.add.Goals as goal

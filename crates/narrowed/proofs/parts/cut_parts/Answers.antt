@@ -1,4 +1,4 @@
-use Rattle.narrowed.specs.inner.Parts.{AreOfPatterns, AreParts}
+use Rattle.narrowed.specs.Parts.{AreOfPatterns, AreParts}
 use Rattle.narrowed.proofs.AskedLaws.{if_ok}
 use Rattle.narrowed.proofs.StepLaws.{parts_low}
 use Rattle.narrowed.proofs.parts.cut_parts.Goals as goal

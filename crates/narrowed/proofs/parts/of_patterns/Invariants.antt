@@ -1,5 +1,5 @@
 use Rattle.std.proofs.Common.{take}
-use Rattle.narrowed.specs.inner.Parts.{AreOfPatterns}
+use Rattle.narrowed.specs.Parts.{AreOfPatterns}
 use Rattle.narrowed.proofs.parts.of_patterns.Given as goal
 
 abbrev pub invariant-loop-pattern : goal.invariant-loop-pattern

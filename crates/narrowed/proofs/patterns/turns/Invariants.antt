@@ -1,5 +1,5 @@
 use Rattle.std.proofs.Common.{◌≡◌}
-use Rattle.narrowed.specs.inner.Patterns as spec
+use Rattle.narrowed.specs.Patterns as spec
 use Rattle.narrowed.proofs.patterns.turns.Given as goal
 
 abbrev pub invariant-loop-place : goal.invariant-loop-place

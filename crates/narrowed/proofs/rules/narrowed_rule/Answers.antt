@@ -1,7 +1,7 @@
 use Rattle.narrowed.specs.Narrowed.{AreNarrowed}
 use Rattle.std.proofs.Common.{[], ◌∷◌, ◌≤◌, length}
 use Rattle.narrowed.specs.Counts.{most_lists}
-use Rattle.narrowed.specs.inner.Cutting.{AreCut}
+use Rattle.narrowed.specs.Cutting.{AreCut}
 use Rattle.narrowed.proofs.AskedLaws.{if_ok}
 use Rattle.narrowed.proofs.RuleLaws as laws
 use Rattle.narrowed.proofs.rules.narrowed_rule.Goals as goal

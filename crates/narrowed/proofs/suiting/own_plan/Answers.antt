@@ -2,7 +2,7 @@ use Rattle.std.proofs.Common.{◌≡◌, [], ◌∷◌, ap, refl, sym, ◌∙◌
 use Rattle.std.specs.Prelude.{slice_index}
 use Rattle.call_arguments.specs.Reads.{read_bits}
 use Rattle.call_tables.specs.Arch.{token_of}
-use Rattle.narrowed.specs.inner.Cutting.{IsReadPlan}
+use Rattle.narrowed.specs.Cutting.{IsReadPlan}
 use Rattle.narrowed.proofs.SuitLaws.{six, read_suits, whole_suits}
 use Rattle.narrowed.proofs.suiting.own_plan.Goals as goal
 

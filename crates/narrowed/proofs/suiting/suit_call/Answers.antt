@@ -3,7 +3,7 @@ use Rattle.std.specs.Prelude.{slice_index}
 use Rattle.std.specs.List.{All}
 use Rattle.std.proofs.lemmas.List.Elements.{All-more}
 use Rattle.profile.specs.declared.conditions.Cond.{Cond}
-use Rattle.narrowed.specs.inner.Cutting.{SuitsAt}
+use Rattle.narrowed.specs.Cutting.{SuitsAt}
 use Rattle.narrowed.proofs.suiting.suit_call.Goals as goal
 
 pub loop-cond-preserved : goal.loop-cond-preserved

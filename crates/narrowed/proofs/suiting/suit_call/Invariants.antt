@@ -1,7 +1,7 @@
 use Rattle.std.proofs.Common.{take}
 use Rattle.std.specs.Prelude.{slice_index}
 use Rattle.std.specs.List.{All}
-use Rattle.narrowed.specs.inner.Cutting.{SuitsAt}
+use Rattle.narrowed.specs.Cutting.{SuitsAt}
 use Rattle.narrowed.proofs.suiting.suit_call.Given as goal
 
 abbrev pub invariant-loop-cond : goal.invariant-loop-cond

@@ -1,5 +1,5 @@
 use Rattle.std.proofs.Common.{ℕ, List, sym, subst}
-use Rattle.learn.specs.inner.Taken.{AreTaken, lines_in}
+use Rattle.learn.specs.Taken.{AreTaken, lines_in}
 use Rattle.learn.proofs.Taken.{lines_in-push}
 use Rattle.learn.proofs.reading.Shown.read_log.Goals as goal
 

@@ -9,7 +9,7 @@ use Rattle.profile.specs.declared.rules.Rule.{Rule}
 use Rattle.profile.specs.Condition.{Meets}
 use Rattle.narrowed.specs.Counts.{most_lists}
 use Rattle.narrowed.specs.Narrowed.{Has}
-use Rattle.narrowed.specs.inner.Parts.{cut, IsLow}
+use Rattle.narrowed.specs.Parts.{cut, IsLow}
 
 -- each condition holds of its argument
 abbrev pub Hold : (ℕ → ℕ) → List Cond → Type 0

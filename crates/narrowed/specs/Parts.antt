@@ -6,7 +6,7 @@ use Rattle.profile.specs.declared.conditions.Op.TheVariants.{MaskedEq}
 use Rattle.profile.specs.Condition.{Meets}
 use Rattle.narrowed.specs.Counts.{most_parts}
 use Rattle.narrowed.specs.Narrowed.{Has}
-use Rattle.narrowed.specs.inner.Patterns.{HasPattern}
+use Rattle.narrowed.specs.Patterns.{HasPattern}
 use Rattle.narrowed.specs.declared.patterns.Pattern.{Pattern}
 
 -- the lowest bits of a number; above 32 bits the whole
