@@ -1,5 +1,6 @@
 /* Names and numbers of machines and calls, as libseccomp tells them. The numbers are those of ccell's tables. */
 #include "filter.h"
+#include <stdatomic.h>
 #include <stdlib.h>
 #include <string.h>
 
@@ -32,9 +33,27 @@ int call_named(const char *name) {
 
 const char *call_name(int call) { return CALLS[call].name; }
 
-bool call_has(int machine, int call, uint32_t *number) {
+/* What ccell answered before of a machine and a call: the number and KNOWN, or ABSENT. Threads may ask at once: they store the same. */
+static _Atomic uint64_t ANSWERS[OURS][CALL_COUNT];
+static const uint64_t KNOWN = 1ull << 32, ABSENT = 1ull << 33;
+
+static uint64_t ask_number(int machine, int call) {
     const char *name = CALLS[call].name;
-    return machine < OURS && ccell_call_number(MACHINE[machine].token, (const uint8_t *)name, strlen(name), number) == CCELL_DONE;
+    uint32_t number;
+    if (ccell_call_number(MACHINE[machine].token, (const uint8_t *)name, strlen(name), &number) != CCELL_DONE) return ABSENT;
+    return KNOWN | number;
+}
+
+bool call_has(int machine, int call, uint32_t *number) {
+    if (machine >= OURS) return false;
+    uint64_t answer = atomic_load_explicit(&ANSWERS[machine][call], memory_order_relaxed);
+    if (!answer) {
+        answer = ask_number(machine, call);
+        atomic_store_explicit(&ANSWERS[machine][call], answer, memory_order_relaxed);
+    }
+    if (answer == ABSENT) return false;
+    *number = (uint32_t)answer;
+    return true;
 }
 
 /* On x86 libseccomp tells the calls that socketcall and ipc make, too, by the numbers of the header. */
