@@ -13,6 +13,7 @@ ghost use Rattle.rule_compile.specs.inner.Stands.{AreRanged, AreSound, HasMore, 
 use crate::asked::{Open, Rest, are_alike};
 use crate::index::{Index, key_of};
 use crate::known::Known;
+use crate::measures::cost_of;
 use crate::outline::{Block, Call, Outline};
 use crate::question::Subject;
 use crate::ranges::{Leaf, Ranges};
@@ -138,7 +139,7 @@ impl Blocks {
             return Ok(Some(Leaf::Block(block)));
         }
         let starts = starts_of(alloc, rules, subject)?;
-        if !self.has_room(starts.len()) {
+        if !self.has_room(cost_of(rules, starts.len())) {
             return Ok(None);
         }
         let mut ranges = Ranges::new(alloc);

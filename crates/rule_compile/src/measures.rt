@@ -6,9 +6,16 @@ ghost use Rattle.rule_compile.specs.inner.Left.{weight_of as question_weight};
 
 use crate::asked::Open;
 use crate::ranges::Leaf;
+use bpf_insn::MAX_INSNS;
 
 // How many ranges may be looked at for each question, before neighbours that go on alike are one.
 const RANGES: usize = 6;
+
+// How many questions of a block are repeated in the time in which a range is looked at.
+const REPEATED: usize = 64;
+
+// More ranges than a filter can tell apart.
+const MOST: usize = 4 * MAX_INSNS;
 
 /// Whether each rule has the verdict of what is gone on at without them.
 pub(crate) fn all_have(rules: &[Open], other: &Leaf) -> bool
@@ -41,8 +48,17 @@ fn weight_of_one(this: &Open) -> usize
     }
 }
 
-/// How many ranges may be looked at where rules are asked all at once, that are to be no more than these.
+/// How many ranges a block counts as where so many ranges of questions are looked at. The questions that it repeats count, too.
+pub(crate) fn cost_of(rules: &[Open], ranges: usize) -> usize {
+    ranges.max(rules.len() / REPEATED)
+}
+
+/// How many ranges may be looked at where rules are asked all at once, that are to be no more than these. Where these are more than
+/// a filter has, nor will those be few that take the place of them.
 pub(crate) fn room_for(rules: &[Open], fewest: usize) -> usize {
+    if fewest > MOST {
+        return 0;
+    }
     let looked_at = RANGES.saturating_mul(rules.len().saturating_add(1));
     looked_at.max(fewest.saturating_mul(2))
 }
