@@ -8,6 +8,7 @@ use crate::maker::Maker;
 use crate::needs::Needs;
 use crate::parts::{Chains, Marks, NOBODY, are_many, listed};
 use crate::spot::Spot;
+use crate::stating::Stated;
 use crate::words::{Told, Words};
 use cert_form::{Claim, Kind};
 use cert_state::{AVal, Facts, Knowledge, Lit, Room};
@@ -68,9 +69,11 @@ impl<'a> Maker<'a> {
         place: u32,
         spot: &Spot,
     ) -> Result<Vec<Claim>, OutlineError> {
-        let stated = self.stated(spot)?;
-        let mut claims = Vec::with_capacity(self.alloc, stated.passing.len())?;
-        for claim in stated.lasting.iter().chain(stated.passing.iter()) {
+        let mut stated = Stated::nothing(self.alloc)?;
+        self.state(spot, &mut stated)?;
+        let Stated { lasting, passing } = &stated;
+        let mut claims = Vec::with_capacity(self.alloc, passing.items.len())?;
+        for claim in lasting.items.iter().chain(passing.items.iter()) {
             if needs.has(place, *claim) {
                 claims.push(*claim)?;
             }
@@ -116,7 +119,7 @@ impl<'a> Maker<'a> {
     // Those of some claims that a chain lacks and that do not follow from the literals of both.
     fn lacking(
         &self,
-        chains: &Chains,
+        chains: &mut Chains,
         chain: u32,
         claims: &[Claim],
     ) -> Result<Vec<Claim>, AllocError> {
@@ -173,7 +176,7 @@ impl<'a> Maker<'a> {
             claims.push(Claim::Knows(literal))?;
         }
         let lacking = self.lacking(chains, before, &claims)?;
-        Ok(chains.behind(self.alloc, before, lacking, claims)?)
+        Ok(chains.behind(self.alloc, before, &lacking, &claims)?)
     }
 }
 

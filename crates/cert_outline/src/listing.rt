@@ -4,6 +4,7 @@ use crate::fault::OutlineError;
 use crate::maker::{Maker, regs_of};
 use crate::parts::{Chains, NOBODY, followers, leading_to};
 use crate::spot::Spot;
+use crate::stating::Stated;
 use cert_form::{ChainNode, Kind};
 use std::alloc::{AllocError, Global};
 
@@ -138,10 +139,14 @@ pub(crate) fn listed_nodes(
     let mut listing = Listing::new(maker.alloc, order)?;
     // For each spot the chain of one before it.
     let mut before = vec![in maker.alloc; 0u32; order.len()]?;
+    let mut stated = Stated::nothing(maker.alloc)?;
     for place in order {
         let (spot, kind) = maker.spot_at(kinds, *place)?;
         let last = number_at(&before, *place);
-        let chain = listing.chains.of(maker.alloc, maker.stated(&spot)?, last)?;
+        maker.state(&spot, &mut stated)?;
+        let Stated { lasting, passing } = &stated;
+        let chains = &mut listing.chains;
+        let chain = chains.of(maker.alloc, &lasting.items, &passing.items, last)?;
         let (first, second) = followers(kind);
         set(&mut before, first, chain);
         set(&mut before, second, chain);

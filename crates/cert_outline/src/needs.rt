@@ -6,6 +6,7 @@ use crate::fault::OutlineError;
 use crate::maker::Maker;
 use crate::parts::{NOBODY, are_many, listed};
 use crate::spot::{Spot, Which};
+use crate::stating::Stated;
 use crate::words::Told;
 use cert_form::{Claim, Kind};
 use cert_state::{Facts, Knowledge, Lit, Room};
@@ -163,7 +164,9 @@ impl<'a> Maker<'a> {
             return Ok(());
         }
         let default = self.profile.default_word();
-        for claim in &self.stated(spot)?.lasting {
+        let mut stated = Stated::nothing(self.alloc)?;
+        self.state(spot, &mut stated)?;
+        for claim in &stated.lasting.items {
             if let Claim::Out(number) = *claim
                 && let Some(rule) = self.rule(number)
                 && rule.word != default

@@ -1,8 +1,8 @@
 //! What is known of the machine and the number of a call.
 
-use crate::conditions::{Answer, below, beside, by_all, told_apart};
+use crate::conditions::{Answer, beside, by_all, told_apart};
 use crate::maker::Maker;
-use crate::parts::{Cut, are_many, listed};
+use crate::parts::{Cut, are_many, cut_below, listed};
 use crate::rules::Numbered;
 use crate::spot::Which;
 use crate::words::{Told, Words};
@@ -16,9 +16,21 @@ pub(crate) const NUMBER: u8 = 0;
 
 pub(crate) const TOKEN: u8 = 1;
 
-// The only number that a word may be.
+// The least and the greatest number that a word may be, as far as literals of the whole word tell.
+fn range_of(known: &Words, word: u8) -> Option<(u32, u32)> {
+    range(&listed(&known.whole), word)
+}
+
+// The only number that a word may be. Mostly it stands there as such.
 fn only(known: &Words, word: u8) -> Option<u32> {
-    let (low, high) = range(&listed(&known.whole), word)?;
+    for literal in &known.whole {
+        if let Lit::Bits(of, u32::MAX, number) = *literal
+            && of == word
+        {
+            return Some(number);
+        }
+    }
+    let (low, high) = range_of(known, word)?;
     if low == high {
         return Some(low);
     }
@@ -30,6 +42,23 @@ fn all_of(alloc: Global, known: &Words) -> Result<Vec<Lit>, AllocError> {
     let mut lits = Vec::from_slice(alloc, &known.whole)?;
     lits.extend_from_slice(&known.masked)?;
     Ok(lits)
+}
+
+// The number is cut in front of one, if there are numbers of a range on both sides.
+fn cut_within(range: (u32, u32), number: u32) -> Option<Cut> {
+    let (least, greatest) = range;
+    if least < number && number <= greatest {
+        return cut_below(NUMBER, number);
+    }
+    None
+}
+
+// The same in front of a number of the range, or else behind it.
+fn cut_beside(range: (u32, u32), number: u32) -> Option<Cut> {
+    match cut_within(range, number) {
+        Some(cut) => Some(cut),
+        None => cut_within(range, number.checked_add(1)?),
+    }
 }
 
 impl<'a> Maker<'a> {
@@ -96,31 +125,36 @@ impl<'a> Maker<'a> {
         self.may_hold(arguments, rule)
     }
 
-    // The numbers of rules that have to be told apart where a return gives a verdict, in order.
-    fn numbers_to_tell(
+    // The number of a rule that has to be told apart where a return gives a verdict, one in the middle, if there is one. Most often
+    // the rule in the middle is such a one.
+    fn number_to_tell(
         &self,
         known: &Words,
         arguments: &Words,
-        token: u32,
+        rules: &[Numbered],
         verdict: u32,
-    ) -> Result<Vec<u32>, AllocError> {
+    ) -> Result<Option<u32>, AllocError> {
         let all = all_of(self.alloc, known)?;
         let state = listed(&all);
         let whole = listed(&arguments.whole);
-        let Some((least, greatest)) = range(&state, NUMBER) else {
-            return Ok(Vec::new(self.alloc));
-        };
-        let rules = self.rules.among(token, least, greatest);
-        if !are_many(rules.len(), all.len().saturating_add(arguments.whole.len())) {
-            return self.numbers_told(&state, &arguments.told(&whole), rules, verdict);
+        if let Some((_token, number, place)) = rules.get(rules.len() / 2)
+            && let Some(rule) = self.rule(*place)
+            && self.is_told(&state, &arguments.told(&whole), rule, verdict)
+        {
+            return Ok(Some(*number));
         }
-        let (mut room, mut other) = (Room::new(), Room::new());
-        let facts = Facts::of(&state, &mut room);
-        let of_arguments = Facts::of(&whole, &mut other);
-        self.numbers_told(&facts, &arguments.told(&of_arguments), rules, verdict)
+        let numbers = if are_many(rules.len(), all.len().saturating_add(arguments.whole.len())) {
+            let (mut room, mut other) = (Room::new(), Room::new());
+            let facts = Facts::of(&state, &mut room);
+            let of_arguments = Facts::of(&whole, &mut other);
+            self.numbers_told(&facts, &arguments.told(&of_arguments), rules, verdict)?
+        } else {
+            self.numbers_told(&state, &arguments.told(&whole), rules, verdict)?
+        };
+        Ok(numbers.get(numbers.len() / 2).copied())
     }
 
-    // The same among some rules.
+    // All such numbers, in order.
     fn numbers_told<N: Knowledge, K: Knowledge>(
         &self,
         known: &N,
@@ -140,17 +174,14 @@ impl<'a> Maker<'a> {
         Ok(numbers)
     }
 
-    // Where foreign numbers are cut from those of listed machines.
-    fn cut_of_foreign(&self, known: &Words, machine: Arch) -> Option<Cut> {
+    // Where foreign numbers are cut from those of listed machines, where the number lies in a range.
+    fn cut_of_foreign(&self, range: (u32, u32), machine: Arch) -> Option<Cut> {
         for foreign in foreign_numbers(self.profile.machines(), machine) {
-            if known.entail(Lit::In(NUMBER, foreign.first, foreign.last)) {
-                return None;
-            }
-            if let Some(cut) = below(known, NUMBER, foreign.first) {
+            if let Some(cut) = cut_within(range, foreign.first) {
                 return Some(cut);
             }
             if let Some(next) = foreign.last.checked_add(1)
-                && let Some(cut) = below(known, NUMBER, next)
+                && let Some(cut) = cut_within(range, next)
             {
                 return Some(cut);
             }
@@ -158,10 +189,11 @@ impl<'a> Maker<'a> {
         None
     }
 
-    // Whether all numbers that are known are foreign ones.
-    fn is_foreign(&self, known: &Words, machine: Arch) -> bool {
+    // Whether all numbers of a range are foreign ones.
+    fn is_foreign(&self, range: (u32, u32), machine: Arch) -> bool {
+        let (least, greatest) = range;
         for foreign in foreign_numbers(self.profile.machines(), machine) {
-            if known.entail(Lit::In(NUMBER, foreign.first, foreign.last)) {
+            if foreign.first <= least && greatest <= foreign.last {
                 return true;
             }
         }
@@ -178,23 +210,21 @@ impl<'a> Maker<'a> {
         let Some(token) = only(known, TOKEN) else {
             return Ok(self.cut_of_machines(known));
         };
-        let Some(machine) = self.machine(token) else {
+        let (Some(machine), Some(range)) = (self.machine(token), range_of(known, NUMBER)) else {
             return Ok(None);
         };
-        if self.is_foreign(known, machine) {
+        if self.is_foreign(range, machine) {
             return Ok(None);
         }
-        let numbers = self.numbers_to_tell(known, arguments, token, verdict)?;
-        if numbers.is_empty() && verdict == self.profile.default_word().0 && verdict == 0 {
+        let rules = self.rules.among(token, range.0, range.1);
+        let number = self.number_to_tell(known, arguments, rules, verdict)?;
+        if number.is_none() && verdict == self.profile.default_word().0 && verdict == 0 {
             return Ok(None);
         }
-        if let Some(cut) = self.cut_of_foreign(known, machine) {
+        if let Some(cut) = self.cut_of_foreign(range, machine) {
             return Ok(Some(cut));
         }
-        match numbers.get(numbers.len() / 2) {
-            Some(number) => Ok(beside(known, NUMBER, *number)),
-            None => Ok(None),
-        }
+        Ok(number.and_then(|number| cut_beside(range, number)))
     }
 
     // The numbers of a machine's calls of which rules ask for arguments, without those that are excluded, in order.

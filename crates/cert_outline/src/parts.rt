@@ -7,9 +7,9 @@ mod marks;
 mod states;
 mod table;
 
-pub(crate) use chains::{Chains, Stated};
+pub(crate) use chains::Chains;
 pub(crate) use cuts::{Cut, cut_below, cut_of_bits};
 pub(crate) use kinds::{NOBODY, followers, leading_to};
 pub(crate) use marks::Marks;
-pub(crate) use states::{are_many, listed};
+pub(crate) use states::{NO_REGS, are_many, listed};
 pub(crate) use table::{Item, Table, bits, mixed};

@@ -3,7 +3,6 @@
 use crate::asked::{AskedCall, Left, LeftRule};
 use crate::fault::OutlineError;
 use crate::maker::Maker;
-use crate::parts::Stated;
 use crate::spot::{Spot, Which};
 use crate::words::Words;
 use cert_form::Claim;
@@ -11,9 +10,17 @@ use std::alloc::{AllocError, Global};
 
 /// Claims, one after the other.
 #[derive(Drop)]
-struct Claims {
-    items: Vec<Claim>,
+pub(crate) struct Claims {
+    pub(crate) items: Vec<Claim>,
     is_refused: bool,
+}
+
+/// What a node states: of its call and of rules, which nodes behind mostly state too; and of arguments, which changes from node
+/// to node. It serves one node after the other.
+#[derive(Drop)]
+pub(crate) struct Stated {
+    pub(crate) lasting: Claims,
+    pub(crate) passing: Claims,
 }
 
 // How many claims most nodes make at most of their call and of rules, and of arguments.
@@ -28,6 +35,12 @@ impl Claims {
             items: Vec::with_capacity(alloc, room)?,
             is_refused: false,
         })
+    }
+
+    // Forgets all claims.
+    fn clear(&mut self) {
+        self.items.clear();
+        self.is_refused = false;
     }
 
     // Adds a claim.
@@ -56,6 +69,16 @@ impl Claims {
                 self.add(Claim::Met(left.rule, place));
             }
         }
+    }
+}
+
+impl Stated {
+    /// Nothing is stated.
+    pub(crate) fn nothing(alloc: Global) -> Result<Stated, AllocError> {
+        Ok(Stated {
+            lasting: Claims::new(alloc, MANY)?,
+            passing: Claims::new(alloc, FEW)?,
+        })
     }
 }
 
@@ -92,18 +115,15 @@ impl<'a> Maker<'a> {
     }
 
     /// What the node of a spot states: of its call, which rules are out and which conditions are met; and of arguments.
-    pub(crate) fn stated(&self, spot: &Spot) -> Result<Stated, OutlineError> {
-        let mut lasting = Claims::new(self.alloc, MANY)?;
-        lasting.add_words(self.words.get(spot.numbers));
-        self.left_stated(spot, &mut lasting);
-        let mut passing = Claims::new(self.alloc, FEW)?;
-        passing.add_words(self.words.get(spot.arguments));
-        if lasting.is_refused || passing.is_refused {
+    pub(crate) fn state(&self, spot: &Spot, stated: &mut Stated) -> Result<(), OutlineError> {
+        stated.lasting.clear();
+        stated.lasting.add_words(self.words.get(spot.numbers));
+        self.left_stated(spot, &mut stated.lasting);
+        stated.passing.clear();
+        stated.passing.add_words(self.words.get(spot.arguments));
+        if stated.lasting.is_refused || stated.passing.is_refused {
             return Err(OutlineError::OutOfMemory);
         }
-        Ok(Stated {
-            lasting: lasting.items,
-            passing: passing.items,
-        })
+        Ok(())
     }
 }

@@ -1,8 +1,8 @@
 //! What is known of some words of a record, as literals.
 
-use crate::parts::{Item, listed, mixed};
+use crate::parts::{Item, NO_REGS, listed, mixed};
 use cert_form::Claim;
-use cert_state::{Knowledge, Lit, is_dead_at, range};
+use cert_state::{Knowledge, Listed, Lit, is_dead_at, range};
 use std::alloc::{AllocError, Global};
 
 /// Literals of whole words, word by word, and of bits under masks. What is known of bits under one mask is not looked at for those
@@ -62,25 +62,6 @@ fn tells(literal: Lit, low: u32, high: u32) -> bool {
         Lit::NotBits(_, _, number) => low < high && low <= number && number <= high,
         Lit::In(_, _, _) | Lit::Bits(_, _, _) => false,
     }
-}
-
-// Adds the literals of a whole word in short: where it lies, and what is excluded. Where they contradict each other they stay.
-fn add_in_short(lits: &mut Vec<Lit>, own: &[Lit], word: u8) -> Result<(), AllocError> {
-    let Some((low, high)) = range(&listed(own), word) else {
-        lits.extend_from_slice(own)?;
-        return Ok(());
-    };
-    if low == high {
-        lits.push(Lit::Bits(word, u32::MAX, low))?;
-    } else if low != 0 || high != u32::MAX {
-        lits.push(Lit::In(word, low, high))?;
-    }
-    for literal in own {
-        if tells(*literal, low, high) {
-            lits.push(*literal)?;
-        }
-    }
-    Ok(())
 }
 
 // Adds the literals of a list that are of the words from one to another, which is none of them.
@@ -146,19 +127,44 @@ impl Words {
         self.told(&whole).entail(literal)
     }
 
-    // The literals of whole words, with one more.
-    fn whole_with(&self, alloc: Global, literal: Lit) -> Result<Vec<Lit>, AllocError> {
+    // Adds the literals of the whole word of one more, and this, in short: where the word lies, and what is excluded. Where they
+    // contradict each other they stay, which is reported.
+    fn add_in_short(&self, lits: &mut Vec<Lit>, more: Lit) -> Result<bool, AllocError> {
+        let word = more.word();
+        let state = Listed {
+            regs: NO_REGS,
+            lits: &self.whole,
+            more: Some(more),
+        };
+        let Some((low, high)) = range(&state, word) else {
+            add_words(lits, &self.whole, word, word.saturating_add(1))?;
+            lits.push(more)?;
+            return Ok(true);
+        };
+        if low == high {
+            lits.push(Lit::Bits(word, u32::MAX, low))?;
+        } else if low != 0 || high != u32::MAX {
+            lits.push(Lit::In(word, low, high))?;
+        }
+        for literal in &self.whole {
+            if literal.word() == word && tells(*literal, low, high) {
+                lits.push(*literal)?;
+            }
+        }
+        if tells(more, low, high) {
+            lits.push(more)?;
+        }
+        Ok(false)
+    }
+
+    // The literals of whole words, with one more, and whether those of its word contradict each other.
+    fn whole_with(&self, alloc: Global, literal: Lit) -> Result<(Vec<Lit>, bool), AllocError> {
         let word = literal.word();
-        let next = word.saturating_add(1);
-        let count = self.whole.len().saturating_add(1);
-        let mut own = Vec::with_capacity(alloc, count)?;
-        add_words(&mut own, &self.whole, word, next)?;
-        own.push(literal)?;
-        let mut lits = Vec::with_capacity(alloc, count.saturating_add(1))?;
+        let mut lits = Vec::with_capacity(alloc, self.whole.len().saturating_add(2))?;
         add_words(&mut lits, &self.whole, 0, word)?;
-        add_in_short(&mut lits, &own, word)?;
-        add_words(&mut lits, &self.whole, next, u8::MAX)?;
-        Ok(lits)
+        let are_dead = self.add_in_short(&mut lits, literal)?;
+        add_words(&mut lits, &self.whole, word.saturating_add(1), u8::MAX)?;
+        Ok((lits, are_dead))
     }
 
     // The literals of bits under masks, with one more. What bits are says more than what they are not.
@@ -173,9 +179,14 @@ impl Words {
         Ok(lits)
     }
 
+    // Whether something is known of a word's bits under a mask.
+    fn have_masked(&self, word: u8) -> bool {
+        self.masked.iter().any(|literal| literal.word() == word)
+    }
+
     // Whether those of one word can not all be true.
     fn are_dead_at(&self, alloc: Global, word: u8) -> Result<bool, AllocError> {
-        if !self.masked.iter().any(|literal| literal.word() == word) {
+        if !self.have_masked(word) {
             return Ok(is_dead_at(&listed(&self.whole), word));
         }
         let next = word.saturating_add(1);
@@ -185,26 +196,31 @@ impl Words {
         Ok(is_dead_at(&listed(&own), word))
     }
 
-    // The same, with a literal more.
+    // The same, with a literal of a whole word more.
     fn longer(&self, alloc: Global, literal: Lit) -> Result<Words, AllocError> {
-        let (whole, masked) = if is_whole(literal) {
-            let masked = Vec::from_slice(alloc, &self.masked)?;
-            (self.whole_with(alloc, literal)?, masked)
-        } else {
-            let whole = Vec::from_slice(alloc, &self.whole)?;
-            (whole, self.masked_with(alloc, literal)?)
-        };
+        let (whole, are_dead) = self.whole_with(alloc, literal)?;
         Ok(Words {
             whole,
-            masked,
-            are_dead: self.are_dead,
+            masked: Vec::from_slice(alloc, &self.masked)?,
+            are_dead: self.are_dead || are_dead,
         })
     }
 
     /// The same, with a literal more.
     pub(crate) fn with(&self, alloc: Global, literal: Lit) -> Result<Words, AllocError> {
-        let mut words = self.longer(alloc, literal)?;
-        words.are_dead |= words.are_dead_at(alloc, literal.word())?;
+        let word = literal.word();
+        let mut words = if is_whole(literal) {
+            self.longer(alloc, literal)?
+        } else {
+            Words {
+                whole: Vec::from_slice(alloc, &self.whole)?,
+                masked: self.masked_with(alloc, literal)?,
+                are_dead: self.are_dead,
+            }
+        };
+        if words.have_masked(word) {
+            words.are_dead |= words.are_dead_at(alloc, word)?;
+        }
         Ok(words)
     }
 

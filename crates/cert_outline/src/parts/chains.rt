@@ -6,28 +6,12 @@ use cert_form::{ChainNode, Claim, FormError, MAX_ENTRIES, MAX_LITERALS, write_cl
 use cert_state::Lit;
 use std::alloc::{AllocError, Global};
 
-// How many links most chains have at most.
-const LIKELY: usize = 64;
-
 /// Entries, each with the number of its parent, or 0, and a claim. They are numbered from 1.
 #[derive(Drop)]
 pub struct Chains {
     entries: Table<(u32, Claim)>,
-}
-
-/// What a node states: of its call and of rules, which nodes behind mostly state too; and of arguments, which changes from
-/// node to node.
-#[derive(Drop)]
-pub struct Stated {
-    pub lasting: Vec<Claim>,
-    pub passing: Vec<Claim>,
-}
-
-/// A claim of a chain, and the chain up to it.
-#[derive(Clone, Copy)]
-struct Link {
-    claim: Claim,
-    chain: u32,
+    // Those of the claims that are asked for now.
+    marks: Marks,
 }
 
 /// A chain that is there, and claims that are to be stated behind it.
@@ -64,6 +48,7 @@ impl Chains {
     pub fn new(alloc: Global) -> Chains {
         Chains {
             entries: Table::new(alloc),
+            marks: Marks::none(alloc),
         }
     }
 
@@ -82,63 +67,78 @@ impl Chains {
     }
 
     // The chain with those claims more, one after the other, with which it is there. The others are left.
-    fn longest(
-        &self,
-        chain: u32,
-        claims: &[Claim],
-        left: &mut Vec<Claim>,
-    ) -> Result<u32, AllocError> {
-        let mut longest = chain;
-        for claim in claims {
-            match self.entries.find(&(longest, *claim)) {
-                Some(place) => longest = place.min(MAX_ENTRIES) as u32 + 1,
-                None => left.push(*claim)?,
-            }
-        }
-        Ok(longest)
-    }
-
-    // The chain that is longer by as many of these claims as are found by going over them until none is.
-    fn begun(&self, alloc: Global, from: u32, claims: Vec<Claim>) -> Result<Begun, AllocError> {
+    fn longest(&self, alloc: Global, chain: u32, claims: &[Claim]) -> Result<Begun, AllocError> {
         let mut begun = Begun {
-            chain: from,
-            left: claims,
+            chain,
+            left: Vec::new(alloc),
         };
-        for _ in 0..begun.left.len() {
-            let mut left = Vec::with_capacity(alloc, begun.left.len())?;
-            let chain = self.longest(begun.chain, &begun.left, &mut left)?;
-            let is_last = chain == begun.chain || left.is_empty();
-            begun = Begun { chain, left };
-            if is_last {
-                break;
+        for claim in claims {
+            match self.entries.find(&(begun.chain, *claim)) {
+                Some(place) => begun.chain = place.min(MAX_ENTRIES) as u32 + 1,
+                None => begun.left.push(*claim)?,
             }
         }
         Ok(begun)
     }
 
+    // The chain that is longer by as many of these claims as are found by going over them until none is.
+    fn begun(&self, alloc: Global, from: u32, claims: &[Claim]) -> Result<Begun, AllocError> {
+        let mut last = from;
+        let mut begun = self.longest(alloc, from, claims)?;
+        for _ in 0..claims.len() {
+            if begun.chain == last || begun.left.is_empty() {
+                break;
+            }
+            last = begun.chain;
+            begun = self.longest(alloc, last, &begun.left)?;
+        }
+        Ok(begun)
+    }
+
+    // The longest beginning of a chain whose claims are all marked, and whether no claim after it is.
+    fn beginning(&self, chain: u32) -> (u32, bool) {
+        let (mut kept, mut left) = (chain, chain);
+        let (mut is_whole, mut has_marked) = (true, false);
+        for _ in 0..MAX_LITERALS {
+            let Some((parent, claim)) = self.last(left) else {
+                break;
+            };
+            if self.marks.has(claim) {
+                has_marked = true;
+            } else {
+                kept = parent;
+                is_whole &= !has_marked;
+            }
+            left = parent;
+        }
+        (kept, is_whole)
+    }
+
+    // Takes the marks of the claims of a chain.
+    fn take_marks(&mut self, chain: u32) {
+        let mut left = chain;
+        for _ in 0..MAX_LITERALS {
+            let Some((parent, claim)) = self.last(left) else {
+                break;
+            };
+            self.marks.take(claim);
+            left = parent;
+        }
+    }
+
     // The same behind the beginning of a chain, as far as it states some of the claims; and whether what comes after that
     // states none of them.
     fn begun_as(
-        &self,
+        &mut self,
         alloc: Global,
         before: u32,
         claims: &[Claim],
     ) -> Result<(Begun, bool), AllocError> {
-        let mut marks = Marks::of(alloc, claims)?;
-        let links = self.links(alloc, before)?;
-        let mut kept = 0usize;
-        let mut chain = 0;
-        for link in &links {
-            if !marks.take(link.claim) {
-                break;
-            }
-            kept = kept.saturating_add(1);
-            chain = link.chain;
-        }
-        let later = links.get(kept..).unwrap_or(&[]);
-        let is_whole = !later.iter().any(|link| marks.has(link.claim));
-        let left = marks.left(alloc, claims)?;
-        Ok((self.begun(alloc, chain, left)?, is_whole))
+        self.marks.set_to(claims)?;
+        let (chain, is_whole) = self.beginning(before);
+        self.take_marks(chain);
+        let left = self.marks.left(alloc, claims)?;
+        Ok((self.begun(alloc, chain, &left)?, is_whole))
     }
 
     // The chain with all claims that are left.
@@ -150,14 +150,19 @@ impl Chains {
         Ok(chain)
     }
 
-    /// A chain of what a node states, in whatever order it shares much with those that are there: it begins as that of a node
+    /// A chain of what a node states, what lasts and what passes, in whatever order it shares much with those that are there: it begins as that of a node
     /// before, or else as one that is found claim by claim.
-    pub fn of(&mut self, alloc: Global, stated: Stated, before: u32) -> Result<u32, FormError> {
-        let Stated { lasting, passing } = stated;
+    pub fn of(
+        &mut self,
+        alloc: Global,
+        lasting: &[Claim],
+        passing: &[Claim],
+        before: u32,
+    ) -> Result<u32, FormError> {
         if lasting.len().saturating_add(passing.len()) > MAX_LITERALS {
             return Err(FormError::BadCount);
         }
-        let (mut begun, is_whole) = self.begun_as(alloc, before, &lasting)?;
+        let (mut begun, is_whole) = self.begun_as(alloc, before, lasting)?;
         if !is_whole && !begun.left.is_empty() {
             let other = self.begun(alloc, 0, lasting)?;
             if other.left.len() < begun.left.len() {
@@ -175,8 +180,8 @@ impl Chains {
         &mut self,
         alloc: Global,
         before: u32,
-        lacking: Vec<Claim>,
-        all: Vec<Claim>,
+        lacking: &[Claim],
+        all: &[Claim],
     ) -> Result<u32, FormError> {
         if self.length(before).saturating_add(lacking.len()) <= MAX_LITERALS {
             let begun = self.begun(alloc, before, lacking)?;
@@ -252,16 +257,14 @@ impl Chains {
 
     /// Those of some claims that a chain does not state.
     pub fn lacking(
-        &self,
+        &mut self,
         alloc: Global,
         chain: u32,
         claims: &[Claim],
     ) -> Result<Vec<Claim>, AllocError> {
-        let mut marks = Marks::of(alloc, claims)?;
-        for link in &self.links(alloc, chain)? {
-            marks.take(link.claim);
-        }
-        marks.left(alloc, claims)
+        self.marks.set_to(claims)?;
+        self.take_marks(chain);
+        self.marks.left(alloc, claims)
     }
 
     /// The last claim of a chain, with the chain before it.
@@ -282,21 +285,6 @@ impl Chains {
         }
         claims.reverse();
         Ok(claims)
-    }
-
-    // The links of a chain, the first claim first.
-    fn links(&self, alloc: Global, chain: u32) -> Result<Vec<Link>, AllocError> {
-        let mut links = Vec::with_capacity(alloc, LIKELY)?;
-        let mut left = chain;
-        for _ in 0..MAX_LITERALS {
-            let Some((parent, claim)) = self.last(left) else {
-                break;
-            };
-            links.push(Link { claim, chain: left })?;
-            left = parent;
-        }
-        links.reverse();
-        Ok(links)
     }
 
     /// The certificate of these nodes, whose chains are made here.

@@ -4,9 +4,6 @@ use cert_form::Claim;
 use cert_state::Lit;
 use std::alloc::{AllocError, Global};
 
-// How many literals most nodes state at most.
-const LIKELY: usize = 16;
-
 // More rules than a profile has.
 const RULES: usize = 8192;
 
@@ -33,20 +30,34 @@ fn count_to(claim: Claim) -> usize {
 }
 
 impl Marks {
+    /// Those of no claims.
+    pub fn none(alloc: Global) -> Marks {
+        Marks {
+            literals: Vec::new(alloc),
+            bits: Vec::new(alloc),
+        }
+    }
+
     /// Those of a list.
     pub fn of(alloc: Global, claims: &[Claim]) -> Result<Marks, AllocError> {
+        let mut marks = Marks::none(alloc);
+        marks.set_to(claims)?;
+        Ok(marks)
+    }
+
+    /// Becomes those of a list.
+    pub fn set_to(&mut self, claims: &[Claim]) -> Result<(), AllocError> {
         let mut count = 0usize;
         for claim in claims {
             count = count.max(count_to(*claim));
         }
-        let mut marks = Marks {
-            literals: Vec::with_capacity(alloc, LIKELY)?,
-            bits: vec![in alloc; 0u64; count]?,
-        };
+        self.literals.clear();
+        self.bits.clear();
+        self.bits.resize(count, 0)?;
         for claim in claims {
-            marks.add(*claim)?;
+            self.add(*claim)?;
         }
-        Ok(marks)
+        Ok(())
     }
 
     fn add(&mut self, claim: Claim) -> Result<(), AllocError> {
