@@ -4,8 +4,8 @@ use Rattle.std.proofs.lemmas.List.{append-nil}
 use Rattle.std.specs.Prelude.{bit_or, Bool, true, false, codes, fold, Option, Some, None, is_some, option_and_then, option_map, option_to_list, unwrap_or, if◌then◌else◌}
 use Rattle.std.specs.List.{filter_map}
 use Rattle.std.specs.Str.{bytes_eq}
-use Rattle.settling.specs.declared.choice.Choice.{Choice}
-use Rattle.settling.specs.declared.choice.Choice.TheVariants.{First, Looser, Stricter, LikeLibseccomp}
+use Rattle.adapt.specs.declared.settling.choice.Choice.{Choice}
+use Rattle.adapt.specs.declared.settling.choice.Choice.TheVariants.{First, Looser, Stricter, LikeLibseccomp}
 use Rattle.adapt.specs.declared.capabilities.Engine.{Engine}
 use Rattle.adapt.specs.declared.capabilities.Engine.TheVariants.{Docker, Podman, Containerd}
 use Rattle.adapt.specs.declared.kernels.Kernel.{Kernel}

@@ -2,8 +2,8 @@
 use Rattle.std.proofs.Common.{◌≡◌, ◌≢◌, ℕ, List, [], ◌∷◌, ◌++◌, ap, arith, map, refl, subst, sym, ◌∙◌, length}
 use Rattle.std.specs.Prelude.{bit_or, Bool, true, false, codes, filter, fold, Option, Some, None, is_some, option_and_then, option_map, unwrap_or}
 use Rattle.std.specs.List.{filter_map}
-use Rattle.settling.specs.declared.choice.Choice.{Choice}
-use Rattle.settling.specs.declared.choice.Choice.TheVariants.{First, Looser, Stricter, LikeLibseccomp}
+use Rattle.adapt.specs.declared.settling.choice.Choice.{Choice}
+use Rattle.adapt.specs.declared.settling.choice.Choice.TheVariants.{First, Looser, Stricter, LikeLibseccomp}
 use Rattle.adapt.specs.declared.capabilities.Engine.{Engine}
 use Rattle.adapt.specs.declared.capabilities.Engine.TheVariants.{Docker, Podman, Containerd}
 use Rattle.adapt.specs.declared.kernels.Kernel.{Kernel}

@@ -4,7 +4,7 @@ use Rattle.std.proofs.lemmas.Slice.Eq.{bytes_eq-Decides}
 use Rattle.std.specs.Prelude.{bit_or, Bool, true, false, filter, fold, Option, Some, None, is_some, option_to_list, if◌then◌else◌}
 use Rattle.std.specs.List.{filter_map}
 use Rattle.std.specs.Str.{bytes_eq}
-use Rattle.settling.specs.declared.choice.Choice.{Choice}
+use Rattle.adapt.specs.declared.settling.choice.Choice.{Choice}
 use Rattle.adapt.specs.declared.capabilities.Engine.{Engine}
 use Rattle.adapt.specs.declared.kernels.Kernel.{Kernel}
 use Rattle.adapt.specs.declared.words.Awaits.{Awaits}

@@ -2,3 +2,4 @@ mod ReadLaws
 mod ItemLaws
 mod AskedLaws
 mod HeardLaws
+pub mod Settling

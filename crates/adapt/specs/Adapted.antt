@@ -6,8 +6,8 @@ use Rattle.profile.specs.declared.rules.Rule.{Rule}
 use Rattle.profile.specs.Policy.{Policy}
 use Rattle.profile_json.specs.ByEntry.{AreRulesOf}
 use Rattle.profile_json.specs.Meaning.{IsText, Means}
-use Rattle.settling.specs.declared.choice.Choice.{Choice}
-use Rattle.settling.specs.Settled.{Settles}
+use Rattle.adapt.specs.declared.settling.choice.Choice.{Choice}
+use Rattle.adapt.specs.Settled.{Settles}
 use Rattle.explain.specs.declared.told.Told.{Told}
 use Rattle.adapt.specs.declared.adapted.Adapted.{Adapted}
 

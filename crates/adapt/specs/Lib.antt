@@ -1,3 +1,4 @@
 pub mod Adapted
 pub mod Words
 pub mod inner
+pub mod Settled

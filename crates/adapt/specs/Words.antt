@@ -8,8 +8,8 @@ use Rattle.std.specs.Str.{bytes_eq}
 use Rattle.std.specs.Str.Parse.{digits_value}
 use Rattle.texts.specs.Digits.{are_digits}
 use Rattle.texts.specs.Splits.{split_at}
-use Rattle.settling.specs.declared.choice.Choice.{Choice}
-use Rattle.settling.specs.declared.choice.Choice.TheVariants.{First, Looser, Stricter, LikeLibseccomp}
+use Rattle.adapt.specs.declared.settling.choice.Choice.{Choice}
+use Rattle.adapt.specs.declared.settling.choice.Choice.TheVariants.{First, Looser, Stricter, LikeLibseccomp}
 use Rattle.adapt.specs.declared.capabilities.Engine.{Engine}
 use Rattle.adapt.specs.declared.capabilities.Engine.TheVariants.{Docker, Podman, Containerd}
 use Rattle.adapt.specs.declared.capabilities.TheConstants.{CAPABILITIES}

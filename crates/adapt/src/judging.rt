@@ -2,10 +2,10 @@
 ghost use Rattle.std.specs.Prelude.{◌≡◌, IfOk, false, true, string_bytes};
 ghost use Rattle.adapt.specs.Adapted.{IsSettled};
 
+use crate::settling::{Choice, is_settled};
 use call_tables::Arch;
 use explain::Told;
 use profile_json::{ProfileError, read_bundle, rules_by_entry};
-use settling::{Choice, is_settled};
 use std::alloc::{AllocError, Global};
 
 /// What tells that there is no bundle, and nothing more on standard output.

@@ -23,6 +23,7 @@ mod overlapping;
 mod place;
 mod section;
 mod settings;
+mod settling;
 mod text;
 mod verdicts;
 mod words;

@@ -9,12 +9,12 @@ use crate::judging::{nothing, settled};
 use crate::overlapping::put_sides;
 use crate::section::Section;
 use crate::settings::Settings;
+use crate::settling::{Choice, winners};
 use call_tables::Arch;
 use describe::{Configuration, fault_in};
 use explain::{Told, refused_profile};
 use profile_json::{ProfileError, read_bundle, rules_by_entry};
 use serde_json::Value;
-use settling::{Choice, winners};
 use std::alloc::{AllocError, Global};
 
 /// A configuration, and its section.

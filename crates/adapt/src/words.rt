@@ -6,7 +6,7 @@ ghost use Rattle.adapt.specs.inner.Reading as spec;
 
 use crate::capabilities::{Capabilities, Engine, capability_named, engine_named};
 use crate::kernels::{Kernel, TABLES, kernel_of};
-use settling::Choice;
+use crate::settling::Choice;
 
 /// For which container an engine's own profile is worked out, and on which kernel.
 #[derive(Clone, Copy, Debug, PartialEq, Eq)]

@@ -7,9 +7,9 @@ use Rattle.call_tables.specs.declared.arch.Arch.{Arch}
 use Rattle.evidence.specs.declared.evidence.Conviction.{Conviction}
 use Rattle.evidence.specs.declared.evidence.Evidence.TheVariants.{Convicting}
 use Rattle.pipeline.specs.Certified.{IsEvidenceFor}
-use Rattle.runc_stub.specs.declared.calls.Calls.{Calls}
-use Rattle.runc_stub.specs.Stub.{IsAnswered, IsOf, enosys}
-use Rattle.runc_stub.proofs.AnyLaws.{any_nil}
+use Rattle.behind_runc.specs.declared.stub.calls.Calls.{Calls}
+use Rattle.behind_runc.specs.Stub.{IsAnswered, IsOf, enosys}
+use Rattle.behind_runc.proofs.AnyLaws.{any_nil}
 use Rattle.behind_runc.specs.Behind.{IsBehind}
 
 abbrev IsNo : Bool → Type 0

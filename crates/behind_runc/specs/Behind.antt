@@ -10,8 +10,8 @@ use Rattle.pipeline.specs.Exported.{LacksMemory}
 use Rattle.pipeline.specs.declared.unready.Unready.{Unready}
 use Rattle.streams.specs.Failures.{Failures}
 use Rattle.streams.specs.declared.fault.WriteFault.{WriteFault}
-use Rattle.runc_stub.specs.declared.calls.Calls.{Calls}
-use Rattle.runc_stub.specs.Stub.{IsStub}
+use Rattle.behind_runc.specs.declared.stub.calls.Calls.{Calls}
+use Rattle.behind_runc.specs.Stub.{IsStub}
 
 -- the bytes are a program that the kernel accepts
 pub record AreAccepted (filter : List ℕ) : Type 0 where

@@ -1,2 +1,4 @@
 pub mod Behind
 pub mod Told
+pub mod Stub
+pub mod inner

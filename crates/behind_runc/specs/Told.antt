@@ -8,7 +8,7 @@ use Rattle.call_tables.specs.declared.arch.Family.{Family}
 use Rattle.call_tables.specs.declared.numbers.Numbers.{Numbers}
 use Rattle.call_tables.specs.Arch.{machine_name}
 use Rattle.explain.specs.Phrases.{hexadecimal, machine_with}
-use Rattle.runc_stub.specs.declared.calls.Calls.{Calls}
+use Rattle.behind_runc.specs.declared.stub.calls.Calls.{Calls}
 
 -- a machine by its name, or by its token
 abbrev pub machine_text : Option Arch → ℕ → List ℕ

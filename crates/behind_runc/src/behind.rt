@@ -4,9 +4,9 @@ ghost use Rattle.bpf_insn.specs.Bytes.{insns_of};
 ghost use Rattle.kernel_check.specs.Lent.{accepted_insns};
 ghost use Rattle.behind_runc.specs.Behind.{AreAccepted, IsBehind};
 
+use crate::stub::{Calls, split};
 use bpf_insn::Program;
 use kernel_check::{Accepted, accept};
-use runc_stub::{Calls, split};
 use std::alloc::{AllocError, Global};
 
 /// The calls that runc's stub answers ENOSYS, and the bytes of the filter behind it. Without a stub these are the whole filter.

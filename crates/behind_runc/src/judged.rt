@@ -9,11 +9,11 @@ ghost use Rattle.pipeline.specs.Told.{Tells};
 ghost use Rattle.behind_runc.specs.Behind.{IsBehind, IsJudgedBehind, WritesBehind};
 
 use crate::behind::Behind;
+use crate::stub::is_answered;
 use call_record::{Word, words_are_a_record};
 use call_tables::Arch;
 use evidence::{Conviction, Evidence};
 use pipeline::{Unready, judge_bundle, refuse, write_judged};
-use runc_stub::is_answered;
 use std::alloc::Global;
 use streams::{Sink, WriteFault};
 

@@ -3,6 +3,7 @@
 
 mod behind;
 mod judged;
+mod stub;
 mod text;
 
 pub use behind::{Behind, behind_stub};

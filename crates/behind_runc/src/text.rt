@@ -5,9 +5,9 @@ ghost use Rattle.call_tables.specs.Arch.{machine_name};
 ghost use Rattle.explain.specs.Phrases.{hexadecimal};
 ghost use Rattle.behind_runc.specs.Told as spec;
 
+use crate::stub::Calls;
 use call_tables::{Family, Numbers};
 use explain::machine_with;
-use runc_stub::Calls;
 use std::alloc::{AllocError, Global};
 use std::fmt::Write;
 

@@ -7,12 +7,12 @@ use Rattle.call_tables.specs.declared.arch.Arch.{Arch}
 use Rattle.streams.specs.Failures.{Failures}
 use Rattle.streams.specs.declared.fault.WriteFault.{WriteFault}
 use Rattle.export.specs.declared.form.Form.{Form}
-use Rattle.audit.specs.Any.{IsExplained as IsExplainedAny}
+use Rattle.explain.specs.Any.{IsExplained as IsExplainedAny}
 use Rattle.explain.specs.Told.{IsExplained}
 use Rattle.explain.specs.declared.told.Told.{Told}
 use Rattle.pipeline.specs.Answer.{WritesAnswer}
 use Rattle.behind_runc.specs.Behind.{CertifiesBehind}
-use Rattle.convictions.specs.All.{TellsAll}
+use Rattle.compare.specs.Convictions.{TellsAll}
 use Rattle.pipeline.specs.Certified.{Certifies}
 use Rattle.pipeline.specs.Exported.{Exports}
 use Rattle.pipeline.specs.Finding.{WritesFinding}

@@ -24,9 +24,9 @@ use Rattle.pipeline.specs.declared.verdict.Answer.{Answer}
 use Rattle.pipeline.specs.declared.verdict.Answer.TheVariants.{Verdict, NoRecord, NoProgram, Refusal}
 use Rattle.describe.specs.Shown.{IsShown}
 use Rattle.explain.specs.declared.told.Told.{Told}
-use Rattle.runc_stub.specs.declared.calls.Calls.{Calls}
+use Rattle.behind_runc.specs.declared.stub.calls.Calls.{Calls}
 use Rattle.evidence.specs.declared.evidence.Conviction.{Conviction}
-use Rattle.convictions.specs.All.{AllConvict, Convicts, TellsAll}
+use Rattle.compare.specs.Convictions.{AllConvict, Convicts, TellsAll}
 use Rattle.cli.specs.Explained.{MayTellStub, TellsBehind, WritesSome}
 use Rattle.cli.specs.Files.{IsEnough}
 use Rattle.cli.proofs.EnoughLaws.{all_read, all_read_of, first_of_file, same_fault, whole_filter}

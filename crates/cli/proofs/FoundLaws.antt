@@ -2,7 +2,7 @@
 use Rattle.std.proofs.Common.{◌≡◌, ◌⊎◌, ℕ, List, inl, inr, subst}
 use Rattle.std.specs.Prelude.{Bool, Option, Result}
 use Rattle.call_tables.specs.declared.arch.Arch.{Arch}
-use Rattle.convictions.specs.All.{AreFound, TellsAll, WritesLines}
+use Rattle.compare.specs.Convictions.{AreFound, TellsAll, WritesLines}
 use Rattle.evidence.specs.declared.evidence.Conviction.{Conviction}
 use Rattle.pipeline.specs.Exported.{LacksMemory}
 use Rattle.streams.specs.Failures.{Failures}

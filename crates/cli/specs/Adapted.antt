@@ -9,7 +9,7 @@ use Rattle.adapt.specs.declared.words.Wanted.{Wanted}
 use Rattle.call_tables.specs.declared.arch.Arch.{Arch}
 use Rattle.explain.specs.declared.told.Told.{Told}
 use Rattle.narrow.specs.Narrow.{IsTold}
-use Rattle.settling.specs.declared.choice.Choice.{Choice}
+use Rattle.adapt.specs.declared.settling.choice.Choice.{Choice}
 
 -- one of the words is `narrow`
 abbrev pub AsksNarrow : List (Bor (List ℕ)) → Type 0

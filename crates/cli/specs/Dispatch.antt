@@ -12,13 +12,13 @@ use Rattle.streams.specs.declared.fault.WriteFault.{WriteFault}
 use Rattle.export.specs.declared.form.Form.{Form}
 use Rattle.explain.specs.Told.{IsAssembled, IsExplained, IsRecorded, IsVersion}
 use Rattle.explain.specs.declared.told.Told.{Told}
-use Rattle.audit.specs.Any.{IsExplained as IsExplainedAny}
+use Rattle.explain.specs.Any.{IsExplained as IsExplainedAny}
 use Rattle.describe.specs.Shown.{IsAnnotated, IsDrawn}
 use Rattle.lint.specs.Linted.{IsLinted}
 use Rattle.behind_runc.specs.Behind.{CertifiesBehind}
-use Rattle.convictions.specs.All.{TellsAll}
+use Rattle.compare.specs.Convictions.{TellsAll}
 use Rattle.compare.specs.Told.{IsCompared}
-use Rattle.differ.specs.Told.{IsTold}
+use Rattle.compare.specs.FiltersTold.{IsTold}
 use Rattle.learn.specs.Learned.{TellsLearned}
 use Rattle.learn.specs.Wish.{AskFor}
 use Rattle.learn.specs.declared.lists.Otherwise.{Otherwise}

@@ -11,7 +11,7 @@ use Rattle.evidence.specs.declared.evidence.Evidence.{Evidence}
 use Rattle.explain.specs.Explanation.{Explains}
 use Rattle.pipeline.specs.Told.{IsLine}
 use Rattle.pipeline.specs.declared.unready.Unready.{Unready}
-use Rattle.runc_stub.specs.declared.calls.Calls.{Calls}
+use Rattle.behind_runc.specs.declared.stub.calls.Calls.{Calls}
 use Rattle.streams.specs.Failures.{Failures}
 use Rattle.streams.specs.Sink.{Writes, Wrote}
 use Rattle.streams.specs.declared.fault.WriteFault.{WriteFault}

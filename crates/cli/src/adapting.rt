@@ -1,7 +1,7 @@
 //! What `ccell adapt` does.
 ghost use Rattle.std.specs.Prelude.{◌≡◌, ◌↔◌, [], ◌∷◌, IfOk, IsTrue, Option, Some, filter, map, not};
 ghost use Rattle.adapt.specs.declared.words.Wanted.{Wanted as TheWanted};
-ghost use Rattle.settling.specs.declared.choice.Choice.{Choice as TheChoice};
+ghost use Rattle.adapt.specs.declared.settling.choice.Choice.{Choice as TheChoice};
 ghost use Rattle.cli.specs.Adapted.{AskToAdapt, AsksNarrow, IsMadeAs, IsMadeBy, IsMadeOfDraft, IsNarrowedOne, is_narrow};
 ghost use Rattle.cli.specs.Told.{OfArguments, of_one};
 ghost use Rattle.cli.specs.inner.Telling.{IsAdaptedOf, IsToldOf, told_in};

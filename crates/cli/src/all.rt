@@ -1,6 +1,6 @@
 //! What `ccell certify` does that does not stop at the first call.
 ghost use Rattle.std.specs.Prelude.{◌≡◌, ◌⊎◌, OnErr, Ok, true};
-ghost use Rattle.convictions.specs.All.{Convicts, TellsAll};
+ghost use Rattle.compare.specs.Convictions.{Convicts, TellsAll};
 ghost use Rattle.pipeline.specs.Certified.{Certifies};
 ghost use Rattle.cli.specs.Dispatch.{AnswersAll};
 
@@ -8,7 +8,7 @@ use crate::comparing::tell_why;
 use crate::files::{Files, read, read_filter};
 use crate::stops::Stop;
 use call_tables::Arch;
-use convictions::{convictions_of, write_convictions};
+use compare::{convictions_of, write_convictions};
 use pipeline::{Conviction, Evidence, judge_bundle, write_judged};
 use std::alloc::Global;
 use streams::{Sink, WriteFault};

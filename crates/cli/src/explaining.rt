@@ -7,9 +7,8 @@ ghost use Rattle.cli.specs.inner.Telling.{IsToldOf, TellsText};
 
 use crate::files::{Files, read};
 use crate::stops::Stop;
-use audit::{audit, explain_any};
 use call_tables::Arch;
-use explain::Told;
+use explain::{Told, audit, explain_any};
 use std::alloc::{AllocError, Global};
 use streams::Source;
 

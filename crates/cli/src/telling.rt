@@ -1,7 +1,7 @@
 //! Commands that tell: what the library tells of arguments and of files, and how it is written.
 ghost use Rattle.std.specs.Prelude.{Option, [], ◌∷◌, map};
 ghost use Rattle.compare.specs.Told.{IsCompared};
-ghost use Rattle.differ.specs.Told.{IsTold};
+ghost use Rattle.compare.specs.FiltersTold.{IsTold};
 ghost use Rattle.explain.specs.Told.{IsAssembled, IsRecorded};
 ghost use Rattle.lint.specs.Linted.{IsLinted};
 ghost use Rattle.cli.specs.Files.{Folder};
@@ -121,7 +121,7 @@ fn filters_compared_with<'a, F: Files>(
     ensures { IsToldOf (F.folder files.old) (new.entry.now ∷ []) (of_one (IsTold first.now)) result }
 {
     match read(alloc, files, new) {
-        Ok(second) => match differ::compare_filters(alloc, native, first, &second) {
+        Ok(second) => match compare::compare_filters(alloc, native, first, &second) {
             Ok(told) => Ok(told),
             Err(_no_memory) => Err(Stop::OutOfMemory),
         },

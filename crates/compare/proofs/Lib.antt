@@ -2,3 +2,5 @@ mod SameLaws
 mod SidesLaws
 mod ToldLaws
 mod LineLaws
+mod FilterLineLaws
+pub mod ConvictionLineLaws

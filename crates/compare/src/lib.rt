@@ -5,7 +5,9 @@
 mod calls;
 mod change;
 mod convicting;
+mod convictions;
 mod difference;
+mod filters;
 mod outcome;
 mod records;
 mod same;
@@ -16,7 +18,9 @@ mod told;
 
 pub use change::Change;
 pub use convicting::explain_found;
+pub use convictions::{convictions_of, write_convictions};
 pub use difference::{Difference, difference_on};
+pub use filters::{compare_filters, find_differences};
 pub use outcome::Comparison;
 pub use sides::Sides;
 pub use text::lines_of;

@@ -6,6 +6,7 @@ mod drawing;
 mod edition;
 mod entries;
 mod flow;
+mod json_text;
 mod lines;
 mod near;
 mod place;
@@ -14,4 +15,5 @@ mod search;
 
 pub use annotating::annotated;
 pub use drawing::drawn;
+pub use json_text::{Doubled, Trimmed, fault_of, without_unread};
 pub use reading::{Configuration, fault_in, read_out};

@@ -11,12 +11,12 @@ ghost use Rattle.describe.specs.Read as spec;
 
 use crate::edition::{READ, of_first_edition};
 use crate::entries::put_bundle;
+use crate::json_text::{Trimmed, fault_of, without_unread};
 use crate::near::put_nearest;
 use crate::place::{Place, shape_of};
 use crate::search::{Found, Wanted, find, find_in_config};
 use call_tables::{Arch, Family};
 use explain::{Told, refused_profile};
-use json_text::{Trimmed, fault_of, without_unread};
 use profile::Profile;
 use profile_json::{EntryRules, ProfileError, read_bundle, rules_by_entry};
 use serde_json::Value;

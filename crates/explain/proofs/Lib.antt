@@ -2,3 +2,4 @@ pub mod Deciding
 pub mod Texts
 mod AskedLaws
 mod ToldLaws
+mod AnswerLaws

@@ -4,3 +4,5 @@ pub mod Explanation
 pub mod Asked
 pub mod Told
 pub mod inner
+pub mod Any
+pub mod Answers

@@ -2,6 +2,7 @@
 #![tactic(auto)]
 
 mod asked;
+mod audited;
 mod calls;
 mod phrases;
 mod reason;
@@ -9,6 +10,7 @@ mod rules;
 mod telling;
 mod told;
 
+pub use audited::{audit, explain_any};
 pub use calls::{machine_of, machine_with};
 pub use phrases::{ActionText, ConditionText};
 pub use reason::Reason;

@@ -1,3 +1,8 @@
 mod AnswerLaws
 mod CheckedLaws
 mod RuleLaws
+pub mod Lists
+pub mod Same
+pub mod Laws
+mod Causes
+mod Rules

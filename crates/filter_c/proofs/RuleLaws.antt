@@ -4,8 +4,8 @@ use Rattle.bpf_insn.specs.Bytes.{insns_of}
 use Rattle.cert_check.specs.Right.{IsRight}
 use Rattle.kernel_check.specs.Accepted.{IsAccepted}
 use Rattle.profile.specs.Policy.{Policy}
-use Rattle.added_rules.specs.declared.given.AddedRule.{AddedRule}
-use Rattle.added_rules.specs.Saying.{SaysWhatWasAdded}
+use Rattle.filter_c.specs.declared.added.given.AddedRule.{AddedRule}
+use Rattle.filter_c.specs.Saying.{SaysWhatWasAdded}
 use Rattle.filter_c.specs.Rules.{AnswersWhatWasAdded}
 
 pub answers_what_was_added : (machines : List ℕ) (default_action : ℕ) (rules : List AddedRule) (policy : Policy) (filter : List ℕ)

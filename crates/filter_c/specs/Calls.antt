@@ -3,7 +3,7 @@ use Rattle.std.specs.Prelude.{ℕ, ◌≡◌, List, Some, None}
 use Rattle.call_tables.specs.declared.arch.Arch.{Arch}
 use Rattle.call_tables.specs.Arch.{table_of}
 use Rattle.call_tables.specs.Table.{name_in, number_in}
-use Rattle.added_rules.specs.Machine.{machine_with}
+use Rattle.filter_c.specs.Machine.{machine_with}
 
 -- the machine's call of this name has the number
 abbrev pub HasNumber : ℕ → List ℕ → ℕ → Type 0

@@ -6,8 +6,8 @@ use Rattle.call_record.specs.Words.{IsRecord}
 use Rattle.kernel_check.specs.Accepted.{IsAccepted}
 use Rattle.profile.specs.Policy.{Policy}
 use Rattle.rule_compile.specs.Shape.{IsPlain}
-use Rattle.added_rules.specs.declared.given.AddedRule.{AddedRule}
-use Rattle.added_rules.specs.Saying.{AddedSay, SaysWhatWasAdded}
+use Rattle.filter_c.specs.declared.added.given.AddedRule.{AddedRule}
+use Rattle.filter_c.specs.Saying.{AddedSay, SaysWhatWasAdded}
 
 -- The kernel accepts the filter, and on each call record it answers what the rules that were added say, and nothing else.
 pub record AnswersWhatWasAdded (machines : List ℕ) (default_action : ℕ) (rules : List AddedRule) (filter : List ℕ) : Type 0 where

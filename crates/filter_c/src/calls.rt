@@ -1,12 +1,12 @@
 //! Names and numbers of calls.
 ghost use Rattle.std.specs.Prelude.{◌≡◌, Some, None, take, length};
 ghost use Rattle.std.specs.Str.{IsUtf8};
-ghost use Rattle.added_rules.specs.Machine as spec;
+ghost use Rattle.filter_c.specs.Machine as spec;
 ghost use Rattle.filter_c.specs.Calls.{HasNumber, HasNoNumber, HasName, HasNoName};
 
+use crate::added::machine_with;
 use crate::answers::written;
 use crate::status::{DONE, NO_CALL, NO_NATIVE, NO_ROOM, NO_TEXT};
-use added_rules::machine_with;
 
 /// Writes the number of a machine's call into `number`: 0. 15: the machine has no such call. 4: there is no such machine.
 /// 16: the name is no UTF-8.

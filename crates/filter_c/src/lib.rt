@@ -3,6 +3,7 @@
 //! thread is started.
 #![tactic(auto)]
 
+mod added;
 mod answers;
 mod bundles;
 mod calls;

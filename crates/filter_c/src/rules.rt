@@ -6,16 +6,16 @@ ghost use Rattle.cert_check.specs.Right.{IsRight};
 ghost use Rattle.rule_compile.specs.Shape.{IsPlain};
 ghost use Rattle.profile.specs.Policy.{IsClear};
 ghost use Rattle.pipeline.specs.Prepared.{IsTaken, IsUnbroken};
-ghost use Rattle.added_rules.specs.Refusal.{IsCause};
-ghost use Rattle.added_rules.specs.declared.fault.AddedError.TheVariants as error;
+ghost use Rattle.filter_c.specs.Refusal.{IsCause};
+ghost use Rattle.filter_c.specs.declared.added.fault.AddedError.TheVariants as error;
 ghost use Rattle.filter_c.specs.Rules.{AnswersWhatWasAdded, AreNotPlain};
 
+use crate::added::{AddedError, AddedRule, profile_of};
 use crate::answers::written;
 use crate::status::{
     DONE, FOREIGN_RULE, NATIVE_MISSING, NO_FILTER, NO_MACHINE, NO_MEMORY, NO_NATIVE, NO_ROOM,
     NO_RULE, OVERLAP, TOO_MANY, Told,
 };
-use added_rules::{AddedError, AddedRule, profile_of};
 use pipeline::{Prepared, Unready};
 use profile::Profile;
 use std::alloc::Global;

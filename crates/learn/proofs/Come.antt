@@ -5,7 +5,7 @@ use Rattle.std.specs.List.{onto_first}
 use Rattle.std.proofs.lemmas.List.Splits.{slice_split-cons_no, slice_split-cons_yes}
 use Rattle.call_tables.specs.declared.arch.Arch.{Arch}
 use Rattle.texts.specs.Lines.{line_feed}
-use Rattle.strace_log.specs.Lines.{lines_of}
+use Rattle.learn.specs.Lines.{lines_of}
 use Rattle.learn.specs.declared.calls.Seen.{Seen}
 use Rattle.learn.specs.Taken.{AreTaken, HasCome, onto}
 

@@ -7,3 +7,5 @@ mod LoggedLaws
 mod RefusedLaws
 mod PlayedLaws
 mod WishLaws
+pub mod Splits
+mod Spaces

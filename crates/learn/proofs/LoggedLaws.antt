@@ -8,9 +8,9 @@ use Rattle.std.proofs.lemmas.Str.{IsUtf8-from_is_utf8, is_utf8-from_IsUtf8}
 use Rattle.std.proofs.lemmas.Str.Pattern.{IsSplitOnceResult, split_parts}
 use Rattle.call_tables.specs.declared.arch.Arch.{Arch}
 use Rattle.texts.specs.Lines.{line_feed}
-use Rattle.strace_log.specs.Line.{call_on}
-use Rattle.strace_log.specs.Lines.{lines_of}
-use Rattle.strace_log.proofs.Splits.{lines-split}
+use Rattle.learn.specs.Line.{call_on}
+use Rattle.learn.specs.Lines.{lines_of}
+use Rattle.learn.proofs.Splits.{lines-split}
 use Rattle.learn.specs.Logged.{Logged, calls_from, calls_of, is_log, told_on}
 
 pub calls_step : (native : Arch) (log : List ℕ) (n : ℕ) (text : List ℕ) (r : Option (Bor (List ℕ) × Bor (List ℕ))) → IsSplitOnceResult line_feed text r

@@ -16,8 +16,8 @@ use Rattle.profile.specs.declared.rules.Rule.{Rule}
 use Rattle.profile.specs.Policy.{IsClear, Policy, Says}
 use Rattle.profile.specs.Said.{said}
 use Rattle.profile.proofs.SaidLaws.{each_record_is_said_one_verdict}
-use Rattle.strace_log.specs.Line.{CallParts, call_on, words_of_call}
-use Rattle.strace_log.specs.Lines.{lines_of}
+use Rattle.learn.specs.Line.{CallParts, call_on, words_of_call}
+use Rattle.learn.specs.Lines.{lines_of}
 use Rattle.learn.specs.declared.logged.LogCall.{LogCall}
 use Rattle.learn.specs.declared.refusals.RefusedCall.{RefusedCall}
 use Rattle.learn.specs.Logged.{Logged, calls_from, calls_in, calls_of, first_none, told_on}

@@ -18,7 +18,7 @@ use Rattle.profile.specs.Condition.{Meets}
 use Rattle.profile.specs.Operator.{Compares}
 use Rattle.profile.specs.Policy.{IsNative, IsProfile, Policy, Says}
 use Rattle.profile.specs.Rule.{Matches}
-use Rattle.strace_log.specs.Line.{words_of_call}
+use Rattle.learn.specs.Line.{words_of_call}
 use Rattle.learn.specs.declared.calls.Seen.{Seen}
 use Rattle.learn.specs.Taken.{Agree, AllowsEach, IsForEach, IsLow, IsWithin, OneAllows}
 

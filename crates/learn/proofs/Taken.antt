@@ -7,8 +7,8 @@ use Rattle.std.proofs.lemmas.List.Elements.{Contains-push, Contains-append_left,
 use Rattle.call_record.specs.Verdict.{allow}
 use Rattle.call_tables.specs.declared.arch.Arch.{Arch}
 use Rattle.profile.specs.Policy.{Policy, Says}
-use Rattle.strace_log.specs.Line.{CallParts, call_on, words_of_call}
-use Rattle.strace_log.specs.Lines.{lines_of}
+use Rattle.learn.specs.Line.{CallParts, call_on, words_of_call}
+use Rattle.learn.specs.Lines.{lines_of}
 use Rattle.learn.specs.declared.calls.Seen.{Seen}
 use Rattle.learn.specs.Learned.{AllowsLine, AllowsText, IsSeen}
 use Rattle.learn.specs.inner.Seen.{AreSeen}

@@ -10,8 +10,8 @@ use Rattle.profile.specs.declared.rules.Rule.{Rule}
 use Rattle.profile.specs.Policy.{Policy, Says}
 use Rattle.profile_json.specs.Meaning.{IsText, Means}
 use Rattle.explain.specs.declared.told.Told.{Told}
-use Rattle.strace_log.specs.Line.{call_on, words_of_call}
-use Rattle.strace_log.specs.Lines.{lines_of}
+use Rattle.learn.specs.Line.{call_on, words_of_call}
+use Rattle.learn.specs.Lines.{lines_of}
 use Rattle.learn.specs.declared.lists.Runtime.{Runtime}
 use Rattle.learn.specs.Lists.{is_listed}
 

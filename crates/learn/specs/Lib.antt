@@ -8,3 +8,5 @@ pub mod Logged
 pub mod Unused
 pub mod Replayed
 pub mod inner
+pub mod Line
+pub mod Lines

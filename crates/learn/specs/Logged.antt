@@ -3,8 +3,8 @@ use Rattle.std.specs.Prelude.{ℕ, ◌+◌, ◌&&◌, Bool, nat_lt, if◌then◌
 use Rattle.std.specs.List.{flat_map}
 use Rattle.std.specs.Str.{is_utf8}
 use Rattle.call_tables.specs.declared.arch.Arch.{Arch}
-use Rattle.strace_log.specs.Line.{CallParts, call_on, words_of_call}
-use Rattle.strace_log.specs.Lines.{lines_of}
+use Rattle.learn.specs.Line.{CallParts, call_on, words_of_call}
+use Rattle.learn.specs.Lines.{lines_of}
 use Rattle.learn.specs.declared.logs.Log.{Log}
 
 -- a call that a line of a log tells: its machine, its record, the name of the log, the number of the line, and the line

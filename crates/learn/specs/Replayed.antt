@@ -21,8 +21,8 @@ use Rattle.explain.specs.declared.told.Told.{Told}
 use Rattle.explain.specs.Phrases.{action_text}
 use Rattle.explain.specs.Reason.{by_rule}
 use Rattle.explain.specs.Told.{RefusesBundle, TellsLine}
-use Rattle.strace_log.specs.Line.{call_on, words_of_call}
-use Rattle.strace_log.specs.Lines.{lines_of}
+use Rattle.learn.specs.Line.{call_on, words_of_call}
+use Rattle.learn.specs.Lines.{lines_of}
 use Rattle.learn.specs.Logged.{Logged, calls_in, first_none}
 use Rattle.learn.specs.Unused.{unused_text}
 

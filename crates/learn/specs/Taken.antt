@@ -9,8 +9,8 @@ use Rattle.profile.specs.declared.conditions.Op.TheVariants.{MaskedEq}
 use Rattle.profile.specs.declared.rules.Rule.{Rule}
 use Rattle.profile.specs.Policy.{Policy, Says}
 use Rattle.profile.specs.Rule.{Matches}
-use Rattle.strace_log.specs.Line.{CallParts, call_on, words_of_call}
-use Rattle.strace_log.specs.Lines.{lines_of}
+use Rattle.learn.specs.Line.{CallParts, call_on, words_of_call}
+use Rattle.learn.specs.Lines.{lines_of}
 use Rattle.learn.specs.declared.calls.Seen.{Seen}
 use Rattle.learn.specs.declared.reading.Shown.{Shown}
 

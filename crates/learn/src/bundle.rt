@@ -3,10 +3,10 @@ use crate::calls::{Calls, Kept};
 use crate::keeps::{Keep, WHOLE, low};
 use crate::lists::Otherwise;
 use crate::names::Names;
+use crate::strace::machines_run;
 use call_tables::Arch;
 use std::alloc::{AllocError, Global};
 use std::fmt::Write;
-use strace_log::machines_run;
 
 // Whether logs show a call of a machine.
 fn is_shown(calls: &Calls, arch: Arch) -> bool {

@@ -1,15 +1,15 @@
 //! The calls of logs, each once.
 ghost use Rattle.std.specs.Prelude.{◌≡◌, IfOk, []};
 ghost use Rattle.call_record.specs.Record.{words};
-ghost use Rattle.strace_log.specs.Line.{words_of_call};
+ghost use Rattle.learn.specs.Line.{words_of_call};
 ghost use Rattle.learn.specs.Taken.{Grows, IsCovered};
 
 use crate::covering::{fitting, is_noted, whole_of};
 use crate::keeps::{Keep, bits_of, keep_of, values_of};
+use crate::strace::Call;
 use call_record::{Record, words_are_a_record};
 use call_tables::Arch;
 use std::alloc::{AllocError, Global};
-use strace_log::Call;
 
 /// Calls that logs show: those of a number on a machine whose arguments are these values in so many of their lowest bits.
 #[derive(Clone, Copy)]

@@ -3,9 +3,9 @@ ghost use Rattle.std.specs.Prelude.{◌≡◌, ◌<◌, ◌%◌, ◌^◌};
 ghost use Rattle.call_tables.specs.Arch.{token_of};
 ghost use Rattle.learn.specs.Kept as spec;
 
-use call_arguments::read_bits;
+use crate::strace::{Call, machines_run};
 use call_tables::{Arch, is_narrow};
-use strace_log::{Call, machines_run};
+use narrow::read_bits;
 
 /// A call of which the values of these arguments are kept.
 #[derive(Clone, Copy)]

@@ -15,6 +15,7 @@ mod reading;
 mod reasons;
 mod refusals;
 mod replaying;
+mod strace;
 mod telling;
 mod unread;
 mod unused;

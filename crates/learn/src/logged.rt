@@ -1,16 +1,16 @@
 //! The calls that logs show, one after the other.
 ghost use Rattle.std.specs.Prelude.{◌≡◌, ◌+◌, ◌++◌, ◌∷◌, [], IfOk, None, Some, true};
 ghost use Rattle.std.specs.Option.{option_map};
-ghost use Rattle.strace_log.specs.Line.{call_on as call_told};
-ghost use Rattle.strace_log.specs.Lines.{lines_of};
+ghost use Rattle.learn.specs.Line.{call_on as call_told};
+ghost use Rattle.learn.specs.Lines.{lines_of};
 ghost use Rattle.learn.specs.Logged as spec;
 ghost use Rattle.learn.specs.inner.Views.{all_logged, logged};
 
 use crate::logs::Log;
+use crate::strace::{Call, call_on};
 use call_record::Record;
 use call_tables::Arch;
 use std::alloc::AllocError;
-use strace_log::{Call, call_on};
 
 /// A call that a line of a log tells: its machine, its record, the name of the log, the number of the line, from 1, and the line.
 #[derive(Clone, Copy)]

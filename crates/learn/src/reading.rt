@@ -1,15 +1,15 @@
 //! Logs, read from sources.
 ghost use Rattle.std.specs.Prelude.{◌≡◌, ◌++◌, ℕ, List, [], ◌∷◌, true, false, IfOk, IsTrue};
-ghost use Rattle.strace_log.specs.Lines.{lines_of};
+ghost use Rattle.learn.specs.Lines.{lines_of};
 ghost use Rattle.learn.specs.Given.{GivesAll};
 ghost use Rattle.learn.specs.Taken.{AreTaken, HasCome, HaveShown};
 
 use crate::calls::{Calls, see};
 use crate::keeps::Keep;
+use crate::strace::call_on;
 use crate::unread::Unread;
 use call_tables::Arch;
 use std::alloc::{AllocError, Global};
-use strace_log::call_on;
 use streams::Source;
 
 /// Why a log was not read.

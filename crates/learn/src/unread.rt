@@ -1,7 +1,7 @@
 //! Lines of logs that were not read.
+use crate::strace::is_remark;
 use std::alloc::{AllocError, Global};
 use std::fmt::Write;
-use strace_log::is_remark;
 
 // How many lines that are not read are told.
 const MOST_TOLD: u64 = 10;

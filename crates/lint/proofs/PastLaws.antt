@@ -5,7 +5,7 @@ use Rattle.std.specs.List.{All}
 use Rattle.call_record.specs.Record.{words}
 use Rattle.call_record.specs.Verdict.{Through, is_through}
 use Rattle.call_record.specs.Words.{IsRecord}
-use Rattle.narrowed.specs.Alike.{ClearedIsAlike, IsCleared, IsNarrowed}
+use Rattle.narrow.specs.Alike.{ClearedIsAlike, IsCleared, IsNarrowed}
 use Rattle.order.specs.Order.{Exceeds}
 use Rattle.profile.specs.Policy.{Policy, Says}
 use Rattle.lint.specs.Past.{GetsPast, NothingGetsPast}

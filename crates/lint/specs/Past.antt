@@ -3,8 +3,8 @@ use Rattle.std.specs.Prelude.{◌≢◌, ◌<◌, ⊤, []}
 use Rattle.std.specs.List.{All}
 use Rattle.call_record.specs.Record.{words}
 use Rattle.call_record.specs.Verdict.{Through}
-use Rattle.narrowed.specs.Alike.{Alike, IsCleared, IsNarrowed}
-use Rattle.narrowed.specs.Counts.{most_narrowed}
+use Rattle.narrow.specs.Alike.{Alike, IsCleared, IsNarrowed}
+use Rattle.narrow.specs.Counts.{most_narrowed}
 use Rattle.order.specs.Decided.{AreTooLong}
 use Rattle.order.specs.Order.{AllowsNoMore}
 use Rattle.profile.specs.Policy.{Policy, Says, most_rules}

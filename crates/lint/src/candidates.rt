@@ -1,7 +1,7 @@
 //! Arguments of calls that may get past.
 ghost use Rattle.std.specs.Prelude.{◌<◌};
 
-use call_arguments::read_bits;
+use narrow::read_bits;
 use profile::{Cond, Profile};
 use std::alloc::{AllocError, Global};
 

@@ -1,15 +1,15 @@
 //! Whether a call gets past a profile.
 ghost use Rattle.std.specs.Prelude.{◌≡◌, true, [], ◌∷◌, IfOk, IfSome};
 ghost use Rattle.call_record.specs.Record.{words};
-ghost use Rattle.narrowed.specs.Alike.{IsNarrowed};
-ghost use Rattle.narrowed.specs.Narrowed.{AreNarrowed};
+ghost use Rattle.narrow.specs.Alike.{IsNarrowed};
+ghost use Rattle.narrow.specs.Narrowed.{AreNarrowed};
 ghost use Rattle.order.specs.Order.{Exceeds};
 ghost use Rattle.lint.specs.Past.{GetsPast, IsFinding};
 
 use crate::past::{Finding, Past, Size};
 use crate::search::search;
 use call_record::words_are_a_record;
-use narrowed::{
+use narrow::{
     CutError, WHOLE, add_narrowed, cleared, cleared_is_alike, is_narrowed, narrowed, suits,
 };
 use order::{AtMost, Excess, allows_no_more};

@@ -1,10 +1,8 @@
 //! What else in a bundle says less than it seems to. None of it changes what is decided.
 use crate::pairs::put_pairs;
-use call_arguments::{Reading, readings};
 use call_record::lets_through;
 use explain::ConditionText;
-use narrow::Text;
-use narrowed::sees_low;
+use narrow::{Reading, Text, readings, sees_low};
 use profile::{Cond, Op, Profile, Rule};
 use profile_json::EntryRules;
 

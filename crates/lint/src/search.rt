@@ -5,7 +5,7 @@ ghost use Rattle.lint.specs.Past.{GetsPast};
 use crate::candidates::{arguments, conditions_of, read_masks};
 use crate::past::Past;
 use call_record::{Record, lets_through};
-use narrowed::{WHOLE, cleared, cleared_is_alike, suit_call};
+use narrow::{WHOLE, cleared, cleared_is_alike, suit_call};
 use profile::{Profile, Rule};
 use std::alloc::{AllocError, Global};
 

@@ -1,1 +1,15 @@
 pub mod ToldLaws
+pub mod TurnLaws
+pub mod HasLaws
+pub mod CountLaws
+pub mod PatternLaws
+pub mod CutLaws
+pub mod WidthLaws
+pub mod RuleLaws
+pub mod PolicyLaws
+pub mod AskedLaws
+pub mod StepLaws
+pub mod BuildLaws
+pub mod SuitLaws
+pub mod LowerLaws
+pub mod Deciding

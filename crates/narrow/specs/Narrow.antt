@@ -3,8 +3,8 @@ use Rattle.std.specs.Prelude.{◌≡◌, ℕ, List, true}
 use Rattle.serde_json.specs.Data.{Data}
 use Rattle.call_tables.specs.declared.arch.Arch.{Arch}
 use Rattle.explain.specs.declared.told.Told.{Told}
-use Rattle.narrowed.specs.Alike.{IsNarrowed}
-use Rattle.narrowed.specs.Lowered.{AreLowered, ValuesFit, with_rules}
+use Rattle.narrow.specs.Alike.{IsNarrowed}
+use Rattle.narrow.specs.Lowered.{AreLowered, ValuesFit, with_rules}
 use Rattle.profile.specs.declared.rules.Rule.{Rule}
 use Rattle.profile.specs.Policy.{Policy}
 use Rattle.profile_json.specs.Meaning.{IsText, Means}

@@ -1,11 +1,11 @@
 //! Entries, written in parts where their arguments are cut.
 use crate::conditions::put_conditions;
+use crate::narrowed::{CutError, Plan, conditions};
 use crate::plans::{agree, cuts, lowered, plan_of};
 use crate::text::Text;
 use arrayvec::ArrayVec;
 use call_tables::Arch;
 use explain::ConditionText;
-use narrowed::{CutError, Plan, conditions};
 use profile::{Cond, Rule};
 use profile_json::EntryRules;
 use serde_json::Value;

@@ -2,12 +2,19 @@
 //! written in parts is told with its place.
 #![tactic(auto)]
 
+mod arguments;
 mod conditions;
 mod entries;
+mod narrowed;
 mod plans;
 mod text;
 mod told;
 mod written;
 
+pub use arguments::{Reading, read_bits, readings};
+pub use narrowed::{
+    CutError, WHOLE, add_narrowed, cleared, cleared_is_alike, is_narrowed, narrowed, sees_low,
+    suit_call, suits,
+};
 pub use text::Text;
 pub use told::{Narrowing, narrow};

@@ -1,18 +1,18 @@
 //! What narrowing a bundle answers.
 ghost use Rattle.std.specs.Prelude.{◌≡◌, ◌++◌, ℕ, List, [], ◌∷◌, IfOk, IfSome, true, false};
-ghost use Rattle.narrowed.specs.Cutting.{Suits};
+ghost use Rattle.narrow.specs.Cutting.{Suits};
 ghost use Rattle.profile.specs.declared.rules.Rule.{Rule as TheRule};
 ghost use Rattle.narrow.specs.Narrow as spec;
-ghost use Rattle.narrowed.specs.Lowered.{AreLowered};
-ghost use Rattle.narrowed.specs.Narrowed.{AreNarrowed};
+ghost use Rattle.narrow.specs.Lowered.{AreLowered};
+ghost use Rattle.narrow.specs.Narrowed.{AreNarrowed};
 
+use crate::narrowed::{
+    CutError, Plan, WHOLE, add_narrowed, fitting_stay, is_narrowed_of, lowered_rule, suits,
+};
 use crate::plans::plan_of;
 use crate::written::{Draft, written};
 use call_tables::Arch;
 use explain::{Told, refused_profile};
-use narrowed::{
-    CutError, Plan, WHOLE, add_narrowed, fitting_stay, is_narrowed_of, lowered_rule, suits,
-};
 use profile::{Profile, Rule};
 use profile_json::{ProfileError, read_bundle};
 use std::alloc::{AllocError, Global};

@@ -3,8 +3,8 @@ use Rattle.std.specs.Prelude.{â„•, bit_or, Bool, true, false, codes, List, [], â
 use Rattle.std.specs.Prelude.{Option, Some, None, is_some, option_and_then, option_map, unwrap_or}
 use Rattle.std.specs.Str.{bytes_eq}
 use Rattle.profile_json.specs.Names.{named}
-use Rattle.settling.specs.declared.choice.Choice.{Choice}
-use Rattle.settling.specs.declared.choice.Choice.TheVariants.{First, Looser, Stricter, LikeLibseccomp}
+use Rattle.adapt.specs.declared.settling.choice.Choice.{Choice}
+use Rattle.adapt.specs.declared.settling.choice.Choice.TheVariants.{First, Looser, Stricter, LikeLibseccomp}
 use Rattle.adapt.specs.declared.capabilities.Engine.{Engine}
 use Rattle.adapt.specs.declared.capabilities.Engine.TheVariants.{Docker, Podman, Containerd}
 use Rattle.adapt.specs.declared.kernels.Kernel.{Kernel}

@@ -1,7 +1,7 @@
 use Rattle.std.proofs.Common.{sym, ◌∙◌, subst, List, ℕ}
 use Rattle.profile.specs.declared.rules.Rule.{Rule}
 use Rattle.profile_json.specs.Meaning.{IsText}
-use Rattle.settling.specs.Settled.{Settles}
+use Rattle.adapt.specs.Settled.{Settles}
 use Rattle.adapt.proofs.judging.settled.Goals as goal
 
 pub returns : goal.returns

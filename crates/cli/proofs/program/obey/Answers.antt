@@ -1,7 +1,7 @@
 use Rattle.std.proofs.Common.{[], ◌∷◌, inl, inr, map, refl, ⊎_elim}
 use Rattle.compare.specs.Told.{IsCompared}
 use Rattle.describe.specs.Shown.{IsAnnotated, IsDrawn}
-use Rattle.differ.specs.Told.{IsTold}
+use Rattle.compare.specs.FiltersTold.{IsTold}
 use Rattle.explain.specs.Told.{IsAssembled, IsRecorded, IsVersion}
 use Rattle.lint.specs.Linted.{IsLinted}
 use Rattle.cli.specs.Dispatch.{any_call, explained_as}

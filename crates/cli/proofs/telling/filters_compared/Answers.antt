@@ -1,5 +1,5 @@
 use Rattle.std.proofs.Common.{ℕ, List, subst, sym}
-use Rattle.differ.specs.Told.{IsTold}
+use Rattle.compare.specs.FiltersTold.{IsTold}
 use Rattle.cli.specs.Files.{HasBytes}
 use Rattle.cli.proofs.DispatchLaws.{told_both}
 use Rattle.cli.proofs.telling.filters_compared.Goals as goal

@@ -4,7 +4,7 @@ use Rattle.call_tables.specs.declared.arch.Arch.{Arch}
 use Rattle.call_tables.specs.Numbers.{HasCall}
 use Rattle.profile.specs.declared.rules.Rule.{Rule}
 use Rattle.profile.specs.Policy.{IsNative}
-use Rattle.strace_log.specs.Line.{words_of_call}
+use Rattle.learn.specs.Line.{words_of_call}
 use Rattle.learn.specs.Taken.{OneAllows}
 use Rattle.learn.proofs.Rules.{profile_allows}
 use Rattle.learn.proofs.judging.allows_each.Goals as goal

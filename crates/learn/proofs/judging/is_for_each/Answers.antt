@@ -1,7 +1,7 @@
 use Rattle.std.proofs.Common.{ℕ, List, subst}
 use Rattle.std.specs.List.{All}
 use Rattle.call_record.specs.Words.{IsRecord}
-use Rattle.strace_log.specs.Line.{words_of_call}
+use Rattle.learn.specs.Line.{words_of_call}
 use Rattle.profile.specs.declared.conditions.Cond.{Cond}
 use Rattle.profile.specs.Rule.{Matches}
 use Rattle.learn.specs.Taken.{IsWithin}

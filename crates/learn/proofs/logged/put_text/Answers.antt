@@ -1,7 +1,7 @@
 use Rattle.std.proofs.Common.{◌+◌, ◌++◌, ◌≤◌, length, List, ap, sym, ◌∙◌, arith, rules}
 use Rattle.std.specs.Prelude.{None, Some}
-use Rattle.strace_log.specs.Line.{call_on}
-use Rattle.strace_log.specs.Lines.{lines_of}
+use Rattle.learn.specs.Line.{call_on}
+use Rattle.learn.specs.Lines.{lines_of}
 use Rattle.learn.specs.Logged.{Logged, calls_from, calls_of, told_on}
 use Rattle.learn.specs.inner.Views.{all_logged}
 use Rattle.learn.proofs.LoggedLaws.{calls_step, more_calls, rest_shorter}

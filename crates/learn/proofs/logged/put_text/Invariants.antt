@@ -1,7 +1,7 @@
 -- The calls so far and those of the lines that are left are those of the text, and the number is that of the next line.
 use Rattle.std.proofs.Common.{◌≡◌, ◌+◌, ◌++◌, ◌≤◌, length}
 use Rattle.std.specs.Str.{IsUtf8}
-use Rattle.strace_log.specs.Lines.{lines_of}
+use Rattle.learn.specs.Lines.{lines_of}
 use Rattle.learn.specs.Logged.{calls_from, calls_of}
 use Rattle.learn.specs.inner.Views.{all_logged}
 use Rattle.learn.proofs.logged.put_text.Given as goal

@@ -1,8 +1,8 @@
 use Rattle.std.proofs.Common.{◌≡◌, ℕ, List, subst}
 use Rattle.std.specs.String.{string_bytes}
 use Rattle.profile.specs.declared.rules.Rule.{Rule}
-use Rattle.narrowed.specs.Alike.{IsNarrowed}
-use Rattle.narrowed.specs.Lowered.{with_rules}
+use Rattle.narrow.specs.Alike.{IsNarrowed}
+use Rattle.narrow.specs.Lowered.{with_rules}
 use Rattle.narrow.specs.Narrow.{IsBundle}
 use Rattle.narrow.proofs.ToldLaws.{none_done}
 use Rattle.narrow.proofs.told.confirmed.Goals as goal

@@ -3,7 +3,7 @@ use Rattle.std.specs.Prelude.{IfSome, Option}
 use Rattle.std.proofs.lemmas.List.{take_more}
 use Rattle.std.proofs.lemmas.List.Elements.{AllZip-push}
 use Rattle.profile.specs.declared.rules.Rule.{Rule}
-use Rattle.narrowed.specs.Lowered.{AreLowered, IsLowered}
+use Rattle.narrow.specs.Lowered.{AreLowered, IsLowered}
 use Rattle.narrow.proofs.told.lowered_rules.Goals as goal
 
 pub loop-rule-preserved : goal.loop-rule-preserved

@@ -1,5 +1,5 @@
 use Rattle.std.proofs.Common.{take}
-use Rattle.narrowed.specs.Lowered.{AreLowered}
+use Rattle.narrow.specs.Lowered.{AreLowered}
 use Rattle.narrow.proofs.told.lowered_rules.Given as goal
 
 abbrev pub invariant-loop-rule : goal.invariant-loop-rule

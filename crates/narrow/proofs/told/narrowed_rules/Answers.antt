@@ -1,8 +1,8 @@
 use Rattle.std.proofs.Common.{◌≡◌, ◌+◌, [], ◌∷◌, ◌++◌, List, take, sym, ◌∙◌, ap, subst, arith}
 use Rattle.std.proofs.lemmas.List.{take_more}
 use Rattle.profile.specs.declared.rules.Rule.{Rule}
-use Rattle.narrowed.specs.Narrowed.{AreNarrowed}
-use Rattle.narrowed.proofs.RuleLaws.{narrowed_none}
+use Rattle.narrow.specs.Narrowed.{AreNarrowed}
+use Rattle.narrow.proofs.RuleLaws.{narrowed_none}
 use Rattle.narrow.proofs.told.narrowed_rules.Goals as goal
 
 pub loop-rule-init : goal.loop-rule-init

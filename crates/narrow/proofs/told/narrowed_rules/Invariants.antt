@@ -1,5 +1,5 @@
 use Rattle.std.proofs.Common.{take}
-use Rattle.narrowed.specs.Narrowed.{AreNarrowed}
+use Rattle.narrow.specs.Narrowed.{AreNarrowed}
 use Rattle.narrow.proofs.told.narrowed_rules.Given as goal
 
 abbrev pub invariant-loop-rule : goal.invariant-loop-rule

@@ -1,5 +1,0 @@
-pub mod Lists
-pub mod Same
-pub mod Laws
-mod Causes
-mod Rules

@@ -1,6 +1,0 @@
-use Rattle.std.proofs.Common.{◌≡◌, ℕ, take, map, length}
-use Rattle.added_rules.specs.Parts.{added_condition, kept_condition}
-use Rattle.added_rules.proofs.condition.conditions_of.Given as goal
-
-abbrev pub invariant-loop-part : goal.invariant-loop-part
-invariant-loop-part l = map kept_condition l.conds.items ≡ map added_condition (take l.part-index l.given)

@@ -1,7 +1,0 @@
-use Rattle.std.proofs.Common.{◌≡◌, ℕ, take, map, Some}
-use Rattle.call_tables.specs.declared.arch.Arch.{Arch}
-use Rattle.added_rules.specs.Machine.{machine_with}
-use Rattle.added_rules.proofs.made.machines_with.Given as goal
-
-abbrev pub invariant-loop-place : goal.invariant-loop-place
-invariant-loop-place l = map (λ (a : Arch). Some a) l.archs.items ≡ map machine_with (take l.place l.numbers)

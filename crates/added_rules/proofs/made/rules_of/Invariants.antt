@@ -1,6 +1,0 @@
-use Rattle.std.proofs.Common.{◌≡◌, ℕ, take, map}
-use Rattle.added_rules.specs.Parts.{added_rule, kept_rule}
-use Rattle.added_rules.proofs.made.rules_of.Given as goal
-
-abbrev pub invariant-loop-place : goal.invariant-loop-place
-invariant-loop-place l = map kept_rule l.rules.items ≡ map added_rule (take l.place l.given)

@@ -1,4 +1,0 @@
-pub mod Machine
-pub mod Parts
-pub mod Saying
-pub mod Refusal

@@ -1,2 +1,0 @@
-pub mod Any
-pub mod Answers

@@ -1,0 +1,13 @@
+//! The ENOSYS stub that runc puts in front of a container's filter, told apart from the filter.
+//!
+//! [`split`] follows each path through the first instructions of a program, on all records at once that take it.
+mod calls;
+mod compare;
+mod numbers;
+mod path;
+mod region;
+mod splitting;
+mod step;
+
+pub(crate) use calls::{Calls, is_answered};
+pub(crate) use splitting::{Stub, split};

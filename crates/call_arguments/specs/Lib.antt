@@ -1,4 +1,0 @@
-pub mod Reading
-pub mod Rows
-pub mod Tables
-pub mod Reads

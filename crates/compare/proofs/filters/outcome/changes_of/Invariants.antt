@@ -1,0 +1,9 @@
+use Rattle.std.proofs.Common.{List}
+use Rattle.std.specs.List.{All}
+use Rattle.bpf_insn.specs.declared.instruction.Insn.{Insn}
+use Rattle.compare.specs.Differ.{AnswerUnlike}
+use Rattle.compare.specs.FiltersTold.{IsUnlike}
+use Rattle.compare.proofs.filters.outcome.changes_of.Given as goal
+
+abbrev pub invariant-loop-found : goal.invariant-loop-found
+invariant-loop-found l = (old new : List Insn) → All (AnswerUnlike old new) l.fn.all → All (IsUnlike old new) l.changes.items

@@ -1,0 +1,62 @@
+-- What is told of two filters.
+use Rattle.std.specs.Prelude.{ℕ, ◌≡◌, ◌≢◌, Bool, true, false, ◌⊎◌, List, [], ◌∷◌, ◌++◌, Some, codes}
+use Rattle.std.specs.Fmt.{decimal}
+use Rattle.std.specs.List.{All, flat_map}
+use Rattle.texts.specs.Lines.{line_feed}
+use Rattle.bpf_insn.specs.declared.instruction.Insn.{Insn}
+use Rattle.bpf_insn.specs.declared.fault.ViewError.{ViewError}
+use Rattle.bpf_insn.specs.Bytes.{insns_of, view_fault}
+use Rattle.bpf_insn.specs.Fault.{text_of as fault_text}
+use Rattle.kernel_check.specs.declared.fault.Refused.{Refused}
+use Rattle.kernel_check.specs.Accepted.{IsRefusal}
+use Rattle.kernel_check.specs.Fault.{text_of as refusal_text}
+use Rattle.explain.specs.declared.told.Told.{Told}
+use Rattle.compare.specs.Outcome.{line_of}
+use Rattle.compare.specs.declared.change.Change.{Change}
+use Rattle.compare.specs.Differ.{AnswerUnlike}
+use Rattle.compare.specs.declared.filters.outcome.Outcome.{Outcome}
+use Rattle.compare.specs.declared.filters.outcome.Outcome.TheVariants.{Same, Differ, NoneFound, NoProgram, Refusal}
+
+-- a change is of a call of which the filters answer unlike verdicts
+abbrev pub IsUnlike : List Insn → List Insn → Change → Type 0
+IsUnlike old new change = AnswerUnlike old new change.first × (change.others.items ≡ [])
+
+-- the bytes are no program, or none that the kernel accepts
+abbrev pub IsWrong : List ℕ → ℕ → Outcome → Type 0
+IsWrong filter place (NoProgram e at) = (at ≡ place) × (view_fault filter ≡ Some e)
+IsWrong filter place (Refusal e at) = (at ≡ place) × IsRefusal (insns_of filter) e
+IsWrong filter place other = ⊥
+
+-- What is so of the bytes of two filters: that they are the same, or that the filters answer unlike verdicts to calls. That none was found
+-- says nothing. Or the bytes of the first or the second one are wrong.
+abbrev pub IsOutcome : List ℕ → List ℕ → Outcome → Type 0
+IsOutcome old new Same = old ≡ new
+IsOutcome old new (Differ changes) = (changes.items ≢ []) × All (IsUnlike (insns_of old) (insns_of new)) changes.items
+IsOutcome old new NoneFound = Unit {0}
+IsOutcome old new other = IsWrong old 1 other ⊎ IsWrong new 2 other
+
+-- the line of a filter whose bytes are no program, and of one that the kernel refuses
+abbrev pub view_line : ViewError → ℕ → List ℕ
+view_line e place = codes "refused view " ++ fault_text e ++ codes ", filter " ++ decimal place ++ line_feed ∷ []
+
+abbrev pub kernel_line : Refused → ℕ → List ℕ
+kernel_line e place = codes "refused kernel " ++ refusal_text e ++ codes ", filter " ++ decimal place ++ line_feed ∷ []
+
+-- the text that says it
+abbrev pub text_of : Outcome → List ℕ
+text_of Same = codes "same\n"
+text_of (Differ changes) = flat_map line_of changes.items ++ codes "differ\n"
+text_of NoneFound = codes "none found\n"
+text_of (NoProgram e place) = view_line e place
+text_of (Refusal e place) = kernel_line e place
+
+abbrev pub is_done : Outcome → Bool
+is_done Same = true
+is_done other = false
+
+-- what is told is the text of what is so, and only of filters with the same bytes that it was done
+pub record IsTold (old new : List ℕ) (told : Told) : Type 0 where
+  pub outcome : Outcome
+  pub is : IsOutcome old new outcome
+  pub text : told.bytes.items ≡ text_of outcome
+  pub done : told.done ≡ is_done outcome

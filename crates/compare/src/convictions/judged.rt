@@ -1,0 +1,110 @@
+//! The records that convict a filter, beside a bundle.
+ghost use Rattle.std.specs.Prelude.{◌≡◌, ◌∷◌, None, ℕ, List, IfOk, IfSome, OnOk, OnSome};
+ghost use Rattle.bpf_insn.specs.Bytes.{insns_of, view_fault};
+ghost use Rattle.call_tables.specs.declared.arch.Arch.{Arch as TheArch};
+ghost use Rattle.kernel_check.specs.Accepted.{IsAccepted};
+ghost use Rattle.kernel_check.specs.Lent.{accepted_insns};
+ghost use Rattle.pipeline.specs.Certified.{AreJudged};
+ghost use Rattle.compare.specs.Convictions.{AllConvict, AreFound, Convicts};
+
+use crate::convictions::search::add_each;
+use crate::filters::find_differences;
+use bpf_insn::Program;
+use call_record::Record;
+use call_tables::{Arch, Family};
+use evidence::Conviction;
+use kernel_check::{Accepted, accept};
+use profile::Profile;
+use profile_json::read_bundle;
+use rule_compile::compile;
+use std::alloc::{AllocError, Global};
+
+// The program of a filter, if the kernel accepts it.
+fn accepted_of(filter: &[u8]) -> Option<Accepted<'_>>
+    ensures same { IfSome result (λ program. accepted_insns program ≡ insns_of filter.entry.now) }
+    ensures program { OnSome result (view_fault filter.entry.now ≡ None) }
+    ensures accepted { OnSome result (IsAccepted (insns_of filter.entry.now)) }
+{
+    let program = match Program::view(filter) {
+        Ok(program) => program,
+        Err(_) => return None,
+    };
+    match accept(&program) {
+        Ok(accepted) => Some(accepted),
+        Err(_) => None,
+    }
+}
+
+// Adds what convicts a filter on the records on which it differs from the filter that is compiled for the profile. Where there is none,
+// nothing is added.
+fn add_beside(
+    alloc: Global,
+    family: Family,
+    profile: &Profile,
+    filter: &Accepted<'_>,
+    told: &Record,
+    all: &mut Vec<Conviction>,
+) -> Result<(), AllocError>
+    ensures { (native : TheArch) (bundle bytes : List ℕ) → AreJudged native bundle bytes profile.now
+        → accepted_insns filter.now ≡ insns_of bytes → AllConvict native bundle bytes all.old.items
+        → IfOk result (λ _. AllConvict native bundle bytes all.new.items) }
+{
+    let compiled = match compile(alloc, profile) {
+        Ok(compiled) => compiled,
+        Err(_) => return Ok(()),
+    };
+    let own = match accepted_of(&compiled) {
+        Some(own) => own,
+        None => return Ok(()),
+    };
+    let differences = find_differences(alloc, family, filter, &own)?;
+    add_each(profile, filter, told, &differences, all)
+}
+
+// Adds what convicts a filter beside a bundle.
+fn add_all(
+    alloc: Global,
+    native: Arch,
+    bundle: &[u8],
+    filter: &[u8],
+    told: &Record,
+    all: &mut Vec<Conviction>,
+) -> Result<(), AllocError>
+    ensures { AllConvict native bundle.now filter.now all.old.items → IfOk result (λ _. AllConvict native bundle.now filter.now all.new.items) }
+{
+    let read = match read_bundle(alloc, bundle, native) {
+        Ok(read) => read,
+        Err(_) => return Ok(()),
+    };
+    let program = match accepted_of(filter) {
+        Some(program) => program,
+        None => return Ok(()),
+    };
+    add_beside(alloc, native.family(), &read.profile, &program, told, all)
+}
+
+// Puts a record before all others.
+fn put_first(found: &Conviction, all: &mut Vec<Conviction>) -> Result<(), AllocError>
+    ensures { OnOk result (all.new.items ≡ found.now ∷ all.old.items) }
+{
+    all.insert(0, *found)?;
+    Ok(())
+}
+
+/// The record that was found to convict a filter, and one of each further call that is found of which the filter gives another verdict than
+/// the bundle says, which is read for a native machine.
+pub fn convictions_of(
+    alloc: Global,
+    native: Arch,
+    bundle: &[u8],
+    filter: &[u8],
+    found: &Conviction,
+) -> Result<Vec<Conviction>, AllocError>
+    requires { Convicts native bundle.now filter.now found.now }
+    ensures { IfOk result (λ all. AreFound native bundle.now filter.now found.now all.items) }
+{
+    let mut all = Vec::new(alloc);
+    add_all(alloc, native, bundle, filter, &found.call, &mut all)?;
+    put_first(found, &mut all)?;
+    Ok(all)
+}

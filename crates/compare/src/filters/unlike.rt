@@ -1,0 +1,27 @@
+//! What two filters answer to one call record.
+ghost use Rattle.std.specs.Prelude.{◌≡◌, IfSome};
+ghost use Rattle.kernel_check.specs.Lent.{accepted_insns};
+ghost use Rattle.compare.specs.Differ.{AnswerUnlike};
+
+use crate::difference::{Difference, difference_on};
+use bpf_interp::verdict;
+use call_record::Record;
+use call_tables::Family;
+use kernel_check::Accepted;
+
+/// The verdicts of two filters on a call record, where they are unlike. The machine is told as one of a family.
+pub(crate) fn unlike(
+    family: Family,
+    old: &Accepted<'_>,
+    new: &Accepted<'_>,
+    call: &Record,
+) -> Option<Difference>
+    ensures { IfSome result (AnswerUnlike (accepted_insns old.now) (accepted_insns new.now)) }
+{
+    let one = verdict(old, call);
+    let other = verdict(new, call);
+    if one.0 == other.0 {
+        return None;
+    }
+    Some(difference_on(family, call, [false; 6], one, other))
+}

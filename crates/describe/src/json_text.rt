@@ -1,0 +1,11 @@
+//! JSON texts before they are read: where and why a text is none, which key stands twice, and a text without the members that
+//! nobody reads.
+mod fault;
+mod frames;
+mod known;
+mod skip;
+mod trim;
+
+pub(crate) use fault::TextFault;
+pub use fault::fault_of;
+pub use trim::{Doubled, Trimmed, without_unread};

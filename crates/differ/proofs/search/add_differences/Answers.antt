@@ -1,6 +1,0 @@
-use Rattle.kernel_check.specs.Lent.{accepted_insns}
-use Rattle.differ.proofs.search.add_differences.Goals as goal
-
-pub loop-number-preserved : goal.loop-number-preserved
-loop-number-preserved c =
-    c.in_ok-add.ensures (accepted_insns c.args.old.now) (accepted_insns c.args.new.now) c.in_ok-found.ensures c.loop-number.invariant

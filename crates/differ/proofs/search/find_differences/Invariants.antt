@@ -1,7 +1,0 @@
-use Rattle.std.specs.List.{All}
-use Rattle.kernel_check.specs.Lent.{accepted_insns}
-use Rattle.differ.specs.Differ.{AnswerUnlike}
-use Rattle.differ.proofs.search.find_differences.Given as goal
-
-abbrev pub invariant-loop-machine : goal.invariant-loop-machine
-invariant-loop-machine l = All (AnswerUnlike (accepted_insns l.old) (accepted_insns l.new)) l.all.items

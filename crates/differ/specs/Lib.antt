@@ -1,2 +1,0 @@
-pub mod Differ
-pub mod Told

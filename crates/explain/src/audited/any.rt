@@ -1,0 +1,77 @@
+//! What a bundle says of a call whatever its arguments.
+ghost use Rattle.std.specs.Prelude.{◌≡◌, IfOk, false, string_bytes};
+ghost use Rattle.call_tables.specs.Arch.{family_of};
+ghost use Rattle.explain.specs.Any as spec;
+
+use crate::audited::lines::{put_number, put_said};
+use crate::audited::what::what_call;
+use crate::told::{Told, refused_profile};
+use call_tables::{Arch, Family};
+use profile::Profile;
+use profile_json::{EntryRules, ProfileError, read_bundle, rules_by_entry};
+use std::alloc::{AllocError, Global};
+
+// The text of what a profile says of a call.
+fn told(
+    alloc: Global,
+    family: Family,
+    profile: &Profile,
+    all: &EntryRules,
+    token: u32,
+    nr: u32,
+) -> Result<String, AllocError>
+    ensures { IfOk result (λ text. string_bytes text ≡ spec.any_text family profile.now all.now.rules.items all.now.ends.items token nr) }
+{
+    let mut text = String::new(alloc);
+    put_number(&mut text, family, token, nr)?;
+    put_said(&mut text, profile, all, token, nr)?;
+    Ok(text)
+}
+
+// The text of what a bundle says of a call.
+fn explanation(
+    alloc: Global,
+    native: Arch,
+    bundle: &[u8],
+    token: u32,
+    nr: u32,
+) -> Result<String, ProfileError>
+    ensures { IfOk result (λ text. spec.ExplainsAny native bundle.now token nr (string_bytes text)) }
+{
+    let read = read_bundle(alloc, bundle, native)?;
+    let all = rules_by_entry(alloc, bundle, native)?;
+    let text = told(alloc, native.family(), &read.profile, &all, token, nr)?;
+    Ok(text)
+}
+
+// The line that tells that a word asks for no call.
+fn no_call(alloc: Global) -> Result<Told, AllocError>
+    ensures { IfOk result (λ told. told.done ≡ false) }
+{
+    Ok(Told {
+        bytes: Vec::from_slice(alloc, b"refused call\n")?,
+        done: false,
+    })
+}
+
+/// Tells what a bundle, which is read for a native machine, says of a call whatever its arguments: each entry that has a rule for
+/// it, with its conditions, and the default.
+pub fn explain_any(
+    alloc: Global,
+    native: Arch,
+    bundle: &[u8],
+    word: &str,
+) -> Result<Told, AllocError>
+    ensures { IfOk result (spec.IsExplained native bundle.now word.now) }
+{
+    let Some((arch, nr)) = what_call(alloc, native, word)? else {
+        return no_call(alloc);
+    };
+    match explanation(alloc, native, bundle, arch.token(), nr) {
+        Ok(text) => Ok(Told {
+            bytes: text.into_bytes(),
+            done: true,
+        }),
+        Err(error) => refused_profile(alloc, error),
+    }
+}

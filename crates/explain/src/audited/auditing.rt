@@ -1,0 +1,119 @@
+//! What a bundle says of the lines of a kernel's audit.
+use crate::audited::answers::may_answer;
+use crate::audited::fields::{Event, event_on};
+use crate::audited::lines::{put_number, put_said};
+use crate::phrases::ActionText;
+use crate::told::{Told, refused_profile};
+use call_record::Word;
+use call_tables::Arch;
+use profile::Profile;
+use profile_json::{EntryRules, read_bundle, rules_by_entry};
+use std::alloc::{AllocError, Global};
+use std::fmt::Write;
+
+// An event, and how many lines tell it.
+#[derive(Clone, Copy, PartialEq, Eq)]
+struct Counted {
+    event: Event,
+    count: u64,
+}
+
+// Counts an event.
+fn count(events: &mut Vec<Counted>, event: Event) -> Result<(), AllocError> {
+    let found = events.iter().position(|counted| counted.event == event);
+    if let Some(place) = found {
+        if let Some(counted) = events.get_mut(place) {
+            counted.count = counted.count.saturating_add(1);
+        }
+        return Ok(());
+    }
+    events.push(Counted { event, count: 1 })?;
+    Ok(())
+}
+
+// The events that lines tell, each once.
+fn events_in(alloc: Global, text: &str) -> Result<Vec<Counted>, AllocError> {
+    let mut events = Vec::new(alloc);
+    for line in text.split('\n') {
+        if let Some(event) = event_on(line) {
+            count(&mut events, event)?;
+        }
+    }
+    Ok(events)
+}
+
+// Adds how often an event is told, the action, and whether it is one that the bundle may give.
+fn put_event(text: &mut String, profile: &Profile, counted: &Counted) -> Result<(), AllocError> {
+    let Event { token, nr, code } = counted.event;
+    let count = counted.count;
+    let action = Word(code);
+    let name = ActionText(action);
+    writeln!(text, "told {count} times, code 0x{code:x} {name}")?;
+    if may_answer(profile, token, nr, action) {
+        text.push_str("the bundle may answer so\n")
+    } else {
+        text.push_str("the bundle never answers so: another filter did\n")
+    }
+}
+
+// Adds what a bundle says of events.
+fn put_events(
+    text: &mut String,
+    native: Arch,
+    profile: &Profile,
+    all: &EntryRules,
+    events: &[Counted],
+) -> Result<(), AllocError> {
+    for counted in events {
+        let Event { token, nr, .. } = counted.event;
+        put_number(text, native.family(), token, nr)?;
+        put_event(text, profile, counted)?;
+        put_said(text, profile, all, token, nr)?;
+    }
+    Ok(())
+}
+
+// The line that tells that no line is of a filter's answer.
+fn no_event(alloc: Global) -> Result<Told, AllocError> {
+    Ok(Told {
+        bytes: Vec::from_slice(alloc, b"refused lines: none has arch, syscall and code\n")?,
+        done: false,
+    })
+}
+
+// What a profile says of the events of a text.
+fn audited(
+    alloc: Global,
+    native: Arch,
+    profile: &Profile,
+    all: &EntryRules,
+    text: &str,
+) -> Result<Told, AllocError> {
+    let events = events_in(alloc, text)?;
+    if events.is_empty() {
+        return no_event(alloc);
+    }
+    let mut told = String::new(alloc);
+    put_events(&mut told, native, profile, all, &events)?;
+    Ok(Told {
+        bytes: told.into_bytes(),
+        done: true,
+    })
+}
+
+/// Tells of each call that lines of a kernel's audit show, as dmesg, journald and auditd write them, what it was, whether a
+/// bundle, which is read for a native machine, may answer so, and what the bundle says of it.
+pub fn audit(alloc: Global, native: Arch, bundle: &[u8], lines: &[u8]) -> Result<Told, AllocError> {
+    let read = match read_bundle(alloc, bundle, native) {
+        Ok(read) => read,
+        Err(error) => return refused_profile(alloc, error),
+    };
+    let all = match rules_by_entry(alloc, bundle, native) {
+        Ok(all) => all,
+        Err(error) => return refused_profile(alloc, error),
+    };
+    match str::from_utf8(lines) {
+        Ok(text) => audited(alloc, native, &read.profile, &all, text),
+        Err(_) => no_event(alloc),
+    }
+}

@@ -1,0 +1,179 @@
+//! The rules of a bundle for a call, told whatever the arguments.
+ghost use Rattle.std.specs.Prelude.{◌≡◌, ◌++◌, [], codes, if◌then◌else◌, IfOk, Some, None, string_bytes};
+ghost use Rattle.std.specs.List.{list_any};
+ghost use Rattle.call_tables.specs.Numbers.{has_call};
+ghost use Rattle.explain.specs.Phrases as phrases;
+ghost use Rattle.explain.specs.Reason.{entry_at};
+ghost use Rattle.explain.specs.Any as spec;
+
+use crate::calls::machine_with;
+use crate::phrases::{ActionText, ConditionText};
+use call_tables::{Arch, Family};
+use profile::{Cond, Profile, Rule, are_for};
+use profile_json::EntryRules;
+use std::alloc::AllocError;
+use std::fmt::Write;
+
+// Adds the line of a machine's call that has a name.
+fn put_named(text: &mut String, name: &str, arch: Arch, nr: u32) -> Result<(), AllocError>
+    ensures { IfOk result (λ _. string_bytes text.new ≡ string_bytes text.old ++ phrases.named_call (Some name.now) arch nr) }
+{
+    let machine = arch.machine_name();
+    writeln!(text, "call {name}, number {nr} of {machine}")
+}
+
+// Adds the line of a machine's number without a call.
+fn put_unnamed(text: &mut String, arch: Arch, nr: u32) -> Result<(), AllocError>
+    ensures { IfOk result (λ _. string_bytes text.new ≡ string_bytes text.old ++ phrases.named_call None arch nr) }
+{
+    let machine = arch.machine_name();
+    writeln!(text, "call {nr} of {machine}")
+}
+
+// Adds the line of a call of a machine that is not known.
+fn put_foreign(text: &mut String, token: u32, nr: u32) -> Result<(), AllocError>
+    ensures { IfOk result (λ _. string_bytes text.new ≡ string_bytes text.old ++ phrases.call_on None token nr) }
+{
+    writeln!(text, "call {nr} of 0x{token:x}")
+}
+
+// Adds the line of a machine's call.
+fn put_call(text: &mut String, arch: Arch, nr: u32) -> Result<(), AllocError>
+    ensures { IfOk result (λ _. string_bytes text.new ≡ string_bytes text.old ++ phrases.call_on (Some arch) 0 nr) }
+{
+    match arch.name(nr) {
+        Some(name) => put_named(text, name, arch, nr),
+        None => put_unnamed(text, arch, nr),
+    }
+}
+
+/// Adds the line of a call, by its machine's token.
+pub(crate) fn put_number(
+    text: &mut String,
+    family: Family,
+    token: u32,
+    nr: u32,
+) -> Result<(), AllocError>
+    ensures { IfOk result (λ _. string_bytes text.new ≡ string_bytes text.old ++ phrases.call_on (phrases.machine_with family token nr) token nr) }
+{
+    match machine_with(family, token, nr) {
+        Some(arch) => put_call(text, arch, nr),
+        None => put_foreign(text, token, nr),
+    }
+}
+
+// Adds conditions behind the first, each behind `and`.
+fn put_more(text: &mut String, conds: &[Cond]) -> Result<(), AllocError>
+    ensures { IfOk result (λ _. string_bytes text.new ≡ string_bytes text.old ++ spec.conditions_text (codes "and") conds.now) }
+{
+    for cond in conds {
+        let told = ConditionText(cond);
+        write!(text, " and {told}")?;
+    }
+    Ok(())
+}
+
+// Adds conditions, the first behind `if` and the others behind `and`.
+fn put_conditions(text: &mut String, conds: &[Cond]) -> Result<(), AllocError>
+    ensures { IfOk result (λ _. string_bytes text.new ≡ string_bytes text.old ++ spec.conditions_text (codes "if") conds.now) }
+{
+    match conds {
+        [] => Ok(()),
+        [first, more @ ..] => {
+            let told = ConditionText(first);
+            write!(text, " if {told}")?;
+            put_more(text, more)
+        }
+    }
+}
+
+// Adds the line of a rule of an entry.
+fn put_rule(text: &mut String, entry: usize, rule: &Rule) -> Result<(), AllocError>
+    ensures { IfOk result (λ _. string_bytes text.new ≡ string_bytes text.old ++ spec.rule_line entry rule.now) }
+{
+    let action = ActionText(rule.word);
+    write!(text, "entry {entry} {action}")?;
+    put_conditions(text, rule.conds.as_slice())?;
+    text.push_str("\n")
+}
+
+/// Whether a rule is for a call.
+pub(crate) fn is_of(rule: &Rule, token: u32, nr: u32) -> bool
+    ensures { result ≡ spec.is_of rule.now token nr }
+{
+    if rule.arch.token() != token {
+        return false;
+    }
+    rule.nr == nr
+}
+
+// Adds the line of a rule, if it is for a call.
+fn put_if_of(
+    text: &mut String,
+    entry: usize,
+    rule: &Rule,
+    token: u32,
+    nr: u32,
+) -> Result<(), AllocError>
+    ensures { IfOk result (λ _. string_bytes text.new ≡ string_bytes text.old
+        ++ (if spec.is_of rule.now token nr then spec.rule_line entry rule.now else [])) }
+{
+    if is_of(rule, token, nr) {
+        return put_rule(text, entry, rule);
+    }
+    Ok(())
+}
+
+// The place of the entry that has the rule at a place.
+fn entry_at(all: &EntryRules, place: usize) -> usize
+    ensures { result ≡ entry_at all.now.ends.items place }
+{
+    match all.entry_of(place) {
+        Some(entry) => entry,
+        None => 0,
+    }
+}
+
+// Adds the lines of the rules for a call.
+fn put_rules(text: &mut String, all: &EntryRules, token: u32, nr: u32) -> Result<(), AllocError>
+    ensures { IfOk result (λ _. string_bytes text.new ≡ string_bytes text.old
+        ++ spec.lines_from 0 all.now.rules.items all.now.ends.items token nr) }
+{
+    for (place, rule) in all.rules.as_slice().iter().enumerate() {
+        put_if_of(text, entry_at(all, place), rule, token, nr)?;
+    }
+    Ok(())
+}
+
+// Adds the line of the default.
+fn put_default(text: &mut String, profile: &Profile) -> Result<(), AllocError>
+    ensures { IfOk result (λ _. string_bytes text.new ≡ string_bytes text.old ++ spec.default_line profile.now) }
+{
+    let action = ActionText(profile.default_word());
+    writeln!(text, "default {action}")
+}
+
+/// Whether a call is one of the profile's machines.
+pub(crate) fn is_native(profile: &Profile, token: u32, nr: u32) -> bool
+    ensures { result ≡ list_any (has_call token nr) profile.now.machines }
+{
+    are_for(profile.machines(), token, nr)
+}
+
+/// Adds the rules for a call and the default, or that it is no call of the profile's machines.
+pub(crate) fn put_said(
+    text: &mut String,
+    profile: &Profile,
+    all: &EntryRules,
+    token: u32,
+    nr: u32,
+) -> Result<(), AllocError>
+    ensures { IfOk result (λ _. string_bytes text.new ≡ string_bytes text.old
+        ++ spec.said_lines profile.now all.now.rules.items all.now.ends.items token nr) }
+{
+    if !is_native(profile, token, nr) {
+        return text.push_str("foreign KILL_THREAD\n");
+    }
+    put_rules(text, all, token, nr)?;
+    put_default(text, profile)
+}

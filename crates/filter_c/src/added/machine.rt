@@ -1,0 +1,21 @@
+//! Machines by the numbers that libseccomp has for them.
+ghost use Rattle.std.specs.Prelude.{◌≡◌, ◌<◌, Some, None, IfOk, IfErr, map, length, slice_get};
+ghost use Rattle.filter_c.specs.Machine.{machine_with};
+
+use call_tables::Arch;
+use std::alloc::{AllocError, Global};
+
+/// The machine with this number, in which x32 differs from x86-64.
+#[tactic(auto, unfolding(crate::specs::Machine::machine_with))]
+pub fn machine_with(number: u32) -> Option<Arch>
+    ensures { result ≡ machine_with number }
+{
+    match number {
+        0xc000_003e => Some(Arch::LinuxX86_64),
+        0x4000_0003 => Some(Arch::LinuxX86),
+        0x4000_003e => Some(Arch::LinuxX32),
+        0xc000_00b7 => Some(Arch::LinuxAarch64),
+        0x4000_0028 => Some(Arch::LinuxArm),
+        _ => None,
+    }
+}

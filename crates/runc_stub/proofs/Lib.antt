@@ -1,3 +1,0 @@
-pub mod AnyLaws
-pub mod RunLaws
-pub mod SplitLaws

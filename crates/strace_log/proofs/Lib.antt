@@ -1,2 +1,0 @@
-pub mod Splits
-mod Spaces
