@@ -2,4 +2,4 @@ mod ReadLaws
 mod ItemLaws
 mod AskedLaws
 mod HeardLaws
-pub mod Settling
+pub mod SettledLaws

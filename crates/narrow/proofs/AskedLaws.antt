@@ -10,7 +10,7 @@ use Rattle.profile.specs.declared.conditions.Cond.{Cond}
 use Rattle.profile.specs.declared.conditions.Op.{Op}
 use Rattle.profile.specs.Operator.{Compares}
 use Rattle.profile.specs.Condition.{Meets}
-use Rattle.narrow.specs.declared.narrowed.patterns.Pattern.{Pattern}
+use Rattle.narrow.specs.declared.narrowing.patterns.Pattern.{Pattern}
 use Rattle.narrow.specs.Counts.{most_by}
 use Rattle.narrow.specs.Narrowed.{Has}
 use Rattle.narrow.specs.Patterns.{HasPattern, turns, one}

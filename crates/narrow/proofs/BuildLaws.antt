@@ -18,7 +18,7 @@ use Rattle.profile.specs.declared.fault.BuildError.TheVariants.{NativeMissing, M
 use Rattle.profile.specs.Build.{IsBuiltOf, IsFirstCause, IsFirstForeign, IsFirstClash, ClashAt, KeepsOnce}
 use Rattle.profile.specs.Build as build
 use Rattle.narrow.specs.Counts.{IsCutCause}
-use Rattle.narrow.specs.declared.narrowed.fault.CutError.{CutError}
+use Rattle.narrow.specs.declared.narrowing.fault.CutError.{CutError}
 use Rattle.narrow.specs.inner.Sizes.{IsSize, cut_cause}
 use Rattle.profile.proofs.KeptLaws.{kept_in, in_kept}
 use Rattle.profile.proofs.OneBuilt.{one_order}

@@ -10,8 +10,8 @@ use Rattle.profile.specs.declared.conditions.Op.{Op}
 use Rattle.profile.specs.declared.conditions.Op.TheVariants.{Ne, Lt, Le, Eq, Ge, Gt, MaskedEq}
 use Rattle.profile.specs.Policy.{most_rules}
 use Rattle.narrow.specs.Counts.{most_by, most_parts, most_lists, IsCutCause}
-use Rattle.narrow.specs.declared.narrowed.fault.CutError.{CutError}
-use Rattle.narrow.specs.declared.narrowed.fault.CutError.TheVariants.{TooMany, OutOfMemory}
+use Rattle.narrow.specs.declared.narrowing.fault.CutError.{CutError}
+use Rattle.narrow.specs.declared.narrowing.fault.CutError.TheVariants.{TooMany, OutOfMemory}
 use Rattle.narrow.specs.Cutting.{with_each, extended}
 
 leb_false : (a b : ℕ) → b < a → nat_le a b ≡ false

@@ -7,7 +7,7 @@ use Rattle.std.proofs.lemmas.Bool.{cases_Bool, cases_eq, cases_lt}
 use Rattle.std.proofs.lemmas.Bool.Decides.{Decides-eqb}
 use Rattle.std.proofs.lemmas.List.Elements.{All-nil, All-cons, All-append}
 use Rattle.std.proofs.lemmas.Nat.{pow_pos, mod_below, pow_below}
-use Rattle.narrow.specs.declared.narrowed.patterns.Pattern.{Pattern}
+use Rattle.narrow.specs.declared.narrowing.patterns.Pattern.{Pattern}
 use Rattle.narrow.specs.Narrowed.{Has}
 use Rattle.narrow.specs.Patterns.{HasPattern, high, from_place, turn_at, turns_below, turns}
 use Rattle.narrow.proofs.TurnLaws.{Turns, turn_below, turn_above, has_raised, has_lowered}

@@ -12,7 +12,7 @@ use Rattle.profile.specs.declared.conditions.Op.{Op}
 use Rattle.profile.specs.declared.conditions.Op.TheVariants.{MaskedEq}
 use Rattle.profile.specs.Operator.{Compares, mask_of}
 use Rattle.profile.specs.Condition.{IsCondition, Meets}
-use Rattle.narrow.specs.declared.narrowed.patterns.Pattern.{Pattern}
+use Rattle.narrow.specs.declared.narrowing.patterns.Pattern.{Pattern}
 use Rattle.narrow.specs.Counts.{most_by}
 use Rattle.narrow.specs.Narrowed.{Has}
 use Rattle.narrow.specs.Patterns.{HasPattern}

@@ -8,8 +8,8 @@ use Rattle.profile.specs.declared.conditions.Op.TheVariants.{Eq, MaskedEq}
 use Rattle.profile.specs.declared.rules.Rule.{Rule}
 use Rattle.profile.specs.Policy.{most_rules}
 use Rattle.profile.specs.Rule.{is_narrow_rule}
-use Rattle.narrow.specs.declared.narrowed.fault.CutError.{CutError}
-use Rattle.narrow.specs.declared.narrowed.fault.CutError.TheVariants.{TooMany, OutOfMemory}
+use Rattle.narrow.specs.declared.narrowing.fault.CutError.{CutError}
+use Rattle.narrow.specs.declared.narrowing.fault.CutError.TheVariants.{TooMany, OutOfMemory}
 
 -- how many parts a comparison of so many bits has at most: one of EQ and MASKED_EQ, and else one for each bit
 abbrev pub most_by : ℕ → Op → ℕ

@@ -7,7 +7,7 @@ use Rattle.profile.specs.Condition.{Meets}
 use Rattle.narrow.specs.Counts.{most_parts}
 use Rattle.narrow.specs.Narrowed.{Has}
 use Rattle.narrow.specs.Patterns.{HasPattern}
-use Rattle.narrow.specs.declared.narrowed.patterns.Pattern.{Pattern}
+use Rattle.narrow.specs.declared.narrowing.patterns.Pattern.{Pattern}
 
 -- the lowest bits of a number; above 32 bits the whole
 abbrev pub cut : ℕ → ℕ → ℕ

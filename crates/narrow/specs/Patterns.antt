@@ -2,7 +2,7 @@
 use Rattle.std.specs.Prelude.{◌≡◌, ℕ, zero, suc, ◌+◌, ◌-◌, ◌/◌, ◌%◌, ◌^◌, ◌==◌, Bool, List, [], ◌∷◌, ◌++◌}
 use Rattle.std.specs.Prelude.{bit_and, Option, Some, None, if◌then◌else◌}
 use Rattle.std.specs.Option.{option_to_list}
-use Rattle.narrow.specs.declared.narrowed.patterns.Pattern.{Pattern}
+use Rattle.narrow.specs.declared.narrowing.patterns.Pattern.{Pattern}
 
 abbrev pub HasPattern : ℕ → Pattern → Type 0
 HasPattern u p = bit_and u p.mask ≡ p.datum

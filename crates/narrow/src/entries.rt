@@ -1,6 +1,6 @@
 //! Entries, written in parts where their arguments are cut.
 use crate::conditions::put_conditions;
-use crate::narrowed::{CutError, Plan, conditions};
+use crate::narrowing::{CutError, Plan, conditions};
 use crate::plans::{agree, cuts, lowered, plan_of};
 use crate::text::Text;
 use arrayvec::ArrayVec;

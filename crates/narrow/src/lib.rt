@@ -5,14 +5,14 @@
 mod arguments;
 mod conditions;
 mod entries;
-mod narrowed;
+mod narrowing;
 mod plans;
 mod text;
 mod told;
 mod written;
 
 pub use arguments::{Reading, read_bits, readings};
-pub use narrowed::{
+pub use narrowing::{
     CutError, WHOLE, add_narrowed, cleared, cleared_is_alike, is_narrowed, narrowed, sees_low,
     suit_call, suits,
 };

@@ -1,6 +1,6 @@
 //! To how many bits the arguments of a call are cut, by its name: an entry of a bundle is for all machines that have the call.
 use crate::arguments::read_bits;
-use crate::narrowed::{Plan, WHOLE, WIDEST, cut_to, fits_in, sees_low, suit_call};
+use crate::narrowing::{Plan, WHOLE, WIDEST, cut_to, fits_in, sees_low, suit_call};
 use call_tables::{Arch, is_narrow};
 use profile::Cond;
 use std::alloc::{AllocError, Global};

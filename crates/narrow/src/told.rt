@@ -6,7 +6,7 @@ ghost use Rattle.narrow.specs.Narrow as spec;
 ghost use Rattle.narrow.specs.Lowered.{AreLowered};
 ghost use Rattle.narrow.specs.Narrowed.{AreNarrowed};
 
-use crate::narrowed::{
+use crate::narrowing::{
     CutError, Plan, WHOLE, add_narrowed, fitting_stay, is_narrowed_of, lowered_rule, suits,
 };
 use crate::plans::plan_of;

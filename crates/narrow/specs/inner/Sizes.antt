@@ -1,7 +1,7 @@
 -- Errors of building that are about sizes and memory.
 use Rattle.profile.specs.declared.fault.BuildError.{BuildError}
-use Rattle.narrow.specs.declared.narrowed.fault.CutError.{CutError}
-use Rattle.narrow.specs.declared.narrowed.fault.CutError.TheVariants as cut
+use Rattle.narrow.specs.declared.narrowing.fault.CutError.{CutError}
+use Rattle.narrow.specs.declared.narrowing.fault.CutError.TheVariants as cut
 use Rattle.profile.specs.declared.fault.BuildError.TheVariants.{NativeMissing, MixedFamilies, ForeignRule, Overlap, TooMany, OutOfMemory}
 
 abbrev pub IsSize : BuildError → Type 0

@@ -1,6 +1,6 @@
 use Rattle.std.proofs.Common.{arith}
 use Rattle.std.proofs.lemmas.Option.{slice_get_within}
-use Rattle.adapt.proofs.Settling.{each_further}
+use Rattle.adapt.proofs.SettledLaws.{each_further}
 use Rattle.adapt.proofs.settling.judged.each_gives_way.Goals as goal
 
 pub loop-i-preserved : goal.loop-i-preserved

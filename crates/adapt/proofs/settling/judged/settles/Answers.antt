@@ -3,7 +3,7 @@ use Rattle.std.specs.List.{All, Contains}
 use Rattle.profile.specs.declared.rules.Rule.{Rule}
 use Rattle.adapt.specs.Settled.{EachGivesWay}
 use Rattle.adapt.proofs.settling.judged.settles.Goals as goal
-use Rattle.adapt.proofs.Settling.{settles}
+use Rattle.adapt.proofs.SettledLaws.{settles}
 
 pub returns : goal.returns
 returns c = λ t.
