@@ -56,7 +56,7 @@ HaveBytes folder [] [] = Unit {0}
 HaveBytes folder (name ∷ names) (bytes ∷ texts) = HasBytes folder name bytes × HaveBytes folder names texts
 HaveBytes folder names texts = ⊥
 
--- one of the files is not read to its end, and those before it can be read
+-- the program stops at one of the files, and those before it have bytes
 pub record BreaksAt (folder : Option Folder) (names : List (List ℕ)) (name : List ℕ) : Type 0 where
   pub before : List (List ℕ)
   pub after : List (List ℕ)
@@ -64,7 +64,7 @@ pub record BreaksAt (folder : Option Folder) (names : List (List ℕ)) (name : L
   pub texts : List (List ℕ)
   pub read : HaveBytes folder before texts
 
--- the program stops at one of the logs, which cannot be opened or fails while it is read; or for want of memory
+-- the program stops at one of the logs, those before which have bytes; or for want of memory
 abbrev pub StopsAtLog : Option Folder → List (List ℕ) → Stop → Type 0
 StopsAtLog folder logs (CannotRead name) = BreaksAt folder logs name.now
 StopsAtLog folder logs OutOfMemory = Unit {0}

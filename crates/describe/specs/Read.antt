@@ -87,7 +87,7 @@ pub record TellsFault (native : Arch) (bundle : List ℕ) (told : Told) : Type 0
   pub tells : told.bytes.items ≡ codes "refused profile " ++ text_of error ++ line_feed ∷ place
   pub done : told.done ≡ false
 
--- the bundle's edition is refused; it is told, and what is behind it is of the bundle with another edition
+-- the bundle's edition is refused; nothing is said of the text
 pub record TellsEdition (native : Arch) (bundle : List ℕ) (told : Told) : Type 0 where
   pub stands : IfSome (fault_of Version) (Breaks bundle native)
 

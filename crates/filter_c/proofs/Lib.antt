@@ -5,4 +5,4 @@ pub mod Lists
 pub mod Same
 pub mod Laws
 mod Causes
-mod Rules
+mod MadeLaws

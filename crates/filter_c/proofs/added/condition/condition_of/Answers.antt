@@ -1,6 +1,6 @@
 use Rattle.std.proofs.Common.{◌≡◌, Some, ◌<◌, arith}
 use Rattle.filter_c.specs.Parts.{operator_with}
-use Rattle.filter_c.proofs.Rules.{no_condition}
+use Rattle.filter_c.proofs.MadeLaws.{no_condition}
 use Rattle.filter_c.proofs.added.condition.condition_of.Goals as goal
 
 pub returns-clause-none : goal.returns-clause-none

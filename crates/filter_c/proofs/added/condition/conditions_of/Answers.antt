@@ -1,6 +1,6 @@
 use Rattle.std.proofs.Common.{arith}
 use Rattle.std.proofs.lemmas.List.Elements.{Contains-get_or}
-use Rattle.filter_c.proofs.Rules.{as_many}
+use Rattle.filter_c.proofs.MadeLaws.{as_many}
 use Rattle.filter_c.proofs.added.condition.conditions_of.Goals as goal
 
 pub push-requires : goal.push-requires

@@ -1,4 +1,4 @@
-use Rattle.filter_c.proofs.Rules.{no_part, no_rule}
+use Rattle.filter_c.proofs.MadeLaws.{no_part, no_rule}
 use Rattle.filter_c.proofs.added.condition.rule_of.Goals as goal
 
 pub returns-in_default-conditions_of-clause-none : goal.returns-in_default-conditions_of-clause-none
