@@ -33,9 +33,12 @@ int call_named(const char *name) {
 
 const char *call_name(int call) { return CALLS[call].name; }
 
-/* What ccell answered before of a machine and a call: the number and KNOWN, or ABSENT. Threads may ask at once: they store the same. */
+/* What ccell answered before of a machine and a call: the number and KNOWN, or ABSENT; and of the machine itself the call of a number,
+ * counted from 1. Threads may ask at once: they store the same. */
 static _Atomic uint64_t ANSWERS[OURS][CALL_COUNT];
 static const uint64_t KNOWN = 1ull << 32, ABSENT = 1ull << 33;
+enum { NUMBERS = 512 };
+static _Atomic int NATIVE_CALLS[NUMBERS];
 
 static uint64_t ask_number(int machine, int call) {
     const char *name = CALLS[call].name;
@@ -53,6 +56,7 @@ bool call_has(int machine, int call, uint32_t *number) {
     }
     if (answer == ABSENT) return false;
     *number = (uint32_t)answer;
+    if (machine == NATIVE && *number < NUMBERS) atomic_store_explicit(&NATIVE_CALLS[*number], call + 1, memory_order_relaxed);
     return true;
 }
 
@@ -81,6 +85,8 @@ int call_with(int machine, int number) {
             if (CALLS[i].pseudo == number && number < -99) return call_number(machine, i) == number ? i : -1;
         return -1;
     }
+    int call = machine == NATIVE && number < NUMBERS ? atomic_load_explicit(&NATIVE_CALLS[number], memory_order_relaxed) : 0;
+    if (call) return call - 1;
     if (ccell_call_name(MACHINE[machine].token, (uint32_t)number, name, sizeof name - 1, &length) != CCELL_DONE) return -1;
     name[length] = 0;
     return call_named((const char *)name);

@@ -91,6 +91,9 @@ pub(crate) fn read_scratch(bytes: &[u8], bits: u16, from: usize) -> [AVal; 16]
     requires { from + 6 * ones bits 16 ≤ length bytes.now }
     ensures { result ≡ scratch_from bytes.now from bits 16 }
 {
+    if bits == 0 {
+        return [AVal::Unknown; 16];
+    }
     let mut scratch = [AVal::Unknown; 16];
     let mut left = bits;
     let mut at = from;
@@ -111,6 +114,9 @@ pub(crate) fn end_of_scratch(bits: u16, from: usize) -> usize
     requires { from + 6 * ones bits 16 < 2 ^ 64 }
     ensures { result ≡ from + 6 * ones bits 16 }
 {
+    if bits == 0 {
+        return from;
+    }
     let mut left = bits;
     let mut at = from;
     for _ in 0..16_usize {

@@ -4,6 +4,7 @@ use crate::asked::{Left, LeftRule};
 use crate::conditions::{cut_of, cut_where_known};
 use crate::fault::OutlineError;
 use crate::maker::Maker;
+use crate::numbers::Rooms;
 use crate::parts::Cut;
 use crate::spot::{Spot, Which};
 use crate::words::Words;
@@ -88,7 +89,12 @@ impl<'a> Maker<'a> {
     }
 
     // Where several calls are cut: at a return with a verdict, or at the load of an argument.
-    fn cut_of_calls(&self, spot: &Spot, verdict: Option<u32>) -> Result<Option<Cut>, OutlineError> {
+    fn cut_of_calls(
+        &self,
+        spot: &Spot,
+        verdict: Option<u32>,
+        rooms: &mut Rooms,
+    ) -> Result<Option<Cut>, OutlineError> {
         let (Some(numbers), Some(arguments)) = (
             self.words.get(spot.numbers),
             self.words.get(spot.arguments),
@@ -96,8 +102,8 @@ impl<'a> Maker<'a> {
             return Err(OutlineError::Unlike);
         };
         Ok(match verdict {
-            Some(verdict) => self.cut_of_several(numbers, arguments, verdict)?,
-            None => self.cut_of_asked(numbers)?,
+            Some(verdict) => self.cut_of_several(numbers, arguments, verdict, rooms)?,
+            None => self.cut_of_asked(numbers, rooms)?,
         })
     }
 
@@ -106,9 +112,10 @@ impl<'a> Maker<'a> {
         &self,
         spot: &Spot,
         verdict: u32,
+        rooms: &mut Rooms,
     ) -> Result<Option<Cut>, OutlineError> {
         match spot.which {
-            Which::Several => self.cut_of_calls(spot, Some(verdict)),
+            Which::Several => self.cut_of_calls(spot, Some(verdict), rooms),
             Which::Plain => Ok(None),
             Which::Asked(_) => self.cut_of_call(spot, true),
         }
@@ -119,9 +126,12 @@ impl<'a> Maker<'a> {
         &self,
         spot: &Spot,
         offset: u32,
+        rooms: &mut Rooms,
     ) -> Result<Option<Cut>, OutlineError> {
         match spot.which {
-            Which::Several if self.is_early && offset >= ARGUMENTS => self.cut_of_calls(spot, None),
+            Which::Several if self.is_early && offset >= ARGUMENTS => {
+                self.cut_of_calls(spot, None, rooms)
+            }
             Which::Several | Which::Plain => Ok(None),
             Which::Asked(_) => self.cut_of_call(spot, false),
         }

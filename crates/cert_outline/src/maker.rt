@@ -2,6 +2,7 @@
 
 use crate::asked::{AskedCall, Left};
 use crate::fault::OutlineError;
+use crate::numbers::Rooms;
 use crate::parts::{Cut, NOBODY, Table};
 use crate::rules::Rules;
 use crate::spot::{Spot, Which};
@@ -196,16 +197,16 @@ impl<'a> Maker<'a> {
     }
 
     // What a spot does at its instruction.
-    fn carried_out(&mut self, spot: &Spot) -> Result<Kind, OutlineError> {
+    fn carried_out(&mut self, spot: &Spot, rooms: &mut Rooms) -> Result<Kind, OutlineError> {
         let Some((insn, operation)) = self.operation(spot.pc) else {
             return Err(OutlineError::Unlike);
         };
         match (operation, spot.a) {
-            (Operation::ReturnK, _) => match self.cut_at_return(spot, insn.k)? {
+            (Operation::ReturnK, _) => match self.cut_at_return(spot, insn.k, rooms)? {
                 Some(cut) => self.split(spot, cut),
                 None => Ok(Kind::Return),
             },
-            (Operation::LoadWord, _) => match self.cut_at_load(spot, insn.k)? {
+            (Operation::LoadWord, _) => match self.cut_at_load(spot, insn.k, rooms)? {
                 Some(cut) => self.split(spot, cut),
                 None => {
                     let a = AVal::Masked((insn.k / 4 % 16) as u8, u32::MAX);
@@ -223,11 +224,11 @@ impl<'a> Maker<'a> {
     }
 
     // What the node of a spot does.
-    fn kind_of(&mut self, spot: &Spot) -> Result<Kind, OutlineError> {
+    fn kind_of(&mut self, spot: &Spot, rooms: &mut Rooms) -> Result<Kind, OutlineError> {
         if self.is_dead(spot.numbers) || self.is_dead(spot.arguments) {
             return Ok(Kind::Dead);
         }
-        self.carried_out(spot)
+        self.carried_out(spot, rooms)
     }
 
     /// The spot at a place, and what it does.
@@ -242,11 +243,12 @@ impl<'a> Maker<'a> {
     pub(crate) fn all_kinds(&mut self) -> Result<Vec<Kind>, OutlineError> {
         self.begin()?;
         let mut kinds = Vec::new(self.alloc);
+        let mut rooms = Rooms::new();
         for place in 0..MAX_NODES {
             let Some(spot) = self.spots.get(place).copied() else {
                 break;
             };
-            kinds.push(self.kind_of(&spot)?)?;
+            kinds.push(self.kind_of(&spot, &mut rooms)?)?;
         }
         Ok(kinds)
     }

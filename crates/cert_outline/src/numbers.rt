@@ -16,6 +16,22 @@ pub(crate) const NUMBER: u8 = 0;
 
 pub(crate) const TOKEN: u8 = 1;
 
+/// Room for what is known of the number and of arguments, where many questions are asked of it. It serves one spot after the other.
+#[derive(Drop)]
+pub(crate) struct Rooms {
+    numbers: Room,
+    arguments: Room,
+}
+
+impl Rooms {
+    pub(crate) fn new() -> Rooms {
+        Rooms {
+            numbers: Room::new(),
+            arguments: Room::new(),
+        }
+    }
+}
+
 // The least and the greatest number that a word may be, as far as literals of the whole word tell.
 fn range_of(known: &Words, word: u8) -> Option<(u32, u32)> {
     range(&listed(&known.whole), word)
@@ -133,6 +149,7 @@ impl<'a> Maker<'a> {
         arguments: &Words,
         rules: &[Numbered],
         verdict: u32,
+        rooms: &mut Rooms,
     ) -> Result<Option<u32>, AllocError> {
         let all = all_of(self.alloc, known)?;
         let state = listed(&all);
@@ -144,9 +161,12 @@ impl<'a> Maker<'a> {
             return Ok(Some(*number));
         }
         let numbers = if are_many(rules.len(), all.len().saturating_add(arguments.whole.len())) {
-            let (mut room, mut other) = (Room::new(), Room::new());
-            let facts = Facts::of(&state, &mut room);
-            let of_arguments = Facts::of(&whole, &mut other);
+            let Rooms {
+                numbers: room,
+                arguments: other,
+            } = rooms;
+            let facts = Facts::of(&state, room);
+            let of_arguments = Facts::of(&whole, other);
             self.numbers_told(&facts, &arguments.told(&of_arguments), rules, verdict)?
         } else {
             self.numbers_told(&state, &arguments.told(&whole), rules, verdict)?
@@ -206,6 +226,7 @@ impl<'a> Maker<'a> {
         known: &Words,
         arguments: &Words,
         verdict: u32,
+        rooms: &mut Rooms,
     ) -> Result<Option<Cut>, AllocError> {
         let Some(token) = only(known, TOKEN) else {
             return Ok(self.cut_of_machines(known));
@@ -217,7 +238,7 @@ impl<'a> Maker<'a> {
             return Ok(None);
         }
         let rules = self.rules.among(token, range.0, range.1);
-        let number = self.number_to_tell(known, arguments, rules, verdict)?;
+        let number = self.number_to_tell(known, arguments, rules, verdict, rooms)?;
         if number.is_none() && verdict == self.profile.default_word().0 && verdict == 0 {
             return Ok(None);
         }
@@ -228,11 +249,15 @@ impl<'a> Maker<'a> {
     }
 
     // The numbers of a machine's calls of which rules ask for arguments, without those that are excluded, in order.
-    fn numbers_asked(&self, known: &[Lit], token: u32) -> Result<Vec<u32>, AllocError> {
+    fn numbers_asked(
+        &self,
+        known: &[Lit],
+        token: u32,
+        rooms: &mut Rooms,
+    ) -> Result<Vec<u32>, AllocError> {
         let state = listed(known);
         let mut numbers = if are_many(self.calls.len(), known.len()) {
-            let mut room = Room::new();
-            self.numbers_open(&Facts::of(&state, &mut room), token)?
+            self.numbers_open(&Facts::of(&state, &mut rooms.numbers), token)?
         } else {
             self.numbers_open(&state, token)?
         };
@@ -252,11 +277,15 @@ impl<'a> Maker<'a> {
     }
 
     /// Where several calls are cut that come to the first load of an argument: at the number of one of which rules ask for it.
-    pub(crate) fn cut_of_asked(&self, known: &Words) -> Result<Option<Cut>, AllocError> {
+    pub(crate) fn cut_of_asked(
+        &self,
+        known: &Words,
+        rooms: &mut Rooms,
+    ) -> Result<Option<Cut>, AllocError> {
         let Some(token) = only(known, TOKEN) else {
             return Ok(None);
         };
-        let numbers = self.numbers_asked(&all_of(self.alloc, known)?, token)?;
+        let numbers = self.numbers_asked(&all_of(self.alloc, known)?, token, rooms)?;
         match numbers.get(numbers.len() / 2) {
             Some(number) => Ok(beside(known, NUMBER, *number)),
             None => Ok(None),

@@ -52,3 +52,7 @@ loop-slot-preserved c = elim c.if-left-eq1.branch [
 pub returns : goal.returns
 returns c = all_read _ _ c.args.bytes.now c.loop-slot.at c.loop-slot.left c.loop-slot.slot
     (omega (arith, c.loop-slot-test.false)) c.loop-slot.invariant.sixteen c.loop-slot.invariant.same
+
+pub returns-then-bits-eq0 : goal.returns-then-bits-eq0
+unfolding scratch_from
+returns-then-bits-eq0 c = ap (λ b. scratch_from c.args.bytes.now c.args.from b 16) (sym c.if-bits-eq0.true)
