@@ -10,6 +10,7 @@ use Rattle.profile_json.proofs.unbroken.Unbroken.{meaning_is_one, meaning_is_unb
 use Rattle.rule_compile.specs.declared.fault.CompileError.{CompileError}
 use Rattle.rule_compile.specs.declared.fault.CompileError.TheVariants as compiler
 use Rattle.rule_compile.specs.Right.{IsRightFilter}
+use Rattle.rule_compile.specs.Plan.{IsPlannedTooLong}
 use Rattle.rule_compile.specs.Shape.{IsCallFilter, IsPlain}
 use Rattle.rule_compile.specs.Steady.{IsSteady, Nothing}
 use Rattle.kernel_check.specs.Accepted.{IsAccepted}
@@ -47,12 +48,12 @@ is_not_plain : {E : Type 0} (memory e : E) (native : Arch) (bundle : List ℕ) (
 is_not_plain memory e native bundle policy other never is = (policy, is, λ plain. other (never plain))
 
 not_compiled : (policy : Policy) (e : CompileError) (u : Unready) → (IsPlain policy → e ≡ compiler.OutOfMemory)
-    → IsToldAs Compile compiler.OutOfMemory e u → (native : Arch) (bundle : List ℕ) → IsBundle native bundle policy → u ≢ OutOfMemory
+    → (e ≡ compiler.TooLong → IsPlannedTooLong policy) → IsToldAs Compile compiler.OutOfMemory e u → (native : Arch) (bundle : List ℕ) → IsBundle native bundle policy → u ≢ OutOfMemory
     → IsUnready native bundle u
-not_compiled policy e u never (inl h) native bundle is other = absurd (other h.1)
-not_compiled policy e u never (inr h) native bundle is other =
+not_compiled policy e u never planned (inl h) native bundle is other = absurd (other h.1)
+not_compiled policy e u never planned (inr h) native bundle is other =
     subst (IsUnready native bundle) (sym h.1)
-    (too_long e h.0, is_not_plain compiler.OutOfMemory e native bundle policy h.0 never is) where
+    (too_long e h.0, (is_not_plain compiler.OutOfMemory e native bundle policy h.0 never is, (policy, is, planned (too_long e h.0)))) where
       too_long : (e : CompileError) → e ≢ compiler.OutOfMemory → e ≡ compiler.TooLong
       too_long compiler.TooLong other = refl
       too_long compiler.OutOfMemory other = absurd (other refl)
@@ -75,13 +76,14 @@ not_certified policy e u never sized (inr h) native bundle is other =
 -- what is told of a step that stops
 module _ {T : Type 0} (policy : Policy) (r : Result T Unready) where
   pub told_compile : (e : CompileError) → IsErrAnd r (IsToldAs Compile compiler.OutOfMemory e)
-      → (IsPlain policy → e ≡ compiler.OutOfMemory) → (native : Arch) (bundle : List ℕ) → IsBundle native bundle policy
+      → (IsPlain policy → e ≡ compiler.OutOfMemory) → (e ≡ compiler.TooLong → IsPlannedTooLong policy)
+      → (native : Arch) (bundle : List ℕ) → IsBundle native bundle policy
       → IfErr r (λ u. u ≢ OutOfMemory → IsUnready native bundle u)
-  told_compile e told never native bundle is = at r told where
+  told_compile e told never planned native bundle is = at r told where
     at : (r : Result T Unready) → IsErrAnd r (IsToldAs Compile compiler.OutOfMemory e)
         → IfErr r (λ u. u ≢ OutOfMemory → IsUnready native bundle u)
     at (Ok x) told = tt
-    at (Err u) told = not_compiled policy e u never told native bundle is
+    at (Err u) told = not_compiled policy e u never planned told native bundle is
 
   pub told_certify : (e : CertifyError) → IsErrAnd r (IsToldAs Certify maker.OutOfMemory e)
       → (IsPlain policy → e ≡ maker.OutOfMemory) → IsSized policy e → (native : Arch) (bundle : List ℕ) → IsBundle native bundle policy
@@ -142,7 +144,7 @@ is_plain native bundle q (p, is, plain) other = subst IsPlain (same_policy nativ
 -- none is refused
 pub not_refused : (native : Arch) (bundle : List ℕ) (u : Unready) → IsPlainBundle native bundle → IsUnready native bundle u → ⊥
 not_refused native bundle (Profile e) (p, is, plain) h = no_fault meaning_is_unbroken meaning_is_one native bundle p e is h.0 h.1
-not_refused native bundle (Compile e) is h = h.1.2 (is_plain native bundle h.1.0 is h.1.1)
+not_refused native bundle (Compile e) is h = h.1.0.2 (is_plain native bundle h.1.0.0 is h.1.0.1)
 not_refused native bundle (Certify e) is h = h.1.2 (is_plain native bundle h.1.0 is h.1.1)
 not_refused native bundle (Check e) is h = h
 not_refused native bundle OutOfMemory is h = h

@@ -2,11 +2,13 @@
 use Rattle.std.specs.Prelude.{ℕ, ◌≡◌, ◌≢◌, ◌⊎◌, Bool, true, false, List, [], ◌∷◌, ◌++◌, Option, Result, Err, IfOk, IfSome, codes}
 use Rattle.call_tables.specs.declared.arch.Arch.{Arch}
 use Rattle.bpf_insn.specs.Bytes.{insns_of}
+use Rattle.profile.specs.Policy.{Policy}
 use Rattle.profile_json.specs.declared.fault.ProfileError.TheVariants as refusal
 use Rattle.profile_json.specs.Breaks.{Breaks}
 use Rattle.profile_json.specs.Fault.{fault_of, text_of as refusal_text}
 use Rattle.rule_compile.specs.declared.fault.CompileError.TheVariants as compiler
 use Rattle.rule_compile.specs.Fault.{text_of as compile_text}
+use Rattle.rule_compile.specs.Plan.{IsPlannedTooLong}
 use Rattle.certify.specs.declared.error.CertifyError.TheVariants as maker
 use Rattle.certify.specs.Error.{text_of as certify_text}
 use Rattle.cert_check.specs.declared.checked.Checked.{Checked}
@@ -32,12 +34,16 @@ pub record IsCheckedOf (native : Arch) (bundle : List ℕ) (c : Checked) : Type 
   pub read : insns_of (bytes_in Raw c) ≡ program_of c
   pub yes : IsYes (profile_of c) (bytes_in Raw c) (bytes_in Certificate c)
 
+-- the bundle means a profile that has a plan of more instructions than a filter may have
+abbrev pub IsTooLong : Arch → List ℕ → Type 0
+IsTooLong native bundle = (policy : Policy) × IsBundle native bundle policy × IsPlannedTooLong policy
+
 -- Why a bundle has no checked filter. It breaks a rule of bundles; or it means a profile that is not plain, and the filter of
 -- this is longer than a filter may be, or each certificate that was made of it larger than one may be. The checker never says
 -- no. Want of memory is no such reason.
 abbrev pub IsUnready : Arch → List ℕ → Unready → Type 0
 IsUnready native bundle (Profile e) = (e ≢ refusal.OutOfMemory) × IfSome (fault_of e) (Breaks bundle native)
-IsUnready native bundle (Compile e) = (e ≡ compiler.TooLong) × IsNotPlain native bundle
+IsUnready native bundle (Compile e) = (e ≡ compiler.TooLong) × (IsNotPlain native bundle × IsTooLong native bundle)
 IsUnready native bundle (Certify e) = (e ≡ maker.TooLarge) × IsNotPlain native bundle
 IsUnready native bundle (Check e) = ⊥
 IsUnready native bundle OutOfMemory = ⊥

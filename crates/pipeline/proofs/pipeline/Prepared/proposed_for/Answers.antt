@@ -16,6 +16,7 @@ returns-in_err-made-clause-never c = λ is.
 pub returns-in_err-made-clause-err : goal.returns-in_err-made-clause-err
 returns-in_err-made-clause-err c =
     told_compile c.args.profile c.from_residual.result c.in_err-made.field-0.0 c.from_residual.ensures.1 c.in_err-made.ensures.never
+    c.in_err-made.ensures.planned
 
 -- the kernel accepts what the compiler gives
 pub unreachable-requires-in_default-accept : goal.unreachable-requires-in_default-accept
