@@ -48,7 +48,8 @@ is_not_plain : {E : Type 0} (memory e : E) (native : Arch) (bundle : List ℕ) (
 is_not_plain memory e native bundle policy other never is = (policy, is, λ plain. other (never plain))
 
 not_compiled : (policy : Policy) (e : CompileError) (u : Unready) → (IsPlain policy → e ≡ compiler.OutOfMemory)
-    → (e ≡ compiler.TooLong → IsPlannedTooLong policy) → IsToldAs Compile compiler.OutOfMemory e u → (native : Arch) (bundle : List ℕ) → IsBundle native bundle policy → u ≢ OutOfMemory
+    → (e ≡ compiler.TooLong → IsPlannedTooLong policy) → IsToldAs Compile compiler.OutOfMemory e u
+    → (native : Arch) (bundle : List ℕ) → IsBundle native bundle policy → u ≢ OutOfMemory
     → IsUnready native bundle u
 not_compiled policy e u never planned (inl h) native bundle is other = absurd (other h.1)
 not_compiled policy e u never planned (inr h) native bundle is other =

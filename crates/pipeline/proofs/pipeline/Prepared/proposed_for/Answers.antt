@@ -1,4 +1,5 @@
 use Rattle.std.proofs.Common.{ap, subst, ◌∙◌}
+use Rattle.std.specs.Prelude.{Err}
 use Rattle.bpf_insn.specs.Bytes.{insns_of}
 use Rattle.kernel_check.specs.Accepted.{IsRefusal}
 use Rattle.kernel_check.proofs.RefusalLaws.{one}
@@ -16,7 +17,7 @@ returns-in_err-made-clause-never c = λ is.
 pub returns-in_err-made-clause-err : goal.returns-in_err-made-clause-err
 returns-in_err-made-clause-err c =
     told_compile c.args.profile c.from_residual.result c.in_err-made.field-0.0 c.from_residual.ensures.1 c.in_err-made.ensures.never
-    c.in_err-made.ensures.planned
+    (λ same. c.in_err-made.ensures.planned (ap Err same))
 
 -- the kernel accepts what the compiler gives
 pub unreachable-requires-in_default-accept : goal.unreachable-requires-in_default-accept
