@@ -3,8 +3,8 @@
 use Rattle.std.specs.Prelude.{List, [], ◌∷◌, map}
 use Rattle.call_tables.specs.declared.arch.Arch.{Arch}
 use Rattle.call_tables.specs.declared.arch.Arch.TheVariants.{X86_64, Aarch64, LinuxX86_64, LinuxX86, LinuxX32, LinuxAarch64, LinuxArm}
-use Rattle.narrow.specs.declared.arguments.linux_arguments.TheConstants.{FIRST_CALLS, SECOND_CALLS, THIRD_CALLS, FOURTH_CALLS}
-use Rattle.narrow.specs.declared.arguments.linux_arguments.TheConstants.{X32_CALLS, AARCH64_CALLS}
+use Rattle.narrow.specs.declared.linux_arguments.TheConstants.{FIRST_CALLS, SECOND_CALLS, THIRD_CALLS, FOURTH_CALLS}
+use Rattle.narrow.specs.declared.linux_arguments.TheConstants.{X32_CALLS, AARCH64_CALLS}
 use Rattle.narrow.specs.Rows.{Rows}
 
 unfoldable pub first_rows : Rows

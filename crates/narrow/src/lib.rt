@@ -5,6 +5,7 @@
 mod arguments;
 mod conditions;
 mod entries;
+mod linux_arguments;
 mod narrowing;
 mod plans;
 mod text;

@@ -3,10 +3,10 @@ ghost use Rattle.std.specs.Prelude.{◌≡◌};
 ghost use Rattle.narrow.specs.Rows.{rows, readings_in, readings_among};
 ghost use Rattle.narrow.specs.Tables as tables;
 
-use crate::arguments::linux_arguments::{
+use crate::arguments::reading::Reading;
+use crate::linux_arguments::{
     AARCH64_CALLS, FIRST_CALLS, FOURTH_CALLS, SECOND_CALLS, THIRD_CALLS, X32_CALLS,
 };
-use crate::arguments::reading::Reading;
 use call_tables::Arch;
 
 #[tactic(auto, unfolding(crate::specs::Tables::first_rows))]
