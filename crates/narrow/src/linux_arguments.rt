@@ -1,7 +1,7 @@
 //! How kernels of 64 bits read the arguments of calls, as Linux 6.18 declares them (`SYSCALL_DEFINE` and, of x32's own entries,
 //! `COMPAT_SYSCALL_DEFINE`): an `int` and the like are 32 bits, `umode_t` is 16. It is an upper bound, since a call may take a
 //! `long` and look at less.
-use crate::arguments::reading::Reading;
+use crate::arguments::Reading;
 
 const N: Reading = Reading::NotTaken;
 
