@@ -1,4 +1,4 @@
--- Lists side by side, and what was made of bundles in order.
+-- Lists side by side, and bundles in order.
 use Rattle.std.proofs.Common.{◌≡◌, ℕ, ◌+◌, ◌<◌, List, [], ◌∷◌, ◌++◌, length, take, drop, get_or, refl, ap, sym, subst, ◌∙◌, arith}
 use Rattle.std.proofs.Common.{add-one, true, false}
 use Rattle.std.proofs.Math.Seq.{drop-cons}
@@ -10,9 +10,7 @@ use Rattle.call_tables.specs.declared.arch.Arch.{Arch}
 use Rattle.session.specs.declared.bundles.Bundle.{Bundle}
 use Rattle.pipeline.specs.declared.unready.Unready.{Unready}
 use Rattle.pipeline.specs.declared.unready.Unready.TheVariants.{OutOfMemory}
-use Rattle.cli.specs.declared.run.Named.{Named}
-use Rattle.cli.specs.Running.{FirstUnready, HasChecked, InTurn, IsBundleOf}
-use Rattle.cli.specs.inner.Made.{IsLent, IsMade, IsNamed, IsPreparedOf, MadeBefore}
+use Rattle.cli.specs.Running.{HasChecked, InTurn, IsBundleOf}
 
 -- a list, cut at a place
 pub cut_at : {X : Type 0} (xs : List X) (i : ℕ) (x : X) → i < length xs → x ≡ get_or xs i x → xs ≡ take i xs ++ x ∷ drop (i + 1) xs
@@ -43,45 +41,9 @@ pub in_turn_on : {X Y : Type 0} (R : ℕ → X → Y → Type 0) (xs xs' : List 
 in_turn_on R xs xs' ys ys' x y n ex ey count h g =
     rw (ex, ey) (in_turn_more R 1 (n + 1) xs ys x y (omega arith) h g)
 
--- the checked filters of these texts
-pub lent : (native : Arch) (i : ℕ) (texts : List (List ℕ)) (ns : List Named) (bs : List Bundle) → InTurn (IsNamed native) i texts ns
-    → InTurn IsLent i ns bs → InTurn (IsBundleOf native) i texts bs
-lent native i [] [] [] h g = tt
-lent native i [] [] (b ∷ bs) h g = absurd g
-lent native i [] (n ∷ ns) bs h g = absurd h
-lent native i (t ∷ ts) [] bs h g = absurd h
-lent native i (t ∷ ts) (n ∷ ns) [] h g = absurd g
-lent native i (t ∷ ts) (n ∷ ns) (b ∷ bs) h g =
-    ((g.0.name ∙ h.0.0, g.0.checked native t h.0.1), lent native (i + 1) ts ns bs h.1 g.1)
-
-ready : (native : Arch) (i : ℕ) (texts : List (List ℕ)) (bs : List Bundle) → InTurn (IsBundleOf native) i texts bs
+pub ready : (native : Arch) (i : ℕ) (texts : List (List ℕ)) (bs : List Bundle) → InTurn (IsBundleOf native) i texts bs
     → All (HasChecked native) texts
 ready native i [] [] h = All-nil (HasChecked native)
 ready native i [] (b ∷ bs) h = absurd h
 ready native i (t ∷ ts) [] h = absurd h
 ready native i (t ∷ ts) (b ∷ bs) h = All-cons (HasChecked native) t ts (b.checked, h.0.1) (ready native (i + 1) ts bs h.1)
-
--- each of some is made of its text
-made_of : (native : Arch) (i : ℕ) (texts : List (List ℕ)) (some : List Named) (n : Named) (rest : List Named)
-    → InTurn (IsNamed native) i texts (some ++ n ∷ rest) → (text : List ℕ) × IsPreparedOf native text n.prepared
-made_of native i [] [] n rest h = absurd h
-made_of native i (t ∷ ts) [] n rest h = (t, h.0.1)
-made_of native i [] (m ∷ some) n rest h = absurd h
-made_of native i (t ∷ ts) (m ∷ some) n rest h = made_of native (i + 1) ts some n rest h.1
-
-pub text_of : (native : Arch) (texts : List (List ℕ)) (o : Option Unready) (some : List Named) (n : Named) (rest : List Named)
-    → IsMade native texts (some ++ n ∷ rest) o → (text : List ℕ) × IsPreparedOf native text n.prepared
-text_of native texts None some n rest h = made_of native 1 texts some n rest h
-text_of native texts (Some v) some n rest h = made_of native 1 h.before some n rest h.each
-
--- all that were made have checked filters, and a later text is refused
-pub not_made : (native : Arch) (texts : List (List ℕ)) (ns : List Named) (bs : List Bundle) (u : Unready) → MadeBefore native texts ns u
-    → InTurn IsLent 1 ns bs → u ≢ OutOfMemory → FirstUnready native texts u
-not_made native texts ns bs u h g other = record {
-  before = h.before;
-  text = h.text;
-  after = h.after;
-  split = h.split;
-  ready = ready native 1 h.before bs (lent native 1 h.before ns bs h.each g);
-  is = h.is other;
-}

@@ -22,7 +22,7 @@ pub use fault::FileFault;
 pub use files::Files;
 pub use law::headline;
 pub use pipeline::{
-    Answer, Finding, Prepared, Unready, answer_to, certify_bundle, check_line, evidence_excludes,
+    Answer, Finding, Slot, Unready, answer_to, certify_bundle, check_line, evidence_excludes,
     export_bundle, finding_of, findings_exclude, one_answer, verdict_line,
 };
 pub use program::dispatch;

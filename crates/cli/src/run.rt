@@ -1,79 +1,81 @@
 //! From bundles to their checked filters, with which a script is run: what `ccell run` does.
-ghost use Rattle.std.specs.Prelude.{◌≡◌, ℕ, List, All, Ok, map, true};
+ghost use Rattle.std.specs.Prelude.{◌≡◌, ◌≢◌, ◌+◌, ◌-◌, ◌<◌, ◌^◌, ℕ, List, All, IfErr, IfOk, Ok, length, map, true, vec_len};
+ghost use Rattle.pipeline.specs.declared.unready.Unready.TheVariants.{OutOfMemory};
+ghost use Rattle.pipeline.specs.Exported.{IsUnready};
 ghost use Rattle.pipeline.specs.Plain.{IsPlainBundle};
-ghost use Rattle.cli.specs.Running.{AnswersScript, HasAnswered, InTurn, IsBundleOf, RunsBundles, RunsScript};
+ghost use Rattle.cli.specs.Running.{AnswersScript, FirstUnready, HasAnswered, InTurn, IsBundleOf, RunsBundles, RunsScript};
 
 use crate::stops::Stop;
 use call_tables::Arch;
-use pipeline::{Prepared, Unready, refuse};
+use pipeline::{Slot, Unready, refuse};
 use session::{Bundle, Bundles, run_script};
 use std::alloc::{AllocError, Global};
 use streams::{Sink, Source};
 
-// A bundle's name in a script, and what was made of its text.
+// A bundle's name in a script, and what is made of its text.
 #[derive(Drop)]
-pub(crate) struct Named {
-    name: String,
-    prepared: Prepared,
+struct Named {
+    name: Option<String>,
+    slot: Slot,
 }
 
-// What was made of bundles in order, and why the one after them is refused, where one is.
-#[derive(Drop)]
-struct Made {
-    bundles: Vec<Named>,
-    refused: Option<Unready>,
+// Room for so many bundles.
+fn rooms_of(alloc: Global, count: usize) -> Result<Vec<Named>, AllocError>
+    ensures { IfOk result (λ rooms. vec_len rooms ≡ count) }
+{
+    let mut rooms = Vec::new(alloc);
+    for _ in 0..count {
+        rooms.push(Named {
+            name: None,
+            slot: Slot::new(),
+        })?;
+    }
+    Ok(rooms)
 }
 
-impl Made {
-    ghost use Rattle.std.specs.Prelude.{◌≢◌, ℕ, List, IfOk, IfErr, map};
-    ghost use Rattle.call_tables.specs.declared.arch.Arch.{Arch as TheArch};
-    ghost use Rattle.pipeline.specs.declared.unready.Unready.TheVariants.{OutOfMemory};
-    ghost use Rattle.cli.specs.Running.{FirstUnready, InTurn, IsBundleOf};
-    ghost use Rattle.cli.specs.inner.Made.{IsMade};
+// The bundle of a text at a place, which is read for a native machine.
+fn bundle_of<'a>(
+    alloc: Global,
+    native: Arch,
+    place: usize,
+    text: &[u8],
+    room: &'a mut Named,
+) -> Result<Bundle<'a>, Unready>
+    requires { place < 2 ^ 64 - 1 }
+    ensures ok { IfOk result (IsBundleOf native (place + 1) text.now) }
+    ensures err { IfErr result (λ unready. unready ≢ OutOfMemory → IsUnready native text.now unready) }
+{
+    let Ok(own) = format!(in alloc; "b{}", place + 1) else {
+        return Err(Unready::OutOfMemory);
+    };
+    let Named { name, slot } = room;
+    let name: &'a String = name.insert(own);
+    let checked = slot.fill(alloc, native, text)?;
+    Ok(Bundle {
+        name: name.as_str(),
+        checked,
+    })
+}
 
-    // What is made of the texts of bundles, which are read for a native machine, up to the first that is refused.
-    fn of(alloc: Global, native: Arch, texts: &[Vec<u8>]) -> Result<Made, AllocError>
-        ensures { IfOk result (λ made. IsMade native (map (λ t. t.items) texts.now) made.bundles.items made.refused) }
-    {
-        let mut bundles = Vec::new(alloc);
-        for (i, text) in texts.iter().enumerate() {
-            let name = format!(in alloc; "b{}", i + 1)?;
-            match Prepared::of(alloc, native, text) {
-                Ok(prepared) => bundles.push(Named { name, prepared })?,
-                Err(unready) => {
-                    let refused = Some(unready);
-                    return Ok(Made { bundles, refused });
-                }
-            }
-        }
-        let refused = None;
-        Ok(Made { bundles, refused })
-    }
-
-    // Each name with its checked filter, or why the first bundle without one has none.
-    fn checked(&self, alloc: Global) -> Result<Vec<Bundle<'_>>, Unready>
-        ensures ok { (native : TheArch) (texts : List (List ℕ)) → IsMade native texts self.now.bundles.items self.now.refused
-            → IfOk result (λ list. InTurn (IsBundleOf native) 1 texts list.items) }
-        ensures err { (native : TheArch) (texts : List (List ℕ)) → IsMade native texts self.now.bundles.items self.now.refused
-            → IfErr result (λ unready. unready ≢ OutOfMemory → FirstUnready native texts unready) }
-    {
-        let mut list = Vec::new(alloc);
-        for bundle in &self.bundles {
-            match bundle.prepared.checked(alloc) {
-                Ok(checked) => {
-                    let name = bundle.name.as_str();
-                    if list.push(Bundle { name, checked }).is_err() {
-                        return Err(Unready::OutOfMemory);
-                    }
-                }
-                Err(unready) => return Err(unready),
-            }
-        }
-        match self.refused {
-            Some(unready) => Err(unready),
-            None => Ok(list),
+// The bundles of texts, or why the first text without a checked filter has none.
+fn bundles_of<'a>(
+    alloc: Global,
+    native: Arch,
+    texts: &[Vec<u8>],
+    rooms: &'a mut [Named],
+) -> Result<Vec<Bundle<'a>>, Unready>
+    requires { length rooms.old ≡ length texts.now }
+    ensures ok { IfOk result (λ list. InTurn (IsBundleOf native) 1 (map (λ t. t.items) texts.now) list.items) }
+    ensures err { IfErr result (λ unready. unready ≢ OutOfMemory → FirstUnready native (map (λ t. t.items) texts.now) unready) }
+{
+    let mut list = Vec::new(alloc);
+    for (place, room) in rooms.iter_mut().enumerate() {
+        let bundle = bundle_of(alloc, native, place, &texts[place], room)?;
+        if list.push(bundle).is_err() {
+            return Err(Unready::OutOfMemory);
         }
     }
+    Ok(list)
 }
 
 // Answers each line of a script by a line. The answer is true.
@@ -112,8 +114,8 @@ pub fn run_bundles<'a, I: Source, O: Sink>(
         → RunsScript I.left I.failures O.held O.failures input.old input.new out.old out.new
         native (map (λ t. t.items) texts.now) result }
 {
-    let made = Made::of(alloc, native, texts)?;
-    match made.checked(alloc) {
+    let mut rooms = rooms_of(alloc, texts.len())?;
+    match bundles_of(alloc, native, texts, &mut rooms) {
         Ok(list) => run_checked(alloc, native, &list, input, out),
         Err(unready) => Ok(refuse(alloc, &unready, out)?),
     }

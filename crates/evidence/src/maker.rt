@@ -149,7 +149,7 @@ pub fn propose(
     proposed(alloc, profile, program, Some(outline))
 }
 
-/// What the makers propose of a filter that `share_searches` gives, with its outline: the checker was not asked.
+/// What the makers propose of a filter that `shorten` gives, with its outline: the checker was not asked.
 pub fn propose_shared(
     alloc: Global,
     profile: &Profile,

@@ -7,7 +7,7 @@ use cert_outline::{OutlineError, outlined};
 use certify::CertifyError;
 use kernel_check::Accepted;
 use profile::Profile;
-use rule_compile::{CompileError, Outline, make, share_searches};
+use rule_compile::{CompileError, Known, Outline, Planned, plan, shorten};
 use std::alloc::Global;
 
 // The certificate of a filter that is written from its outline, unless it comes out too large.
@@ -29,20 +29,44 @@ fn written(
     }
 }
 
-// The same of a filter that is not the compiler's first one, if it is the other one, in which machines share searches.
-fn of_shared(
+// The same of a filter of these bytes, if it is the one that is shorter than the compiler's own.
+fn of_shorter(
     alloc: Global,
     profile: &Profile,
     program: Accepted<'_>,
+    own: &Planned,
 ) -> Result<Option<Vec<u8>>, CertifyError>
     ensures { IfErr result (λ e. e ≡ OutOfMemory) }
 {
-    match share_searches(alloc, profile) {
-        Ok(Some(made)) if made.bytes.as_slice() == program.program().bytes() => {
-            written(alloc, profile, program, &made.outline)
-        }
+    match shorten(alloc, profile, own) {
+        Ok(Some(made)) if made.bytes.as_slice() == program.program().bytes() => match &made.known {
+            Known::AsOwn => written(alloc, profile, program, &own.outline),
+            Known::Outline(outline) => written(alloc, profile, program, outline),
+            Known::Nothing => Ok(None),
+        },
         Ok(_) => Ok(None),
         Err(_) => Err(CertifyError::OutOfMemory),
+    }
+}
+
+// The same of a filter that anyone made, if it is the compiler's own.
+fn of_own(
+    alloc: Global,
+    profile: &Profile,
+    program: Accepted<'_>,
+    own: Planned,
+) -> Result<Option<Vec<u8>>, CertifyError>
+    ensures { IfErr result (λ e. e ≡ OutOfMemory) }
+{
+    match own.into_filter(alloc) {
+        Ok(made) => {
+            if made.bytes.as_slice() == program.program().bytes() {
+                return written(alloc, profile, program, &made.outline);
+            }
+            Ok(None)
+        }
+        Err(CompileError::OutOfMemory) => Err(CertifyError::OutOfMemory),
+        Err(CompileError::TooLong) => Ok(None),
     }
 }
 
@@ -54,16 +78,13 @@ fn of_anyone(
 ) -> Result<Option<Vec<u8>>, CertifyError>
     ensures { IfErr result (λ e. e ≡ OutOfMemory) }
 {
-    match make(alloc, profile) {
-        Ok(made) => {
-            if made.bytes.as_slice() == program.program().bytes() {
-                return written(alloc, profile, program, &made.outline);
-            }
-            of_shared(alloc, profile, program)
-        }
-        Err(CompileError::OutOfMemory) => Err(CertifyError::OutOfMemory),
-        Err(CompileError::TooLong) => of_shared(alloc, profile, program),
+    let Ok(own) = plan(alloc, profile) else {
+        return Err(CertifyError::OutOfMemory);
+    };
+    if own.insns.len() == program.program().len() {
+        return of_own(alloc, profile, program, own);
     }
+    of_shorter(alloc, profile, program, &own)
 }
 
 /// The certificate that is written from a filter's outline, which is given where the compiler made it: of any other filter there is

@@ -4,8 +4,7 @@ ghost use Rattle.bpf_insn.specs.Bytes.{insns_of};
 ghost use Rattle.kernel_check.specs.Accepted.{IsAccepted};
 ghost use Rattle.cert_check.specs.Right.{IsRight};
 ghost use Rattle.rule_compile.specs.Shape.{IsPlain};
-ghost use Rattle.profile.specs.Policy.{IsClear};
-ghost use Rattle.pipeline.specs.Prepared.{IsTaken, IsUnbroken};
+ghost use Rattle.cert_check.specs.Checked.{profile_of};
 ghost use Rattle.filter_c.specs.Refusal.{IsCause};
 ghost use Rattle.filter_c.specs.declared.added.fault.AddedError.TheVariants as error;
 ghost use Rattle.filter_c.specs.Rules.{AnswersWhatWasAdded, AreNotPlain};
@@ -16,21 +15,20 @@ use crate::status::{
     DONE, FOREIGN_RULE, NATIVE_MISSING, NO_FILTER, NO_MACHINE, NO_MEMORY, NO_NATIVE, NO_ROOM,
     NO_RULE, OVERLAP, TOO_MANY, Told,
 };
-use pipeline::{Prepared, Unready};
+use cert_check::Checked;
+use pipeline::{Slot, Unready};
 use profile::Profile;
 use std::alloc::Global;
 
-// Writes a filter that breaks no rule of the checker: it was asked when the filter was prepared.
-fn put_prepared(prepared: &Prepared, out: &mut [u8], told: &mut Told) -> u32
-    requires clear { IsClear prepared.now.profile.rules }
-    requires taken { IsTaken prepared.now.filter.items }
-    requires unbroken { IsUnbroken prepared.now.profile prepared.now.filter.items prepared.now.certificate.items }
+// Writes a checked filter.
+fn put_checked(checked: &Checked<'_>, out: &mut [u8], told: &mut Told) -> u32
     ensures accepted { result ≡ 0 → IsAccepted (insns_of (take told.new.count out.new)) }
-    ensures right { result ≡ 0 → IsRight prepared.now.profile (insns_of (take told.new.count out.new)) }
+    ensures right { result ≡ 0 → IsRight (profile_of checked.now) (insns_of (take told.new.count out.new)) }
     ensures room { result ≡ 2 → length out.old < told.new.count }
     ensures statuses { (result ≡ 0) ⊎ (result ≡ 2) }
 {
-    if written(&prepared.filter, out, &mut told.count) {
+    let program = checked.program().program();
+    if written(program.bytes(), out, &mut told.count) {
         DONE
     } else {
         NO_ROOM
@@ -39,15 +37,15 @@ fn put_prepared(prepared: &Prepared, out: &mut [u8], told: &mut Told) -> u32
 
 // Writes the filter of a profile.
 fn put_filter(alloc: Global, profile: Profile, out: &mut [u8], told: &mut Told) -> u32
-    requires { IsClear profile.rules }
     ensures accepted { result ≡ 0 → IsAccepted (insns_of (take told.new.count out.new)) }
     ensures right { result ≡ 0 → IsRight profile (insns_of (take told.new.count out.new)) }
     ensures room { result ≡ 2 → length out.old < told.new.count }
     ensures size { result ≡ 11 → IsPlain profile → ⊥ }
     ensures statuses { (result ≡ 0) ⊎ ((result ≡ 2) ⊎ ((result ≡ 3) ⊎ (result ≡ 11))) }
 {
-    match Prepared::of_profile(alloc, profile) {
-        Ok(prepared) => put_prepared(&prepared, out, told),
+    let mut slot = Slot::new();
+    match slot.fill_for(alloc, profile) {
+        Ok(checked) => put_checked(&checked, out, told),
         Err(Unready::OutOfMemory) => NO_MEMORY,
         Err(_) => NO_FILTER,
     }

@@ -1,16 +1,18 @@
 -- A bundle that means a plain profile is not refused for what is made of it.
-use Rattle.std.proofs.Common.{◌≡◌, ℕ, inl, inr, Bool, List, refl, sym, subst}
-use Rattle.std.specs.Prelude.{◌≢◌, Option, None, Result, Ok, Err, IfErr, IfOk}
+use Rattle.std.proofs.Common.{◌≡◌, ◌↔◌, ◌<◌, ◌≤◌, ℕ, inl, inr, Bool, List, length, refl, sym, subst}
+use Rattle.std.specs.Prelude.{◌≢◌, Option, None, Result, Ok, Err, IfErr, IfOk, IsErrOf}
 use Rattle.std.specs.Result.{IsErrAnd}
 use Rattle.bpf_insn.specs.declared.instruction.Insn.{Insn}
-use Rattle.bpf_insn.specs.Bytes.{insns_of, view_fault}
+use Rattle.bpf_insn.specs.Bytes.{insns_of, max_insns, view_fault}
 use Rattle.call_tables.specs.declared.arch.Arch.{Arch}
 use Rattle.profile.specs.Policy.{IsClear, Policy}
 use Rattle.profile_json.proofs.unbroken.Unbroken.{meaning_is_one, meaning_is_unbroken}
 use Rattle.rule_compile.specs.declared.fault.CompileError.{CompileError}
 use Rattle.rule_compile.specs.declared.fault.CompileError.TheVariants as compiler
 use Rattle.rule_compile.specs.Right.{IsRightFilter}
-use Rattle.rule_compile.specs.Plan.{IsPlannedTooLong}
+use Rattle.rule_compile.specs.declared.filter.Made.{Made}
+use Rattle.rule_compile.specs.Plan.{IsPlanOf, IsPlannedTooLong}
+use Rattle.rule_compile.proofs.PlanLaws.{made_is_right}
 use Rattle.rule_compile.specs.Shape.{IsCallFilter, IsPlain}
 use Rattle.rule_compile.specs.Steady.{IsSteady, Nothing}
 use Rattle.kernel_check.specs.Accepted.{IsAccepted}
@@ -24,13 +26,12 @@ use Rattle.evidence.proofs.CompiledLaws.{compiled}
 use Rattle.streams.specs.Failures.{Failures}
 use Rattle.streams.specs.declared.fault.WriteFault.{WriteFault}
 use Rattle.export.specs.declared.form.Form.{Form}
-use Rattle.pipeline.specs.declared.pipeline.Prepared.{Prepared}
 use Rattle.pipeline.specs.declared.unready.Unready.{Unready}
 use Rattle.pipeline.specs.declared.unready.Unready.TheVariants.{Profile, Compile, Certify, Check, OutOfMemory}
 use Rattle.pipeline.specs.Exported.{Exports, ExportsFilter, IsToldAs, IsUnready}
 use Rattle.pipeline.specs.Finding.{IsBundle}
 use Rattle.pipeline.specs.Plain.{IsNotPlain, IsPlainBundle}
-use Rattle.pipeline.specs.Prepared.{IsPrepared, IsTaken, IsUnbroken}
+use Rattle.pipeline.specs.inner.Proposed.{IsMade, IsUnbroken}
 use Rattle.pipeline.proofs.FindingLaws.{no_fault, one_policy}
 
 -- ---- steps
@@ -121,17 +122,17 @@ pub unbroken : (policy : Policy) (p : List Insn) (filter cert : List ℕ) → p 
 unbroken policy p filter cert same whole taken valid =
     kept policy filter cert whole taken (subst (λ (q : List Insn). IsValidCertificate policy q cert) same valid)
 
--- what is made of the profile that a bundle means
-pub prepared : (native : Arch) (bundle : List ℕ) (policy : Policy) (r : Result Prepared Unready) → IsBundle native bundle policy
-    → IfOk r (λ made. made.profile ≡ policy) → IfOk r (λ made. IsTaken made.filter.items)
-    → IfOk r (λ made. IsUnbroken policy made.filter.items made.certificate.items)
-    → IfOk r (λ made. IsPrepared native bundle made.profile made.filter.items made.certificate.items)
-prepared native bundle policy (Ok made) is same taken unbroken = record {
-  means = subst (IsBundle native bundle) (sym same) is;
-  taken = taken;
-  unbroken = subst (λ (p : Policy). IsUnbroken p made.filter.items made.certificate.items) (sym same) unbroken;
-}
-prepared native bundle policy (Err u) is same taken unbroken = tt
+-- the compiler's filter of what was planned
+module _ (policy : Policy) (p : List Insn) (plan : IsPlanOf policy p) where
+  pub made : (r : Result Made CompileError) → IsErrOf r compiler.TooLong ↔ (max_insns < length p)
+      → IfOk r (λ made. insns_of made.bytes.items ≡ p) → (1 ≤ length p → IfOk r (λ made. view_fault made.bytes.items ≡ None))
+      → IfOk r (λ made. IsMade policy made.bytes.items)
+  made (Ok m) long read program = record {
+    program = program plan.some;
+    right = made_is_right policy p plan (Ok m) long read;
+    steady = subst (λ (q : List Insn). IsSteady q 0 Nothing) (sym read) plan.steady;
+  }
+  made (Err e) long read program = tt
 
 -- ---- plain bundles
 

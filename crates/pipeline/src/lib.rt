@@ -1,13 +1,15 @@
 //! What is judged and made of a bundle, a filter and a certificate, and what each command writes of them: `verdict`, `check`,
-//! `certify` (`certifying`) and `export` (`exporting`). `pipeline` has the way from a bundle to its checked filter.
+//! `certify` (`certifying`) and `export` (`exporting`). `slot` has the way from a bundle to its checked filter.
 #![tactic(auto)]
 
 mod certifying;
 mod check;
 mod exporting;
 mod law;
-mod pipeline;
-mod shared;
+mod own;
+mod proposal;
+mod shorter;
+mod slot;
 mod unready;
 mod verdict;
 
@@ -16,6 +18,6 @@ pub use check::{Finding, check_line, finding_of};
 pub use evidence::{Conviction, Evidence};
 pub use exporting::export_bundle;
 pub use law::{bundles_are_plain, evidence_excludes, findings_exclude, one_answer};
-pub use pipeline::Prepared;
+pub use slot::Slot;
 pub use unready::{Unready, refuse};
 pub use verdict::{Answer, answer_to, verdict_line};

@@ -1,7 +1,8 @@
 //! Filters in which searches for numbers share what they have in common.
 //!
 //! Machines with one token have one search (`folded`), and numbers that are decided alike on two machines, as those from 424
-//! on that Linux gives out for all of them, stand once. Nothing is proved of such a filter: who takes one has it checked.
+//! on that Linux gives out for all of them, stand once. Blocks that ask for bits of one word are put together (`merged`). Nothing
+//! is proved of such a filter: who takes one has it checked.
 ghost use Rattle.std.specs.Prelude.{◌↔◌, IfOk, IfSome, IsTrue, OnOk};
 ghost use Rattle.profile.specs.Policy.{IsClear};
 ghost use Rattle.rule_compile.specs.inner.Code.{Grows, IsTarget};
@@ -10,20 +11,20 @@ ghost use Rattle.rule_compile.specs.inner.Stands.{AreSound};
 
 use crate::assembler::Assembler;
 use crate::blocks::Blocks;
-use crate::fault::CompileError;
-use crate::filter::{Made, Planned, plan};
+use crate::filter::Planned;
 use crate::folded::{BIT, Folded, Pair};
 use crate::label::{Exits, Target};
 use crate::levels::{DEPTH, levels_of};
 use crate::question::Subject;
 use crate::ranges::{Leaf, Range, ranges_of};
 use crate::runs::{longest_run, replaced};
-use crate::search::{any_bit, decided, search, write_blocks};
+use crate::search::{any_bit, decided, search};
+use crate::together::write_together;
 use crate::written::Written;
 use bpf_insn::Test;
 use call_record::Word;
 use call_record::offset::{MACHINE, NUMBER};
-use call_tables::{Arch, Family};
+use call_tables::Arch;
 use profile::Profile;
 use std::alloc::{AllocError, Global};
 
@@ -35,11 +36,11 @@ const FEW: usize = 3;
 
 /// How the numbers with a token are decided.
 #[derive(Drop)]
-struct Numbers {
+pub(crate) struct Numbers {
     token: u32,
     /// Whether the number is searched for without the bit.
     is_folded: bool,
-    ranges: Vec<Range>,
+    pub(crate) ranges: Vec<Range>,
 }
 
 // Whether what decides is a verdict, or one of so many blocks.
@@ -52,15 +53,15 @@ fn is_before(leaf: &Leaf, count: usize) -> bool
     }
 }
 
-// Whether this is so of each range.
-fn are_before(ranges: &[Range], count: usize) -> bool
+/// Whether each range is decided by a verdict, or by one of so many blocks.
+pub(crate) fn are_before(ranges: &[Range], count: usize) -> bool
     ensures { IsTrue result ↔ AreBefore count ranges.now }
 {
     ranges.iter().all(|range| is_before(&range.leaf, count))
 }
 
-// Adds what stands at a target to the blocks that are written, and answers that it decides.
-fn keep(
+/// Adds what stands at a target to the blocks that are written, and answers that it decides.
+pub(crate) fn keep(
     code: &Assembler,
     written: &mut Vec<Written>,
     target: Target,
@@ -125,8 +126,8 @@ fn fold(
     Ok(())
 }
 
-// Finds what decides the number in A.
-fn write_search(
+/// Finds what decides the number in A.
+pub(crate) fn write_search(
     code: &mut Assembler,
     alloc: Global,
     written: &[Written],
@@ -320,15 +321,22 @@ fn gather(alloc: Global, profile: &Profile, blocks: &mut Blocks) -> Result<Vec<N
     Ok(all)
 }
 
-// The instructions of a filter in which machines share what they can, with its outline, if there are several.
-fn plan_shared(alloc: Global, profile: &Profile) -> Result<Option<Planned>, AllocError> {
-    if profile.machines().len() < 2 {
-        return Ok(None);
-    }
+/// A program in which searches share what they can, and what is known of it.
+#[derive(Drop)]
+pub(crate) struct Shared {
+    pub(crate) planned: Planned,
+    /// Whether blocks were put together: then its outline tells less than what is asked.
+    pub(crate) is_merged: bool,
+}
+
+/// The program in which machines and blocks share what they can, if it could be written.
+pub(crate) fn plan_shared(alloc: Global, profile: &Profile) -> Result<Option<Shared>, AllocError> {
     let mut blocks = Blocks::new(alloc);
     let mut all = gather(alloc, profile, &mut blocks)?;
     let (mut code, mut written) = (Assembler::new(alloc), Vec::new(alloc));
-    write_blocks(&mut code, alloc, &blocks, &mut written)?;
+    let Some(is_merged) = write_together(&mut code, alloc, &mut written, &blocks, &all)? else {
+        return Ok(None);
+    };
     share_all(&mut code, alloc, &mut written, &mut all)?;
     let Some(leaf) = write_all(&mut code, alloc, &mut written, &all)? else {
         return Ok(None);
@@ -338,28 +346,9 @@ fn plan_shared(alloc: Global, profile: &Profile) -> Result<Option<Planned>, Allo
     };
     code.begin_at(place)?;
     code.load(MACHINE)?;
-    Ok(Some(Planned {
+    let planned = Planned {
         insns: code.into_insns(),
         outline: blocks.into_outline(),
-    }))
-}
-
-/// A filter in which the machines of Linux that a profile lists share what they can, if it is shorter than the one that `compile`
-/// gives. Nothing is promised of it.
-pub fn share_searches(alloc: Global, profile: &Profile) -> Result<Option<Made>, AllocError> {
-    if profile.native().family() != Family::Whole {
-        return Ok(None);
-    }
-    let Some(planned) = plan_shared(alloc, profile)? else {
-        return Ok(None);
     };
-    let own = plan(alloc, profile)?;
-    if planned.insns.len() >= own.insns.len() {
-        return Ok(None);
-    }
-    match planned.into_filter(alloc) {
-        Ok(made) => Ok(Some(made)),
-        Err(CompileError::TooLong) => Ok(None),
-        Err(CompileError::OutOfMemory) => Err(AllocError),
-    }
+    Ok(Some(Shared { planned, is_merged }))
 }
