@@ -1,5 +1,4 @@
 mod AnswerLaws
-mod CheckedLaws
 mod RuleLaws
 pub mod Lists
 pub mod Same

@@ -122,6 +122,18 @@ pub unbroken : (policy : Policy) (p : List Insn) (filter cert : List ℕ) → p 
 unbroken policy p filter cert same whole taken valid =
     kept policy filter cert whole taken (subst (λ (q : List Insn). IsValidCertificate policy q cert) same valid)
 
+-- and so are they as they were lent
+pub unbroken_lent : (policy : Policy) (filter lent cert written : List ℕ) → lent ≡ filter → written ≡ cert → IsUnbroken policy filter cert
+    → IsUnbroken policy lent written
+unbroken_lent policy filter lent cert written f c kept =
+    subst (λ (x : List ℕ). IsUnbroken policy x written) (sym f) (subst (IsUnbroken policy filter) (sym c) kept)
+
+-- an error that tells of memory alone says nothing of the bundle
+pub only_memory : {T : Type 0} (r : Result T Unready) → IfErr r (λ u. u ≡ OutOfMemory) → (native : Arch) (bundle : List ℕ)
+    → IfErr r (λ u. u ≢ OutOfMemory → IsUnready native bundle u)
+only_memory (Ok x) is native bundle = tt
+only_memory (Err u) is native bundle = λ other. absurd (other is)
+
 -- the compiler's filter of what was planned
 module _ (policy : Policy) (p : List Insn) (plan : IsPlanOf policy p) where
   pub made : (r : Result Made CompileError) → IsErrOf r compiler.TooLong ↔ (max_insns < length p)

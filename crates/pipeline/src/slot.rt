@@ -93,14 +93,43 @@ fn from_own<'a>(
     ensures err { (native : TheArch) (bundle : List ℕ) → IsBundle native bundle profile.now
         → IfErr result (λ unready. unready ≢ OutOfMemory → IsUnready native bundle unready) }
 {
-    let made: &'a Proposal = place.insert(proposed(alloc, profile, planned)?);
+    let own = proposed(alloc, profile, planned)?;
+    let made: &'a Proposal = place.insert(own);
     match answer(alloc, profile, &made.filter, &made.certificate) {
         Ok(checked) => return Ok(checked),
-        Err(CheckError::OutOfMemory) => return Err(Unready::OutOfMemory),
-        Err(_) => {}
+        Err(error) => {
+            if let CheckError::OutOfMemory = error {
+                return Err(Unready::OutOfMemory);
+            }
+        }
     }
-    let certificate: &'a Vec<u8> = other.insert(followed(alloc, profile, &made.filter)?);
+    let last = followed(alloc, profile, &made.filter)?;
+    let certificate: &'a Vec<u8> = other.insert(last);
     Ok(answer(alloc, profile, &made.filter, certificate)?)
+}
+
+// The checked filter of a profile: a shorter one, or else the compiler's own.
+fn checked_for<'a>(
+    alloc: Global,
+    profile: &'a Profile,
+    shorter: &'a mut Option<Proposal>,
+    own: &'a mut Option<Proposal>,
+    other: &'a mut Option<Vec<u8>>,
+) -> Result<Checked<'a>, Unready>
+    ensures profile { IfOk result (λ checked. profile_of checked ≡ profile.now) }
+    ensures ok { (native : TheArch) (bundle : List ℕ) → IsBundle native bundle profile.now → IfOk result (IsCheckedOf native bundle) }
+    ensures never { IsPlain profile.now → IfErr result (λ unready. unready ≡ OutOfMemory) }
+    ensures err { (native : TheArch) (bundle : List ℕ) → IsBundle native bundle profile.now
+        → IfErr result (λ unready. unready ≢ OutOfMemory → IsUnready native bundle unready) }
+{
+    let Ok(planned) = plan(alloc, profile) else {
+        return Err(Unready::OutOfMemory);
+    };
+    match from_shorter(alloc, profile, &planned, shorter) {
+        Ok(Some(checked)) => Ok(checked),
+        Ok(None) => from_own(alloc, profile, planned, own, other),
+        Err(unready) => Err(unready),
+    }
 }
 
 impl Slot {
@@ -149,12 +178,6 @@ impl Slot {
             followed,
         } = self;
         let profile: &'a Profile = place.insert(profile);
-        let Ok(planned) = plan(alloc, profile) else {
-            return Err(Unready::OutOfMemory);
-        };
-        match from_shorter(alloc, profile, &planned, shorter)? {
-            Some(checked) => Ok(checked),
-            None => from_own(alloc, profile, planned, own, followed),
-        }
+        checked_for(alloc, profile, shorter, own, followed)
     }
 }

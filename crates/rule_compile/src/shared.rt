@@ -332,6 +332,7 @@ pub(crate) struct Shared {
 /// The program in which machines and blocks share what they can, if it could be written.
 pub(crate) fn plan_shared(alloc: Global, profile: &Profile) -> Result<Option<Shared>, AllocError> {
     let mut blocks = Blocks::new(alloc);
+    profile.rules();
     let mut all = gather(alloc, profile, &mut blocks)?;
     let (mut code, mut written) = (Assembler::new(alloc), Vec::new(alloc));
     let Some(is_merged) = write_together(&mut code, alloc, &mut written, &blocks, &all)? else {
