@@ -16,16 +16,16 @@ use crate::claims::{FEW_RULES, Mets, Outs, has_no_met, has_none, mark_mets, mark
 use bpf_insn::{Insn, Operation};
 use call_record::Word;
 use cert_form::{Kind, NodeView};
-use cert_state::{AVal, Facts, Regs, Room, State};
+use cert_state::{AVal, Facts, Room};
 use profile::{MAX_RULES, Profile};
 
 // The verdict that a return gives, where it is known.
-fn returned_by(insn: &Insn, regs: &Regs) -> Option<u32>
-    ensures { result ≡ verdict_by (operation_of insn.now.code) regs.now insn.now }
+fn returned_by(insn: &Insn, node: &NodeView<'_>) -> Option<u32>
+    ensures { result ≡ verdict_by (operation_of insn.now.code) (says node.now).regs insn.now }
 {
     match insn.operation() {
         Some(Operation::ReturnK) => Some(insn.k),
-        Some(Operation::ReturnA) => match regs.a {
+        Some(Operation::ReturnA) => match node.a() {
             AVal::Const(word) => Some(word),
             AVal::Unknown | AVal::Masked(_, _) => None,
         },
@@ -179,7 +179,7 @@ fn returns(
     ensures answer { IsTrue result ↔ ReturnsAt profile.now insn.now (says node.now) }
     ensures kept { AreAgreed profile.now (certificate_of node.now) agreed.new }
 {
-    let Some(word) = returned_by(insn, &node.regs()) else {
+    let Some(word) = returned_by(insn, node) else {
         return false;
     };
     agrees_once(profile, node, Word(word), agreed, room)
