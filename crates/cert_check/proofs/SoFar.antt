@@ -74,13 +74,13 @@ module _ (narrow : Bool) (met : List (ℕ × ℕ)) (known : List Lit) (place : �
 module _ (out : List ℕ) (met : List (ℕ
     × ℕ)) (known : List Lit) (v : ℕ) (arch : Arch) (rules : List Rule) (n : ℕ) (others : Bool) (rule : Rule)
     (inside : n < length rules) (at : slice_index_or rules n rule ≡ rule) (so : RulesSoFar out met known v arch rules n others) where
-  -- a rule of another machine, or one that is out
-  pub rule_passed : (IsLeft out arch n rule → ⊥) → RulesSoFar out met known v arch rules (n + 1) others
+  -- a rule of another machine, one that is out, or one with another verdict where such a one is left
+  pub rule_passed : (IsLeft out arch n rule → (others ≡ true) × (rule.word ≢ v)) → RulesSoFar out met known v arch rules (n + 1) others
   rule_passed gone = record {
     none_sure = one_more_placed (λ k x. IsLeft out arch k x → IsYesRule met known k x
-        → x.word ≢ v) rules n rule inside at so.none_sure (λ left. absurd (gone left));
+        → x.word ≢ v) rules n rule inside at so.none_sure (λ left _. (gone left).1);
     settled = λ e. one_more_placed (λ k x. IsLeft out arch k x → IsNoRule met known k x
-        ⊎ (x.word ≡ v)) rules n rule inside at (so.settled e) (λ left. absurd (gone left));
+        ⊎ (x.word ≡ v)) rules n rule inside at (so.settled e) (λ left. absurd (let t = (gone left).0 in let untrue : false ≡ true = sym e ∙ t in cc));
     another = so.another;
   }
 

@@ -8,3 +8,4 @@ pub mod Broken
 pub mod Among
 pub mod Followed
 pub mod Passed
+pub mod Agreed

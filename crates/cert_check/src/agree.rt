@@ -1,5 +1,5 @@
 //! Whether what is known of a record settles the verdict that a profile says of it.
-ghost use Rattle.std.specs.Prelude.{◌≡◌, ◌<◌, ◌↔◌, ◌⊎◌, ℕ, IsTrue, All, Any, Contains};
+ghost use Rattle.std.specs.Prelude.{◌≡◌, ◌≢◌, ◌<◌, ◌↔◌, ◌⊎◌, ℕ, false, true, IsTrue, All, Any, Contains};
 ghost use Rattle.call_tables.specs.Arch.{token_of};
 ghost use Rattle.call_tables.specs.declared.arch.Arch.{Arch as TheArch};
 ghost use Rattle.profile.specs.Rule.{is_narrow_rule};
@@ -135,8 +135,8 @@ impl<S: State> Agreement<'_, S> {
         }
     }
 
-    /// How the rule of the record's machine at a place bears on the verdict, with the last answer to conditions. That of a rule
-    /// of another number is not asked for.
+    /// How the rule of the record's machine at a place bears on the verdict, with the last answer to conditions. Those of a rule
+    /// of another number are not asked for, nor are those of a rule with the verdict whose number is not known to be the call's.
     pub(crate) fn weigh<'r>(
         &self,
         place: usize,
@@ -150,8 +150,11 @@ impl<S: State> Agreement<'_, S> {
         ensures bearing { Bears (met_of self.now) (known_of self.now) self.now.word place rule.now result.0 }
         ensures answer { IsAnswered (known_of self.now) result.1 }
     {
-        if number.other {
-            if !number.own {
+        if !number.own {
+            if number.other {
+                return (Bearing::Agrees, last);
+            }
+            if rule.word == self.word {
                 return (Bearing::Agrees, last);
             }
         }
@@ -169,6 +172,20 @@ impl<S: State> Agreement<'_, S> {
             return false;
         }
         !self.outs.has(place)
+    }
+
+    // Whether a rule at a place is left for a machine and is still asked: once another verdict is possible, rules with other
+    // verdicts are not.
+    fn is_asked(&self, place: usize, rule: &Rule, arch: Arch, others: bool) -> bool
+        requires { place < 8192 }
+        ensures left { IsTrue result → IsLeft (out_of self.now) arch place rule.now }
+        ensures passed { result ≡ false → IsLeft (out_of self.now) arch place rule.now
+            → (others ≡ true) × (rule.now.word ≢ self.now.word) }
+    {
+        if others && rule.word != self.word {
+            return false;
+        }
+        self.is_left(place, rule, arch)
     }
 
     // Whether the rule at a place is known to be yes.
@@ -240,7 +257,8 @@ impl<S: State> Agreement<'_, S> {
         self.call_says(arch, least)
     }
 
-    // Whether the rules that are left for a machine agree with the verdict, each of which is asked if its number is possible.
+    // Whether the rules that are left for a machine agree with the verdict. Rules with other verdicts are asked for their
+    // conditions where their number is possible, until one may match.
     fn rules_agree_within(&self, arch: Arch, range: (u32, u32)) -> bool
         requires { NumberLies (known_of self.now) range.0 range.1 }
         ensures { let a = self.now in IsTrue result ↔ RulesAgree a.profile.now (out_of a) (met_of a) (known_of a) a.word arch }
@@ -254,7 +272,7 @@ impl<S: State> Agreement<'_, S> {
             judged: Judged::Yes,
         };
         for rule in self.profile.rules() {
-            if self.is_left(place, rule, arch) {
+            if self.is_asked(place, rule, arch, others) {
                 let number = number_of(self.facts, range, &mut numbers, rule.nr);
                 let (bearing, answer) = self.weigh(place, rule, number, last);
                 last = answer;

@@ -9,7 +9,7 @@ ghost use Rattle.cert_check.specs.inner.Ways.{edge_list, edge_of};
 
 use bpf_insn::{Insn, Operation};
 use cert_form::{CertView, Kind, NodeView};
-use cert_state::{Lit, Regs, State, edge_fact, sharp_fact, transfer};
+use cert_state::{Lit, Regs, State, edge_fact_by, sharp_fact_by, transfer};
 
 // The number that stands for no second successor.
 const NO_NODE: u32 = u32::MAX;
@@ -46,14 +46,15 @@ fn one_way(first: u32, second: u32, pc: u64, regs: Regs) -> Option<Ways>
     }))
 }
 
-// What is known on an edge of a jump.
-fn fact_of(node: &NodeView<'_>, insn: &Insn, taken: bool) -> Option<Lit>
+// What is known on an edge of a jump, by what is known of the registers.
+fn fact_of(node: &NodeView<'_>, regs: &Regs, insn: &Insn, taken: bool) -> Option<Lit>
+    requires { regs.now ≡ (says node.now).regs }
     ensures { result ≡ fact_at (says node.now) insn.now taken }
 {
     if node.is_sharp() {
-        return sharp_fact(node, insn, taken);
+        return sharp_fact_by(node, regs, insn, taken);
     }
-    edge_fact(node, insn, taken)
+    edge_fact_by(regs, insn, taken)
 }
 
 // The ways of a step at an instruction, or none where it may not stand there.
@@ -65,17 +66,18 @@ fn step_ways(node: &NodeView<'_>, first: u32, second: u32, insn: &Insn) -> Optio
     match insn.operation() {
         Some(Operation::ReturnK | Operation::ReturnA) => None,
         Some(Operation::Branch(_, _)) => {
-            let regs = transfer(node, insn);
+            // A jump changes no register.
+            let regs = node.regs();
             let taken = Way {
                 to: first,
                 pc: next + u64::from(insn.jt),
-                fact: fact_of(node, insn, true),
+                fact: fact_of(node, &regs, insn, true),
                 regs,
             };
             let not_taken = Way {
                 to: second,
                 pc: next + u64::from(insn.jf),
-                fact: fact_of(node, insn, false),
+                fact: fact_of(node, &regs, insn, false),
                 regs,
             };
             Some(Ways::Two(taken, not_taken))

@@ -36,6 +36,17 @@ fn allows_scratch(there: &[AVal; 16], here: &[AVal; 16]) -> bool
     true
 }
 
+// Whether a node may say of the scratch words what it says. It mostly says nothing of them.
+fn scratch_is_allowed(there: &NodeView<'_>, here: &[AVal; 16]) -> bool
+    ensures { IsTrue result ↔ ((j : ℕ) (v : TheValue) → slice_get (says there.now).regs.scratch j ≡ Some v
+        → Allows v (slice_index_or here.now j Unknown)) }
+{
+    if !there.may_state_scratch() {
+        return true;
+    }
+    allows_scratch(&there.regs().scratch, here)
+}
+
 // How many literals are looked at for one that stands in its turn: as many as nodes in a row seldom leave out.
 const AHEAD: usize = 8;
 
@@ -175,14 +186,13 @@ impl Passage<'_> {
         ensures { let p = self.now in
             IsTrue result ↔ Carries p.profile.now (says p.node.now) (edge_of p.way.now) (says p.there.now) }
     {
-        let regs = self.there.regs();
-        if !allows(regs.a, self.way.regs.a) {
+        if !allows(self.there.a(), self.way.regs.a) {
             return false;
         }
-        if !allows(regs.x, self.way.regs.x) {
+        if !allows(self.there.x(), self.way.regs.x) {
             return false;
         }
-        if !allows_scratch(&regs.scratch, &self.way.regs.scratch) {
+        if !scratch_is_allowed(self.there, &self.way.regs.scratch) {
             return false;
         }
         self.claims_follow(room)

@@ -2,6 +2,7 @@
 #![tactic(auto)]
 
 mod agree;
+mod agreed;
 mod answered;
 mod calls;
 mod checked;

@@ -1,11 +1,13 @@
 //! Whether the root and the nodes of a certificate keep their rules.
 ghost use Rattle.std.specs.Prelude.{◌<◌, ◌^◌, All, IsTrue, MatchResult, length};
 ghost use Rattle.kernel_check.specs.Lent.{accepted_insns};
-ghost use Rattle.cert_form.specs.Views.{all_claims, nodes_of};
+ghost use Rattle.cert_form.specs.Views.{all_claims, bytes_of, nodes_of};
 ghost use Rattle.cert_check.specs.Rules.{IsValid};
+ghost use Rattle.cert_check.specs.inner.Agreed.{AreAgreed};
 ghost use Rattle.cert_check.specs.inner.Broken.{IsFound, NodeFound};
 ghost use Rattle.cert_check.specs.inner.Followed.{IsPlaced};
 
+use crate::agreed::Agreed;
 use crate::claims::are_placed;
 use crate::edges::{all_lead, ways_of};
 use crate::fault::CheckError;
@@ -25,11 +27,14 @@ fn check_node(
     view: &CertView<'_>,
     i: u32,
     placed: bool,
+    agreed: &mut Agreed,
     room: &mut Room,
 ) -> Result<(), CheckError>
     requires within { i < length (nodes_of view.now) }
     requires placed { IsTrue placed → All (IsPlaced profile.now) (all_claims view.now) }
-    ensures { NodeFound profile.now (accepted_insns accepted.now) (nodes_of view.now) i result }
+    requires agreed { AreAgreed profile.now (bytes_of view.now) agreed.old }
+    ensures found { NodeFound profile.now (accepted_insns accepted.now) (nodes_of view.now) i result }
+    ensures kept { AreAgreed profile.now (bytes_of view.now) agreed.new }
 {
     let node = view.node(i as usize);
     let Some(insn) = accepted.insn_at(node.pc()) else {
@@ -53,7 +58,7 @@ fn check_node(
     if !origin.entail_is_kept(&ways, room) {
         return Err(CheckError::Entail(i));
     }
-    if !return_is_kept(profile, &insn, &node, room) {
+    if !return_is_kept(profile, &insn, &node, agreed, room) {
         return Err(CheckError::Return(i));
     }
     Ok(())
@@ -75,9 +80,11 @@ pub(crate) fn check_nodes(
         return Err(CheckError::Root);
     }
     let placed = are_placed(profile, view);
+    let mut agreed = Agreed::none();
     let mut room = Room::new();
     for i in 0..view.len() {
-        check_node(profile, accepted, view, i as u32, placed, &mut room)?;
+        let i = i as u32;
+        check_node(profile, accepted, view, i, placed, &mut agreed, &mut room)?;
     }
     Ok(())
 }

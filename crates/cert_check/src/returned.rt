@@ -2,28 +2,30 @@
 ghost use Rattle.std.specs.Prelude.{◌≡◌, ◌↔◌, IsTrue};
 ghost use Rattle.bpf_insn.specs.Code.{operation_of};
 ghost use Rattle.cert_form.specs.declared.node.Kind.TheVariants as kind;
-ghost use Rattle.cert_form.specs.Views.{says};
+ghost use Rattle.cert_form.specs.Views.{certificate_of, says};
 ghost use Rattle.cert_check.specs.Agree.{Agrees};
 ghost use Rattle.cert_check.specs.Rules.{verdict_by};
+ghost use Rattle.cert_check.specs.inner.Agreed.{AreAgreed};
 ghost use Rattle.cert_check.specs.inner.Broken.{ReturnsAt};
 ghost use Rattle.cert_check.specs.inner.Claimed.{mets_of, outs_of};
 ghost use Rattle.cert_check.specs.inner.Marked.{IsClear};
 
 use crate::agree::Agreement;
+use crate::agreed::Agreed;
 use crate::claims::{FEW_RULES, Mets, Outs, has_no_met, has_none, mark_mets, mark_outs};
 use bpf_insn::{Insn, Operation};
 use call_record::Word;
 use cert_form::{Kind, NodeView};
-use cert_state::{AVal, Facts, Regs, Room, State};
+use cert_state::{AVal, Facts, Room};
 use profile::{MAX_RULES, Profile};
 
 // The verdict that a return gives, where it is known.
-fn returned_by(insn: &Insn, regs: &Regs) -> Option<u32>
-    ensures { result ≡ verdict_by (operation_of insn.now.code) regs.now insn.now }
+fn returned_by(insn: &Insn, node: &NodeView<'_>) -> Option<u32>
+    ensures { result ≡ verdict_by (operation_of insn.now.code) (says node.now).regs insn.now }
 {
     match insn.operation() {
         Some(Operation::ReturnK) => Some(insn.k),
-        Some(Operation::ReturnA) => match regs.a {
+        Some(Operation::ReturnA) => match node.a() {
             AVal::Const(word) => Some(word),
             AVal::Unknown | AVal::Masked(_, _) => None,
         },
@@ -133,17 +135,54 @@ fn agrees_by_outs(profile: &Profile, node: &NodeView<'_>, word: Word, room: &mut
     agrees_but_for(profile, node, Outs::of(node, &marked), word, room)
 }
 
-// Whether the instruction returns a verdict that is known, and the profile's on all that the node knows.
-fn returns(profile: &Profile, insn: &Insn, node: &NodeView<'_>, room: &mut Room) -> bool
-    ensures { IsTrue result ↔ ReturnsAt profile.now insn.now (says node.now) }
+// Whether the profile says a verdict of all that a node knows.
+fn agrees_on(profile: &Profile, node: &NodeView<'_>, word: Word, room: &mut Room) -> bool
+    ensures { let n = says node.now in IsTrue result ↔ Agrees profile.now n.out n.met n.known word }
 {
-    let Some(word) = returned_by(insn, &node.regs()) else {
+    if has_none(node) {
+        return agrees_but_for(profile, node, Outs::none(), word, room);
+    }
+    agrees_by_outs(profile, node, word, room)
+}
+
+// The same, which is not found out again of a chain and a verdict of which it is kept that they agree.
+fn agrees_once(
+    profile: &Profile,
+    node: &NodeView<'_>,
+    word: Word,
+    agreed: &mut Agreed,
+    room: &mut Room,
+) -> bool
+    requires { AreAgreed profile.now (certificate_of node.now) agreed.old }
+    ensures answer { let n = says node.now in IsTrue result ↔ Agrees profile.now n.out n.met n.known word }
+    ensures kept { AreAgreed profile.now (certificate_of node.now) agreed.new }
+{
+    if agreed.has(node, word) {
+        return true;
+    }
+    if !agrees_on(profile, node, word, room) {
+        return false;
+    }
+    agreed.keep(node, word);
+    true
+}
+
+// Whether the instruction returns a verdict that is known, and the profile's on all that the node knows.
+fn returns(
+    profile: &Profile,
+    insn: &Insn,
+    node: &NodeView<'_>,
+    agreed: &mut Agreed,
+    room: &mut Room,
+) -> bool
+    requires { AreAgreed profile.now (certificate_of node.now) agreed.old }
+    ensures answer { IsTrue result ↔ ReturnsAt profile.now insn.now (says node.now) }
+    ensures kept { AreAgreed profile.now (certificate_of node.now) agreed.new }
+{
+    let Some(word) = returned_by(insn, node) else {
         return false;
     };
-    if has_none(node) {
-        return agrees_but_for(profile, node, Outs::none(), Word(word), room);
-    }
-    agrees_by_outs(profile, node, Word(word), room)
+    agrees_once(profile, node, Word(word), agreed, room)
 }
 
 /// Whether a node, if it is a return, returns the profile's verdict at its instruction.
@@ -151,12 +190,15 @@ pub(crate) fn return_is_kept(
     profile: &Profile,
     insn: &Insn,
     node: &NodeView<'_>,
+    agreed: &mut Agreed,
     room: &mut Room,
 ) -> bool
-    ensures { IsTrue result ↔ ((says node.now).kind ≡ kind.Return → ReturnsAt profile.now insn.now (says node.now)) }
+    requires { AreAgreed profile.now (certificate_of node.now) agreed.old }
+    ensures answer { IsTrue result ↔ ((says node.now).kind ≡ kind.Return → ReturnsAt profile.now insn.now (says node.now)) }
+    ensures kept { AreAgreed profile.now (certificate_of node.now) agreed.new }
 {
     match node.kind() {
-        Kind::Return => returns(profile, insn, node, room),
+        Kind::Return => returns(profile, insn, node, agreed, room),
         Kind::Step(_, _) => true,
         Kind::Split(_, _, _, _) => true,
         Kind::Dead => true,

@@ -195,12 +195,12 @@ unfolding claims_left
 no_claims bytes place form = rw form refl
 
 -- what a node with a chain says is what the chain states, and one of form 1 says nothing of rules
-chained_is : (bytes : List ℕ) (at : ℕ) → version_of bytes ≢ 1
+pub chained_is : (bytes : List ℕ) (at : ℕ) → version_of bytes ≢ 1
     → node_at bytes at ≡ said (version_of bytes) (entries_of bytes) (chain_node_at bytes at)
 unfolding node_at
 chained_is bytes at form = rw (ne_eqb (version_of bytes) 1 form) refl
 
-listed_is : (bytes : List ℕ) (at : ℕ) → version_of bytes ≡ 1 → node_at bytes at ≡ listed_node bytes at
+pub listed_is : (bytes : List ℕ) (at : ℕ) → version_of bytes ≡ 1 → node_at bytes at ≡ listed_node bytes at
 unfolding node_at
 listed_is bytes at form = rw form refl
 

@@ -19,8 +19,9 @@ pub struct NodeView<'a> {
 
 #[tactic(auto, unfolding(crate::specs::Views::says, crate::specs::Views::outs_from, crate::specs::Views::mets_from, crate::specs::Reading::node_at, crate::specs::Reading::outs_left, crate::specs::Reading::mets_left, crate::specs::Reading::claims_left, crate::specs::Reading::has_entries, crate::specs::Views::certificate_of))]
 impl<'a> NodeView<'a> {
-    ghost use Rattle.std.specs.Prelude.{◌≡◌, ◌↔◌, ◌∷◌, [], ℕ, Contains, IsTrue, MatchOption};
+    ghost use Rattle.std.specs.Prelude.{◌≡◌, ◌↔◌, ◌∷◌, [], ℕ, false, Contains, IsTrue, MatchOption};
     ghost use Rattle.cert_form.specs.Nodes.{literals_in, mets_in, outs_in};
+    ghost use Rattle.cert_form.specs.Spelling.{nothing_stated};
     ghost use Rattle.cert_form.specs.Views.{AreLast, certificate_of, claims_from, claims_of, is_chained, mets_from, numbers_from, numbers_of, outs_from, says};
 
     /// What the node does.
@@ -58,6 +59,40 @@ impl<'a> NodeView<'a> {
         ensures { result ≡ is_chained self.now }
     {
         read_long(self.bytes, 4) != 1
+    }
+
+    /// What it says of A.
+    pub fn a(&self) -> AVal
+        ensures { result ≡ (says self.now).regs.a }
+    {
+        if read_long(self.bytes, 4) == 1 {
+            return read_value(self.bytes, self.at + 5);
+        }
+        read_value(self.bytes, self.at + 4)
+    }
+
+    /// What it says of X.
+    pub fn x(&self) -> AVal
+        ensures { result ≡ (says self.now).regs.x }
+    {
+        if read_long(self.bytes, 4) == 1 {
+            return read_value(self.bytes, self.at + 11);
+        }
+        read_value(self.bytes, self.at + 10)
+    }
+
+    /// Whether it may state a value of a scratch word, as in forms 3 and 4. If not, it states none.
+    pub fn may_state_scratch(&self) -> bool
+        ensures { result ≡ false → (says self.now).regs.scratch ≡ nothing_stated }
+    {
+        let version = read_long(self.bytes, 4);
+        if version == 1 {
+            return false;
+        }
+        if version == 2 {
+            return false;
+        }
+        read_short(self.bytes, self.at + 16) != 0
     }
 
     /// The place of its chain from which all rules are left that it says to be out.

@@ -118,21 +118,27 @@ pub(crate) fn test_fact(test: Test, a: AVal, operand: AVal, taken: bool) -> Opti
 }
 
 /// What an instruction compares, if it is a conditional jump: its test, and what is known of A and of its operand.
-pub(crate) fn compared<S: State>(state: &S, insn: &Insn) -> Option<(Test, AVal, AVal)>
-    ensures { result ≡ compared_by (operation_of insn.now.code) insn.now (S.regs state.now) }
+pub(crate) fn compared(regs: &Regs, insn: &Insn) -> Option<(Test, AVal, AVal)>
+    ensures { result ≡ compared_by (operation_of insn.now.code) insn.now regs.now }
 {
     let Some(Operation::Branch(test, operand)) = insn.operation() else {
         return None;
     };
-    let regs = state.regs();
-    Some((test, regs.a, value(operand, insn, &regs)))
+    Some((test, regs.a, value(operand, insn, regs)))
 }
 
-/// What is known on the edge of a conditional jump that is taken where its test holds, or on the other
-/// one.
+/// What is known on the edge of a conditional jump that is taken where its test holds, or on the other one, by what is known
+/// of the registers.
+pub fn edge_fact_by(regs: &Regs, insn: &Insn, taken: bool) -> Option<Lit>
+    ensures { result ≡ fact_of regs.now insn.now taken }
+{
+    let (test, a, operand) = compared(regs, insn)?;
+    test_fact(test, a, operand, taken)
+}
+
+/// The same at a state.
 pub fn edge_fact<S: State>(state: &S, insn: &Insn, taken: bool) -> Option<Lit>
     ensures { result ≡ fact_of (S.regs state.now) insn.now taken }
 {
-    let (test, a, operand) = compared(state, insn)?;
-    test_fact(test, a, operand, taken)
+    edge_fact_by(&state.regs(), insn, taken)
 }

@@ -21,7 +21,7 @@ mod sorted;
 mod state;
 mod summary;
 
-pub use after::{edge_fact, transfer};
+pub use after::{edge_fact, edge_fact_by, transfer};
 pub use entailment::{dead, entails, is_dead_at};
 pub use knowledge::Knowledge;
 pub use laws::{
@@ -31,6 +31,6 @@ pub use learned::Learned;
 pub use literal::{AVal, Lit, Regs};
 pub use one_word::LearnedWord;
 pub use points::range;
-pub use sharp::{is_bit, lowest_bit, sharp_fact};
+pub use sharp::{is_bit, lowest_bit, sharp_fact, sharp_fact_by};
 pub use sorted::{Facts, Room};
 pub use state::{Listed, State, With};

@@ -5,7 +5,7 @@ ghost use Rattle.cert_state.specs.Sharp.{is_bit as has_one, is_high as has_high,
 ghost use Rattle.cert_state.specs.Sharp.{sharp_fact as fact_of, sharp_test_fact as fact_of_test};
 
 use crate::after::{FALSE, compared, masked, test_fact};
-use crate::literal::{AVal, Lit};
+use crate::literal::{AVal, Lit, Regs};
 use crate::state::State;
 use crate::summary::summarize;
 use bpf_insn::{Insn, Test};
@@ -113,10 +113,17 @@ fn sharp_test_fact<S: State>(
 }
 
 /// What certificates of form 4 tell on the edge of a conditional jump that is taken where its test holds, or on the other
-/// one.
+/// one, by what is known of the registers.
+pub fn sharp_fact_by<S: State>(state: &S, regs: &Regs, insn: &Insn, taken: bool) -> Option<Lit>
+    ensures { result ≡ fact_of (S.known state.now) regs.now insn.now taken }
+{
+    let (test, a, operand) = compared(regs, insn)?;
+    sharp_test_fact(state, test, a, operand, taken)
+}
+
+/// The same by those of the state.
 pub fn sharp_fact<S: State>(state: &S, insn: &Insn, taken: bool) -> Option<Lit>
     ensures { result ≡ fact_of (S.known state.now) (S.regs state.now) insn.now taken }
 {
-    let (test, a, operand) = compared(state, insn)?;
-    sharp_test_fact(state, test, a, operand, taken)
+    sharp_fact_by(state, &state.regs(), insn, taken)
 }

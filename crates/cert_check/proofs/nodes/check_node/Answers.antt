@@ -9,8 +9,8 @@ use Rattle.cert_check.proofs.NodeLaws.{found_at, no_insn, no_edges, return_from,
 use Rattle.cert_check.proofs.NodeLaws.{edge_from, edge_back, there, entail_from, entail_back}
 use Rattle.cert_check.proofs.nodes.check_node.Goals as goal
 
-pub returns-in_default : goal.returns-in_default
-returns-in_default c =
+pub returns-in_default-clause-found : goal.returns-in_default-clause-found
+returns-in_default-clause-found c =
     let policy = c.args.profile.now in
     let p = accepted_insns c.args.accepted.now in
     let ns = nodes_of c.args.view.now in
@@ -19,8 +19,8 @@ returns-in_default c =
     let past : slice_get p n.pc ≡ None = subst (λ k. slice_get p k ≡ None) c.pc.ensures c.in_default.ensures in
     found_at policy p ns i n (Err (Edge i)) c.node-node.ensures.node (refl, no_insn p ns i n past)
 
-pub returns-in_default-ways_of : goal.returns-in_default-ways_of
-returns-in_default-ways_of c =
+pub returns-in_default-ways_of-clause-found : goal.returns-in_default-ways_of-clause-found
+returns-in_default-ways_of-clause-found c =
     let policy = c.args.profile.now in
     let p = accepted_insns c.args.accepted.now in
     let ns = nodes_of c.args.view.now in
@@ -30,8 +30,8 @@ returns-in_default-ways_of c =
     let at : slice_get p n.pc ≡ Some insn = subst (λ k. slice_get p k ≡ Some insn) c.pc.ensures c.in-Some.ensures.0 in
     found_at policy p ns i n (Err (Edge i)) c.node-node.ensures.node (refl, no_edges policy p ns i n insn at (sym c.in_default-ways_of.ensures))
 
-pub returns-then-not-all_lead : goal.returns-then-not-all_lead
-returns-then-not-all_lead c =
+pub returns-then-not-all_lead-clause-found : goal.returns-then-not-all_lead-clause-found
+returns-then-not-all_lead-clause-found c =
     let policy = c.args.profile.now in
     let p = accepted_insns c.args.accepted.now in
     let ns = nodes_of c.args.view.now in
@@ -44,8 +44,8 @@ returns-then-not-all_lead c =
     found_at policy p ns i n (Err (Edge i)) c.node-node.ensures.node
     (refl, λ rule. let e : false ≡ true = c.if-not-all_lead.ensures.1 (edge_back policy p ns i n insn at out leave rule) in cc)
 
-pub returns-then-not-split_is_kept : goal.returns-then-not-split_is_kept
-returns-then-not-split_is_kept c =
+pub returns-then-not-split_is_kept-clause-found : goal.returns-then-not-split_is_kept-clause-found
+returns-then-not-split_is_kept-clause-found c =
     let policy = c.args.profile.now in
     let p = accepted_insns c.args.accepted.now in
     let ns = nodes_of c.args.view.now in
@@ -73,8 +73,8 @@ entail_is_kept-requires c =
     let leave : edges n insn ≡ Some out = sym c.in-Some-ways_of.ensures in
     there policy p ns i n insn at out leave (c.if-not-all_lead.ensures.0 refl)
 
-pub returns-then-not-entail_is_kept : goal.returns-then-not-entail_is_kept
-returns-then-not-entail_is_kept c =
+pub returns-then-not-entail_is_kept-clause-found : goal.returns-then-not-entail_is_kept-clause-found
+returns-then-not-entail_is_kept-clause-found c =
     let policy = c.args.profile.now in
     let p = accepted_insns c.args.accepted.now in
     let ns = nodes_of c.args.view.now in
@@ -95,8 +95,8 @@ returns-then-not-entail_is_kept c =
           ≡ true = c.if-not-entail_is_kept.ensures.1 (entail_back policy p ns i n insn at out leave rule) in cc,
     )
 
-pub returns-then-not-return_is_kept : goal.returns-then-not-return_is_kept
-returns-then-not-return_is_kept c =
+pub returns-then-not-return_is_kept-clause-found : goal.returns-then-not-return_is_kept-clause-found
+returns-then-not-return_is_kept-clause-found c =
     let policy = c.args.profile.now in
     let p = accepted_insns c.args.accepted.now in
     let ns = nodes_of c.args.view.now in
@@ -116,11 +116,11 @@ returns-then-not-return_is_kept c =
       split,
       entail,
       λ rule. let e : false
-          ≡ true = c.if-not-return_is_kept.ensures.1 (return_back policy p ns i n insn at rule) in cc,
+          ≡ true = c.if-not-return_is_kept.ensures.answer.1 (return_back policy p ns i n insn at rule) in cc,
     )
 
-pub returns : goal.returns
-returns c =
+pub returns-clause-found : goal.returns-clause-found
+returns-clause-found c =
     let policy = c.args.profile.now in
     let p = accepted_insns c.args.accepted.now in
     let ns = nodes_of c.args.view.now in
@@ -139,5 +139,5 @@ returns c =
       edge = edge;
       split = split;
       entail = entail;
-      return = return_from policy p ns i n insn at (c.if-not-return_is_kept.ensures.0 refl);
+      return = return_from policy p ns i n insn at (c.if-not-return_is_kept.ensures.answer.0 refl);
     })

@@ -13,7 +13,7 @@ use Rattle.cert_check.specs.declared.judged.Number.{Number}
 use Rattle.cert_check.proofs.SoFar.{rule_passed, rule_settled, rule_is_other}
 use Rattle.cert_check.proofs.RulesLaws.{none_agree, default_agrees}
 use Rattle.cert_check.proofs.agree.Agreement.rules_agree_within.Goals as goal
-use Rattle.cert_check.proofs.agree.Agreement.rules_agree_within.Goals.{then-is_left+in-Agrees, then-is_left+in-Differs, else-is_left}
+use Rattle.cert_check.proofs.agree.Agreement.rules_agree_within.Goals.{then-is_asked+in-Agrees, then-is_asked+in-Differs, else-is_asked}
 
 -- before the first rule none is left
 before_the_first : (out : List ℕ) (met : List (ℕ × ℕ)) (known : List Lit) (v : ℕ) (arch : Arch) (rules : List Rule)
@@ -35,8 +35,8 @@ loop-rule-init g c =
       last = λ cond has. absurd (omega (arith, has.1));
     }
 
-pub is_left-requires : goal.is_left-requires
-is_left-requires g c =
+pub is_asked-requires : goal.is_asked-requires
+is_asked-requires g c =
     omega (
       arith,
       c.loop-rule.invariant.place,
@@ -56,7 +56,7 @@ returns-in-Settles g c =
     let here : slice_get c.rules-rule-items.result.now n ≡ Some rule =
     slice_get-get_or c.rules-rule-items.result.now n rule c.loop-rule-test.true ∙ ap Some (sym c.rule-item.is) in
     let stands = subst (λ (rules : List Rule). slice_get rules n ≡ Some rule) c.rules-rule-items.ensures.rules here in
-    let left = subst (λ k. IsLeft out c.args.arch k rule) c.loop-rule.invariant.place (c.if-is_left.ensures.0 refl) in
+    let left = subst (λ k. IsLeft out c.args.arch k rule) c.loop-rule.invariant.place (c.if-is_asked.ensures.left refl) in
     let bears = subst (λ k. Bears met known a.word k rule c.weigh-bearing.result.0) c.loop-rule.invariant.place c.weigh-bearing.ensures.bearing in
     let settles = subst (Bears met known a.word n rule) c.in-Settles.is bears in (
       λ _. inl (record { place = n; rule = rule; is_of = record { stands = stands; left = left }; is_yes = settles.0; word = settles.1 }),
@@ -74,8 +74,8 @@ loop-rule-preserved g c =
     let rule = c.rule-item.result in
     let so = c.loop-rule.invariant.rules in
     let next = ap (λ k. k + 1) c.loop-rule.invariant.place in
-    elim c.if-is_left.branch [
-      | then-is_left+in-Agrees w ↦
+    elim c.if-is_asked.branch [
+      | then-is_asked+in-Agrees w ↦
           (let bears = subst (Bears met known a.word n rule) w.in-Agrees.is
           (subst (λ k. Bears met known a.word k rule w.weigh-bearing.result.0) c.loop-rule.invariant.place w.weigh-bearing.ensures.bearing) in
           record {
@@ -85,10 +85,10 @@ loop-rule-preserved g c =
             numbers = subst (AreKnownNumbers known) (sym w.numbers-is) w.number_of-number.ensures.kept;
             last = subst (IsAnswered known) (sym w.last-is) w.weigh-bearing.ensures.answer;
           })
-      | then-is_left+in-Differs w ↦
+      | then-is_asked+in-Differs w ↦
           (let bears = subst (Bears met known a.word n rule) w.in-Differs.is
           (subst (λ k. Bears met known a.word k rule w.weigh-bearing.result.0) c.loop-rule.invariant.place w.weigh-bearing.ensures.bearing) in
-          let left = subst (λ k. IsLeft out c.args.arch k rule) c.loop-rule.invariant.place (w.if-is_left.ensures.0 refl) in
+          let left = subst (λ k. IsLeft out c.args.arch k rule) c.loop-rule.invariant.place (w.if-is_asked.ensures.left refl) in
           record {
             rules = subst (RulesSoFar out met known a.word c.args.arch rules (n + 1)) (sym w.others-is)
                 (rule_is_other out met known a.word c.args.arch rules n c.loop-rule.others rule c.loop-rule-test.true (sym c.rule-item.is) so left bears);
@@ -96,11 +96,11 @@ loop-rule-preserved g c =
             numbers = subst (AreKnownNumbers known) (sym w.numbers-is) w.number_of-number.ensures.kept;
             last = subst (IsAnswered known) (sym w.last-is) w.weigh-bearing.ensures.answer;
           })
-      | else-is_left w ↦
+      | else-is_asked w ↦
           record {
             rules = subst (RulesSoFar out met known a.word c.args.arch rules (n + 1)) (sym w.others-is)
                 (rule_passed out met known a.word c.args.arch rules n c.loop-rule.others rule c.loop-rule-test.true (sym c.rule-item.is) so
-                (λ left. let t : false ≡ true = w.if-is_left.ensures.1 (subst (λ k. IsLeft out c.args.arch k rule) (sym c.loop-rule.invariant.place) left) in cc));
+                (λ left. w.if-is_asked.ensures.passed refl (subst (λ k. IsLeft out c.args.arch k rule) (sym c.loop-rule.invariant.place) left)));
             place = next;
             numbers = subst (AreKnownNumbers known) (sym w.numbers-is) c.loop-rule.invariant.numbers;
             last = subst (IsAnswered known) (sym w.last-is) c.loop-rule.invariant.last;

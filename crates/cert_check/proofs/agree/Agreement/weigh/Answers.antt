@@ -7,8 +7,8 @@ apart : (b : Bool) → not b ≡ true → b ≡ true → ⊥
 apart true untrue is = let e : false ≡ true = untrue in cc
 apart false untrue is = let e : false ≡ true = is in cc
 
-pub returns-then-not-number-clause-bearing : goal.returns-then-not-number-clause-bearing
-returns-then-not-number-clause-bearing g c =
+pub returns-then-number-clause-bearing : goal.returns-then-number-clause-bearing
+returns-then-number-clause-bearing g c =
     let number = c.requires.number in (
       λ holds _. absurd (apart c.args.number.own c.if-not-number.true (number.0.1 holds.0)),
       inl (inl (number.1.0 c.if-number.true), λ holds. apart c.args.number.own c.if-not-number.true (number.0.1 holds.0)),
