@@ -3,7 +3,7 @@ use cli::{FileFault, Files};
 use std::alloc::Global;
 use std::io::Read;
 use std::{fs, io};
-use streams::{Failed, Source};
+use texts::{Failed, Source};
 
 fn fault_of(error: io::Error) -> FileFault {
     match error.kind() {

@@ -10,7 +10,7 @@ use cli::{Stop, dispatch, report};
 use std::alloc::{AllocError, Global};
 use std::io::BufReader;
 use std::process::ExitCode;
-use streams::{FromRead, ToWrite};
+use texts::{FromRead, ToWrite};
 
 fn texts_of(alloc: Global, arguments: &[String]) -> Result<Vec<&str>, AllocError> {
     let mut texts = Vec::new(alloc);

@@ -4,22 +4,22 @@ use Rattle.std.proofs.lemmas.List.{get_or_default, map-append, take_more}
 use denote.Ref.{Bor}
 use Rattle.std.specs.Prelude.{Bool, IfOk, Option, None, Some, Result, Ok, Err}
 use Rattle.call_tables.specs.declared.arch.Arch.{Arch}
-use Rattle.streams.specs.Failures.{Failures}
-use Rattle.streams.specs.declared.fault.WriteFault.{WriteFault}
+use Rattle.texts.specs.Failures.{Failures}
+use Rattle.texts.specs.declared.streams.fault.WriteFault.{WriteFault}
 use Rattle.export.specs.declared.form.Form.{Form}
 use Rattle.explain.specs.Any.{IsExplained as IsExplainedAny}
 use Rattle.explain.specs.Told.{IsExplained}
 use Rattle.explain.specs.declared.told.Told.{Told}
 use Rattle.pipeline.specs.Answer.{WritesAnswer}
-use Rattle.behind_runc.specs.Behind.{CertifiesBehind}
+use Rattle.compare.specs.Behind.{CertifiesBehind}
 use Rattle.compare.specs.Convictions.{TellsAll}
 use Rattle.pipeline.specs.Certified.{Certifies}
 use Rattle.pipeline.specs.Exported.{Exports}
 use Rattle.pipeline.specs.Finding.{WritesFinding}
-use Rattle.command_line.specs.Arguments.{Given, Reads}
-use Rattle.command_line.specs.Arguments.Given.{Verdict, Check, Certify, CertifyBehind, CertifyAll, Export, Run, Explain, Read as ReadOut, Record, Assemble, Annotate, Draw, Lint, Compare, CompareFilters, Adapt, Learn, Replay, Manual, Version}
-use Rattle.command_line.specs.declared.Misuse.{Misuse}
-use Rattle.command_line.specs.declared.Misuse.TheVariants as kind
+use Rattle.cli.specs.Arguments.{Given, Reads}
+use Rattle.cli.specs.Arguments.Given.{Verdict, Check, Certify, CertifyBehind, CertifyAll, Export, Run, Explain, Read as ReadOut, Record, Assemble, Annotate, Draw, Lint, Compare, CompareFilters, Adapt, Learn, Replay, Manual, Version}
+use Rattle.cli.specs.declared.command_line.Misuse.{Misuse}
+use Rattle.cli.specs.declared.command_line.Misuse.TheVariants as kind
 use Rattle.cli.specs.declared.stops.Stop.{Stop}
 use Rattle.cli.specs.declared.stops.Stop.TheVariants.{Usage, CannotRead, Read, Write, OutOfMemory}
 use Rattle.cli.specs.Dispatch.{AnswersAdapt, AnswersAll, AnswersBehind, AnswersCertify, AnswersCheck, AnswersExport, AnswersManual, AnswersReplay}

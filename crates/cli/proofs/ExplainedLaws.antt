@@ -8,9 +8,9 @@ use Rattle.evidence.specs.declared.evidence.Evidence.{Evidence}
 use Rattle.evidence.specs.declared.evidence.Evidence.TheVariants.{Certificate, Convicting}
 use Rattle.pipeline.specs.Told.{Tells}
 use Rattle.pipeline.specs.declared.unready.Unready.{Unready}
-use Rattle.streams.specs.Failures.{Failures}
-use Rattle.streams.specs.Sink.{WritesMade}
-use Rattle.streams.specs.declared.fault.WriteFault.{WriteFault}
+use Rattle.texts.specs.Failures.{Failures}
+use Rattle.texts.specs.Sink.{WritesMade}
+use Rattle.texts.specs.declared.streams.fault.WriteFault.{WriteFault}
 use Rattle.cli.specs.Dispatch.{ExplainsRecord}
 use Rattle.cli.specs.Explained.{HasNoRecord, MayTellWhy, TellsRecord}
 use Rattle.cli.specs.Files.{Folder, HasBytes}

@@ -8,11 +8,11 @@ use Rattle.call_tables.specs.Arch.{family_of}
 use Rattle.cert_check.specs.declared.fault.CheckError.{CheckError}
 use Rattle.cert_check.specs.declared.fault.CheckError.TheVariants.{View}
 use Rattle.cert_check.specs.declared.fault.CheckError.TheVariants as error
-use Rattle.streams.specs.Failures.{Failures}
-use Rattle.streams.specs.declared.fault.WriteFault.{WriteFault}
-use Rattle.streams.specs.declared.fault.WriteFault.TheVariants as fault
-use Rattle.behind_runc.specs.Behind.{CertifiesBehind, IsBehind, WritesBehind}
-use Rattle.behind_runc.specs.Told.{stub_text}
+use Rattle.texts.specs.Failures.{Failures}
+use Rattle.texts.specs.declared.streams.fault.WriteFault.{WriteFault}
+use Rattle.texts.specs.declared.streams.fault.WriteFault.TheVariants as fault
+use Rattle.compare.specs.Behind.{CertifiesBehind, IsBehind, WritesBehind}
+use Rattle.compare.specs.StubTold.{stub_text}
 use Rattle.pipeline.specs.Answer.{IsAnswer, WritesAnswer}
 use Rattle.pipeline.specs.Certified.{Certifies, IsConvicted, IsOfFilter, IsOpen, IsUndecided}
 use Rattle.pipeline.specs.Finding.{IsFinding, TellsFinding, WritesFinding}
@@ -22,9 +22,9 @@ use Rattle.pipeline.specs.declared.unready.Unready.{Unready}
 use Rattle.pipeline.specs.declared.unready.Unready.TheVariants.{Profile, Compile, Certify, Check, OutOfMemory}
 use Rattle.pipeline.specs.declared.verdict.Answer.{Answer}
 use Rattle.pipeline.specs.declared.verdict.Answer.TheVariants.{Verdict, NoRecord, NoProgram, Refusal}
-use Rattle.describe.specs.Shown.{IsShown}
+use Rattle.explain.specs.Shown.{IsShown}
 use Rattle.explain.specs.declared.told.Told.{Told}
-use Rattle.behind_runc.specs.declared.stub.calls.Calls.{Calls}
+use Rattle.compare.specs.declared.behind_runc.stub.calls.Calls.{Calls}
 use Rattle.evidence.specs.declared.evidence.Conviction.{Conviction}
 use Rattle.compare.specs.Convictions.{AllConvict, Convicts, TellsAll}
 use Rattle.cli.specs.Explained.{MayTellStub, TellsBehind, WritesSome}

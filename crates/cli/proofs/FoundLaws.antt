@@ -5,8 +5,8 @@ use Rattle.call_tables.specs.declared.arch.Arch.{Arch}
 use Rattle.compare.specs.Convictions.{AreFound, TellsAll, WritesLines}
 use Rattle.evidence.specs.declared.evidence.Conviction.{Conviction}
 use Rattle.pipeline.specs.Exported.{LacksMemory}
-use Rattle.streams.specs.Failures.{Failures}
-use Rattle.streams.specs.declared.fault.WriteFault.{WriteFault}
+use Rattle.texts.specs.Failures.{Failures}
+use Rattle.texts.specs.declared.streams.fault.WriteFault.{WriteFault}
 
 pub tells_found : {S : Type 0} (held : S → Option (List ℕ)) (failures : S → Failures) (old new : S) (native : Arch) (bundle filter : List ℕ)
     (found : Conviction) (all : List Conviction) → AreFound native bundle filter found all → (answer result : Result Bool WriteFault)

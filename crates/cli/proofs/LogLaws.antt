@@ -6,7 +6,7 @@ use Rattle.std.specs.Io.KnownBytes.{Consumes, IsAtEnd}
 use Rattle.std.specs.Prelude.{Bool, true, false, Option, None, Some, Result, Ok, Err}
 use Rattle.call_tables.specs.declared.arch.Arch.{Arch}
 use Rattle.explain.specs.declared.told.Told.{Told}
-use Rattle.streams.specs.Failures.{Failures}
+use Rattle.texts.specs.Failures.{Failures}
 use Rattle.cli.specs.declared.adapting.Both.{Both}
 use denote.Ref.{Bor}
 use Rattle.learn.specs.Given.{GivesAll}

@@ -2,7 +2,7 @@
 use Rattle.std.proofs.Common.{◌≡◌, ℕ, Bool, true, false, List, refl, inl, inr, sym}
 use Rattle.std.specs.Prelude.{IfOk, Result, Ok, Err, not}
 use Rattle.call_tables.specs.declared.arch.Arch.{Arch}
-use Rattle.describe.specs.Read.{IsReadOut}
+use Rattle.explain.specs.Read.{IsReadOut}
 use Rattle.explain.specs.declared.told.Told.{Told}
 use Rattle.cli.specs.Read.{HasHint, TellsRead}
 

@@ -3,11 +3,11 @@ use Rattle.std.proofs.Common.{◌≡◌, ℕ, suc, ◌+◌, ◌<◌, List, [], �
 use Rattle.std.specs.Prelude.{Option, Result, Ok, Err}
 use Rattle.std.specs.Io.KnownBytes.{Appends}
 use Rattle.std.proofs.lemmas.List.{take-append-le}
-use Rattle.streams.proofs.SinkLemmas.{Appends-then, has_failed}
-use Rattle.streams.specs.Failures.{Failures}
-use Rattle.streams.specs.Sink.{Writes, Wrote}
-use Rattle.streams.specs.declared.fault.WriteFault.{WriteFault}
-use Rattle.streams.specs.declared.fault.WriteFault.TheVariants.{Write, OutOfMemory}
+use Rattle.texts.proofs.SinkLemmas.{Appends-then, has_failed}
+use Rattle.texts.specs.Failures.{Failures}
+use Rattle.texts.specs.Sink.{Writes, Wrote}
+use Rattle.texts.specs.declared.streams.fault.WriteFault.{WriteFault}
+use Rattle.texts.specs.declared.streams.fault.WriteFault.TheVariants.{Write, OutOfMemory}
 use Rattle.cli.specs.Stop.{Reports}
 
 take_past : (xs ys : List ℕ) (n : ℕ) → take (length xs + n) (xs ++ ys) ≡ xs ++ take n ys

@@ -4,8 +4,8 @@ use Rattle.std.specs.Prelude.{Option, Result, Ok, Err, IfOk, ◌≢◌}
 use Rattle.std.specs.List.{All, Contains}
 use Rattle.std.proofs.lemmas.List.Elements.{All-contains, Contains-append_right}
 use Rattle.call_tables.specs.declared.arch.Arch.{Arch}
-use Rattle.streams.specs.Failures.{Failures}
-use Rattle.streams.specs.declared.fault.WriteFault.{WriteFault}
+use Rattle.texts.specs.Failures.{Failures}
+use Rattle.texts.specs.declared.streams.fault.WriteFault.{WriteFault}
 use Rattle.profile_json.proofs.Lists.{contains_head}
 use Rattle.session.specs.declared.bundles.Bundles.{Bundles}
 use Rattle.session.specs.declared.fault.ScriptFault.{ScriptFault}

@@ -2,8 +2,8 @@
 use Rattle.std.proofs.Common.{◌≡◌, ℕ, Bool, true, inl, inr, List, ◌++◌, refl, subst, ◌∙◌}
 use Rattle.std.specs.Prelude.{Option, Some, Result, Ok, Err}
 use Rattle.call_tables.specs.declared.arch.Arch.{Arch}
-use Rattle.streams.specs.Failures.{Failures}
-use Rattle.streams.specs.declared.fault.WriteFault.{WriteFault}
+use Rattle.texts.specs.Failures.{Failures}
+use Rattle.texts.specs.declared.streams.fault.WriteFault.{WriteFault}
 use Rattle.pipeline.specs.Finding.{IsFinding, WritesFinding, is_yes}
 use Rattle.pipeline.specs.declared.check.Finding.{Finding}
 use Rattle.pipeline.specs.declared.check.Finding.TheVariants.{Yes, No, NoProfile}

@@ -6,7 +6,7 @@ use Rattle.std.specs.Prelude.{Bool, IfOk, Option, Result, Err, Ok, filter, not}
 use Rattle.std.specs.declared.alloc.AllocError.{AllocError}
 use denote.Ref.{Bor}
 use Rattle.call_tables.specs.declared.arch.Arch.{Arch}
-use Rattle.adapt.specs.declared.settling.choice.Choice.{Choice}
+use Rattle.explain.specs.declared.adapt.settling.choice.Choice.{Choice}
 use Rattle.cli.specs.Adapted.{AsksNarrow, IsMadeBy, IsNarrowedOne, is_narrow}
 use Rattle.cli.specs.declared.adapting.Both.{Both}
 

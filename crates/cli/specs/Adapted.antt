@@ -3,13 +3,13 @@ use Rattle.std.specs.Prelude.{ℕ, ◌≡◌, ◌≤◌, ◌⊎◌, Bool, true, 
 use Rattle.std.specs.List.{Any}
 use Rattle.std.specs.Str.{bytes_eq}
 use denote.Ref.{Bor}
-use Rattle.adapt.specs.Adapted.{IsMade}
-use Rattle.adapt.specs.Words.{AskFor}
-use Rattle.adapt.specs.declared.words.Wanted.{Wanted}
+use Rattle.explain.specs.Adapted.{IsMade}
+use Rattle.explain.specs.Words.{AskFor}
+use Rattle.explain.specs.declared.adapt.words.Wanted.{Wanted}
 use Rattle.call_tables.specs.declared.arch.Arch.{Arch}
 use Rattle.explain.specs.declared.told.Told.{Told}
-use Rattle.narrow.specs.Narrow.{IsTold}
-use Rattle.adapt.specs.declared.settling.choice.Choice.{Choice}
+use Rattle.explain.specs.Narrow.{IsTold}
+use Rattle.explain.specs.declared.adapt.settling.choice.Choice.{Choice}
 
 -- one of the words is `narrow`
 abbrev pub AsksNarrow : List (Bor (List ℕ)) → Type 0

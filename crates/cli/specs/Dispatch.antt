@@ -3,19 +3,19 @@ use Rattle.std.specs.Prelude.{ℕ, ◌≡◌, ◌⊎◌, Bool, true, false, List
 use Rattle.std.specs.Prelude.{if◌then◌else◌, Option, Some, None, Result, Ok, Err}
 use Rattle.std.specs.Str.{bytes_eq}
 use Rattle.call_tables.specs.declared.arch.Arch.{Arch}
-use Rattle.command_line.specs.Arguments.{Given}
-use Rattle.command_line.specs.Arguments.Given.{Verdict, Check, Certify, CertifyBehind, CertifyAll, Export, Run, Explain, Record, Assemble}
-use Rattle.command_line.specs.Arguments.Given.{Read, Annotate, Draw, Lint, Compare, CompareFilters, Adapt, Learn, Replay, Manual, Version}
-use Rattle.streams.specs.Failures.{Failures}
-use Rattle.streams.specs.Sink.{StopsAt as StopsWriting, Wrote}
-use Rattle.streams.specs.declared.fault.WriteFault.{WriteFault}
+use Rattle.cli.specs.Arguments.{Given}
+use Rattle.cli.specs.Arguments.Given.{Verdict, Check, Certify, CertifyBehind, CertifyAll, Export, Run, Explain, Record, Assemble}
+use Rattle.cli.specs.Arguments.Given.{Read, Annotate, Draw, Lint, Compare, CompareFilters, Adapt, Learn, Replay, Manual, Version}
+use Rattle.texts.specs.Failures.{Failures}
+use Rattle.texts.specs.Sink.{StopsAt as StopsWriting, Wrote}
+use Rattle.texts.specs.declared.streams.fault.WriteFault.{WriteFault}
 use Rattle.export.specs.declared.form.Form.{Form}
 use Rattle.explain.specs.Told.{IsAssembled, IsExplained, IsRecorded, IsVersion}
 use Rattle.explain.specs.declared.told.Told.{Told}
 use Rattle.explain.specs.Any.{IsExplained as IsExplainedAny}
-use Rattle.describe.specs.Shown.{IsAnnotated, IsDrawn}
-use Rattle.lint.specs.Linted.{IsLinted}
-use Rattle.behind_runc.specs.Behind.{CertifiesBehind}
+use Rattle.explain.specs.Shown.{IsAnnotated, IsDrawn}
+use Rattle.compare.specs.Linted.{IsLinted}
+use Rattle.compare.specs.Behind.{CertifiesBehind}
 use Rattle.compare.specs.Convictions.{TellsAll}
 use Rattle.compare.specs.Told.{IsCompared}
 use Rattle.compare.specs.FiltersTold.{IsTold}

@@ -4,17 +4,17 @@ use Rattle.call_record.specs.declared.layout.Record.{Record}
 use Rattle.call_record.specs.Record.{words}
 use Rattle.call_tables.specs.declared.arch.Arch.{Arch}
 use Rattle.call_tables.specs.Arch.{family_of}
-use Rattle.behind_runc.specs.Behind.{IsBehind, WritesBehind}
-use Rattle.behind_runc.specs.Told.{stub_text}
+use Rattle.compare.specs.Behind.{IsBehind, WritesBehind}
+use Rattle.compare.specs.StubTold.{stub_text}
 use Rattle.evidence.specs.Conviction.{IsCertificate}
 use Rattle.evidence.specs.declared.evidence.Evidence.{Evidence}
 use Rattle.explain.specs.Explanation.{Explains}
 use Rattle.pipeline.specs.Told.{IsLine}
 use Rattle.pipeline.specs.declared.unready.Unready.{Unready}
-use Rattle.behind_runc.specs.declared.stub.calls.Calls.{Calls}
-use Rattle.streams.specs.Failures.{Failures}
-use Rattle.streams.specs.Sink.{Writes, Wrote}
-use Rattle.streams.specs.declared.fault.WriteFault.{WriteFault}
+use Rattle.compare.specs.declared.behind_runc.stub.calls.Calls.{Calls}
+use Rattle.texts.specs.Failures.{Failures}
+use Rattle.texts.specs.Sink.{Writes, Wrote}
+use Rattle.texts.specs.declared.streams.fault.WriteFault.{WriteFault}
 
 -- bytes were written, as far as the sink took them
 pub record WritesSome {E : Type 0} (shown : E → Option (List ℕ)) (dropped : E → Failures) (err err' : E) (bytes : List ℕ) : Type 0 where

@@ -10,3 +10,6 @@ pub mod Headline
 pub mod Statuses
 pub mod inner
 pub mod Read
+pub mod Arguments
+pub mod Manual
+pub mod Prose

@@ -1,7 +1,7 @@
 -- What `read` tells of a bundle.
 use Rattle.std.specs.Prelude.{ℕ, ◌≡◌, ◌⊎◌, true, List, ◌++◌, codes}
 use Rattle.call_tables.specs.declared.arch.Arch.{Arch}
-use Rattle.describe.specs.Read.{IsReadOut}
+use Rattle.explain.specs.Read.{IsReadOut}
 use Rattle.explain.specs.declared.told.Told.{Told}
 
 -- the line that may stand behind what a bundle means

@@ -2,14 +2,14 @@
 use Rattle.std.specs.Prelude.{ℕ, List, [], ◌∷◌, ◌++◌, Result, Option, codes}
 use Rattle.std.specs.Fmt.{decimal}
 use Rattle.texts.specs.Lines.{line_feed}
-use Rattle.streams.specs.Failures.{Failures}
-use Rattle.streams.specs.Sink.{Writes}
-use Rattle.streams.specs.declared.fault.WriteFault.{WriteFault}
-use Rattle.streams.specs.declared.fault.WriteFault.TheVariants as fault
+use Rattle.texts.specs.Failures.{Failures}
+use Rattle.texts.specs.Sink.{Writes}
+use Rattle.texts.specs.declared.streams.fault.WriteFault.{WriteFault}
+use Rattle.texts.specs.declared.streams.fault.WriteFault.TheVariants as fault
 use Rattle.session.specs.declared.fault.ScriptFault.{ScriptFault}
 use Rattle.session.specs.declared.fault.ScriptFault.TheVariants as script
-use Rattle.command_line.specs.declared.Misuse.{Misuse}
-use Rattle.command_line.specs.declared.Misuse.TheVariants as misuse
+use Rattle.cli.specs.declared.command_line.Misuse.{Misuse}
+use Rattle.cli.specs.declared.command_line.Misuse.TheVariants as misuse
 use Rattle.cli.specs.declared.stops.Stop.{Stop}
 use Rattle.cli.specs.declared.stops.Stop.TheVariants.{Usage, CannotRead, Read, Write, OutOfMemory}
 

@@ -3,7 +3,7 @@ use Rattle.std.specs.Prelude.{ℕ, ◌≡◌, ◌≢◌, Bool, true, false, List
 use Rattle.std.specs.List.{zip}
 use denote.Ref.{Bor}
 use Rattle.call_tables.specs.declared.arch.Arch.{Arch}
-use Rattle.command_line.specs.Manual.{IsPage, list_of, row_called, rows}
+use Rattle.cli.specs.Manual.{IsPage, list_of, row_called, rows}
 use Rattle.explain.specs.Told.{TellsText}
 use Rattle.explain.specs.declared.told.Told.{Told}
 use Rattle.learn.specs.Replayed.{TellsReplayed}

@@ -1,17 +1,17 @@
 //! What `ccell adapt` does.
 ghost use Rattle.std.specs.Prelude.{◌≡◌, ◌↔◌, [], ◌∷◌, IfOk, IsTrue, Option, Some, filter, map, not};
-ghost use Rattle.adapt.specs.declared.words.Wanted.{Wanted as TheWanted};
-ghost use Rattle.adapt.specs.declared.settling.choice.Choice.{Choice as TheChoice};
+ghost use Rattle.explain.specs.declared.adapt.words.Wanted.{Wanted as TheWanted};
+ghost use Rattle.explain.specs.declared.adapt.settling.choice.Choice.{Choice as TheChoice};
 ghost use Rattle.cli.specs.Adapted.{AskToAdapt, AsksNarrow, IsMadeAs, IsMadeBy, IsMadeOfDraft, IsNarrowedOne, is_narrow};
 ghost use Rattle.cli.specs.Told.{OfArguments, of_one};
 ghost use Rattle.cli.specs.inner.Telling.{IsAdaptedOf, IsToldOf, told_in};
 
 use crate::files::{Files, read};
 use crate::stops::Stop;
-use adapt::{Adapted, Wanted, adapt, wanted_of};
 use call_tables::Arch;
 use explain::Told;
-use narrow::{Narrowing, narrow};
+use explain::adapt::{Adapted, Wanted, adapt, wanted_of};
+use explain::narrow::{Narrowing, narrow};
 use std::alloc::{AllocError, Global};
 
 /// What a command tells: on standard output, and on standard error.
@@ -89,7 +89,7 @@ fn hinted(alloc: Global, native: Arch, made: Adapted) -> Result<Both, AllocError
         mut changes,
     } = made;
     if told.done {
-        let is_passed = lint::hint(alloc, native, &told.bytes)?;
+        let is_passed = compare::lint::hint(alloc, native, &told.bytes)?;
         if is_passed {
             changes.push_str(HINT)?;
         }

@@ -11,7 +11,7 @@ use call_tables::Arch;
 use compare::{convictions_of, write_convictions};
 use pipeline::{Conviction, Evidence, judge_bundle, write_judged};
 use std::alloc::Global;
-use streams::{Sink, WriteFault};
+use texts::{Sink, WriteFault};
 
 // Explains each record that was told, if there is memory.
 fn tell_each<E: Sink>(alloc: Global, native: Arch, bundle: &[u8], all: &[Conviction], err: &mut E) {

@@ -1,16 +1,16 @@
 //! What `ccell certify` does of a filter behind the stub that runc puts in front of it.
 ghost use Rattle.std.specs.Prelude.{◌≡◌, IfOk, Ok, OnErr};
-ghost use Rattle.behind_runc.specs.Behind.{CertifiesBehind};
+ghost use Rattle.compare.specs.Behind.{CertifiesBehind};
 ghost use Rattle.cli.specs.Dispatch.{AnswersBehind, ExplainsBehind};
 ghost use Rattle.cli.specs.Explained.{MayTellStub, TellsBehind};
 
 use crate::comparing::{put_text, tell_found};
 use crate::files::{Files, read, read_filter};
 use crate::stops::Stop;
-use behind_runc::{Behind, behind_stub, judge_behind, stub_text, write_behind};
 use call_tables::Arch;
+use compare::{Behind, behind_stub, judge_behind, stub_text, write_behind};
 use std::alloc::Global;
-use streams::{Sink, WriteFault};
+use texts::{Sink, WriteFault};
 
 // Tells the calls that the stub of a filter answers, if there is memory. Nothing depends on whether they can be written.
 fn tell_stub<E: Sink>(alloc: Global, native: Arch, filter: &[u8], behind: &Behind<'_>, err: &mut E)

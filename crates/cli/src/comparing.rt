@@ -10,7 +10,7 @@ use call_tables::Arch;
 use compare::explain_found;
 use pipeline::{Conviction, Evidence, Unready, judge_bundle, write_judged};
 use std::alloc::Global;
-use streams::{Sink, WriteFault, write_all};
+use texts::{Sink, WriteFault, write_all};
 
 /// Writes a text. Nothing depends on whether it can be written.
 pub(crate) fn put_text<E: Sink>(text: String, err: &mut E)

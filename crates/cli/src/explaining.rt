@@ -10,7 +10,7 @@ use crate::stops::Stop;
 use call_tables::Arch;
 use explain::{Told, audit, explain_any};
 use std::alloc::{AllocError, Global};
-use streams::Source;
+use texts::Source;
 
 const ROOM: usize = 65536;
 

@@ -8,7 +8,7 @@ use crate::stops::Stop;
 use bpf_insn::MAX_INSNS;
 use cert_form::MAX_BYTES;
 use std::alloc::Global;
-use streams::Source;
+use texts::Source;
 
 /// What reads files by their names.
 pub trait Files {

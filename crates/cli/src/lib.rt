@@ -1,10 +1,11 @@
-//! The program `ccell` over arguments, files and streams that are handed in, so that tests can stand in for them. What it
-//! judges and makes is `pipeline`'s, whose public names are found here too.
+//! The program `ccell` over arguments, files and streams that are handed in, so that tests can stand in for them: which command
+//! its arguments are, and what it does. What it judges and makes is `pipeline`'s, whose public names are found here too.
 #![tactic(auto)]
 
 mod adapting;
 mod all;
 mod behind;
+mod command_line;
 mod comparing;
 mod explaining;
 mod fault;
@@ -18,6 +19,9 @@ mod showing;
 mod stops;
 mod telling;
 
+pub use command_line::{
+    COMMANDS, Command, Entry, Form, Meaning, Misuse, Page, Part, form_named, read_arguments,
+};
 pub use fault::FileFault;
 pub use files::Files;
 pub use law::headline;

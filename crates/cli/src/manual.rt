@@ -13,7 +13,7 @@ use std::alloc::Global;
 pub(crate) fn manual<'a>(alloc: Global, command: Option<&str>) -> Result<Told, Stop<'a>>
     ensures { (folder : Option Folder) → IsManualOf folder (option_map (λ n. n.now) command.entry) result }
 {
-    match command_line::manual(alloc, command) {
+    match crate::command_line::manual(alloc, command) {
         Ok(Some(text)) => Ok(Told {
             bytes: text.into_bytes(),
             done: true,

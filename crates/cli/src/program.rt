@@ -1,8 +1,8 @@
 //! The whole program, from the arguments after its name to its exit status.
 ghost use Rattle.std.specs.Prelude.{◌≡◌, ◌⊎◌, ◌≤◌, ℕ, List, Err, Ok, OnErr, true, map};
 ghost use Rattle.call_tables.specs.declared.arch.Arch.{Arch as TheArch};
-ghost use Rattle.command_line.specs.Arguments.Given.{Check, Run};
-ghost use Rattle.command_line.specs.Arguments.{Given, IsCommandLine, NoCommandLine, given};
+ghost use Rattle.cli.specs.Arguments.Given.{Check, Run};
+ghost use Rattle.cli.specs.Arguments.{Given, IsCommandLine, NoCommandLine, given};
 ghost use Rattle.cli.specs.Dispatch.{Answers, AnswersCertify, AnswersCheck, AnswersExport, AnswersRun, AnswersVerdict, Does, ExplainsRecord, ExplainsWhy, IsMisuse};
 ghost use Rattle.cli.specs.Dispatch.{TellsChanges, TellsMisuse};
 ghost use Rattle.cli.specs.Statuses.{AreRight, HasRun};
@@ -11,6 +11,7 @@ ghost use Rattle.cli.specs.inner.Telling.{TellsOn, told_in};
 use crate::adapting::{Both, adapted};
 use crate::all::certify_all;
 use crate::behind::certify_behind;
+use crate::command_line::{Command, Form, read_arguments};
 use crate::comparing;
 use crate::explaining::explain;
 use crate::files::{Files, read, read_certificate, read_each, read_filter, read_record};
@@ -21,10 +22,9 @@ use crate::showing::{annotated, drawn, read_out};
 use crate::stops::{Stop, report};
 use crate::telling::{assembled, compared, filters_compared, linted, record, tell};
 use call_tables::Arch;
-use command_line::{Command, Form, read_arguments};
 use pipeline::{check_line, export_bundle, verdict_line};
 use std::alloc::Global;
-use streams::{Sink, Source, write_all};
+use texts::{Sink, Source, write_all};
 
 // Answers a filter to a record.
 fn verdict<'a, F: Files, O: Sink>(

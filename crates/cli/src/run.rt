@@ -10,7 +10,7 @@ use call_tables::Arch;
 use pipeline::{Slot, Unready, refuse};
 use session::{Bundle, Bundles, run_script};
 use std::alloc::{AllocError, Global};
-use streams::{Sink, Source};
+use texts::{Sink, Source};
 
 // A bundle's name in a script, and what is made of its text.
 #[derive(Drop)]

@@ -1,7 +1,7 @@
 //! What `ccell read`, `ccell annotate` and `ccell draw` tell.
 ghost use Rattle.std.specs.Prelude.{◌≡◌, [], ◌∷◌, IfOk, true};
-ghost use Rattle.describe.specs.Read.{IsReadOut};
-ghost use Rattle.describe.specs.Shown.{IsAnnotated, IsDrawn};
+ghost use Rattle.explain.specs.Read.{IsReadOut};
+ghost use Rattle.explain.specs.Shown.{IsAnnotated, IsDrawn};
 ghost use Rattle.cli.specs.Read.{HasHint, TellsRead};
 ghost use Rattle.cli.specs.Told.{of_one};
 ghost use Rattle.cli.specs.inner.Telling.{IsToldOf};
@@ -22,7 +22,7 @@ pub(crate) fn annotated<'a, F: Files>(
     ensures { IsToldOf (F.folder files.old) (filter.entry.now ∷ []) (of_one IsAnnotated) result }
 {
     match read_filter(alloc, files, filter) {
-        Ok(bytes) => match describe::annotated(alloc, native, &bytes) {
+        Ok(bytes) => match explain::annotated(alloc, native, &bytes) {
             Ok(told) => Ok(told),
             Err(_no_memory) => Err(Stop::OutOfMemory),
         },
@@ -40,7 +40,7 @@ pub(crate) fn drawn<'a, F: Files>(
     ensures { IsToldOf (F.folder files.old) (filter.entry.now ∷ []) (of_one IsDrawn) result }
 {
     match read_filter(alloc, files, filter) {
-        Ok(bytes) => match describe::drawn(alloc, native, &bytes) {
+        Ok(bytes) => match explain::drawn(alloc, native, &bytes) {
             Ok(told) => Ok(told),
             Err(_no_memory) => Err(Stop::OutOfMemory),
         },
@@ -67,7 +67,7 @@ fn hinted(alloc: Global, native: Arch, bundle: &[u8], told: Told) -> Result<Told
     if !told.done {
         return Ok(told);
     }
-    let is_passed = lint::hint(alloc, native, bundle)?;
+    let is_passed = compare::lint::hint(alloc, native, bundle)?;
     if !is_passed {
         return Ok(told);
     }
@@ -78,7 +78,7 @@ fn hinted(alloc: Global, native: Arch, bundle: &[u8], told: Told) -> Result<Told
 fn described(alloc: Global, native: Arch, bundle: &[u8]) -> Result<Told, AllocError>
     ensures { IfOk result (TellsRead native bundle.now) }
 {
-    let told = describe::read_out(alloc, native, bundle)?;
+    let told = explain::read_out(alloc, native, bundle)?;
     hinted(alloc, native, bundle, told)
 }
 

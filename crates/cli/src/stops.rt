@@ -3,13 +3,12 @@ ghost use Rattle.std.specs.Prelude.{◌≡◌, IfSome};
 ghost use Rattle.cli.specs.Stop.{Reports, line_of, name_line, status_of};
 ghost use Rattle.cli.specs.declared.stops.Stop.TheVariants.{Read, Write};
 
+use crate::command_line::Misuse;
 use arrayvec::ArrayString;
-use command_line::Misuse;
 use session::ScriptFault;
 use std::alloc::AllocError;
 use std::fmt;
-use streams::{Sink, WriteFault, write_all};
-use texts::{Line, put, put_number};
+use texts::{Line, Sink, WriteFault, put, put_number, write_all};
 use thiserror::Error;
 
 /// What stops the program before its line is written. Its text is the line on standard error.

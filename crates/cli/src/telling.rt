@@ -3,7 +3,7 @@ ghost use Rattle.std.specs.Prelude.{Option, [], ◌∷◌, map};
 ghost use Rattle.compare.specs.Told.{IsCompared};
 ghost use Rattle.compare.specs.FiltersTold.{IsTold};
 ghost use Rattle.explain.specs.Told.{IsAssembled, IsRecorded};
-ghost use Rattle.lint.specs.Linted.{IsLinted};
+ghost use Rattle.compare.specs.Linted.{IsLinted};
 ghost use Rattle.cli.specs.Files.{Folder};
 ghost use Rattle.cli.specs.Told.{OfArguments, of_none, of_one, of_two};
 ghost use Rattle.cli.specs.inner.Telling.{IsToldOf, TellsOn};
@@ -13,7 +13,7 @@ use crate::stops::Stop;
 use call_tables::Arch;
 use explain::Told;
 use std::alloc::Global;
-use streams::{Sink, write_all};
+use texts::{Sink, write_all};
 
 /// Writes what is told.
 pub(crate) fn tell<'a, O: Sink>(told: Result<Told, Stop<'a>>, out: &mut O) -> Result<bool, Stop<'a>>
@@ -65,7 +65,7 @@ pub(crate) fn linted<'a, F: Files>(
     ensures { IsToldOf (F.folder files.old) (bundle.entry.now ∷ []) (of_one (IsLinted native)) result }
 {
     match read(alloc, files, bundle) {
-        Ok(text) => match lint::lint(alloc, native, &text) {
+        Ok(text) => match compare::lint::lint(alloc, native, &text) {
             Ok(told) => Ok(told),
             Err(_no_memory) => Err(Stop::OutOfMemory),
         },

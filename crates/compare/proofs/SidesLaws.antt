@@ -6,10 +6,10 @@ use Rattle.std.proofs.lemmas.List.Elements.{All-nil, All-push}
 use Rattle.call_record.specs.Verdict.{Through, is_through}
 use Rattle.call_record.specs.Words.{IsRecord}
 use Rattle.call_tables.specs.Arch.{token_of}
-use Rattle.order.specs.Decided.{IsDecided}
-use Rattle.order.specs.Order.{AllowsNoMore}
-use Rattle.order.specs.declared.decided.AtMost.{AtMost}
-use Rattle.order.specs.declared.decided.AtMost.TheVariants.{Yes}
+use Rattle.compare.specs.Decided.{IsDecided}
+use Rattle.compare.specs.NoMore.{AllowsNoMore}
+use Rattle.compare.specs.declared.order.decided.AtMost.{AtMost}
+use Rattle.compare.specs.declared.order.decided.AtMost.TheVariants.{Yes}
 use Rattle.profile.specs.Policy.{Policy, Says}
 use Rattle.compare.specs.Difference.{IsChange, IsDifference, IsLike, record_of}
 use Rattle.compare.specs.Order.{TellsLess, TellsMore, is_less, is_more}

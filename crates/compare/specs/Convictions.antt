@@ -8,9 +8,9 @@ use Rattle.evidence.specs.declared.evidence.Evidence.TheVariants.{Convicting}
 use Rattle.pipeline.specs.Certified.{IsEvidenceFor}
 use Rattle.pipeline.specs.Exported.{LacksMemory}
 use Rattle.pipeline.specs.Told.{IsLine}
-use Rattle.streams.specs.Failures.{Failures}
-use Rattle.streams.specs.Sink.{WritesMade}
-use Rattle.streams.specs.declared.fault.WriteFault.{WriteFault}
+use Rattle.texts.specs.Failures.{Failures}
+use Rattle.texts.specs.Sink.{WritesMade}
+use Rattle.texts.specs.declared.streams.fault.WriteFault.{WriteFault}
 
 -- the filter gives its record the one verdict, and the bundle says the other
 abbrev pub Convicts : Arch → List ℕ → List ℕ → Conviction → Type 0

@@ -6,3 +6,11 @@ pub mod Told
 pub mod Differ
 pub mod FiltersTold
 pub mod Convictions
+pub mod NoMore
+pub mod Decided
+pub mod inner
+pub mod Past
+pub mod Linted
+pub mod Behind
+pub mod StubTold
+pub mod Stub

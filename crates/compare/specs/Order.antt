@@ -2,7 +2,7 @@
 use Rattle.std.specs.Prelude.{◌≡◌, ◌&&◌, Bool, true, not, List}
 use Rattle.std.specs.List.{list_any}
 use Rattle.call_record.specs.Verdict.{is_through}
-use Rattle.order.specs.Order.{AllowsNoMore}
+use Rattle.compare.specs.NoMore.{AllowsNoMore}
 use Rattle.profile.specs.Policy.{Policy}
 use Rattle.compare.specs.declared.change.Change.{Change}
 use Rattle.compare.specs.declared.difference.Difference.{Difference}

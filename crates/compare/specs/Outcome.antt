@@ -8,8 +8,8 @@ use Rattle.call_tables.specs.declared.arch.Arch.{Arch}
 use Rattle.call_tables.specs.Arch.{table_of, machine_name}
 use Rattle.call_tables.specs.Table.{name_in}
 use Rattle.explain.specs.Phrases.{action_text}
-use Rattle.order.specs.declared.decided.Size.{Size}
-use Rattle.order.specs.declared.decided.Size.TheVariants.{TooLong, TooLarge}
+use Rattle.compare.specs.declared.order.decided.Size.{Size}
+use Rattle.compare.specs.declared.order.decided.Size.TheVariants.{TooLong, TooLarge}
 use Rattle.profile.specs.Policy.{Policy}
 use Rattle.compare.specs.Difference.{IsChange, SayTheSame}
 use Rattle.compare.specs.Order.{IsSides}

@@ -1,13 +1,17 @@
-//! Two bundles compared: that they say the same of every call record, or calls of which they do not. And the call record
-//! that convicts a filter, in plain sentences.
+//! What two profiles, or a filter and a profile, have unlike, told in plain sentences: calls of which they do not say the same,
+//! whether one allows no more than the other, and what is judged of a filter behind runc's stub. [`lint`] has the calls that get
+//! past a profile.
 #![tactic(auto)]
 
+mod behind_runc;
 mod calls;
 mod change;
 mod convicting;
 mod convictions;
 mod difference;
 mod filters;
+pub mod lint;
+mod order;
 mod outcome;
 mod records;
 mod same;
@@ -16,11 +20,13 @@ mod sides;
 mod text;
 mod told;
 
+pub use behind_runc::{Behind, behind_stub, judge_behind, stub_text, write_behind};
 pub use change::Change;
 pub use convicting::explain_found;
 pub use convictions::{convictions_of, write_convictions};
 pub use difference::{Difference, difference_on};
 pub use filters::{compare_filters, find_differences};
+pub use order::{AtMost, Excess, Size, allows_no_more};
 pub use outcome::Comparison;
 pub use sides::Sides;
 pub use text::lines_of;

@@ -7,12 +7,12 @@ ghost use Rattle.compare.specs.Outcome as spec;
 
 use crate::change::Change;
 use crate::difference::Difference;
+use crate::order::Size;
 use crate::outcome::Comparison;
 use crate::sides::Sides;
 use call_record::Word;
 use call_tables::Arch;
 use explain::ActionText;
-use order::Size;
 use std::alloc::{AllocError, Global};
 use std::fmt::Write;
 

@@ -1,9 +1,15 @@
-//! Calls, verdicts and the reasons for them, told as text.
+//! What a bundle, a filter and a record mean, in words: and what to write in place of what is refused.
+//!
+//! [`adapt`] makes bundles of what container engines write, and [`narrow`] bundles that speak of what a kernel reads alone.
 #![tactic(auto)]
 
+pub mod adapt;
 mod asked;
 mod audited;
 mod calls;
+mod describe;
+mod linux_arguments;
+pub mod narrow;
 mod phrases;
 mod reason;
 mod rules;
@@ -12,6 +18,9 @@ mod told;
 
 pub use audited::{audit, explain_any};
 pub use calls::{machine_of, machine_with};
+pub use describe::{
+    Configuration, Doubled, Trimmed, annotated, drawn, fault_in, fault_of, read_out, without_unread,
+};
 pub use phrases::{ActionText, ConditionText};
 pub use reason::Reason;
 pub use telling::explanation;

@@ -3,13 +3,13 @@ ghost use Rattle.bpf_insn.specs.Bytes.{spelling};
 ghost use Rattle.bpf_asm.specs.Listing.{listing};
 ghost use Rattle.cert_check.specs.Checked.{cert_of, program_of};
 ghost use Rattle.export.specs.Forms.{bytes_in};
-ghost use Rattle.streams.specs.Sink.{Writes, WritesMade};
+ghost use Rattle.texts.specs.Sink.{Writes, WritesMade};
 
 use crate::form::Form;
 use bpf_asm::disassemble;
 use cert_check::Checked;
 use std::alloc::Global;
-use streams::{Sink, WriteFault, write_all};
+use texts::{Sink, WriteFault, write_all};
 
 /// Writes the bytes of the filter, which is what a kernel loads.
 pub fn export_raw<S: Sink>(checked: &Checked<'_>, sink: &mut S) -> Result<(), WriteFault>

@@ -1,7 +1,7 @@
 -- What stands in a Vec that was empty, once a command's answer was written into it.
 use Rattle.std.proofs.Common.{◌≡◌, ℕ, inl, inr, Bool, true, false, List, [], subst, sym, Option, Some, Result, Ok}
-use Rattle.streams.specs.Failures.{Failures}
-use Rattle.streams.specs.declared.fault.WriteFault.{WriteFault}
+use Rattle.texts.specs.Failures.{Failures}
+use Rattle.texts.specs.declared.streams.fault.WriteFault.{WriteFault}
 use Rattle.std.specs.Io.KnownBytes.{Appends}
 use Rattle.call_tables.specs.declared.arch.Arch.{Arch}
 use Rattle.export.specs.declared.form.Form.TheVariants.{Raw}

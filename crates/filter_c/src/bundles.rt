@@ -13,7 +13,7 @@ use call_tables::Arch;
 use export::Form;
 use pipeline::{certify_bundle, check_line, export_bundle};
 use std::alloc::Global;
-use streams::ToWrite;
+use texts::ToWrite;
 
 // The filter of a bundle, or the line that says why it has none.
 fn filter_for(alloc: Global, native: Arch, bundle: &[u8], out: &mut [u8], count: &mut usize) -> u32

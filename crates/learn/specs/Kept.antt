@@ -1,6 +1,6 @@
 -- What is kept of the values of a call's arguments.
 use Rattle.std.specs.Prelude.{ℕ, Bool, false, List, [], ◌∷◌, if◌then◌else◌, slice_index_or}
-use Rattle.narrow.specs.Reads.{read_bits}
+use Rattle.explain.specs.Reads.{read_bits}
 use Rattle.call_tables.specs.Width.{is_narrow}
 
 -- how many of the lowest bits of argument j are kept: what a kernel reads of it. Of x86 and ARM no more is compared than their

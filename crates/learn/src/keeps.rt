@@ -5,7 +5,7 @@ ghost use Rattle.learn.specs.Kept as spec;
 
 use crate::strace::{Call, machines_run};
 use call_tables::{Arch, is_narrow};
-use narrow::read_bits;
+use explain::narrow::read_bits;
 
 /// A call of which the values of these arguments are kept.
 #[derive(Clone, Copy)]

@@ -10,7 +10,7 @@ use crate::strace::call_on;
 use crate::unread::Unread;
 use call_tables::Arch;
 use std::alloc::{AllocError, Global};
-use streams::Source;
+use texts::Source;
 
 /// Why a log was not read.
 #[derive(Clone, Copy, Debug, PartialEq, Eq)]

@@ -25,10 +25,10 @@ use Rattle.evidence.specs.declared.evidence.Evidence.{Evidence}
 use Rattle.evidence.specs.declared.evidence.Evidence.TheVariants.{Certificate, Convicting}
 use Rattle.certify.specs.Error.{IsOfSize}
 use Rattle.rule_compile.specs.Steady.{IsSteady, Nothing}
-use Rattle.streams.specs.Failures.{Failures}
-use Rattle.streams.specs.Sink.{StopsAt, Writes, WritesMade}
-use Rattle.streams.specs.declared.fault.WriteFault.{WriteFault}
-use Rattle.streams.specs.declared.fault.WriteFault.TheVariants as fault
+use Rattle.texts.specs.Failures.{Failures}
+use Rattle.texts.specs.Sink.{StopsAt, Writes, WritesMade}
+use Rattle.texts.specs.declared.streams.fault.WriteFault.{WriteFault}
+use Rattle.texts.specs.declared.streams.fault.WriteFault.TheVariants as fault
 use Rattle.profile.specs.Policy.{IsClear, Policy}
 use Rattle.profile_json.specs.declared.fault.ProfileError.{ProfileError}
 use Rattle.profile_json.specs.declared.fault.ProfileError.TheVariants as refusal

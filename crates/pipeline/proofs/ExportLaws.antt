@@ -12,13 +12,13 @@ use Rattle.cert_check.specs.Certified.{Kept}
 use Rattle.cert_check.specs.Right.{IsRight}
 use Rattle.kernel_check.specs.Accepted.{IsAccepted}
 use Rattle.cert_check.specs.Checked.{cert_of, profile_of, program_of}
-use Rattle.streams.specs.Failures.{Failures}
+use Rattle.texts.specs.Failures.{Failures}
 use Rattle.export.specs.declared.form.Form.{Form}
 use Rattle.export.specs.declared.form.Form.TheVariants.{Raw}
 use Rattle.export.specs.Forms.{bytes_in}
-use Rattle.streams.specs.Sink.{WritesMade}
-use Rattle.streams.specs.declared.fault.WriteFault.{WriteFault}
-use Rattle.streams.specs.declared.fault.WriteFault.TheVariants.{Write, OutOfMemory}
+use Rattle.texts.specs.Sink.{WritesMade}
+use Rattle.texts.specs.declared.streams.fault.WriteFault.{WriteFault}
+use Rattle.texts.specs.declared.streams.fault.WriteFault.TheVariants.{Write, OutOfMemory}
 use Rattle.pipeline.specs.declared.unready.Unready.{Unready}
 use Rattle.pipeline.specs.declared.unready.Unready.TheVariants as unready
 use Rattle.profile.specs.Policy.{Policy}

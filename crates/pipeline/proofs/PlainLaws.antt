@@ -23,8 +23,8 @@ use Rattle.certify.specs.declared.error.CertifyError.{CertifyError}
 use Rattle.certify.specs.declared.error.CertifyError.TheVariants as maker
 use Rattle.certify.specs.Error.{IsOfSize}
 use Rattle.evidence.proofs.CompiledLaws.{compiled}
-use Rattle.streams.specs.Failures.{Failures}
-use Rattle.streams.specs.declared.fault.WriteFault.{WriteFault}
+use Rattle.texts.specs.Failures.{Failures}
+use Rattle.texts.specs.declared.streams.fault.WriteFault.{WriteFault}
 use Rattle.export.specs.declared.form.Form.{Form}
 use Rattle.pipeline.specs.declared.unready.Unready.{Unready}
 use Rattle.pipeline.specs.declared.unready.Unready.TheVariants.{Profile, Compile, Certify, Check, OutOfMemory}

@@ -9,9 +9,9 @@ use Rattle.bpf_insn.specs.Machine.{verdict_of}
 use Rattle.bpf_insn.specs.Fault as view
 use Rattle.kernel_check.specs.Accepted.{IsAccepted, IsRefusal}
 use Rattle.kernel_check.specs.Fault as kernel
-use Rattle.streams.specs.Failures.{Failures}
-use Rattle.streams.specs.Sink.{Writes}
-use Rattle.streams.specs.declared.fault.WriteFault.{WriteFault}
+use Rattle.texts.specs.Failures.{Failures}
+use Rattle.texts.specs.Sink.{Writes}
+use Rattle.texts.specs.declared.streams.fault.WriteFault.{WriteFault}
 use Rattle.pipeline.specs.declared.verdict.Answer.{Answer}
 use Rattle.pipeline.specs.declared.verdict.Answer.TheVariants.{Verdict, NoRecord, NoProgram, Refusal}
 

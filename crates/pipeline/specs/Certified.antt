@@ -19,9 +19,9 @@ use Rattle.certify.specs.declared.error.CertifyError.TheVariants as maker
 use Rattle.cert_check.specs.Certified.{IsFirst}
 use Rattle.cert_check.specs.declared.fault.CheckError.{CheckError}
 use Rattle.cert_check.specs.declared.fault.CheckError.TheVariants as error
-use Rattle.streams.specs.Failures.{Failures}
-use Rattle.streams.specs.Sink.{WritesMade}
-use Rattle.streams.specs.declared.fault.WriteFault.{WriteFault}
+use Rattle.texts.specs.Failures.{Failures}
+use Rattle.texts.specs.Sink.{WritesMade}
+use Rattle.texts.specs.declared.streams.fault.WriteFault.{WriteFault}
 use Rattle.texts.specs.Lines.{line_feed}
 use Rattle.pipeline.specs.Exported.{IsUnready, LacksMemory, line_of}
 use Rattle.pipeline.specs.Finding.{IsBundle, IsFinding, IsYes}

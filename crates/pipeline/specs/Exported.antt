@@ -14,11 +14,11 @@ use Rattle.certify.specs.Error.{text_of as certify_text}
 use Rattle.cert_check.specs.declared.checked.Checked.{Checked}
 use Rattle.cert_check.specs.Checked.{profile_of, program_of}
 use Rattle.cert_check.specs.Fault.{text_of as error_text}
-use Rattle.streams.specs.Failures.{Failures}
+use Rattle.texts.specs.Failures.{Failures}
 use Rattle.export.specs.Forms.{bytes_in}
-use Rattle.streams.specs.Sink.{WritesMade}
-use Rattle.streams.specs.declared.fault.WriteFault.{WriteFault}
-use Rattle.streams.specs.declared.fault.WriteFault.TheVariants as fault
+use Rattle.texts.specs.Sink.{WritesMade}
+use Rattle.texts.specs.declared.streams.fault.WriteFault.{WriteFault}
+use Rattle.texts.specs.declared.streams.fault.WriteFault.TheVariants as fault
 use Rattle.export.specs.declared.form.Form.{Form}
 use Rattle.export.specs.declared.form.Form.TheVariants.{Raw, Certificate}
 use Rattle.texts.specs.Lines.{line_feed}

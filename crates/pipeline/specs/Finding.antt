@@ -15,10 +15,10 @@ use Rattle.cert_check.specs.declared.fault.CheckError.TheVariants as error
 use Rattle.cert_check.specs.Certified.{IsFirst, Kept}
 use Rattle.cert_check.specs.Fault.{text_of as error_text}
 use Rattle.cert_check.specs.Right.{IsRight}
-use Rattle.streams.specs.Failures.{Failures}
-use Rattle.streams.specs.Sink.{Writes}
-use Rattle.streams.specs.declared.fault.WriteFault.{WriteFault}
-use Rattle.streams.specs.declared.fault.WriteFault.TheVariants.{Write, OutOfMemory}
+use Rattle.texts.specs.Failures.{Failures}
+use Rattle.texts.specs.Sink.{Writes}
+use Rattle.texts.specs.declared.streams.fault.WriteFault.{WriteFault}
+use Rattle.texts.specs.declared.streams.fault.WriteFault.TheVariants.{Write, OutOfMemory}
 use Rattle.texts.specs.Lines.{line_feed}
 use Rattle.pipeline.specs.declared.check.Finding.{Finding}
 use Rattle.pipeline.specs.declared.check.Finding.TheVariants.{Yes, No, NoProfile}

@@ -1,9 +1,9 @@
 -- What is written of a record on which a filter gives another verdict than a profile says.
 use Rattle.std.specs.Prelude.{ℕ, ◌≡◌, ◌<◌, ◌⊎◌, Bool, false, true, List, length, slice_index, Option, Result, IfOk}
 use Rattle.call_record.specs.Words.{words_of}
-use Rattle.streams.specs.Failures.{Failures}
-use Rattle.streams.specs.Sink.{WritesMade}
-use Rattle.streams.specs.declared.fault.WriteFault.{WriteFault}
+use Rattle.texts.specs.Failures.{Failures}
+use Rattle.texts.specs.Sink.{WritesMade}
+use Rattle.texts.specs.declared.streams.fault.WriteFault.{WriteFault}
 use Rattle.pipeline.specs.Certified.{conviction_line}
 use Rattle.pipeline.specs.Exported.{LacksMemory}
 

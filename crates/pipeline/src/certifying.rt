@@ -23,7 +23,7 @@ use kernel_check::{Accepted, accept};
 use profile::Profile;
 use profile_json::read_bundle;
 use std::alloc::{AllocError, Global};
-use streams::{Sink, WriteFault, write_all};
+use texts::{Sink, WriteFault, write_all};
 
 // The bytes of a record are 64, each below 256.
 fn are_bytes(bytes: &[u8])

@@ -11,7 +11,7 @@ use profile::Profile;
 use profile_json::{ProfileError, read_bundle};
 use std::alloc::{AllocError, Global};
 use std::fmt;
-use streams::{Sink, WriteFault, write_all};
+use texts::{Sink, WriteFault, write_all};
 
 /// What is found of a bundle, a filter and a certificate. Its text is the line of `ccell check`.
 #[derive(Clone, Copy, Debug, PartialEq, Eq)]

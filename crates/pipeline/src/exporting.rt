@@ -7,7 +7,7 @@ use crate::unready::refuse;
 use call_tables::Arch;
 use export::{Form, export_form};
 use std::alloc::Global;
-use streams::{Sink, WriteFault};
+use texts::{Sink, WriteFault};
 
 /// Writes the filter of a bundle, which is read for a native machine, in a form, once it is compiled, certified and
 /// checked. If one of these refuses, the line that says so is written, and the answer is false.

@@ -12,7 +12,7 @@ use profile_json::ProfileError;
 use rule_compile::CompileError;
 use std::alloc::Global;
 use std::fmt;
-use streams::{Sink, WriteFault, write_all};
+use texts::{Sink, WriteFault, write_all};
 use thiserror::Error;
 
 /// Why a bundle has no checked filter. Its text is the line that says so.

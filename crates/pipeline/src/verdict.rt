@@ -6,8 +6,7 @@ use bpf_insn::{Program, ViewError};
 use bpf_interp::verdict;
 use call_record::{Record, Word};
 use kernel_check::{Refused, accept};
-use streams::{Sink, WriteFault, write_all};
-use texts::{Line, put, put_label, put_number};
+use texts::{Line, Sink, WriteFault, put, put_label, put_number, write_all};
 
 /// A verdict, or why there is none.
 #[derive(Clone, Copy)]

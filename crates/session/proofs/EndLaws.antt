@@ -2,10 +2,10 @@
 use Rattle.std.proofs.Common.{◌≡◌, ℕ, ◌+◌, ◌<◌, List, [], length, take, ap, inr, refl, sym, subst, ◌∙◌}
 use Rattle.std.specs.Prelude.{Option, Some, None, Result, Ok, Err, IfOk}
 use Rattle.std.specs.Io.KnownBytes.{Appends}
-use Rattle.streams.specs.declared.fault.WriteFault.{WriteFault}
-use Rattle.streams.specs.declared.fault.WriteFault.TheVariants.{Write, OutOfMemory}
-use Rattle.streams.specs.Failures.{Failures, HasFailed, NoneFailed}
-use Rattle.streams.specs.Sink.{WritesMade}
+use Rattle.texts.specs.declared.streams.fault.WriteFault.{WriteFault}
+use Rattle.texts.specs.declared.streams.fault.WriteFault.TheVariants.{Write, OutOfMemory}
+use Rattle.texts.specs.Failures.{Failures, HasFailed, NoneFailed}
+use Rattle.texts.specs.Sink.{WritesMade}
 use Rattle.processes.specs.First.{by_program}
 use Rattle.lifecycle.specs.declared.command.Reply.{Reply}
 use Rattle.lifecycle.specs.declared.command.Reply.TheVariants.{IsIn}

@@ -1,8 +1,8 @@
 -- Which call failed, by what is told.
 use Rattle.std.proofs.Common.{◌≡◌, ℕ, refl, subst, ◌∙◌}
 use Rattle.std.specs.Prelude.{Result, Ok, Err}
-use Rattle.streams.specs.Failures.{Failures, NoneFailed}
-use Rattle.streams.proofs.SinkLemmas.{has_failed}
+use Rattle.texts.specs.Failures.{Failures, NoneFailed}
+use Rattle.texts.proofs.SinkLemmas.{has_failed}
 use Rattle.session.specs.declared.fault.ScriptFault.{ScriptFault}
 use Rattle.session.specs.declared.fault.ScriptFault.TheVariants.{Read, Write, Memory}
 use Rattle.session.specs.Scripts.{TellsFailedRead, TellsFailedWrite}

@@ -1,7 +1,7 @@
 -- What a run of a script has read and written.
 use Rattle.std.specs.Prelude.{ℕ, ◌≡◌, ◌+◌, ◌<◌, ◌≤◌, ◌⊎◌, List, [], ◌∷◌, ◌++◌, length, take, Option, Result, Err}
 use Rattle.std.specs.Io.KnownBytes.{Appends, Consumes, IsAtEnd}
-use Rattle.streams.specs.Failures.{Failures, HasFailed, NoneFailed}
+use Rattle.texts.specs.Failures.{Failures, HasFailed, NoneFailed}
 use Rattle.processes.specs.First.{by_profile}
 use Rattle.lifecycle.specs.Commands.{Command}
 use Rattle.script.specs.Lines.{Parts, lines_of}

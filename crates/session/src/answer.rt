@@ -7,7 +7,7 @@ use crate::carry::{Session, id_named};
 use crate::reply::{write_no_command, write_reply};
 use script::read_line;
 use std::alloc::Global;
-use streams::{Sink, WriteFault};
+use texts::{Sink, WriteFault};
 
 /// Carries out the line of this number, writes the line that answers it, and says how many bytes that line has.
 pub(crate) fn answer_line<S: Sink>(

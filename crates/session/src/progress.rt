@@ -9,7 +9,7 @@ use crate::carry::Session;
 use crate::fault::ScriptFault;
 use script::MAX_LINE;
 use std::alloc::{AllocError, Global};
-use streams::{Sink, WriteFault};
+use texts::{Sink, WriteFault};
 
 const LINE_FEED: u8 = 10;
 

@@ -3,8 +3,8 @@ ghost use Rattle.std.specs.Prelude.{◌≡◌, ◌≤◌, ◌+◌, ◌++◌, ◌
 ghost use Rattle.arrayvec.specs.ArrayVec.{array_vec_len};
 ghost use Rattle.serde_json.specs.View.{view};
 ghost use Rattle.serde_json.specs.Written.{compact_text};
-ghost use Rattle.streams.specs.Sink.{Writes, WritesMade};
-ghost use Rattle.streams.specs.declared.fault.WriteFault.TheVariants.{OutOfMemory};
+ghost use Rattle.texts.specs.Sink.{Writes, WritesMade};
+ghost use Rattle.texts.specs.declared.streams.fault.WriteFault.TheVariants.{OutOfMemory};
 ghost use Rattle.lifecycle.specs.Fault as refusal;
 ghost use Rattle.lifecycle.specs.declared.command.Reply.TheVariants.{IsIn};
 ghost use Rattle.lifecycle.specs.declared.command.Status.{Status};
@@ -15,8 +15,7 @@ use lifecycle::{Refusal, Reply, Status};
 use processes::Outcome;
 use serde_json::{Value, json};
 use std::alloc::{AllocError, Global};
-use streams::{Sink, WriteFault, write_all};
-use texts::{Line, put, put_label, put_number};
+use texts::{Line, Sink, WriteFault, put, put_label, put_number, write_all};
 
 // Adds what became of a call.
 fn put_outcome(line: &mut Line, outcome: Outcome)

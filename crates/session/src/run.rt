@@ -2,7 +2,7 @@
 ghost use Rattle.std.specs.Prelude.{◌≡◌, ◌<◌, ◌⊎◌, ℕ, Err, IfOk, OnOk, OnErr, None};
 ghost use Rattle.std.specs.Option.{option_to_list};
 ghost use Rattle.std.specs.Io.KnownBytes.{Consumes, IsAtEnd, Keeps};
-ghost use Rattle.streams.specs.Failures.{HasFailed, NoneFailed};
+ghost use Rattle.texts.specs.Failures.{HasFailed, NoneFailed};
 ghost use Rattle.session.specs.Scripts.{IsAnswered, StopsForMemory, StopsReading, StopsWriting, TellsFailedRead, TellsFailedWrite};
 ghost use Rattle.session.specs.declared.fault.ScriptFault.TheVariants as fault;
 ghost use Rattle.session.specs.inner.Lines.{HasCome};
@@ -12,7 +12,7 @@ use crate::bundles::Bundles;
 use crate::fault::ScriptFault;
 use crate::progress::Progress;
 use std::alloc::Global;
-use streams::{Failed, Sink, Source};
+use texts::{Failed, Sink, Source};
 
 // The next byte of a source, or `None` at its end.
 fn next_byte<I: Source>(source: &mut I) -> Result<Option<u8>, Failed>

@@ -1,6 +1,6 @@
 -- What functions tell of files, before it is written.
 use Rattle.std.specs.Prelude.{ℕ, ◌≡◌, ◌⊎◌, List, [], ◌∷◌, ◌++◌, Bool, Option, Result, Ok, Err}
-use Rattle.streams.specs.Failures.{Failures}
+use Rattle.texts.specs.Failures.{Failures}
 use Rattle.explain.specs.declared.told.Told.{Told}
 use Rattle.cli.specs.declared.stops.Stop.{Stop}
 use Rattle.call_tables.specs.declared.arch.Arch.{Arch}

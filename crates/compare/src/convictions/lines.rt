@@ -6,7 +6,7 @@ ghost use Rattle.pipeline.specs.Exported.{LacksMemory};
 use evidence::Conviction;
 use pipeline::line_of;
 use std::alloc::{AllocError, Global};
-use streams::{Sink, WriteFault, write_all};
+use texts::{Sink, WriteFault, write_all};
 
 // The lines of all.
 fn lines_of(alloc: Global, all: &[Conviction]) -> Result<String, AllocError>

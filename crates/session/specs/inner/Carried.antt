@@ -1,10 +1,10 @@
 -- What one line does.
 use Rattle.std.specs.Prelude.{ℕ, ◌≡◌, ◌≤◌, List, Option, None, Some, Result, Err, IfOk, OnErr, length}
 use Rattle.std.specs.declared.alloc.AllocError.{AllocError}
-use Rattle.streams.specs.Failures.{Failures}
-use Rattle.streams.specs.Sink.{WritesMade}
-use Rattle.streams.specs.declared.fault.WriteFault.{WriteFault}
-use Rattle.streams.specs.declared.fault.WriteFault.TheVariants.{OutOfMemory}
+use Rattle.texts.specs.Failures.{Failures}
+use Rattle.texts.specs.Sink.{WritesMade}
+use Rattle.texts.specs.declared.streams.fault.WriteFault.{WriteFault}
+use Rattle.texts.specs.declared.streams.fault.WriteFault.TheVariants.{OutOfMemory}
 use Rattle.processes.specs.First.{by_program}
 use Rattle.lifecycle.specs.declared.command.Reply.{Reply}
 use Rattle.lifecycle.specs.Commands.{Command, id_of}

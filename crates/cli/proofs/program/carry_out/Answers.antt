@@ -1,6 +1,6 @@
 use Rattle.std.proofs.Common.{◌≡◌, ◌⊎◌, ap, subst}
 use Rattle.std.specs.Prelude.{Err}
-use Rattle.command_line.specs.Arguments.{given}
+use Rattle.cli.specs.Arguments.{given}
 use Rattle.cli.specs.Dispatch.{ExplainsWhy, TellsChanges}
 use Rattle.cli.proofs.DispatchLaws.{explained_stop, is_misuse, unread_arguments}
 use Rattle.cli.proofs.program.carry_out.Goals as goal

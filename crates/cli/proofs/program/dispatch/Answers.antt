@@ -2,7 +2,7 @@ use Rattle.std.proofs.Common.{subst}
 use Rattle.cli.specs.Stop.{Reports, line_of}
 use Rattle.cli.proofs.DispatchLaws.{tells_misuse}
 use Rattle.std.specs.Prelude.{Ok}
-use Rattle.command_line.specs.Arguments.Given.{Check, Run}
+use Rattle.cli.specs.Arguments.Given.{Check, Run}
 use Rattle.cli.specs.Dispatch.{AnswersCheck, AnswersRun}
 use Rattle.cli.proofs.StatusLaws.{check_is_right, run_is_answered}
 use Rattle.cli.proofs.program.dispatch.Goals as goal

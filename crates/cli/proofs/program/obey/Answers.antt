@@ -1,9 +1,9 @@
 use Rattle.std.proofs.Common.{[], ◌∷◌, inl, inr, map, refl, ⊎_elim}
 use Rattle.compare.specs.Told.{IsCompared}
-use Rattle.describe.specs.Shown.{IsAnnotated, IsDrawn}
+use Rattle.explain.specs.Shown.{IsAnnotated, IsDrawn}
 use Rattle.compare.specs.FiltersTold.{IsTold}
 use Rattle.explain.specs.Told.{IsAssembled, IsRecorded, IsVersion}
-use Rattle.lint.specs.Linted.{IsLinted}
+use Rattle.compare.specs.Linted.{IsLinted}
 use Rattle.cli.specs.Dispatch.{any_call, explained_as}
 use Rattle.cli.specs.Read.{TellsRead}
 use Rattle.cli.specs.Told.{OfArguments, of_none, of_one, of_two}

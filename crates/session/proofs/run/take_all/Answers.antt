@@ -3,7 +3,7 @@ use Rattle.std.specs.Prelude.{Option, Err}
 use Rattle.std.specs.Option.{option_to_list}
 use Rattle.std.specs.Io.KnownBytes.{Consumes}
 use Rattle.std.proofs.lemmas.Result.{on_ok_weaker}
-use Rattle.streams.proofs.SinkLemmas.{has_failed}
+use Rattle.texts.proofs.SinkLemmas.{has_failed}
 use Rattle.session.specs.declared.bundles.Bundles.{Bundles}
 use Rattle.session.specs.Scripts.{IsAnswered, StopsForMemory, StopsWriting}
 use Rattle.session.specs.inner.Lines.{HasCome}

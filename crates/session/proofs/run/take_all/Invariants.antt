@@ -1,6 +1,6 @@
 -- What has come was answered, and nothing failed.
 use Rattle.std.proofs.Common.{◌≡◌}
-use Rattle.streams.specs.Failures.{NoneFailed}
+use Rattle.texts.specs.Failures.{NoneFailed}
 use Rattle.session.specs.inner.Lines.{HasCome}
 use Rattle.session.specs.inner.Progress.{standing_of}
 use Rattle.session.proofs.run.take_all.Given as goal

@@ -1,5 +1,0 @@
-mod ReadLaws
-mod ItemLaws
-mod AskedLaws
-mod HeardLaws
-pub mod SettledLaws

@@ -1,4 +1,0 @@
-pub mod Adapted
-pub mod Words
-pub mod inner
-pub mod Settled

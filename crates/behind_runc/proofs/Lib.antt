@@ -1,5 +1,0 @@
-pub mod BehindLaws
-pub mod WriteLaws
-pub mod AnyLaws
-pub mod RunLaws
-pub mod SplitLaws

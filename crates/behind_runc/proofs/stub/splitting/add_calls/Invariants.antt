@@ -1,6 +1,0 @@
-use Rattle.std.proofs.Common.{◌≡◌, ◌++◌, map, take}
-use Rattle.behind_runc.specs.inner.Parts.{calls_of}
-use Rattle.behind_runc.proofs.stub.splitting.add_calls.Given as goal
-
-abbrev pub invariant-loop-numbers : goal.invariant-loop-numbers
-invariant-loop-numbers l = l.calls.items ≡ l.initial.calls.items ++ map (calls_of l.token) (take l.numbers-index l.fn.numbers)

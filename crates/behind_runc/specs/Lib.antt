@@ -1,4 +1,0 @@
-pub mod Behind
-pub mod Told
-pub mod Stub
-pub mod inner

@@ -1,4 +1,0 @@
-pub mod Arguments
-pub mod Manual
-pub mod Prose
-pub mod inner

@@ -1,3 +1,0 @@
-pub mod Grammar
-pub mod Found
-pub mod Misused

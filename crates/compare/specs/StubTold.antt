@@ -1,0 +1,34 @@
+-- How the calls are told that a stub answers.
+use Rattle.std.specs.Prelude.{ℕ, ◌==◌, if◌then◌else◌, List, [], ◌∷◌, ◌++◌, Option, Some, None, length, codes}
+use Rattle.std.specs.Fmt.{decimal}
+use Rattle.std.specs.List.{flat_map}
+use Rattle.texts.specs.Lines.{line_feed}
+use Rattle.call_tables.specs.declared.arch.Arch.{Arch}
+use Rattle.call_tables.specs.declared.arch.Family.{Family}
+use Rattle.call_tables.specs.declared.numbers.Numbers.{Numbers}
+use Rattle.call_tables.specs.Arch.{machine_name}
+use Rattle.explain.specs.Phrases.{hexadecimal, machine_with}
+use Rattle.compare.specs.declared.behind_runc.stub.calls.Calls.{Calls}
+
+-- a machine by its name, or by its token
+abbrev pub machine_text : Option Arch → ℕ → List ℕ
+machine_text (Some arch) token = machine_name arch
+machine_text None token = hexadecimal token
+
+-- the line of numbers, and of the machine that has the first of them
+abbrev pub numbers_line : Numbers → List ℕ → List ℕ
+numbers_line numbers machine =
+    codes "  " ++ decimal numbers.first ++ codes " to " ++ decimal numbers.last ++ codes " of " ++ machine ++ line_feed ∷ []
+
+abbrev pub calls_line : Family → Calls → List ℕ
+calls_line family calls = numbers_line calls.numbers (machine_text (machine_with family calls.token calls.numbers.first) calls.token)
+
+-- how many bytes the stub has
+abbrev pub size_line : ℕ → List ℕ
+size_line size = codes "runc's stub, the first " ++ decimal size ++ codes " bytes, answers these calls ENOSYS:\n"
+
+-- a stub of so many bytes that answers these calls
+abbrev pub stub_text : Family → ℕ → List Calls → List ℕ
+stub_text family size answered =
+    if length answered == 0 then codes "the filter does not begin with a stub as runc puts it in front\n"
+    else size_line size ++ flat_map (calls_line family) answered

@@ -1,0 +1,3 @@
+pub mod Excess
+pub mod Path
+pub mod Parts

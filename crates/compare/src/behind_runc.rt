@@ -1,0 +1,9 @@
+//! A filter of a container that runc started: the stub that runc puts in front of it, and what is judged of the filter behind it.
+mod behind;
+mod judged;
+mod stub;
+mod text;
+
+pub use behind::{Behind, behind_stub};
+pub use judged::{judge_behind, write_behind};
+pub use text::stub_text;

@@ -1,0 +1,158 @@
+//! What else in a bundle says less than it seems to. None of it changes what is decided.
+use crate::lint::pairs::put_pairs;
+use call_record::lets_through;
+use explain::ConditionText;
+use explain::narrow::{Reading, Text, readings, sees_low};
+use profile::{Cond, Op, Profile, Rule};
+use profile_json::EntryRules;
+
+// How an argument is read, if that is known.
+fn reading_of(rule: &Rule, cond: &Cond) -> Option<Reading> {
+    if rule.is_narrow() {
+        return None;
+    }
+    let row = readings(rule.arch.token(), rule.nr)?;
+    row.get(cond.index as usize).copied()
+}
+
+// Whether a condition refuses a call that has a bit set that nobody reads.
+fn asks_unread(rule: &Rule, cond: &Cond) -> bool {
+    let Some(reading) = reading_of(rule, cond) else {
+        return false;
+    };
+    let bits = reading.bits();
+    if bits >= 64 || sees_low(cond, bits) {
+        return false;
+    }
+    matches!(cond.op, Op::Eq | Op::Lt | Op::Le | Op::MaskedEq)
+}
+
+// Whether a rule that lets through has such a condition.
+fn is_strict(rule: &Rule) -> bool {
+    lets_through(rule.word)
+        && rule
+            .conds
+            .as_slice()
+            .iter()
+            .any(|cond| asks_unread(rule, cond))
+}
+
+// What an argument or the bits of it are compared with.
+fn compared_with(cond: &Cond) -> u64 {
+    if cond.op == Op::MaskedEq {
+        cond.datum
+    } else {
+        cond.value
+    }
+}
+
+// Why a condition says less than it seems to. On x86 and ARM each argument has 32 bits.
+fn remark_of(rule: &Rule, cond: &Cond) -> Option<&'static str> {
+    let reading = if rule.is_narrow() {
+        Reading::Bits32
+    } else {
+        reading_of(rule, cond)?
+    };
+    match reading {
+        Reading::NotTaken => Some("the call has no such argument"),
+        Reading::Pointer => {
+            Some("a pointer: the address is compared, and not what stands there")
+        }
+        Reading::Bits16 => {
+            if compared_with(cond) >> 16 != 0 {
+                return Some("16 bits are read, and the argument never has this value");
+            }
+            Some("16 bits are read")
+        }
+        Reading::Bits32 => {
+            if compared_with(cond) >> 32 != 0 {
+                return Some("32 bits are read, and the argument never has this value");
+            }
+            None
+        }
+        Reading::Bits64 => None,
+    }
+}
+
+// Adds the remark on a condition.
+fn put_condition(text: &mut Text, entry: usize, place: usize, rule: &Rule, cond: &Cond) {
+    let Some(remark) = remark_of(rule, cond) else {
+        return;
+    };
+    let name = rule.arch.name(rule.nr).unwrap_or("a call");
+    let condition = ConditionText(cond);
+    text.put(format_args!(
+        "remark: linux.seccomp.syscalls[{entry}].args[{place}]: {name} if {condition}: {remark}\n"
+    ));
+}
+
+// Whether another rule before one is of the same entry and of the same name.
+fn is_again(all: &EntryRules, at: usize, rule: &Rule) -> bool {
+    let Some(before) = at.checked_sub(1) else {
+        return false;
+    };
+    let Some(other) = all.rules.get(before) else {
+        return false;
+    };
+    all.entry_of(before) == all.entry_of(at) && other.arch.name(other.nr) == rule.arch.name(rule.nr)
+}
+
+// Adds the remarks on a rule's conditions, once for all machines.
+fn put_rule(text: &mut Text, all: &EntryRules, at: usize, rule: &Rule) {
+    let Some(entry) = all.entry_of(at) else {
+        return;
+    };
+    if is_again(all, at, rule) {
+        return;
+    }
+    for (place, cond) in rule.conds.as_slice().iter().enumerate() {
+        put_condition(text, entry, place, rule, cond);
+    }
+}
+
+// Whether the rule before one is of the same entry.
+fn is_same_entry(all: &EntryRules, at: usize) -> bool {
+    let Some(before) = at.checked_sub(1) else {
+        return false;
+    };
+    all.entry_of(before) == all.entry_of(at)
+}
+
+// Adds the remark on an entry that says what the default says, at its first rule.
+fn put_default(text: &mut Text, profile: &Profile, all: &EntryRules, at: usize, rule: &Rule) {
+    if rule.word != profile.default_word() || is_same_entry(all, at) {
+        return;
+    }
+    if let Some(entry) = all.entry_of(at) {
+        text.put(format_args!(
+            "remark: linux.seccomp.syscalls[{entry}]: it says what the default says\n"
+        ));
+    }
+}
+
+// Adds how many rules refuse calls that others would carry out alike.
+fn put_strict(text: &mut Text, profile: &Profile) {
+    let count = profile
+        .rules()
+        .iter()
+        .filter(|rule| is_strict(rule))
+        .count();
+    if count > 0 {
+        let rules = if count == 1 { "rule lets" } else { "rules let" };
+        text.put(format_args!(
+            "remark: {count} {rules} a call through, but not with a bit set that nobody reads\n"
+        ));
+    }
+}
+
+/// Adds the remarks.
+pub(crate) fn put_remarks(text: &mut Text, profile: &Profile, all: &EntryRules) {
+    put_strict(text, profile);
+    put_pairs(text, profile, all);
+    for (at, rule) in all.rules.iter().enumerate() {
+        put_default(text, profile, all, at, rule);
+        if !rule.conds.as_slice().is_empty() {
+            put_rule(text, all, at, rule);
+        }
+    }
+}

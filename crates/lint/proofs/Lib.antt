@@ -1,2 +1,0 @@
-mod PastLaws
-mod ToldLaws

@@ -1,2 +1,0 @@
--- The filter by which it is decided.
-pub mod Excess

@@ -1,3 +1,0 @@
-pub mod Failures
-pub mod Sink
-pub mod Fault
