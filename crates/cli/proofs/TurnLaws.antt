@@ -3,13 +3,11 @@ use Rattle.std.proofs.Common.{◌≡◌, ℕ, ◌+◌, ◌<◌, List, [], ◌∷
 use Rattle.std.proofs.Common.{add-one, true, false}
 use Rattle.std.proofs.Math.Seq.{drop-cons}
 use Rattle.std.proofs.lemmas.List.{take-append-drop, take_more}
-use Rattle.std.specs.Prelude.{Option, None, Some, Result, Ok, Err, is_err, is_ok, if◌then◌else◌, ◌≢◌}
+use Rattle.std.specs.Prelude.{Result, Ok, Err, is_err, is_ok, if◌then◌else◌}
 use Rattle.std.specs.List.{All}
 use Rattle.std.proofs.lemmas.List.Elements.{All-cons, All-nil}
 use Rattle.call_tables.specs.declared.arch.Arch.{Arch}
 use Rattle.session.specs.declared.bundles.Bundle.{Bundle}
-use Rattle.pipeline.specs.declared.unready.Unready.{Unready}
-use Rattle.pipeline.specs.declared.unready.Unready.TheVariants.{OutOfMemory}
 use Rattle.cli.specs.Running.{HasChecked, InTurn, IsBundleOf}
 
 -- a list, cut at a place

@@ -50,11 +50,11 @@ fn bundle_of<'a>(
     };
     let Named { name, slot } = room;
     let name: &'a String = name.insert(own);
-    let checked = slot.fill(alloc, native, text)?;
-    Ok(Bundle {
-        name: name.as_str(),
-        checked,
-    })
+    let name = name.as_str();
+    match slot.fill(alloc, native, text) {
+        Ok(checked) => Ok(Bundle { name, checked }),
+        Err(unready) => Err(unready),
+    }
 }
 
 // The bundles of texts, or why the first text without a checked filter has none.
@@ -70,9 +70,13 @@ fn bundles_of<'a>(
 {
     let mut list = Vec::new(alloc);
     for (place, room) in rooms.iter_mut().enumerate() {
-        let bundle = bundle_of(alloc, native, place, &texts[place], room)?;
-        if list.push(bundle).is_err() {
-            return Err(Unready::OutOfMemory);
+        match bundle_of(alloc, native, place, &texts[place], room) {
+            Ok(bundle) => {
+                if list.push(bundle).is_err() {
+                    return Err(Unready::OutOfMemory);
+                }
+            }
+            Err(unready) => return Err(unready),
         }
     }
     Ok(list)

@@ -6,8 +6,8 @@ use Rattle.cli.specs.Running.{BeginsNoScript, InTurn, IsBundleOf}
 use Rattle.cli.proofs.RunLaws.{refused_script, script_is_answered, script_is_run}
 use Rattle.cli.proofs.run.run_bundles.Goals as goal
 
-pub returns-in_err-made : goal.returns-in_err-made
-returns-in_err-made g c =
+pub returns-in_err-rooms : goal.returns-in_err-rooms
+returns-in_err-rooms g c =
     let texts = map (λ t. t.items) c.args.texts.now in
     let told = err_from_is_err_and c.from_residual.result c.from_residual.ensures.1 in
     let begins : BeginsNoScript c.args.input.now c.args.input.now c.args.out.now c.args.out.now c.from_residual.result =
@@ -21,7 +21,7 @@ returns-in_err-made g c =
 pub returns-in-Ok : goal.returns-in-Ok
 returns-in-Ok g c =
     let texts = map (λ t. t.items) c.args.texts.now in
-    let each = c.in-Ok.ensures.ok c.args.native texts c.in_ok-made.ensures in
+    let each = c.in-Ok.ensures.ok in
     let runs = c.run_checked.ensures texts (subst (λ (l : List Bundle). InTurn (IsBundleOf c.args.native) 1 texts l)
     (sym c.deref.ensures.value) each) in record {
       runs = inl runs;
@@ -36,7 +36,7 @@ returns g c =
     let runs = refused_script g.I.Source.left g.I.Source.failures g.O.Sink.held g.O.Sink.failures c.args.input.now c.args.out.now
     c.refuse.new.sink
     c.args.native texts c.in-Err.unready (Ok c.in_ok-refuse-in-Err.field-0) (Ok c.in_ok-refuse-in-Err.field-0)
-    (c.in-Err.ensures.err c.args.native texts c.in_ok-made.ensures) c.in_ok-refuse-in-Err.ensures refl in record {
+    c.in-Err.ensures.err c.in_ok-refuse-in-Err.ensures refl in record {
       runs = runs;
       done = script_is_answered g.I.Source.left g.I.Source.failures g.O.Sink.held g.O.Sink.failures c.args.input.now c.args.input.now
           c.args.out.now c.refuse.new.sink c.args.native texts (Ok c.in_ok-refuse-in-Err.field-0) runs;
@@ -51,7 +51,7 @@ returns-in_err-refuse-in-Err g c =
     let runs = refused_script g.I.Source.left g.I.Source.failures g.O.Sink.held g.O.Sink.failures c.args.input.now c.args.out.now
     c.refuse.new.sink
     c.args.native texts c.in-Err.unready (Err c.in_err-refuse-in-Err.field-0.0) c.from_residual-in_err-refuse-in-Err.result
-    (c.in-Err.ensures.err c.args.native texts c.in_ok-made.ensures) c.in_err-refuse-in-Err.ensures (told.1 ∙ ap Err told.2) in record {
+    c.in-Err.ensures.err c.in_err-refuse-in-Err.ensures (told.1 ∙ ap Err told.2) in record {
       runs = runs;
       done = script_is_answered g.I.Source.left g.I.Source.failures g.O.Sink.held g.O.Sink.failures c.args.input.now c.args.input.now
           c.args.out.now c.refuse.new.sink c.args.native texts c.from_residual-in_err-refuse-in-Err.result runs;
