@@ -32,7 +32,7 @@ stamp_of() {
 # was built, with the sources' stamp, and is computed again when the stamp differs.
 inputs_of() {
     local kept=crates/$1/out/inputs lines folders stamp
-    if [ -r "$kept" ] && { read -r inputs && read -r folders; } <"$kept" && cmp -s "$kept.stamp" <(stamp_of "$folders"); then
+    if [ -r "$kept" ] && { read -r inputs && read -r folders; } <"$kept" && cmp -s "$kept.stamp" <(stamp_of "$folders" 2>/dev/null); then
         return
     fi
     lines=$(crates_of "$1")

@@ -16,3 +16,4 @@ mod own;
 pub use evidence::{Conviction, Evidence, convict, judge};
 pub use law::{compiled_is_right, shape_is_right, table_profiles_are_plain};
 pub use maker::{certified, propose, propose_shared};
+pub use own::shortened;

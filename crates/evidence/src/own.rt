@@ -3,12 +3,13 @@ ghost use Rattle.std.specs.Prelude.{◌≡◌, IfErr};
 ghost use Rattle.certify.specs.declared.error.CertifyError.TheVariants.{OutOfMemory};
 
 use crate::asked::asked_calls;
+use bpf_insn::MAX_INSNS;
 use cert_outline::{OutlineError, outlined};
 use certify::CertifyError;
 use kernel_check::Accepted;
 use profile::Profile;
-use rule_compile::{CompileError, Known, Outline, Planned, plan, shorten};
-use std::alloc::Global;
+use rule_compile::{CompileError, Known, Outline, Planned, Shorter, plan, shorten};
+use std::alloc::{AllocError, Global};
 
 // The certificate of a filter that is written from its outline, unless it comes out too large.
 fn written(
@@ -29,6 +30,18 @@ fn written(
     }
 }
 
+/// A filter that is shorter than the compiler's own, if one is found. None is looked for if the plan is twice as long as a filter may be.
+pub fn shortened(
+    alloc: Global,
+    profile: &Profile,
+    own: &Planned,
+) -> Result<Option<Shorter>, AllocError> {
+    if own.insns.len() > 2 * MAX_INSNS {
+        return Ok(None);
+    }
+    shorten(alloc, profile, own)
+}
+
 // The same of a filter of these bytes, if it is the one that is shorter than the compiler's own.
 fn of_shorter(
     alloc: Global,
@@ -38,7 +51,7 @@ fn of_shorter(
 ) -> Result<Option<Vec<u8>>, CertifyError>
     ensures { IfErr result (λ e. e ≡ OutOfMemory) }
 {
-    match shorten(alloc, profile, own) {
+    match shortened(alloc, profile, own) {
         Ok(Some(made)) if made.bytes.as_slice() == program.program().bytes() => match &made.known {
             Known::AsOwn => written(alloc, profile, program, &own.outline),
             Known::Outline(outline) => written(alloc, profile, program, outline),

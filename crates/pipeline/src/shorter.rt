@@ -7,10 +7,10 @@ use crate::proposal::Proposal;
 use crate::unready::Unready;
 use bpf_insn::Program;
 use certify::{CertifyError, certify_accepted};
-use evidence::propose_shared;
+use evidence::{propose_shared, shortened};
 use kernel_check::{Accepted, accept};
 use profile::Profile;
-use rule_compile::{Known, Planned, shorten};
+use rule_compile::{Known, Planned};
 use std::alloc::Global;
 
 // A certificate, by what is known of the filter.
@@ -36,7 +36,7 @@ pub(crate) fn shorter(
 ) -> Result<Option<Proposal>, Unready>
     ensures { IfErr result (λ unready. unready ≡ OutOfMemory) }
 {
-    let Ok(found) = shorten(alloc, profile, own) else {
+    let Ok(found) = shortened(alloc, profile, own) else {
         return Err(Unready::OutOfMemory);
     };
     let Some(made) = found else {
