@@ -12,7 +12,7 @@ use Rattle.call_record.specs.Words.{IsRecord, word, argument}
 use Rattle.call_tables.specs.declared.arch.Arch.{Arch}
 use Rattle.call_tables.specs.Arch.{token_of}
 use Rattle.call_tables.specs.Width.{compared, is_narrow}
-use Rattle.call_tables.specs.Numbers.{HasCall, IsOwn, IsWithin}
+use Rattle.call_tables.specs.Numbers.{HasCall, IsOwn, IsWithin, foreign_numbers}
 use Rattle.call_tables.proofs.NumberLaws.{none, own_not_other}
 use Rattle.call_tables.proofs.ForeignLaws.{foreign_is_other, native_or_foreign}
 use Rattle.profile.specs.declared.conditions.Op.{Op}
@@ -34,7 +34,7 @@ use Rattle.cert_state.proofs.KnownLaws.{entailed_is_true}
 use Rattle.cert_state.proofs.BitLaws.{and_all}
 use Rattle.cert_check.specs.Agree.{HasAbove, HasBits, IsRangeAbove, LacksAbove, LacksBits, AtBothEnds, all_64_bits, IsYesBy}
 use Rattle.cert_check.specs.Agree.{IsNoBy, IsNo, IsYes, IsYesRule, IsNoRule, IsRefuted, IsLeft}
-use Rattle.cert_check.specs.Agree.{RulesAgree, MachineAgrees, ListedAgrees, Agrees}
+use Rattle.cert_check.specs.Agree.{ForeignNumbersAgree, RulesAgree, MachineAgrees, ListedAgrees, Agrees}
 
 -- a number of two halves under a mask, half by half
 masked_halves : (l h m : ℕ) → l < 2 ^ 32 → bit_and (l + 2 ^ 32 * h) m ≡ bit_and h (m / 2 ^ 32) * 2 ^ 32 + bit_and l (m % 2 ^ 32)
@@ -107,7 +107,7 @@ AreMet policy met r =
 
 module _ (r : List ℕ) (rec : IsRecord r) (known : List Lit) (so : All (λ l. Holds l r) known) where
   -- a word of the record is one of its points
-  point : (w : ℕ) → IsPoint known w (slice_index r w)
+  pub point : (w : ℕ) → IsPoint known w (slice_index r w)
   point w = (rec.words w, λ k d lt e n. subst (λ v. IsMet (slice_index_or known k d) (slice_index r v)) e (so k d lt))
 
   half_low : (j : ℕ) → slice_index r (4 + 2 * j) < 2 ^ 32
@@ -253,6 +253,19 @@ module _ (r : List ℕ) (rec : IsRecord r) (known : List Lit) (so : All (λ l. H
       no_condition (is_narrow_rule rule) c denied
       (All-contains (λ d. Meets d (seen (is_narrow_rule rule) r d.index)) rule.conds.items c (met_conditions rule m) has)
 
+  -- a record of a machine's token that is no call of a listed machine gets its verdict
+  pub foreign_gets_zero : (policy : Policy) (v : ℕ) (arch : Arch) → Contains policy.machines arch → word r 1 ≡ token_of arch
+      → ForeignNumbersAgree known v arch (foreign_numbers policy.machines arch) → (¬ IsNative policy r) → v ≡ 0
+  foreign_gets_zero policy v arch listed machine (inl no_foreign) alien =
+      elim (native_or_foreign policy.machines arch (word r 0) (rec.words 0) listed) [
+        | inl its ↦ absurd (alien (subst (λ t. Any (HasCall t (word r 0)) policy.machines) (sym machine) its))
+        | inr foreign ↦ absurd (none (word r 0) (subst (Any (IsWithin (word r 0))) no_foreign foreign))
+      ]
+  foreign_gets_zero policy v arch listed machine (inr (inl zero)) alien = zero
+  foreign_gets_zero policy v arch listed machine (inr (inr (k, numbers, inside, at, among))) alien =
+      let within = entailed_is_true r rec known so (In 0 numbers.first numbers.last) among in
+      absurd (alien (listed.0, arch, listed.1, listed.2, (sym machine, (k, numbers, inside, at, within))))
+
   module _ (policy : Policy) (out : List ℕ) (met : List (ℕ × ℕ)) (v : ℕ) (clear : IsClear policy.rules) (h : Agrees policy out met known v)
       (gone : AreOut policy out r) (so_met : AreMet policy met r) where
     -- a rule that is yes matches
@@ -330,19 +343,7 @@ module _ (r : List ℕ) (rec : IsRecord r) (known : List Lit) (so : All (λ l. H
       | inr zero ↦ zero
       | inl (arch, listed, token) ↦
           let machine : word r 1 ≡ token_of arch = word_is 1 (token_of arch) token in
-          let native : IsOwn arch (word r 0) → IsNative policy r = λ own. (listed.0, arch, listed.1, listed.2, (sym machine, own)) in
-          elim (machine_agrees arch listed machine).foreign [
-            | inl no_foreign ↦ elim (native_or_foreign policy.machines arch (word r 0) (rec.words 0) listed) [
-              | inl its ↦ absurd (alien (subst (λ t. Any (HasCall t (word r 0)) policy.machines) (sym machine) its))
-              | inr foreign ↦ absurd (none (word r 0) (subst (Any (IsWithin (word r 0))) no_foreign foreign))
-            ]
-            | inr more ↦ elim more [
-              | inl zero ↦ zero
-              | inr (k, numbers, inside, at, among) ↦
-                  let within = entailed_is_true r rec known so (In 0 numbers.first numbers.last) among in
-                  absurd (alien (native (k, numbers, inside, at, within)))
-            ]
-          ]
+          foreign_gets_zero policy v arch listed machine (machine_agrees arch listed machine).foreign alien
     ]
 
     -- what agrees is what the profile says

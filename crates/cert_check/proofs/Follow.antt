@@ -43,7 +43,8 @@ use Rattle.cert_state.proofs.SharpLaws.{above_lowest, bit_is_set, follows_sharp_
 use Rattle.cert_form.specs.declared.node.Kind.{Kind}
 use Rattle.cert_form.specs.declared.node.Kind.TheVariants as kind
 use Rattle.cert_form.specs.Nodes.{PlainNode}
-use Rattle.cert_check.specs.Agree.{Agrees, IsRefuted, IsYes}
+use Rattle.cert_check.specs.Agree.{IsRefuted, IsYes}
+use Rattle.cert_check.specs.Several.{ReturnAgrees}
 use Rattle.cert_check.proofs.Agreement.{AreOut, AreMet, refuted_rule, yes_condition}
 use Rattle.cert_check.specs.Rules.{no_node, Edge, one_edge, step_edges, edges_by, fact_at, Leads, Covers, CoversSharply, SplitRule, Allows}
 use Rattle.cert_check.specs.Rules.{IsOutOn, IsMetBy, Carries, known_on, value_verdict, verdict_by, Keeps, IsValid}
@@ -342,8 +343,8 @@ module _ (r : List ℕ) (rec : IsRecord r) (p : List Insn) (accepted : IsAccepte
       (arrives_out n e m known told.0 fact carries, arrives_met n e m known told.1 fact carries)
 
   module _ (ns : List PlainNode)
-      (settles : (out : List ℕ) (met : List (ℕ × ℕ)) (known : List Lit) (w : ℕ) → Agrees policy out met known w → All (λ l. Holds l r) known
-      → IsTrueOf policy out met r → Says policy r w) where
+      (settles : (n : PlainNode) (w : ℕ) → ReturnAgrees policy n w → All (λ l. Holds l r) n.known → IsTrueOf policy n.out n.met r
+      → Says policy r w) where
     -- from node j, wherever a run is inside it and what it says of rules is true, only verdicts that the profile says are
     -- given
     abbrev GoesFrom : ℕ → Type 0
@@ -397,7 +398,7 @@ module _ (r : List ℕ) (rec : IsRecord r) (p : List Insn) (accepted : IsAccepte
           count,
         ) (sym (ending_ends p n.pc rule.insn s r does.0 rule.inside does.1) ∙ given)) in
         let same = ends_by (operation_of rule.insn.code) r rule.insn s n.regs does.0 rule.word inside.has_a does.1 rule.known in
-        subst (Says policy r) (sym same ∙ word) (settles n.out n.met n.known rule.word rule.agrees inside.known gone)
+        subst (Says policy r) (sym same ∙ word) (settles n rule.word rule.agrees inside.known gone)
     at_node kind.Dead i n s is keeps inside gone later = absurd (dead_is_none r rec n.known inside.known (keeps.entail.dead is))
 
     follow : ((i : ℕ) (n : PlainNode) → slice_get ns i ≡ Some n → Keeps policy p ns i n) → (fuel i : ℕ) → length ns ≤ i + fuel → GoesFrom i

@@ -18,3 +18,4 @@ pub mod CheckLaws
 pub mod SharedLaws
 pub mod NumberLaws
 pub mod CallLaws
+pub mod SeveralLaws

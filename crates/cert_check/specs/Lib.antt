@@ -1,5 +1,6 @@
 pub mod Fault
 pub mod Agree
+pub mod Several
 pub mod Rules
 pub mod Right
 pub mod Certified

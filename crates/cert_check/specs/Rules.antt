@@ -23,7 +23,8 @@ use Rattle.cert_state.specs.Sharp.{is_bit, lowest_bit, sharp_fact}
 use Rattle.cert_form.specs.declared.node.Kind.{Kind}
 use Rattle.cert_form.specs.declared.node.Kind.TheVariants.{Step, Split, Return, Dead}
 use Rattle.cert_form.specs.Nodes.{PlainNode}
-use Rattle.cert_check.specs.Agree.{Agrees, IsRefuted, IsYes}
+use Rattle.cert_check.specs.Agree.{IsRefuted, IsYes}
+use Rattle.cert_check.specs.Several.{ReturnAgrees}
 
 -- the number that stands for no second successor
 abbrev pub no_node : ℕ
@@ -165,7 +166,7 @@ pub record ReturnRule (policy : Policy) (p : List Insn) (n : PlainNode) : Type 0
   pub inside : slice_get p n.pc ≡ Some insn
   pub word : ℕ
   pub known : verdict_by (operation_of insn.code) n.regs insn ≡ Some word
-  pub agrees : Agrees policy n.out n.met n.known word
+  pub agrees : ReturnAgrees policy n word
 
 -- node i keeps each rule
 pub record Keeps (policy : Policy) (p : List Insn) (ns : List PlainNode) (i : ℕ) (n : PlainNode) : Type 0 where

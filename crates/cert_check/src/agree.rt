@@ -47,8 +47,8 @@ fn is_among<S: State>(facts: &Facts<'_, S>, all: &[Numbers]) -> bool
     all.iter().any(|numbers| facts.entails(&Lit::In(NUMBER, numbers.first, numbers.last)))
 }
 
-// Whether the record is known to have the machine's token.
-fn is_of<S: State>(facts: &Facts<'_, S>, arch: Arch) -> bool
+/// Whether the record is known to have the machine's token.
+pub(crate) fn is_of<S: State>(facts: &Facts<'_, S>, arch: Arch) -> bool
     ensures { IsTrue result ↔ Entails (S.known facts.now.state.now) (Bits 1 all_bits (token_of arch)) }
 {
     facts.entails(&Lit::Bits(TOKEN, u32::MAX, arch.token()))
@@ -311,8 +311,8 @@ impl<S: State> Agreement<'_, S> {
         self.all_rules_agree(arch)
     }
 
-    // Whether no foreign number is possible, of these, or such a one gets its verdict.
-    fn foreign_numbers_agree(&self, arch: Arch, foreign: &[Numbers]) -> bool
+    /// Whether no foreign number is possible, of these, or such a one gets its verdict.
+    pub(crate) fn foreign_numbers_agree(&self, arch: Arch, foreign: &[Numbers]) -> bool
         ensures { IsTrue result ↔ ForeignNumbersAgree (known_of self.now) self.now.word arch foreign.now }
     {
         if foreign.is_empty() {

@@ -20,6 +20,7 @@ mod passage;
 mod returned;
 mod root;
 mod settled;
+mod several;
 mod split;
 
 pub use checked::Checked;

@@ -5,6 +5,7 @@ ghost use Rattle.cert_form.specs.declared.node.Kind.TheVariants as kind;
 ghost use Rattle.cert_form.specs.Views.{certificate_of, says};
 ghost use Rattle.cert_check.specs.Agree.{Agrees};
 ghost use Rattle.cert_check.specs.Rules.{verdict_by};
+ghost use Rattle.cert_check.specs.Several.{ReturnAgrees, SaysOfEach};
 ghost use Rattle.cert_check.specs.inner.Agreed.{AreAgreed};
 ghost use Rattle.cert_check.specs.inner.Broken.{ReturnsAt};
 ghost use Rattle.cert_check.specs.inner.Claimed.{mets_of, outs_of};
@@ -167,6 +168,42 @@ fn agrees_once(
     true
 }
 
+// Whether a rule without conditions says a verdict of each number that a node of a sharp certificate leaves possible.
+fn says_of_each(profile: &Profile, node: &NodeView<'_>, word: Word, room: &mut Room) -> bool
+    ensures { let n = says node.now in IsTrue result ↔ IsTrue n.sharp × SaysOfEach profile.now n.known word }
+{
+    if !node.is_sharp() {
+        return false;
+    }
+    let facts = Facts::of(node, room);
+    let agreement = Agreement {
+        profile,
+        outs: Outs::none(),
+        mets: Mets::none(),
+        facts: &facts,
+        word,
+    };
+    agreement.says_of_each()
+}
+
+// Whether a verdict is the profile's, by what a node knows.
+fn return_agrees(
+    profile: &Profile,
+    node: &NodeView<'_>,
+    word: Word,
+    agreed: &mut Agreed,
+    room: &mut Room,
+) -> bool
+    requires { AreAgreed profile.now (certificate_of node.now) agreed.old }
+    ensures answer { IsTrue result ↔ ReturnAgrees profile.now (says node.now) word }
+    ensures kept { AreAgreed profile.now (certificate_of node.now) agreed.new }
+{
+    if says_of_each(profile, node, word, room) {
+        return true;
+    }
+    agrees_once(profile, node, word, agreed, room)
+}
+
 // Whether the instruction returns a verdict that is known, and the profile's on all that the node knows.
 fn returns(
     profile: &Profile,
@@ -182,7 +219,7 @@ fn returns(
     let Some(word) = returned_by(insn, node) else {
         return false;
     };
-    agrees_once(profile, node, Word(word), agreed, room)
+    return_agrees(profile, node, Word(word), agreed, room)
 }
 
 /// Whether a node, if it is a return, returns the profile's verdict at its instruction.

@@ -9,15 +9,15 @@ use Rattle.cert_check.specs.declared.fault.CheckError.{CheckError}
 use Rattle.cert_check.specs.declared.fault.CheckError.TheVariants.{Edge, Entail, Form, OutOfMemory, Return, Root, Split}
 use Rattle.cert_form.specs.declared.fault.FormError.{FormError}
 use Rattle.cert_form.specs.declared.fault.FormError.TheVariants as form
-use Rattle.cert_check.specs.Agree.{Agrees}
 use Rattle.cert_check.specs.Rules.{Carries, EdgeRule, EntailRule, Keeps, ReturnRule, RootRule, SplitRule, verdict_by}
 use Rattle.cert_check.specs.Rules as rules
+use Rattle.cert_check.specs.Several.{ReturnAgrees}
 
 -- the instruction gives a verdict, and the profile says it on all that the node knows
 pub record ReturnsAt (policy : Policy) (i : Insn) (n : PlainNode) : Type 0 where
   pub word : ℕ
   pub known : verdict_by (operation_of i.code) n.regs i ≡ Some word
-  pub agrees : Agrees policy n.out n.met n.known word
+  pub agrees : ReturnAgrees policy n word
 
 -- the node of an edge, if it is there, says no more than the edge carries
 abbrev pub CarriesTo : Policy → List PlainNode → PlainNode → rules.Edge → Type 0
