@@ -49,10 +49,10 @@ fn has_bits<K: Knowledge>(known: &K, narrow: bool, index: u8, mask: u64, datum: 
 {
     let (mask, mask_above) = halves(mask);
     let (datum, datum_above) = halves(datum);
-    if !has_above(known, narrow, index, mask_above, datum_above) {
+    if !known.entails(&Lit::Bits(low_word(index), mask, datum)) {
         return false;
     }
-    known.entails(&Lit::Bits(low_word(index), mask, datum))
+    has_above(known, narrow, index, mask_above, datum_above)
 }
 
 // Whether it is known to have others.
@@ -62,10 +62,10 @@ fn lacks_bits<K: Knowledge>(known: &K, narrow: bool, index: u8, mask: u64, datum
 {
     let (mask, mask_above) = halves(mask);
     let (datum, datum_above) = halves(datum);
-    if lacks_above(known, narrow, index, mask_above, datum_above) {
+    if known.entails(&Lit::NotBits(low_word(index), mask, datum)) {
         return true;
     }
-    known.entails(&Lit::NotBits(low_word(index), mask, datum))
+    lacks_above(known, narrow, index, mask_above, datum_above)
 }
 
 // Whether an argument has these bits.

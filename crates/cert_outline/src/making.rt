@@ -6,7 +6,7 @@ use crate::keeping::kept_nodes;
 use crate::listing::{Written, listed_nodes, sorted};
 use crate::maker::Maker;
 use bpf_insn::Program;
-use cert_form::Kind;
+use cert_form::{Kind, MAX_LITERALS};
 use profile::Profile;
 use std::alloc::Global;
 
@@ -86,6 +86,20 @@ fn finished(drafted: Drafted<'_>) -> Result<Vec<u8>, OutlineError> {
     }
 }
 
+// Whether a call has more rules than a node has claims, of which most nodes of the call state that they are out.
+fn are_too_many(calls: &[AskedCall]) -> bool {
+    for call in calls {
+        let mut rules = 0usize;
+        for part in &call.parts {
+            rules = rules.saturating_add(part.len());
+        }
+        if rules > MAX_LITERALS {
+            return true;
+        }
+    }
+    false
+}
+
 /// The certificate of the filter that the compiler made of a profile, with the calls of which its outline says that rules ask for
 /// arguments. Calls that are asked alike are told apart at the returns; where it comes out large so, or too large, also before their
 /// arguments are asked for, and the shorter one is taken.
@@ -95,6 +109,9 @@ pub fn outlined(
     program: &Program<'_>,
     calls: &[AskedCall],
 ) -> Result<Vec<u8>, OutlineError> {
+    if are_too_many(calls) {
+        return Err(OutlineError::TooLarge);
+    }
     let first = drafted(alloc, profile, program, calls, false);
     if is_refused(&first) || length(&first) <= LARGE {
         return finished(first);

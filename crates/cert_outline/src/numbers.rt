@@ -8,7 +8,7 @@ use crate::spot::Which;
 use crate::words::{Told, Words};
 use call_tables::Arch;
 use cert_state::{Facts, Knowledge, Lit, Room, range};
-use profile::{Rule, foreign_numbers};
+use profile::{MAX_RULES, Rule, foreign_numbers};
 use std::alloc::{AllocError, Global};
 
 /// The words of a record that hold the call's number and the machine's token.
@@ -77,6 +77,14 @@ fn cut_beside(range: (u32, u32), number: u32) -> Option<Cut> {
     }
 }
 
+// Adds the numbers from one to another, without that.
+fn add_between(numbers: &mut Vec<u32>, from: u32, to: u32) -> Result<(), AllocError> {
+    for number in from..to {
+        numbers.push(number)?;
+    }
+    Ok(())
+}
+
 impl<'a> Maker<'a> {
     /// Which call it is, by what is known of its machine and its number.
     pub(crate) fn which(&self, numbers: usize) -> Which {
@@ -141,9 +149,54 @@ impl<'a> Maker<'a> {
         self.may_hold(arguments, rule)
     }
 
+    // The numbers of a range for which no rule without conditions says a verdict: of the others nothing has to be told. None, if the
+    // range has more numbers than there are rules.
+    fn numbers_unsaid(
+        &self,
+        rules: &[Numbered],
+        range: (u32, u32),
+        verdict: u32,
+    ) -> Result<Option<Vec<u32>>, AllocError> {
+        let (least, greatest) = range;
+        if greatest.saturating_sub(least) as usize > MAX_RULES {
+            return Ok(None);
+        }
+        let mut numbers = Vec::new(self.alloc);
+        let mut next = least;
+        for (_token, number, place) in rules {
+            if let Some(rule) = self.rule(*place)
+                && rule.conds.is_empty()
+                && rule.word.0 == verdict
+            {
+                add_between(&mut numbers, next, *number)?;
+                next = number.saturating_add(1);
+            }
+        }
+        add_between(&mut numbers, next, greatest.saturating_add(1))?;
+        Ok(Some(numbers))
+    }
+
+    // The number that has to be told apart where a return gives a verdict, one in the middle, if there is one.
+    fn number_to_tell(
+        &self,
+        known: &Words,
+        arguments: &Words,
+        range: (u32, u32),
+        rules: &[Numbered],
+        verdict: u32,
+        rooms: &mut Rooms,
+    ) -> Result<Option<u32>, AllocError> {
+        if verdict != self.profile.default_word().0
+            && let Some(numbers) = self.numbers_unsaid(rules, range, verdict)?
+        {
+            return Ok(numbers.get(numbers.len() / 2).copied());
+        }
+        self.rule_to_tell(known, arguments, rules, verdict, rooms)
+    }
+
     // The number of a rule that has to be told apart where a return gives a verdict, one in the middle, if there is one. Most often
     // the rule in the middle is such a one.
-    fn number_to_tell(
+    fn rule_to_tell(
         &self,
         known: &Words,
         arguments: &Words,
@@ -238,7 +291,7 @@ impl<'a> Maker<'a> {
             return Ok(None);
         }
         let rules = self.rules.among(token, range.0, range.1);
-        let number = self.number_to_tell(known, arguments, rules, verdict, rooms)?;
+        let number = self.number_to_tell(known, arguments, range, rules, verdict, rooms)?;
         if number.is_none() && verdict == self.profile.default_word().0 && verdict == 0 {
             return Ok(None);
         }

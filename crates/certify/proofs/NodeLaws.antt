@@ -117,7 +117,7 @@ module _ (policy : Policy) (p : List Insn) (ns : List PlainNode) (i : ℕ) (insn
         inside = inside;
         word = word;
         known = is;
-        agrees = agrees;
+        agrees = inl agrees;
       })
 
   pub dead_keeps : IsDead known → Keeps policy p ns i (own_node pc regs known Dead)

@@ -26,7 +26,7 @@ use std::alloc::Global;
 #[derive(Drop)]
 pub struct Slot {
     profile: Option<Profile>,
-    // A filter that is shorter than the compiler's own, if one was proposed.
+    // What was proposed first, if something was.
     shorter: Option<Proposal>,
     // The compiler's own.
     own: Option<Proposal>,
@@ -54,7 +54,7 @@ fn answer<'a>(
     check(alloc, profile, filter, certificate)
 }
 
-// The checked filter that is shorter than the compiler's own, if one is found to which the checker says yes.
+// The checked filter that is proposed first, if one is to which the checker says yes.
 fn from_shorter<'a>(
     alloc: Global,
     profile: &'a Profile,
@@ -108,7 +108,7 @@ fn from_own<'a>(
     Ok(answer(alloc, profile, &made.filter, certificate)?)
 }
 
-// The checked filter of a profile: a shorter one, or else the compiler's own.
+// The checked filter of a profile: the one that is proposed first, or else the compiler's own.
 fn checked_for<'a>(
     alloc: Global,
     profile: &'a Profile,
