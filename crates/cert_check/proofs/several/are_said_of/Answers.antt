@@ -1,4 +1,4 @@
-use Rattle.std.proofs.Common.{◌≡◌, true, false, refl, inl, inr, arith}
+use Rattle.std.proofs.Common.{◌≡◌, true, false, refl, arith}
 use Rattle.cert_check.proofs.SeveralLaws.{one_more_said, up_to_last}
 use Rattle.cert_check.proofs.several.are_said_of.Goals as goal
 

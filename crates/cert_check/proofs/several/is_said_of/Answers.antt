@@ -1,4 +1,4 @@
-use Rattle.std.proofs.Common.{◌≡◌, true, false, List, length, refl, subst}
+use Rattle.std.proofs.Common.{◌≡◌, true, false, length, refl, subst}
 use Rattle.call_tables.specs.Arch.{token_of}
 use Rattle.profile.specs.Latest.{IsLatest}
 use Rattle.cert_check.proofs.CallLaws.{earlier_for, goes_down, inside, stands_there}
@@ -61,5 +61,5 @@ pub returns : goal.returns
 returns c = (
   λ t. let e : false ≡ true = t in cc,
   λ said. absurd (none_says c.args.word (token_of c.args.arch) c.args.nr c.args.profile.now.rules c.loop-next.next c.in_default.is
-  c.loop-next.invariant.walk said.place said.rule said.stands said.is_for said.says),
+      c.loop-next.invariant.walk said.place said.rule said.stands said.is_for said.says),
 )

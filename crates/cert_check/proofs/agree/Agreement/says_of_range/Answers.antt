@@ -1,10 +1,7 @@
-use Rattle.std.proofs.Common.{◌≡◌, ◌≤◌, true, false, List, refl, sym, ap, ◌∙◌, subst, arith}
-use Rattle.std.specs.Prelude.{Some}
+use Rattle.std.proofs.Common.{◌≡◌, true, false, List, refl, sym, ap, ◌∙◌, subst, arith}
 use Rattle.call_tables.specs.declared.numbers.Numbers.{Numbers}
 use Rattle.call_tables.specs.Numbers.{foreign_numbers}
-use Rattle.cert_state.specs.Points.{IsRange, HasNoPoint}
 use Rattle.cert_check.specs.Agree.{ForeignNumbersAgree}
-use Rattle.cert_check.specs.Several.{SaysOfRange}
 use Rattle.cert_check.specs.inner.Asked.{known_of}
 use Rattle.cert_check.proofs.SeveralLaws.{no_range}
 use Rattle.cert_check.proofs.agree.Agreement.says_of_range.Goals as goal
