@@ -19,10 +19,10 @@ use Rattle.compare.specs.Behind.{CertifiesBehind}
 use Rattle.compare.specs.Convictions.{TellsAll}
 use Rattle.compare.specs.Told.{IsCompared}
 use Rattle.compare.specs.FiltersTold.{IsTold}
-use Rattle.learn.specs.Learned.{TellsLearned}
-use Rattle.learn.specs.Wish.{AskFor}
-use Rattle.learn.specs.declared.lists.Otherwise.{Otherwise}
-use Rattle.learn.specs.declared.lists.Runtime.{Runtime}
+use Rattle.explain.specs.learn.Learned.{TellsLearned}
+use Rattle.explain.specs.learn.Wish.{AskFor}
+use Rattle.explain.specs.declared.learn.lists.Otherwise.{Otherwise}
+use Rattle.explain.specs.declared.learn.lists.Runtime.{Runtime}
 use Rattle.pipeline.specs.Answer.{WritesAnswer}
 use Rattle.pipeline.specs.Certified.{Certifies}
 use Rattle.pipeline.specs.Exported.{Exports}
