@@ -118,7 +118,7 @@ fn certified(out: &mut Answers, profile: &Profile, filter: &[u8]) -> Vec<u8> {
     match Program::view(filter) {
         Ok(program) => {
             let made = match accept(&program) {
-                Ok(accepted) => evidence::certified(out.alloc, profile, &accepted),
+                Ok(accepted) => maker::certified(out.alloc, profile, &accepted),
                 Err(refused) => Err(CertifyError::Undecided(refused.pc)),
             };
             out.tell_made(made)

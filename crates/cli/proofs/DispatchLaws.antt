@@ -10,12 +10,12 @@ use Rattle.export.specs.declared.form.Form.{Form}
 use Rattle.explain.specs.Any.{IsExplained as IsExplainedAny}
 use Rattle.explain.specs.Told.{IsExplained}
 use Rattle.explain.specs.declared.told.Told.{Told}
-use Rattle.pipeline.specs.Answer.{WritesAnswer}
+use Rattle.maker.specs.Answer.{WritesAnswer}
 use Rattle.compare.specs.Behind.{CertifiesBehind}
 use Rattle.compare.specs.Convictions.{TellsAll}
-use Rattle.pipeline.specs.Certified.{Certifies}
-use Rattle.pipeline.specs.Exported.{Exports}
-use Rattle.pipeline.specs.Finding.{WritesFinding}
+use Rattle.maker.specs.Certified.{Certifies}
+use Rattle.maker.specs.Exported.{Exports}
+use Rattle.maker.specs.Finding.{WritesFinding}
 use Rattle.cli.specs.Arguments.{Given, Reads}
 use Rattle.cli.specs.Arguments.Given.{Verdict, Check, Certify, CertifyBehind, CertifyAll, Export, Run, Explain, Read as ReadOut, Record, Assemble, Annotate, Draw, Lint, Compare, CompareFilters, Adapt, Learn, Replay, Manual, Version}
 use Rattle.cli.specs.declared.command_line.Misuse.{Misuse}

@@ -3,11 +3,11 @@ use Rattle.std.proofs.Common.{◌≡◌, ◌⊎◌, ℕ, List, Bool, true, false
 use Rattle.std.specs.Prelude.{Err, IfErr, IfOk, Ok, Option, Result}
 use Rattle.call_record.specs.Record.{words}
 use Rattle.call_tables.specs.declared.arch.Arch.{Arch}
-use Rattle.evidence.specs.declared.evidence.Conviction.{Conviction}
-use Rattle.evidence.specs.declared.evidence.Evidence.{Evidence}
-use Rattle.evidence.specs.declared.evidence.Evidence.TheVariants.{Certificate, Convicting}
-use Rattle.pipeline.specs.Told.{Tells}
-use Rattle.pipeline.specs.declared.unready.Unready.{Unready}
+use Rattle.maker.specs.declared.evidence.evidence.Conviction.{Conviction}
+use Rattle.maker.specs.declared.evidence.evidence.Evidence.{Evidence}
+use Rattle.maker.specs.declared.evidence.evidence.Evidence.TheVariants.{Certificate, Convicting}
+use Rattle.maker.specs.Told.{Tells}
+use Rattle.maker.specs.declared.unready.Unready.{Unready}
 use Rattle.texts.specs.Failures.{Failures}
 use Rattle.texts.specs.Sink.{WritesMade}
 use Rattle.texts.specs.declared.streams.fault.WriteFault.{WriteFault}

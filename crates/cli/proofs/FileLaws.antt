@@ -13,19 +13,19 @@ use Rattle.texts.specs.declared.streams.fault.WriteFault.{WriteFault}
 use Rattle.texts.specs.declared.streams.fault.WriteFault.TheVariants as fault
 use Rattle.compare.specs.Behind.{CertifiesBehind, IsBehind, WritesBehind}
 use Rattle.compare.specs.StubTold.{stub_text}
-use Rattle.pipeline.specs.Answer.{IsAnswer, WritesAnswer}
-use Rattle.pipeline.specs.Certified.{Certifies, IsConvicted, IsOfFilter, IsOpen, IsUndecided}
-use Rattle.pipeline.specs.Finding.{IsFinding, TellsFinding, WritesFinding}
-use Rattle.pipeline.specs.declared.check.Finding.{Finding}
-use Rattle.pipeline.specs.declared.check.Finding.TheVariants.{Yes, No, NoProfile}
-use Rattle.pipeline.specs.declared.unready.Unready.{Unready}
-use Rattle.pipeline.specs.declared.unready.Unready.TheVariants.{Profile, Compile, Certify, Check, OutOfMemory}
-use Rattle.pipeline.specs.declared.verdict.Answer.{Answer}
-use Rattle.pipeline.specs.declared.verdict.Answer.TheVariants.{Verdict, NoRecord, NoProgram, Refusal}
+use Rattle.maker.specs.Answer.{IsAnswer, WritesAnswer}
+use Rattle.maker.specs.Certified.{Certifies, IsConvicted, IsOfFilter, IsOpen, IsUndecided}
+use Rattle.maker.specs.Finding.{IsFinding, TellsFinding, WritesFinding}
+use Rattle.maker.specs.declared.check.Finding.{Finding}
+use Rattle.maker.specs.declared.check.Finding.TheVariants.{Yes, No, NoProfile}
+use Rattle.maker.specs.declared.unready.Unready.{Unready}
+use Rattle.maker.specs.declared.unready.Unready.TheVariants.{Profile, Compile, Certify, Check, OutOfMemory}
+use Rattle.maker.specs.declared.verdict.Answer.{Answer}
+use Rattle.maker.specs.declared.verdict.Answer.TheVariants.{Verdict, NoRecord, NoProgram, Refusal}
 use Rattle.explain.specs.Shown.{IsShown}
 use Rattle.explain.specs.declared.told.Told.{Told}
 use Rattle.compare.specs.declared.behind_runc.stub.calls.Calls.{Calls}
-use Rattle.evidence.specs.declared.evidence.Conviction.{Conviction}
+use Rattle.maker.specs.declared.evidence.evidence.Conviction.{Conviction}
 use Rattle.compare.specs.Convictions.{AllConvict, Convicts, TellsAll}
 use Rattle.cli.specs.Explained.{MayTellStub, TellsBehind, WritesSome}
 use Rattle.cli.specs.Files.{IsEnough}

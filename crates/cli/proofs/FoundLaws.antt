@@ -3,8 +3,8 @@ use Rattle.std.proofs.Common.{◌≡◌, ◌⊎◌, ℕ, List, inl, inr, subst}
 use Rattle.std.specs.Prelude.{Bool, Option, Result}
 use Rattle.call_tables.specs.declared.arch.Arch.{Arch}
 use Rattle.compare.specs.Convictions.{AreFound, TellsAll, WritesLines}
-use Rattle.evidence.specs.declared.evidence.Conviction.{Conviction}
-use Rattle.pipeline.specs.Exported.{LacksMemory}
+use Rattle.maker.specs.declared.evidence.evidence.Conviction.{Conviction}
+use Rattle.maker.specs.Exported.{LacksMemory}
 use Rattle.texts.specs.Failures.{Failures}
 use Rattle.texts.specs.declared.streams.fault.WriteFault.{WriteFault}
 

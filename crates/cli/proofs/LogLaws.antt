@@ -9,13 +9,13 @@ use Rattle.explain.specs.declared.told.Told.{Told}
 use Rattle.texts.specs.Failures.{Failures}
 use Rattle.cli.specs.declared.adapting.Both.{Both}
 use denote.Ref.{Bor}
-use Rattle.learn.specs.Given.{GivesAll}
-use Rattle.learn.specs.Logged.{parts_of}
-use Rattle.learn.specs.Replayed.{TellsReplayed}
-use Rattle.learn.specs.declared.logs.Log.{Log}
-use Rattle.learn.specs.declared.lists.Runtime.{Runtime}
-use Rattle.learn.specs.declared.reading.Shown.{Shown}
-use Rattle.learn.specs.Taken.{HaveShown}
+use Rattle.explain.specs.learn.Given.{GivesAll}
+use Rattle.explain.specs.learn.Logged.{parts_of}
+use Rattle.explain.specs.learn.Replayed.{TellsReplayed}
+use Rattle.explain.specs.declared.learn.logs.Log.{Log}
+use Rattle.explain.specs.declared.learn.lists.Runtime.{Runtime}
+use Rattle.explain.specs.declared.learn.reading.Shown.{Shown}
+use Rattle.explain.specs.learn.Taken.{HaveShown}
 use Rattle.cli.specs.declared.stops.Stop.{Stop}
 use Rattle.cli.specs.declared.stops.Stop.TheVariants.{Usage, CannotRead, Read, Write, OutOfMemory}
 use Rattle.cli.specs.Dispatch.{AnswersLearn, AnswersLogs, FirstUnread, HaveBytes, StopsAtLog}

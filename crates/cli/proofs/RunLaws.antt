@@ -11,12 +11,12 @@ use Rattle.session.specs.declared.bundles.Bundles.{Bundles}
 use Rattle.session.specs.declared.fault.ScriptFault.{ScriptFault}
 use Rattle.session.specs.declared.fault.ScriptFault.TheVariants.{Read, Write, Memory}
 use Rattle.session.specs.Scripts.{IsAnswered, StopsForMemory, StopsReading, StopsWriting, TellsFailedRead, TellsFailedWrite}
-use Rattle.pipeline.specs.declared.unready.Unready.{Unready}
-use Rattle.pipeline.specs.declared.unready.Unready.TheVariants.{OutOfMemory}
+use Rattle.maker.specs.declared.unready.Unready.{Unready}
+use Rattle.maker.specs.declared.unready.Unready.TheVariants.{OutOfMemory}
 use Rattle.cli.specs.declared.stops.Stop.{Stop}
-use Rattle.pipeline.proofs.PlainLaws.{not_refused}
-use Rattle.pipeline.specs.Exported.{Refuses}
-use Rattle.pipeline.specs.Plain.{IsPlainBundle}
+use Rattle.maker.proofs.PlainLaws.{not_refused}
+use Rattle.maker.specs.Exported.{Refuses}
+use Rattle.maker.specs.Plain.{IsPlainBundle}
 use Rattle.cli.specs.Running.{AnswersScript, AreBundlesOf, FirstUnready, HasAnswered, Runs, RunsBundles, RunsScript, told_line, told_script}
 
 module _ {I O : Type 0} (left : I → Option (List ℕ)) (given : I → Failures) (held : O → Option (List ℕ)) (taken : O → Failures)

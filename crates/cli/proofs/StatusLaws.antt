@@ -4,9 +4,9 @@ use Rattle.std.specs.Prelude.{Option, Some, Result, Ok, Err}
 use Rattle.call_tables.specs.declared.arch.Arch.{Arch}
 use Rattle.texts.specs.Failures.{Failures}
 use Rattle.texts.specs.declared.streams.fault.WriteFault.{WriteFault}
-use Rattle.pipeline.specs.Finding.{IsFinding, WritesFinding, is_yes}
-use Rattle.pipeline.specs.declared.check.Finding.{Finding}
-use Rattle.pipeline.specs.declared.check.Finding.TheVariants.{Yes, No, NoProfile}
+use Rattle.maker.specs.Finding.{IsFinding, WritesFinding, is_yes}
+use Rattle.maker.specs.declared.check.Finding.{Finding}
+use Rattle.maker.specs.declared.check.Finding.TheVariants.{Yes, No, NoProfile}
 use Rattle.cli.specs.declared.stops.Stop.{Stop}
 use Rattle.cli.specs.declared.stops.Stop.TheVariants.{Usage, CannotRead, Read, Write, OutOfMemory}
 use Rattle.cli.specs.Dispatch.{AnswersCheck, AnswersRun}

@@ -19,14 +19,14 @@ use Rattle.compare.specs.Behind.{CertifiesBehind}
 use Rattle.compare.specs.Convictions.{TellsAll}
 use Rattle.compare.specs.Told.{IsCompared}
 use Rattle.compare.specs.FiltersTold.{IsTold}
-use Rattle.learn.specs.Learned.{TellsLearned}
-use Rattle.learn.specs.Wish.{AskFor}
-use Rattle.learn.specs.declared.lists.Otherwise.{Otherwise}
-use Rattle.learn.specs.declared.lists.Runtime.{Runtime}
-use Rattle.pipeline.specs.Answer.{WritesAnswer}
-use Rattle.pipeline.specs.Certified.{Certifies}
-use Rattle.pipeline.specs.Exported.{Exports}
-use Rattle.pipeline.specs.Finding.{WritesFinding}
+use Rattle.explain.specs.learn.Learned.{TellsLearned}
+use Rattle.explain.specs.learn.Wish.{AskFor}
+use Rattle.explain.specs.declared.learn.lists.Otherwise.{Otherwise}
+use Rattle.explain.specs.declared.learn.lists.Runtime.{Runtime}
+use Rattle.maker.specs.Answer.{WritesAnswer}
+use Rattle.maker.specs.Certified.{Certifies}
+use Rattle.maker.specs.Exported.{Exports}
+use Rattle.maker.specs.Finding.{WritesFinding}
 use Rattle.cli.specs.declared.stops.Stop.{Stop}
 use Rattle.cli.specs.declared.stops.Stop.TheVariants.{CannotRead, OutOfMemory, Usage, Write}
 use Rattle.cli.specs.Explained.{TellsBehind, TellsRecord}

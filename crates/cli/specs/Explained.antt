@@ -6,11 +6,11 @@ use Rattle.call_tables.specs.declared.arch.Arch.{Arch}
 use Rattle.call_tables.specs.Arch.{family_of}
 use Rattle.compare.specs.Behind.{IsBehind, WritesBehind}
 use Rattle.compare.specs.StubTold.{stub_text}
-use Rattle.evidence.specs.Conviction.{IsCertificate}
-use Rattle.evidence.specs.declared.evidence.Evidence.{Evidence}
+use Rattle.maker.specs.evidence.Conviction.{IsCertificate}
+use Rattle.maker.specs.declared.evidence.evidence.Evidence.{Evidence}
 use Rattle.explain.specs.Explanation.{Explains}
-use Rattle.pipeline.specs.Told.{IsLine}
-use Rattle.pipeline.specs.declared.unready.Unready.{Unready}
+use Rattle.maker.specs.Told.{IsLine}
+use Rattle.maker.specs.declared.unready.Unready.{Unready}
 use Rattle.compare.specs.declared.behind_runc.stub.calls.Calls.{Calls}
 use Rattle.texts.specs.Failures.{Failures}
 use Rattle.texts.specs.Sink.{Writes, Wrote}

@@ -29,8 +29,8 @@ use Rattle.session.specs.declared.bundles.Bundles.{Bundles}
 use Rattle.session.specs.Answer.{answer_of}
 use Rattle.session.specs.Commands.{first_called, named}
 use Rattle.session.specs.Laws.{IsScript}
-use Rattle.pipeline.specs.Finding.{IsBundle, IsFinding}
-use Rattle.pipeline.specs.declared.check.Finding.TheVariants.{Yes}
+use Rattle.maker.specs.Finding.{IsBundle, IsFinding}
+use Rattle.maker.specs.declared.check.Finding.TheVariants.{Yes}
 use Rattle.cli.specs.Running.{HasAnswered, name_of}
 
 -- The bundle means the profile, the kernel accepts the filter, and its verdict on every call record is the one that the

@@ -12,10 +12,10 @@ use Rattle.session.specs.declared.bundles.Bundles.{Bundles}
 use Rattle.session.specs.declared.fault.ScriptFault.{ScriptFault}
 use Rattle.session.specs.declared.fault.ScriptFault.TheVariants.{Read, Write, Memory}
 use Rattle.session.specs.Scripts.{IsAnswered, StopsForMemory, StopsReading, StopsWriting, TellsFailedRead, TellsFailedWrite}
-use Rattle.pipeline.specs.declared.unready.Unready.{Unready}
+use Rattle.maker.specs.declared.unready.Unready.{Unready}
 use Rattle.cli.specs.declared.stops.Stop.{Stop}
 use Rattle.cli.specs.declared.stops.Stop.TheVariants as stop
-use Rattle.pipeline.specs.Exported.{IsCheckedOf, IsUnready, line_of}
+use Rattle.maker.specs.Exported.{IsCheckedOf, IsUnready, line_of}
 use Rattle.cli.specs.Stop.{stop_at_fault, stop_at_script}
 
 -- each of one list stands beside that of another at its place, both numbered from i on

@@ -6,7 +6,7 @@ use Rattle.call_tables.specs.declared.arch.Arch.{Arch}
 use Rattle.cli.specs.Manual.{IsPage, list_of, row_called, rows}
 use Rattle.explain.specs.Told.{TellsText}
 use Rattle.explain.specs.declared.told.Told.{Told}
-use Rattle.learn.specs.Replayed.{TellsReplayed}
+use Rattle.explain.specs.learn.Replayed.{TellsReplayed}
 
 -- what is so of the text of one file, of two, and of none
 abbrev pub of_one : (List ℕ → Told → Type 0) → List (List ℕ) → Told → Type 0

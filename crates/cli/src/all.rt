@@ -1,7 +1,7 @@
 //! What `ccell certify` does that does not stop at the first call.
 ghost use Rattle.std.specs.Prelude.{◌≡◌, ◌⊎◌, OnErr, Ok, true};
 ghost use Rattle.compare.specs.Convictions.{Convicts, TellsAll};
-ghost use Rattle.pipeline.specs.Certified.{Certifies};
+ghost use Rattle.maker.specs.Certified.{Certifies};
 ghost use Rattle.cli.specs.Dispatch.{AnswersAll};
 
 use crate::comparing::tell_why;
@@ -9,7 +9,7 @@ use crate::files::{Files, read, read_filter};
 use crate::stops::Stop;
 use call_tables::Arch;
 use compare::{convictions_of, write_convictions};
-use pipeline::{Conviction, Evidence, judge_bundle, write_judged};
+use maker::{Conviction, Evidence, judge_bundle, write_judged};
 use std::alloc::Global;
 use texts::{Sink, WriteFault};
 

@@ -1,14 +1,14 @@
 //! What `ccell certify` writes, and what it says of a record on standard error.
 ghost use Rattle.std.specs.Prelude.{◌≡◌, ◌⊎◌, Ok, OnErr, false, string_bytes, true};
 ghost use Rattle.cli.specs.Explained.{HasNoRecord, MayTellWhy, TellsRecord, WritesSome};
-ghost use Rattle.evidence.specs.declared.evidence.Conviction.{Conviction as TheConviction};
-ghost use Rattle.evidence.specs.declared.evidence.Evidence.TheVariants.{Convicting};
-ghost use Rattle.evidence.specs.Conviction.{IsCertificate};
-ghost use Rattle.pipeline.specs.Certified.{Certifies};
+ghost use Rattle.maker.specs.declared.evidence.evidence.Conviction.{Conviction as TheConviction};
+ghost use Rattle.maker.specs.declared.evidence.evidence.Evidence.TheVariants.{Convicting};
+ghost use Rattle.maker.specs.evidence.Conviction.{IsCertificate};
+ghost use Rattle.maker.specs.Certified.{Certifies};
 
 use call_tables::Arch;
 use compare::explain_found;
-use pipeline::{Conviction, Evidence, Unready, judge_bundle, write_judged};
+use maker::{Conviction, Evidence, Unready, judge_bundle, write_judged};
 use std::alloc::Global;
 use texts::{Sink, WriteFault, write_all};
 

@@ -1,5 +1,5 @@
 //! The program `ccell` over arguments, files and streams that are handed in, so that tests can stand in for them: which command
-//! its arguments are, and what it does. What it judges and makes is `pipeline`'s, whose public names are found here too.
+//! its arguments are, and what it does. What it judges and makes is `maker`'s, whose public names are found here too.
 #![tactic(auto)]
 
 mod adapting;
@@ -25,7 +25,7 @@ pub use command_line::{
 pub use fault::FileFault;
 pub use files::Files;
 pub use law::headline;
-pub use pipeline::{
+pub use maker::{
     Answer, Finding, Slot, Unready, answer_to, certify_bundle, check_line, evidence_excludes,
     export_bundle, finding_of, findings_exclude, one_answer, verdict_line,
 };

@@ -1,9 +1,9 @@
 //! What `ccell learn` and `ccell replay` do with logs.
 ghost use Rattle.std.specs.Prelude.{◌≡◌, ◌≢◌, ◌↔◌, [], ◌∷◌, ℕ, List, IfErr, IfOk, IsTrue, codes, length, map};
 ghost use Rattle.std.specs.List.{zip};
-ghost use Rattle.learn.specs.Logged.{parts_of};
-ghost use Rattle.learn.specs.Replayed.{TellsReplayed};
-ghost use Rattle.learn.specs.Taken.{HaveShown};
+ghost use Rattle.explain.specs.learn.Logged.{parts_of};
+ghost use Rattle.explain.specs.learn.Replayed.{TellsReplayed};
+ghost use Rattle.explain.specs.learn.Taken.{HaveShown};
 ghost use Rattle.cli.specs.Dispatch.{StopsAtLog};
 ghost use Rattle.cli.specs.Files.{IsOpened};
 ghost use Rattle.cli.specs.Told.{IsReplayed, NamesLogs};
@@ -15,7 +15,7 @@ use crate::files::{Files, read, read_each};
 use crate::stops::Stop;
 use call_tables::Arch;
 use explain::Told;
-use learn::{Keep, Learned, Log, LogFault, Shown, Wish, learn, replay, wish_of};
+use explain::learn::{Keep, Learned, Log, LogFault, Shown, Wish, learn, replay, wish_of};
 use std::alloc::{AllocError, Global};
 
 // Logs by their names and their bytes.

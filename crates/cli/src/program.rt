@@ -22,7 +22,7 @@ use crate::showing::{annotated, drawn, read_out};
 use crate::stops::{Stop, report};
 use crate::telling::{assembled, compared, filters_compared, linted, record, tell};
 use call_tables::Arch;
-use pipeline::{check_line, export_bundle, verdict_line};
+use maker::{check_line, export_bundle, verdict_line};
 use std::alloc::Global;
 use texts::{Sink, Source, write_all};
 

@@ -1,13 +1,13 @@
 //! From bundles to their checked filters, with which a script is run: what `ccell run` does.
 ghost use Rattle.std.specs.Prelude.{◌≡◌, ◌≢◌, ◌+◌, ◌-◌, ◌<◌, ◌^◌, ℕ, List, All, IfErr, IfOk, Ok, length, map, true, vec_len};
-ghost use Rattle.pipeline.specs.declared.unready.Unready.TheVariants.{OutOfMemory};
-ghost use Rattle.pipeline.specs.Exported.{IsUnready};
-ghost use Rattle.pipeline.specs.Plain.{IsPlainBundle};
+ghost use Rattle.maker.specs.declared.unready.Unready.TheVariants.{OutOfMemory};
+ghost use Rattle.maker.specs.Exported.{IsUnready};
+ghost use Rattle.maker.specs.Plain.{IsPlainBundle};
 ghost use Rattle.cli.specs.Running.{AnswersScript, FirstUnready, HasAnswered, InTurn, IsBundleOf, RunsBundles, RunsScript};
 
 use crate::stops::Stop;
 use call_tables::Arch;
-use pipeline::{Slot, Unready, refuse};
+use maker::{Slot, Unready, refuse};
 use session::{Bundle, Bundles, run_script};
 use std::alloc::{AllocError, Global};
 use texts::{Sink, Source};

@@ -4,9 +4,9 @@ use Rattle.std.specs.Prelude.{IsTrue}
 use Rattle.call_record.specs.Record.{words}
 use Rattle.call_record.specs.Words.{IsRecord}
 use Rattle.call_tables.specs.declared.arch.Arch.{Arch}
-use Rattle.evidence.specs.declared.evidence.Conviction.{Conviction}
-use Rattle.evidence.specs.declared.evidence.Evidence.TheVariants.{Convicting}
-use Rattle.pipeline.specs.Certified.{IsEvidenceFor}
+use Rattle.maker.specs.declared.evidence.evidence.Conviction.{Conviction}
+use Rattle.maker.specs.declared.evidence.evidence.Evidence.TheVariants.{Convicting}
+use Rattle.maker.specs.Certified.{IsEvidenceFor}
 use Rattle.compare.specs.declared.behind_runc.stub.calls.Calls.{Calls}
 use Rattle.compare.specs.Stub.{IsAnswered, IsOf, enosys}
 use Rattle.compare.proofs.AnyLaws.{any_nil}

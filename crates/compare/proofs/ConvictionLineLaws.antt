@@ -1,8 +1,8 @@
 -- Lines of records, one after another.
 use Rattle.std.proofs.Common.{ℕ, List, [], ◌∷◌, ◌++◌, append-nil, append_assoc, ap, refl, sym, ◌∙◌}
 use Rattle.call_record.specs.Record.{words}
-use Rattle.evidence.specs.declared.evidence.Conviction.{Conviction}
-use Rattle.pipeline.specs.Told.{IsLine}
+use Rattle.maker.specs.declared.evidence.evidence.Conviction.{Conviction}
+use Rattle.maker.specs.Told.{IsLine}
 use Rattle.compare.specs.Convictions.{AreLines}
 
 -- one line more

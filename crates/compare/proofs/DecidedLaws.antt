@@ -6,8 +6,8 @@ use Rattle.bpf_insn.specs.declared.instruction.Insn.{Insn}
 use Rattle.call_record.specs.Verdict.{Through, allow, is_through, kill_thread}
 use Rattle.call_record.specs.Words.{IsRecord}
 use Rattle.cert_check.specs.Right.{IsRight}
-use Rattle.evidence.specs.Conviction.{Convicts, IsConviction}
-use Rattle.evidence.specs.declared.evidence.Conviction.{Conviction}
+use Rattle.maker.specs.evidence.Conviction.{Convicts, IsConviction}
+use Rattle.maker.specs.declared.evidence.evidence.Conviction.{Conviction}
 use Rattle.call_record.specs.Record.{words}
 use Rattle.call_record.specs.declared.layout.Record.{Record}
 use Rattle.compare.specs.declared.order.decided.Excess.{Excess}

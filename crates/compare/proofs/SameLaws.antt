@@ -3,7 +3,7 @@ use Rattle.std.proofs.Common.{ℕ, List}
 use Rattle.bpf_insn.specs.declared.instruction.Insn.{Insn}
 use Rattle.call_record.specs.Words.{IsRecord}
 use Rattle.cert_check.specs.Right.{IsRight}
-use Rattle.evidence.specs.Conviction.{Convicts}
+use Rattle.maker.specs.evidence.Conviction.{Convicts}
 use Rattle.profile.specs.Policy.{Policy}
 use Rattle.compare.specs.Difference.{SayTheSame}
 use Rattle.compare.specs.Sameness.{AreUnlikeOn}

@@ -2,10 +2,10 @@
 use Rattle.std.proofs.Common.{◌≡◌, ℕ, List, sym, subst, inl, inr}
 use Rattle.std.specs.Prelude.{Bool, Option, Result, Ok, Err}
 use Rattle.call_tables.specs.declared.arch.Arch.{Arch}
-use Rattle.evidence.specs.declared.evidence.Evidence.{Evidence}
-use Rattle.pipeline.specs.Certified.{Certifies, CertifiesOwn, IsJudgement, IsOwnJudgement}
-use Rattle.pipeline.specs.Exported.{Refuses}
-use Rattle.pipeline.specs.declared.unready.Unready.{Unready}
+use Rattle.maker.specs.declared.evidence.evidence.Evidence.{Evidence}
+use Rattle.maker.specs.Certified.{Certifies, CertifiesOwn, IsJudgement, IsOwnJudgement}
+use Rattle.maker.specs.Exported.{Refuses}
+use Rattle.maker.specs.declared.unready.Unready.{Unready}
 use Rattle.texts.specs.Failures.{Failures}
 use Rattle.texts.specs.declared.streams.fault.WriteFault.{WriteFault}
 use Rattle.compare.specs.Behind.{IsJudgedBehind, IsNoConviction, WritesBehind}

@@ -3,11 +3,11 @@ use Rattle.std.specs.Prelude.{ℕ, ◌≡◌, ◌⊎◌, ⊤, Bool, List, [], Op
 use Rattle.call_tables.specs.declared.arch.Arch.{Arch}
 use Rattle.bpf_insn.specs.Bytes.{insns_of, view_fault}
 use Rattle.kernel_check.specs.Accepted.{IsAccepted}
-use Rattle.evidence.specs.Conviction.{IsCertificate}
-use Rattle.evidence.specs.declared.evidence.Evidence.{Evidence}
-use Rattle.pipeline.specs.Certified.{Certifies, IsJudgement, WritesCertificate, WritesOpen}
-use Rattle.pipeline.specs.Exported.{LacksMemory}
-use Rattle.pipeline.specs.declared.unready.Unready.{Unready}
+use Rattle.maker.specs.evidence.Conviction.{IsCertificate}
+use Rattle.maker.specs.declared.evidence.evidence.Evidence.{Evidence}
+use Rattle.maker.specs.Certified.{Certifies, IsJudgement, WritesCertificate, WritesOpen}
+use Rattle.maker.specs.Exported.{LacksMemory}
+use Rattle.maker.specs.declared.unready.Unready.{Unready}
 use Rattle.texts.specs.Failures.{Failures}
 use Rattle.texts.specs.declared.streams.fault.WriteFault.{WriteFault}
 use Rattle.compare.specs.declared.behind_runc.stub.calls.Calls.{Calls}

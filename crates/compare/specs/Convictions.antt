@@ -3,11 +3,11 @@ use Rattle.std.specs.Prelude.{ℕ, ◌≡◌, ◌⊎◌, Bool, false, List, [], 
 use Rattle.std.specs.List.{All}
 use Rattle.call_record.specs.Record.{words}
 use Rattle.call_tables.specs.declared.arch.Arch.{Arch}
-use Rattle.evidence.specs.declared.evidence.Conviction.{Conviction}
-use Rattle.evidence.specs.declared.evidence.Evidence.TheVariants.{Convicting}
-use Rattle.pipeline.specs.Certified.{IsEvidenceFor}
-use Rattle.pipeline.specs.Exported.{LacksMemory}
-use Rattle.pipeline.specs.Told.{IsLine}
+use Rattle.maker.specs.declared.evidence.evidence.Conviction.{Conviction}
+use Rattle.maker.specs.declared.evidence.evidence.Evidence.TheVariants.{Convicting}
+use Rattle.maker.specs.Certified.{IsEvidenceFor}
+use Rattle.maker.specs.Exported.{LacksMemory}
+use Rattle.maker.specs.Told.{IsLine}
 use Rattle.texts.specs.Failures.{Failures}
 use Rattle.texts.specs.Sink.{WritesMade}
 use Rattle.texts.specs.declared.streams.fault.WriteFault.{WriteFault}

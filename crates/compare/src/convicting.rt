@@ -3,8 +3,8 @@ ghost use Rattle.std.specs.Prelude.{IfSome, string_bytes};
 ghost use Rattle.explain.specs.Explanation.{Explains};
 
 use call_tables::Arch;
-use evidence::Conviction;
 use explain::explanation;
+use maker::Conviction;
 use std::alloc::Global;
 
 /// Explains what a bundle, which is read for a native machine, says of the very record that was found to convict a filter, if there

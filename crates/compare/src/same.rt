@@ -10,8 +10,8 @@ ghost use Rattle.compare.specs.Sameness.{IsSameness};
 use call_record::words_are_a_record;
 use cert_check::valid_is_right;
 use certify::CertifyError;
-use evidence::{Conviction, certified, convict};
 use kernel_check::Accepted;
+use maker::{Conviction, certified, convict};
 use profile::Profile;
 use std::alloc::{AllocError, Global};
 

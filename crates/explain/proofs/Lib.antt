@@ -26,3 +26,14 @@ pub mod BuildLaws
 pub mod SuitLaws
 pub mod LowerLaws
 pub mod OwnerLaws
+mod Lines
+mod Taken
+mod Come
+mod GatheredLaws
+mod LogResults
+mod LoggedLaws
+mod RefusedLaws
+mod PlayedLaws
+mod WishLaws
+pub mod Splits
+mod Spaces

@@ -23,3 +23,4 @@ pub mod Reading
 pub mod Rows
 pub mod Tables
 pub mod Reads
+pub mod learn

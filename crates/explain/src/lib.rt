@@ -8,6 +8,7 @@ mod asked;
 mod audited;
 mod calls;
 mod describe;
+pub mod learn;
 mod linux_arguments;
 pub mod narrow;
 mod phrases;
@@ -22,6 +23,5 @@ pub use describe::{
     Configuration, Doubled, Trimmed, annotated, drawn, fault_in, fault_of, read_out, without_unread,
 };
 pub use phrases::{ActionText, ConditionText};
-pub use reason::Reason;
 pub use telling::explanation;
 pub use told::{Told, assembled, explain, record, refused_profile, version};

@@ -10,7 +10,7 @@ use profile_json::EntryRules;
 
 /// Why a profile says its verdict of a record.
 #[derive(Clone, Copy, Debug, PartialEq, Eq)]
-pub enum Reason {
+pub(crate) enum Reason {
     /// The record is no call of the profile's machines.
     Foreign,
     /// The first rule that matches the record is of the entry at this place, from 0.

@@ -5,11 +5,11 @@ use Rattle.texts.specs.declared.streams.fault.WriteFault.{WriteFault}
 use Rattle.std.specs.Io.KnownBytes.{Appends}
 use Rattle.call_tables.specs.declared.arch.Arch.{Arch}
 use Rattle.export.specs.declared.form.Form.TheVariants.{Raw}
-use Rattle.pipeline.specs.Certified.{Certifies}
-use Rattle.pipeline.specs.Exported.{Exports}
-use Rattle.pipeline.specs.Finding.{IsFinding, WritesFinding, is_yes}
-use Rattle.pipeline.specs.declared.check.Finding.{Finding}
-use Rattle.pipeline.specs.declared.check.Finding.TheVariants.{Yes, No, NoProfile}
+use Rattle.maker.specs.Certified.{Certifies}
+use Rattle.maker.specs.Exported.{Exports}
+use Rattle.maker.specs.Finding.{IsFinding, WritesFinding, is_yes}
+use Rattle.maker.specs.declared.check.Finding.{Finding}
+use Rattle.maker.specs.declared.check.Finding.TheVariants.{Yes, No, NoProfile}
 use Rattle.filter_c.specs.Answer.{IsFilterOf, IsNoCertificateOf, IsNoOf, IsRefusalOf}
 
 module _ {S : Type 0} (held : S → Option (List ℕ)) (failures : S → Failures) (old new : S) (native : Arch) (bundle filter cert items : List ℕ) where

@@ -4,13 +4,13 @@ use Rattle.call_tables.specs.declared.arch.Arch.{Arch}
 use Rattle.cert_check.specs.declared.checked.Checked.{Checked}
 use Rattle.export.specs.Forms.{bytes_in}
 use Rattle.export.specs.declared.form.Form.TheVariants.{Raw}
-use Rattle.pipeline.specs.Certified.{IsConvicted, IsOpen, conviction_line}
-use Rattle.pipeline.specs.Exported.{IsCheckedOf, IsUnready, line_of}
-use Rattle.pipeline.specs.Finding.{IsFinding, is_yes}
-use Rattle.pipeline.specs.Finding as finding
-use Rattle.pipeline.specs.declared.check.Finding.{Finding}
-use Rattle.pipeline.specs.declared.check.Finding.TheVariants.{Yes}
-use Rattle.pipeline.specs.declared.unready.Unready.{Unready}
+use Rattle.maker.specs.Certified.{IsConvicted, IsOpen, conviction_line}
+use Rattle.maker.specs.Exported.{IsCheckedOf, IsUnready, line_of}
+use Rattle.maker.specs.Finding.{IsFinding, is_yes}
+use Rattle.maker.specs.Finding as finding
+use Rattle.maker.specs.declared.check.Finding.{Finding}
+use Rattle.maker.specs.declared.check.Finding.TheVariants.{Yes}
+use Rattle.maker.specs.declared.unready.Unready.{Unready}
 
 -- the bytes are those of a filter that the checker said yes to, for this bundle
 pub record IsFilterOf (native : Arch) (bundle bytes : List ℕ) : Type 0 where

@@ -2,8 +2,8 @@
 ghost use Rattle.std.specs.Prelude.{◌≡◌, ◌≢◌, ◌<◌, ◌⊎◌, Some, take, length};
 ghost use Rattle.call_tables.specs.declared.arch.Arch.{Arch as TheArch};
 ghost use Rattle.filter_c.specs.Machine as spec;
-ghost use Rattle.pipeline.specs.Finding.{IsFinding};
-ghost use Rattle.pipeline.specs.declared.check.Finding.TheVariants.{Yes};
+ghost use Rattle.maker.specs.Finding.{IsFinding};
+ghost use Rattle.maker.specs.declared.check.Finding.TheVariants.{Yes};
 ghost use Rattle.filter_c.specs.Answer.{IsFilterOf, IsNoCertificateOf, IsNoOf, IsRefusalOf};
 
 use crate::added::machine_with;
@@ -11,7 +11,7 @@ use crate::answers::written;
 use crate::status::{DONE, NO_MEMORY, NO_NATIVE, NO_ROOM, REFUSED};
 use call_tables::Arch;
 use export::Form;
-use pipeline::{certify_bundle, check_line, export_bundle};
+use maker::{certify_bundle, check_line, export_bundle};
 use std::alloc::Global;
 use texts::ToWrite;
 

@@ -16,7 +16,7 @@ use crate::status::{
     NO_RULE, OVERLAP, TOO_MANY, Told,
 };
 use cert_check::Checked;
-use pipeline::{Slot, Unready};
+use maker::{Slot, Unready};
 use profile::Profile;
 use std::alloc::Global;
 

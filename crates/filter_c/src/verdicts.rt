@@ -1,12 +1,12 @@
 //! The verdict of a filter on a call record.
 ghost use Rattle.std.specs.Prelude.{◌≡◌, ◌⊎◌};
-ghost use Rattle.pipeline.specs.Answer.{IsAnswer};
-ghost use Rattle.pipeline.specs.declared.verdict.Answer.TheVariants as answer;
+ghost use Rattle.maker.specs.Answer.{IsAnswer};
+ghost use Rattle.maker.specs.declared.verdict.Answer.TheVariants as answer;
 ghost use Rattle.bpf_insn.specs.declared.fault.ViewError.{ViewError};
 ghost use Rattle.kernel_check.specs.declared.fault.Refused.{Refused};
 
 use crate::status::{DONE, KERNEL_REFUSES, NO_PROGRAM, NO_RECORD};
-use pipeline::{Answer, answer_to};
+use maker::{Answer, answer_to};
 
 /// Writes the verdict of a filter on a call record of 64 bytes: 0. 12: the record has another length. 13: the filter's bytes
 /// are no program. 14: the kernel refuses the filter.

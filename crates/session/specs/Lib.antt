@@ -1,3 +1,4 @@
+pub mod script
 pub mod Fault
 pub mod Replies
 pub mod Commands

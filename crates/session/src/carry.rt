@@ -4,16 +4,16 @@ ghost use Rattle.std.specs.Option.{option_map};
 ghost use Rattle.std.specs.Vec.{vec_capacity};
 ghost use Rattle.lifecycle.specs.Commands as commands;
 ghost use Rattle.lifecycle.specs.Views.{world_of};
-ghost use Rattle.script.specs.Requests as requests;
+ghost use Rattle.session.specs.script.Requests as requests;
 ghost use Rattle.session.specs.Commands.{IsRecordOf, Means};
 ghost use Rattle.session.specs.Wants.{WantsMemory};
 ghost use Rattle.session.specs.inner.Carried.{CarriesOut, Fits, Replies, id_in, program_in};
 
 use crate::bundles::Bundles;
+use crate::script::{Hex, MAX_LINE, Request};
 use call_record::Record;
 use call_tables::Arch;
 use lifecycle::{Command, Reply, Runtime};
-use script::{Hex, MAX_LINE, Request};
 use shared_table::SharedTable;
 use std::alloc::{AllocError, Global};
 

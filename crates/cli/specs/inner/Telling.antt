@@ -6,12 +6,12 @@ use Rattle.cli.specs.declared.stops.Stop.{Stop}
 use Rattle.call_tables.specs.declared.arch.Arch.{Arch}
 use Rattle.cli.specs.declared.adapting.Both.{Both}
 use Rattle.cli.specs.declared.stops.Stop.TheVariants.{CannotRead, OutOfMemory, Usage}
-use Rattle.learn.specs.Learned.{TellsLearned}
-use Rattle.learn.specs.Wish.{AskFor}
-use Rattle.learn.specs.declared.lists.Otherwise.{Otherwise}
-use Rattle.learn.specs.declared.lists.Runtime.{Runtime}
-use Rattle.learn.specs.declared.reading.Shown.{Shown}
-use Rattle.learn.specs.Taken.{HaveShown}
+use Rattle.explain.specs.learn.Learned.{TellsLearned}
+use Rattle.explain.specs.learn.Wish.{AskFor}
+use Rattle.explain.specs.declared.learn.lists.Otherwise.{Otherwise}
+use Rattle.explain.specs.declared.learn.lists.Runtime.{Runtime}
+use Rattle.explain.specs.declared.learn.reading.Shown.{Shown}
+use Rattle.explain.specs.learn.Taken.{HaveShown}
 use Rattle.cli.specs.Dispatch.{FirstUnread, HaveBytes, StopsAtLog, WritesTold}
 use Rattle.cli.specs.Files.{Folder, HasBytes}
 use Rattle.cli.specs.Adapted.{AskNothing, IsMadeAs}

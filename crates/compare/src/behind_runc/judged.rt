@@ -2,18 +2,17 @@
 ghost use Rattle.std.specs.Prelude.{◌≡◌, IfSome, ℕ, List, Ok};
 ghost use Rattle.call_record.specs.Record.{words};
 ghost use Rattle.call_tables.specs.declared.arch.Arch.{Arch as TheArch};
-ghost use Rattle.evidence.specs.declared.evidence.Conviction.{Conviction as TheConviction};
-ghost use Rattle.evidence.specs.declared.evidence.Evidence.TheVariants.{Convicting};
-ghost use Rattle.pipeline.specs.Certified.{IsJudgement};
-ghost use Rattle.pipeline.specs.Told.{Tells};
+ghost use Rattle.maker.specs.declared.evidence.evidence.Conviction.{Conviction as TheConviction};
+ghost use Rattle.maker.specs.declared.evidence.evidence.Evidence.TheVariants.{Convicting};
+ghost use Rattle.maker.specs.Certified.{IsJudgement};
+ghost use Rattle.maker.specs.Told.{Tells};
 ghost use Rattle.compare.specs.Behind.{IsBehind, IsJudgedBehind, WritesBehind};
 
 use crate::behind_runc::behind::Behind;
 use crate::behind_runc::stub::is_answered;
 use call_record::{Word, words_are_a_record};
 use call_tables::Arch;
-use evidence::{Conviction, Evidence};
-use pipeline::{Unready, judge_bundle, refuse, write_judged};
+use maker::{Conviction, Evidence, Unready, judge_bundle, refuse, write_judged};
 use std::alloc::Global;
 use texts::{Sink, WriteFault};
 

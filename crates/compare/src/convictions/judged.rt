@@ -4,7 +4,7 @@ ghost use Rattle.bpf_insn.specs.Bytes.{insns_of, view_fault};
 ghost use Rattle.call_tables.specs.declared.arch.Arch.{Arch as TheArch};
 ghost use Rattle.kernel_check.specs.Accepted.{IsAccepted};
 ghost use Rattle.kernel_check.specs.Lent.{accepted_insns};
-ghost use Rattle.pipeline.specs.Certified.{AreJudged};
+ghost use Rattle.maker.specs.Certified.{AreJudged};
 ghost use Rattle.compare.specs.Convictions.{AllConvict, AreFound, Convicts};
 
 use crate::convictions::search::add_each;
@@ -12,8 +12,8 @@ use crate::filters::find_differences;
 use bpf_insn::Program;
 use call_record::Record;
 use call_tables::{Arch, Family};
-use evidence::Conviction;
 use kernel_check::{Accepted, accept};
+use maker::Conviction;
 use profile::Profile;
 use profile_json::read_bundle;
 use rule_compile::compile;

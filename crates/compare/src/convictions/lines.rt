@@ -1,10 +1,9 @@
 //! The lines of records that convict a filter.
 ghost use Rattle.std.specs.Prelude.{◌⊎◌, IfOk, string_bytes};
 ghost use Rattle.compare.specs.Convictions.{AreLines, WritesLines};
-ghost use Rattle.pipeline.specs.Exported.{LacksMemory};
+ghost use Rattle.maker.specs.Exported.{LacksMemory};
 
-use evidence::Conviction;
-use pipeline::line_of;
+use maker::{Conviction, line_of};
 use std::alloc::{AllocError, Global};
 use texts::{Sink, WriteFault, write_all};
 

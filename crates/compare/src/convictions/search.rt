@@ -3,15 +3,15 @@ ghost use Rattle.std.specs.Prelude.{◌≡◌, ℕ, List, IfOk, IfSome};
 ghost use Rattle.bpf_insn.specs.Bytes.{insns_of};
 ghost use Rattle.call_tables.specs.declared.arch.Arch.{Arch as TheArch};
 ghost use Rattle.kernel_check.specs.Lent.{accepted_insns};
-ghost use Rattle.evidence.specs.Conviction.{IsConviction};
-ghost use Rattle.pipeline.specs.Certified.{AreJudged};
+ghost use Rattle.maker.specs.evidence.Conviction.{IsConviction};
+ghost use Rattle.maker.specs.Certified.{AreJudged};
 ghost use Rattle.compare.specs.Convictions.{AllConvict, Convicts};
 
 use crate::difference::Difference;
 use bpf_interp::verdict;
 use call_record::Record;
-use evidence::Conviction;
 use kernel_check::Accepted;
+use maker::Conviction;
 use profile::Profile;
 use std::alloc::AllocError;
 

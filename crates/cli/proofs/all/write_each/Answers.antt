@@ -1,6 +1,6 @@
 use Rattle.std.proofs.Common.{List, ap, subst, sym, ◌∙◌}
 use Rattle.std.specs.Prelude.{Err, Ok, false, true}
-use Rattle.evidence.specs.declared.evidence.Conviction.{Conviction}
+use Rattle.maker.specs.declared.evidence.evidence.Conviction.{Conviction}
 use Rattle.compare.specs.Convictions.{AreFound}
 use Rattle.cli.proofs.FoundLaws.{tells_found}
 use Rattle.cli.proofs.all.write_each.Goals as goal

@@ -1,7 +1,7 @@
 use Rattle.std.proofs.Common.{◌≡◌, ◌+◌, ◌<◌, ◌≤◌, ◌++◌, ◌∙◌, Global, List, [], ◌∷◌, Vec, ap, arith, drop, length, length-append, map, subst}
 use Rattle.std.proofs.Common.{ℕ, sym, take}
 use Rattle.std.proofs.lemmas.List.{map-append, take_all}
-use Rattle.pipeline.specs.Exported.{IsUnready}
+use Rattle.maker.specs.Exported.{IsUnready}
 use Rattle.cli.specs.Running.{InTurn, IsBundleOf}
 use Rattle.cli.proofs.TurnLaws.{cut_at, in_turn_on, of_ok, ready, taken_on}
 use Rattle.cli.proofs.run.bundles_of.Goals as goal

@@ -1,6 +1,6 @@
 use Rattle.std.proofs.Common.{◌≡◌, ap, ◌∙◌, sym, refl, subst, Ok, take, [], List, ℕ}
-use Rattle.pipeline.specs.Finding.{IsFinding}
-use Rattle.pipeline.specs.declared.check.Finding.TheVariants.{Yes}
+use Rattle.maker.specs.Finding.{IsFinding}
+use Rattle.maker.specs.declared.check.Finding.TheVariants.{Yes}
 use Rattle.filter_c.specs.Answer.{IsNoCertificateOf}
 use Rattle.filter_c.proofs.AnswerLaws.{is_certificate, is_none}
 use Rattle.filter_c.proofs.bundles.certified.Goals as goal

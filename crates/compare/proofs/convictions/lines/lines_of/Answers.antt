@@ -1,7 +1,7 @@
 use Rattle.std.proofs.Common.{ℕ, List, [], ◌∷◌, ◌++◌, ap, subst, sym, take, ◌∙◌}
 use Rattle.std.proofs.lemmas.List.{take_more}
 use Rattle.std.specs.Prelude.{string_bytes}
-use Rattle.evidence.specs.declared.evidence.Conviction.{Conviction}
+use Rattle.maker.specs.declared.evidence.evidence.Conviction.{Conviction}
 use Rattle.compare.specs.Convictions.{AreLines}
 use Rattle.compare.proofs.ConvictionLineLaws.{one_more}
 use Rattle.compare.proofs.convictions.lines.lines_of.Goals as goal

@@ -1,7 +1,7 @@
 use Rattle.std.proofs.Common.{List, subst, sym}
 use Rattle.std.proofs.lemmas.List.Elements.{All-push}
 use Rattle.std.specs.Prelude.{IfSome, Option}
-use Rattle.evidence.specs.declared.evidence.Conviction.{Conviction}
+use Rattle.maker.specs.declared.evidence.evidence.Conviction.{Conviction}
 use Rattle.compare.specs.Convictions.{AllConvict, Convicts}
 use Rattle.compare.proofs.convictions.search.add.Goals as goal
 

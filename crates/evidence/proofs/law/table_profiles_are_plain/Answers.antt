@@ -1,5 +1,0 @@
-use Rattle.evidence.proofs.TableLaws.{tables_are_plain}
-use Rattle.evidence.proofs.law.table_profiles_are_plain.Goals as goal
-
-pub returns : goal.returns
-returns c = tables_are_plain

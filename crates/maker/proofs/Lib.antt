@@ -1,0 +1,11 @@
+pub mod CheckedLaws
+pub mod TableLaws
+pub mod ShapeLaws
+pub mod CompiledLaws
+pub mod RightLaws
+mod AnswerLaws
+mod BundleLaws
+mod ExportLaws
+mod FindingLaws
+pub mod PlainLaws
+mod EvidenceLaws

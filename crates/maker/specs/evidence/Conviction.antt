@@ -1,0 +1,60 @@
+-- What convicts a filter: a record on which it gives another verdict than the profile says. Verdicts are those of seccomp(2),
+-- as PROFILES.md and FILTERS.md tell them.
+use Rattle.std.specs.Prelude.{◌≡◌, ◌≢◌, ⊤, ℕ, List, Option, Some, None, Result, IfErr, IfOk, IfSome}
+use Rattle.call_record.specs.Record.{words}
+use Rattle.bpf_insn.specs.declared.instruction.Insn.{Insn}
+use Rattle.bpf_insn.specs.Machine.{verdict_of}
+use Rattle.profile.specs.Policy.{Policy, Says}
+use Rattle.rule_compile.specs.Shape.{IsCallFilter, IsPlain}
+use Rattle.rule_compile.specs.Steady.{IsSteady, Nothing}
+use Rattle.cert_check.specs.Right.{IsRight}
+use Rattle.cert_check.specs.Valid.{IsValidCertificate}
+use Rattle.certify.specs.Telling.{IsTelling}
+use Rattle.certify.specs.declared.error.CertifyError.{CertifyError}
+use Rattle.certify.specs.declared.error.CertifyError.TheVariants.{OutOfMemory}
+use Rattle.certify.specs.Error.{IsOfSize}
+use Rattle.maker.specs.declared.evidence.evidence.Conviction.{Conviction}
+use Rattle.maker.specs.declared.evidence.evidence.Evidence.{Evidence}
+use Rattle.maker.specs.declared.evidence.evidence.Evidence.TheVariants.{Certificate, Convicting}
+
+pub record Convicts (policy : Policy) (p : List Insn) (r : List ℕ) (given said : ℕ) : Type 0 where
+  pub gives : verdict_of p r ≡ Some given
+  pub says : Says policy r said
+  pub unlike : given ≢ said
+
+-- its record convicts the filter, by its two verdicts
+abbrev pub IsConviction : Policy → List Insn → Conviction → Type 0
+IsConviction policy p found = Convicts policy p (words found.call) found.given found.said
+
+-- the evidence on a filter: a certificate that keeps each rule of the checker, or what convicts the filter
+abbrev pub IsEvidence : Policy → List Insn → Evidence → Type 0
+IsEvidence policy p (Certificate bytes) = IsValidCertificate policy p bytes.items
+IsEvidence policy p (Convicting found) = IsConviction policy p found
+
+abbrev pub IsCertificate : Evidence → Type 0
+IsCertificate (Certificate bytes) = ⊤
+IsCertificate (Convicting found) = ⊥
+
+-- each filter of which a comparison tells all that it asks is judged, unless the format or memory has no room
+abbrev pub JudgesTelling : List Insn → Result Evidence CertifyError → Type 0
+JudgesTelling p result = IsTelling p → IfErr result IsOfSize
+
+-- the same of each filter that compares steadily
+abbrev pub JudgesSteady : List Insn → Result Evidence CertifyError → Type 0
+JudgesSteady p result = IsSteady p 0 Nothing → IfErr result IsOfSize
+
+-- a filter that has the shape of a plain profile's gets a certificate
+abbrev pub CertifiesShape : Policy → List Insn → Result Evidence CertifyError → Type 0
+CertifiesShape policy p result = IsPlain policy → IsCallFilter policy p → IfOk result IsCertificate
+
+-- or memory is refused
+abbrev pub ShapeLacksMemory : Policy → List Insn → Result Evidence CertifyError → Type 0
+ShapeLacksMemory policy p result = IsPlain policy → IsCallFilter policy p → IfErr result (λ e. e ≡ OutOfMemory)
+
+-- what is found, if something is, convicts the filter
+abbrev pub FindsConviction : Policy → List Insn → Result (Option Conviction) CertifyError → Type 0
+FindsConviction policy p result = IfOk result (λ answer. IfSome answer (IsConviction policy p))
+
+-- where nothing is found, and the filter compares steadily, it is right
+abbrev pub NoneIsRight : Policy → List Insn → Result (Option Conviction) CertifyError → Type 0
+NoneIsRight policy p result = IsSteady p 0 Nothing → IfOk result (λ answer. answer ≡ None → IsRight policy p)

@@ -1,0 +1,190 @@
+//! From a bundle and a filter to a certificate, or to a call record that convicts the filter.
+ghost use Rattle.std.specs.Prelude.{◌≡◌, ◌<◌, ℕ, List, Ok, IfOk, length, slice_index, string_bytes};
+ghost use Rattle.call_record.specs.Record.{words};
+ghost use Rattle.bpf_insn.specs.Bytes.{insns_of};
+ghost use Rattle.kernel_check.specs.Lent.{accepted_insns};
+ghost use Rattle.call_tables.specs.declared.arch.Arch.{Arch as TheArch};
+ghost use Rattle.maker.specs.declared.evidence.evidence.Conviction.{Conviction as TheConviction};
+ghost use Rattle.maker.specs.declared.evidence.evidence.Evidence.TheVariants.{Convicting};
+ghost use Rattle.maker.specs.evidence.Conviction.{IsCertificate};
+ghost use Rattle.maker.specs.Certified.{AreJudged, Certifies, CertifiesOwn, IsEvidenceFor, IsJudgement, IsOwnFilter, IsOwnJudgement};
+ghost use Rattle.maker.specs.Certified.{conviction_line, digits_line};
+ghost use Rattle.profile.specs.Policy.{Policy};
+ghost use Rattle.maker.specs.Finding.{IsBundle};
+ghost use Rattle.maker.specs.Told.{IsLine, IsWritten, Tells};
+
+use crate::evidence::{Conviction, Evidence, judge};
+use crate::unready::{Unready, refuse};
+use bpf_insn::Program;
+use call_record::{Word, words_are_a_record};
+use call_tables::Arch;
+use cert_check::CheckError;
+use kernel_check::{Accepted, accept};
+use profile::Profile;
+use profile_json::read_bundle;
+use std::alloc::{AllocError, Global};
+use texts::{Sink, WriteFault, write_all};
+
+// The bytes of a record are 64, each below 256.
+fn are_bytes(bytes: &[u8])
+    requires { length bytes.now ≡ 64 }
+    ensures size { length bytes.now ≡ 64 }
+    ensures small { (i : ℕ) → slice_index bytes.now i < 256 }
+{}
+
+// The line that tells a record by its digits, with two verdicts.
+fn line_with(alloc: Global, digits: &str, given: Word, said: Word) -> Result<String, AllocError>
+    ensures { IfOk result (λ line. string_bytes line ≡ digits_line digits.now given said) }
+{
+    format!(in alloc; "no record {digits} filter {given} profile {said}\n")
+}
+
+// The line that tells a record by its bytes, with two verdicts.
+fn line_text(alloc: Global, bytes: &[u8], given: Word, said: Word) -> Result<String, AllocError>
+    ensures { IfOk result (λ line. string_bytes line ≡ conviction_line bytes.now given said) }
+{
+    let digits = hex::encode(alloc, bytes)?;
+    line_with(alloc, digits.as_str(), given, said)
+}
+
+/// The line that tells a conviction.
+pub fn line_of(alloc: Global, found: &Conviction) -> Result<String, AllocError>
+    ensures { IfOk result (λ line. IsLine (words found.now.call) found.now.given found.now.said (string_bytes line)) }
+{
+    let bytes = found.call.to_bytes();
+    are_bytes(&bytes);
+    line_text(alloc, &bytes, found.given, found.said)
+}
+
+// Writes the line that tells a conviction. The answer is false.
+fn tell<S: Sink>(alloc: Global, found: &Conviction, sink: &mut S) -> Result<bool, WriteFault>
+    ensures { Tells S.held S.failures sink.old sink.new (words found.now.call) found.now.given found.now.said result }
+{
+    let Ok(line) = line_of(alloc, found) else {
+        return Err(WriteFault::OutOfMemory);
+    };
+    write_all(line.as_bytes(), sink)?;
+    Ok(false)
+}
+
+// What is judged of a profile and a filter that the kernel accepts.
+fn judged(alloc: Global, profile: &Profile, program: &Accepted<'_>) -> Result<Evidence, Unready>
+    ensures found { (native : TheArch) (bundle filter : List ℕ) → AreJudged native bundle filter profile.now
+        → accepted_insns program.now ≡ insns_of filter → IsJudgement native bundle filter result }
+    ensures own { (native : TheArch) (bundle filter : List ℕ) → IsOwnFilter native bundle filter profile.now
+        → accepted_insns program.now ≡ insns_of filter → IsOwnJudgement result }
+{
+    profile.rules();
+    match judge(alloc, profile, program) {
+        Ok(evidence) => Ok(evidence),
+        Err(error) => Err(Unready::from(error)),
+    }
+}
+
+// What is judged of a profile and the bytes of a filter.
+fn judge_filter(alloc: Global, profile: &Profile, filter: &[u8]) -> Result<Evidence, Unready>
+    ensures found { (native : TheArch) (bundle : List ℕ) → IsBundle native bundle profile.now
+        → IsJudgement native bundle filter.now result }
+    ensures own { (native : TheArch) (bundle : List ℕ) → IsOwnFilter native bundle filter.now profile.now → IsOwnJudgement result }
+{
+    let program = match Program::view(filter) {
+        Ok(program) => program,
+        Err(fault) => return Err(Unready::Check(CheckError::View(fault))),
+    };
+    match accept(&program) {
+        Ok(accepted) => judged(alloc, profile, &accepted),
+        Err(refused) => Err(Unready::Check(CheckError::Kernel(refused))),
+    }
+}
+
+/// The evidence on a filter, beside a bundle that is read for a native machine: a certificate that the filter answers what the bundle
+/// says, to which the checker says yes, or a call record on which the filter gives another verdict. Or else why there is neither: of
+/// a filter that compares steadily only that the format has no room.
+pub fn judge_bundle(
+    alloc: Global,
+    native: Arch,
+    bundle: &[u8],
+    filter: &[u8],
+) -> Result<Evidence, Unready>
+    ensures found { IsJudgement native bundle.now filter.now result }
+    // Of a bundle that means a plain profile, and a filter as the compiler makes it of such, there is a certificate, unless memory is
+    // refused.
+    ensures own { (policy : Policy) → IsOwnFilter native bundle.now filter.now policy → IsOwnJudgement result }
+{
+    match read_bundle(alloc, bundle, native) {
+        Ok(bundle) => judge_filter(alloc, &bundle.profile, filter),
+        Err(error) => Err(Unready::from(error)),
+    }
+}
+
+// Writes a certificate. The answer is true.
+fn write_certificate<S: Sink>(certificate: &[u8], sink: &mut S) -> Result<bool, WriteFault>
+    ensures { IsWritten S.held S.failures sink.old sink.new certificate.now result }
+{
+    write_all(certificate, sink)?;
+    Ok(true)
+}
+
+// Writes the evidence on a filter: the certificate, where the answer is true, or the line of the very record that convicts it.
+fn write_evidence<S: Sink>(
+    alloc: Global,
+    evidence: &Evidence,
+    sink: &mut S,
+) -> Result<bool, WriteFault>
+    ensures found { (native : TheArch) (bundle filter : List ℕ) → IsEvidenceFor native bundle filter evidence.now
+        → Certifies S.held S.failures sink.old sink.new native bundle filter result }
+    ensures own { (native : TheArch) (bundle filter : List ℕ) → IsEvidenceFor native bundle filter evidence.now
+        → IsCertificate evidence.now → CertifiesOwn S.held S.failures sink.old sink.new native bundle filter result }
+    ensures told { (found : TheConviction) → evidence.now ≡ Convicting found
+        → Tells S.held S.failures sink.old sink.new (words found.call) found.given found.said result }
+{
+    match evidence {
+        Evidence::Certificate(certificate) => write_certificate(certificate, sink),
+        Evidence::Convicting(found) => {
+            words_are_a_record(&found.call);
+            tell(alloc, found, sink)
+        }
+    }
+}
+
+/// Writes what was judged: the evidence, where there is some, or the line that says why there is none. The answer is true where a
+/// certificate was written.
+pub fn write_judged<S: Sink>(
+    alloc: Global,
+    judged: &Result<Evidence, Unready>,
+    sink: &mut S,
+) -> Result<bool, WriteFault>
+    ensures found { (native : TheArch) (bundle filter : List ℕ) → IsJudgement native bundle filter judged.now
+        → Certifies S.held S.failures sink.old sink.new native bundle filter result }
+    ensures own { (native : TheArch) (bundle filter : List ℕ) → IsJudgement native bundle filter judged.now → IsOwnJudgement judged.now
+        → CertifiesOwn S.held S.failures sink.old sink.new native bundle filter result }
+    // The record that is told is the one that was found.
+    ensures told { (found : TheConviction) → judged.now ≡ Ok (Convicting found)
+        → Tells S.held S.failures sink.old sink.new (words found.call) found.given found.said result }
+{
+    match judged {
+        Ok(evidence) => write_evidence(alloc, evidence, sink),
+        Err(unready) => refuse(alloc, unready, sink),
+    }
+}
+
+/// Writes what is judged of a bundle, which is read for a native machine, and a filter: a certificate to which the checker says
+/// yes. Where there is none, the answer is false, and the line of a call record is written on which the filter gives
+/// another verdict than the bundle says; or, where none is found, the line that says why there is neither: of a filter that
+/// compares steadily only that the format has no room.
+pub fn certify_bundle<S: Sink>(
+    alloc: Global,
+    native: Arch,
+    bundle: &[u8],
+    filter: &[u8],
+    sink: &mut S,
+) -> Result<bool, WriteFault>
+    ensures found { Certifies S.held S.failures sink.old sink.new native bundle.now filter.now result }
+    // Of a bundle that means a plain profile, and a filter as the compiler makes it of such, a certificate is written, unless
+    // memory is refused or the sink fails.
+    ensures own { (policy : Policy) → IsOwnFilter native bundle.now filter.now policy
+        → CertifiesOwn S.held S.failures sink.old sink.new native bundle.now filter.now result }
+{
+    let judged = judge_bundle(alloc, native, bundle, filter);
+    write_judged(alloc, &judged, sink)
+}

@@ -1,0 +1,34 @@
+//! From a bundle to a checked filter, which is written in one of its forms: what `ccell export` writes.
+ghost use Rattle.maker.specs.Exported.{Exports, ExportsFilter};
+ghost use Rattle.maker.specs.Plain.{IsPlainBundle};
+
+use crate::slot::Slot;
+use crate::unready::refuse;
+use call_tables::Arch;
+use export::{Form, export_form};
+use std::alloc::Global;
+use texts::{Sink, WriteFault};
+
+/// Writes the filter of a bundle, which is read for a native machine, in a form, once it is compiled, certified and
+/// checked. If one of these refuses, the line that says so is written, and the answer is false.
+pub fn export_bundle<S: Sink>(
+    alloc: Global,
+    native: Arch,
+    bundle: &[u8],
+    form: Form,
+    sink: &mut S,
+) -> Result<bool, WriteFault>
+    ensures exports { Exports S.held S.failures sink.old sink.new native bundle.now form result }
+    // Of a bundle that means a plain profile the filter is written, unless memory is refused or the sink fails.
+    ensures own { IsPlainBundle native bundle.now
+        → ExportsFilter S.held S.failures sink.old sink.new native bundle.now form result }
+{
+    let mut slot = Slot::new();
+    match slot.fill(alloc, native, bundle) {
+        Ok(checked) => {
+            export_form(alloc, &checked, form, sink)?;
+            Ok(true)
+        }
+        Err(unready) => refuse(alloc, &unready, sink),
+    }
+}

@@ -1,0 +1,86 @@
+//! What is proposed first, and taken if the checker says yes: a filter that is shorter than the compiler's own; or of a profile
+//! without conditions the compiler's own, with the certificate of its outline, which is smaller than the one that follows each path.
+ghost use Rattle.std.specs.Prelude.{◌≡◌, IfErr};
+ghost use Rattle.certify.specs.declared.error.CertifyError.TheVariants as maker;
+ghost use Rattle.maker.specs.declared.unready.Unready.TheVariants.{OutOfMemory};
+
+use crate::evidence::{propose_shared, shortened};
+use crate::proposal::Proposal;
+use crate::unready::Unready;
+use bpf_insn::{MAX_INSNS, Program, encode_into};
+use certify::{CertifyError, certify_accepted};
+use kernel_check::{Accepted, accept};
+use profile::Profile;
+use rule_compile::{Known, Planned, Shorter};
+use std::alloc::{AllocError, Global};
+
+// A certificate, by what is known of the filter.
+fn certificate_of(
+    alloc: Global,
+    profile: &Profile,
+    accepted: &Accepted<'_>,
+    own: &Planned,
+    known: &Known,
+) -> Result<Vec<u8>, CertifyError> {
+    match known {
+        Known::AsOwn => propose_shared(alloc, profile, accepted, &own.outline),
+        Known::Outline(outline) => propose_shared(alloc, profile, accepted, outline),
+        Known::Nothing => certify_accepted(alloc, profile, accepted),
+    }
+}
+
+// The compiler's own filter of a profile without conditions. Of any other profile its outline is followed anyway.
+fn own_if_plain(
+    alloc: Global,
+    profile: &Profile,
+    own: &Planned,
+) -> Result<Option<Shorter>, AllocError> {
+    let is_plain = profile.rules().iter().all(|rule| rule.conds.is_empty());
+    if !is_plain || own.insns.len() > MAX_INSNS {
+        return Ok(None);
+    }
+    let mut bytes = vec![in alloc; 0u8; 8 * own.insns.len()]?;
+    encode_into(&own.insns, &mut bytes);
+    Ok(Some(Shorter {
+        bytes,
+        known: Known::AsOwn,
+    }))
+}
+
+// The filter that is proposed first, if there is one.
+fn first(alloc: Global, profile: &Profile, own: &Planned) -> Result<Option<Shorter>, AllocError> {
+    match shortened(alloc, profile, own)? {
+        Some(made) => Ok(Some(made)),
+        None => own_if_plain(alloc, profile, own),
+    }
+}
+
+/// The filter that is proposed first, if there is one, and a certificate of which the checker was not asked.
+pub(crate) fn shorter(
+    alloc: Global,
+    profile: &Profile,
+    own: &Planned,
+) -> Result<Option<Proposal>, Unready>
+    ensures { IfErr result (λ unready. unready ≡ OutOfMemory) }
+{
+    let Ok(found) = first(alloc, profile, own) else {
+        return Err(Unready::OutOfMemory);
+    };
+    let Some(made) = found else {
+        return Ok(None);
+    };
+    let Ok(program) = Program::view(&made.bytes) else {
+        return Ok(None);
+    };
+    let Ok(accepted) = accept(&program) else {
+        return Ok(None);
+    };
+    match certificate_of(alloc, profile, &accepted, own, &made.known) {
+        Ok(certificate) => Ok(Some(Proposal {
+            filter: made.bytes,
+            certificate,
+        })),
+        Err(CertifyError::OutOfMemory) => Err(Unready::OutOfMemory),
+        Err(_) => Ok(None),
+    }
+}

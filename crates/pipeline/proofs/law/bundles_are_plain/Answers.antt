@@ -1,5 +1,0 @@
-use Rattle.pipeline.proofs.BundleLaws as laws
-use Rattle.pipeline.proofs.law.bundles_are_plain.Goals as goal
-
-pub returns : goal.returns
-returns c = laws.bundles_are_plain

@@ -1,5 +1,0 @@
-use Rattle.pipeline.proofs.AnswerLaws as laws
-use Rattle.pipeline.proofs.law.one_answer.Goals as goal
-
-pub returns : goal.returns
-returns c = laws.one_answer c.one_refusal.ensures

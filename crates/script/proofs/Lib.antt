@@ -1,7 +1,0 @@
-mod Pieces
-mod NumberLaws
-mod PairLaws
-mod WhatLaws
-mod ArgumentLaws
-mod CommandLaws
-mod LineLaws
