@@ -3,6 +3,6 @@ mod mets;
 mod outs;
 mod shared;
 
-pub(crate) use mets::{FEW_RULES, Mets, has_no_met, mark_mets};
+pub(crate) use mets::{FEW_RULES, Mets, SOME_RULES, has_no_met, mark_mets};
 pub(crate) use outs::{Outs, has_none, mark_outs};
 pub(crate) use shared::are_placed;

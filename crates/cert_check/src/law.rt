@@ -13,8 +13,8 @@ pub fn valid_is_kept()
     ensures { ValidIsKept }
 {}
 
-/// Where each word of a record is stated and all that is known holds of it, the rule of returns is kept by the verdict that
-/// the profile says of the record: nothing has to be said of its rules.
+/// Where each word of a record is stated and all that is known holds of it, a return of the verdict that the profile says of the
+/// record agrees by what is known: nothing has to be said of its rules.
 pub fn stated_is_settled()
     ensures { StatedIsSettled }
 {}

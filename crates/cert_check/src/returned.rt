@@ -13,7 +13,9 @@ ghost use Rattle.cert_check.specs.inner.Marked.{IsClear};
 
 use crate::agree::Agreement;
 use crate::agreed::Agreed;
-use crate::claims::{FEW_RULES, Mets, Outs, has_no_met, has_none, mark_mets, mark_outs};
+use crate::claims::{
+    FEW_RULES, Mets, Outs, SOME_RULES, has_no_met, has_none, mark_mets, mark_outs,
+};
 use bpf_insn::{Insn, Operation};
 use call_record::Word;
 use cert_form::{Kind, NodeView};
@@ -91,6 +93,28 @@ fn agrees_by_few(
     agrees_by(profile, node, outs, word, &mut [false; 6 * FEW_RULES], room)
 }
 
+// The same where it has some more.
+#[inline(never)]
+fn agrees_by_some(
+    profile: &Profile,
+    node: &NodeView<'_>,
+    outs: Outs<'_, '_>,
+    word: Word,
+    room: &mut Room,
+) -> bool
+    requires { outs_of outs.node ≡ (says node.now).out }
+    ensures { let n = says node.now in IsTrue result ↔ Agrees profile.now n.out n.met n.known word }
+{
+    agrees_by(
+        profile,
+        node,
+        outs,
+        word,
+        &mut [false; 6 * SOME_RULES],
+        room,
+    )
+}
+
 // The same where it has many.
 #[inline(never)]
 fn agrees_by_many(
@@ -120,8 +144,12 @@ fn agrees_but_for(
     if has_no_met(node) {
         return agrees_with(profile, node, outs, Mets::none(), word, room);
     }
-    if profile.rules().len() <= FEW_RULES {
+    let rules = profile.rules().len();
+    if rules <= FEW_RULES {
         return agrees_by_few(profile, node, outs, word, room);
+    }
+    if rules <= SOME_RULES {
+        return agrees_by_some(profile, node, outs, word, room);
     }
     agrees_by_many(profile, node, outs, word, room)
 }

@@ -8,7 +8,7 @@ use call_record::Word;
 use cert_state::{Facts, Room, State};
 use profile::Profile;
 
-/// Whether the profile says a verdict of each record of which a state knows: the rule of returns, where no rule is said to be
+/// Whether the profile says a verdict of each record of which a state knows: the first way of a return, where no rule is said to be
 /// out and no condition to be met.
 pub fn is_settled<S: State>(profile: &Profile, state: &S, word: Word) -> bool
     ensures { IsTrue result ↔ Agrees profile.now [] [] (S.known state.now) word }

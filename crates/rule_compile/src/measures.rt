@@ -14,7 +14,7 @@ const RANGES: usize = 6;
 // How many questions of a block are repeated in the time in which a range is looked at.
 const REPEATED: usize = 64;
 
-// More ranges than a filter can tell apart.
+// As many ranges as four filters can tell apart.
 const MOST: usize = 4 * MAX_INSNS;
 
 /// Whether each rule has the verdict of what is gone on at without them.
@@ -53,14 +53,14 @@ pub(crate) fn cost_of(rules: &[Open], ranges: usize) -> usize {
     ranges.max(rules.len() / REPEATED)
 }
 
-/// How many ranges may be looked at where rules are asked all at once, that are to be no more than these. Where these are more than
-/// a filter has, nor will those be few that take the place of them.
+/// How many ranges may be looked at where rules are asked all at once, that are to be no more than these, and at most as many as four
+/// filters can tell apart. Where these are more than that, nor will those be few that take the place of them.
 pub(crate) fn room_for(rules: &[Open], fewest: usize) -> usize {
     if fewest > MOST {
         return 0;
     }
     let looked_at = RANGES.saturating_mul(rules.len().saturating_add(1));
-    looked_at.max(fewest.saturating_mul(2))
+    looked_at.max(fewest.saturating_mul(2)).min(MOST)
 }
 
 /// The place of the rule that begins nearest behind the middle, or else of the last one.

@@ -27,6 +27,9 @@ pub(crate) struct Mets<'t, 'a> {
 /// How many rules a short table is made for: most profiles have no more.
 pub(crate) const FEW_RULES: usize = 512;
 
+/// How many rules a table of middle length is made for.
+pub(crate) const SOME_RULES: usize = 2048;
+
 // Marks a condition, if the table has it.
 fn mark(marked: &mut [bool], place: (u32, u32))
     ensures { (rule own : ℕ) (d : TheBool) → own < 6 → 6 * rule + own < length marked.old
@@ -234,6 +237,14 @@ impl Passage<'_> {
         self.mets_follow_by(&mut [false; 6 * FEW_RULES], room)
     }
 
+    // The same where it has some more.
+    #[inline(never)]
+    fn mets_follow_by_some(&self, room: &mut Room) -> bool
+        ensures { IsTrue result ↔ MetsFollow self.now }
+    {
+        self.mets_follow_by(&mut [false; 6 * SOME_RULES], room)
+    }
+
     // The same where it has many.
     #[inline(never)]
     fn mets_follow_by_many(&self, room: &mut Room) -> bool
@@ -256,8 +267,12 @@ impl Passage<'_> {
             };
             return all_are_met(self.profile, &known, &Mets::none(), self.there, room);
         }
-        if self.profile.rules().len() <= FEW_RULES {
+        let rules = self.profile.rules().len();
+        if rules <= FEW_RULES {
             return self.mets_follow_by_few(room);
+        }
+        if rules <= SOME_RULES {
+            return self.mets_follow_by_some(room);
         }
         self.mets_follow_by_many(room)
     }

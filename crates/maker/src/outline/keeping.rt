@@ -122,6 +122,7 @@ impl<'a> Maker<'a> {
         chains: &mut Chains,
         chain: u32,
         claims: &[Claim],
+        room: &mut Room,
     ) -> Result<Vec<Claim>, AllocError> {
         let open = chains.lacking(self.alloc, chain, claims)?;
         if open.iter().all(|claim| matches!(claim, Claim::Knows(_))) {
@@ -136,8 +137,7 @@ impl<'a> Maker<'a> {
         if !are_many(open.len(), known.whole.len()) {
             return self.not_following(&known.told(&whole), &marks, &open);
         }
-        let mut room = Room::new();
-        self.not_following(&known.told(&Facts::of(&whole, &mut room)), &marks, &open)
+        self.not_following(&known.told(&Facts::of(&whole, room)), &marks, &open)
     }
 
     // Those of some claims that do not follow from literals.
@@ -163,6 +163,7 @@ impl<'a> Maker<'a> {
         kept: Kept,
         asked: Option<u8>,
         needed: Vec<Claim>,
+        room: &mut Room,
     ) -> Result<u32, OutlineError> {
         let mut claims = needed;
         let before = match asked {
@@ -175,7 +176,7 @@ impl<'a> Maker<'a> {
         {
             claims.push(Claim::Knows(literal))?;
         }
-        let lacking = self.lacking(chains, before, &claims)?;
+        let lacking = self.lacking(chains, before, &claims, room)?;
         Ok(chains.behind(self.alloc, before, &lacking, &claims)?)
     }
 }
@@ -189,6 +190,7 @@ pub(crate) fn kept_nodes(
     let needs = maker.needs(kinds, order)?;
     let mut listing = Listing::new(maker.alloc, order)?;
     let mut before: Vec<Option<Kept>> = vec![in maker.alloc; None; order.len()]?;
+    let mut room = Room::new();
     for place in order {
         let (spot, kind) = maker.spot_at(kinds, *place)?;
         let kept = match before.get(*place as usize) {
@@ -196,7 +198,8 @@ pub(crate) fn kept_nodes(
             _ => Kept::NOTHING,
         };
         let needed = maker.needed_claims(&needs, *place, &spot)?;
-        let chain = maker.kept_chain(&mut listing.chains, kept, asked_word(&spot, kind), needed)?;
+        let asked = asked_word(&spot, kind);
+        let chain = maker.kept_chain(&mut listing.chains, kept, asked, needed, &mut room)?;
         for (next, told) in maker.ways(&spot, kind) {
             if let Some(own) = before.get_mut(next as usize) {
                 *own = Some(Kept::with_way(*own, &listing.chains, Kept { chain, told }));

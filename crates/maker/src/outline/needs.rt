@@ -184,6 +184,7 @@ impl<'a> Maker<'a> {
         spot: &Spot,
         next: u32,
         told: Option<Lit>,
+        room: &mut Room,
     ) -> Result<Vec<usize>, OutlineError> {
         let rules = needs.outs.rules(self.alloc, next)?;
         if rules.is_empty() {
@@ -197,9 +198,8 @@ impl<'a> Maker<'a> {
         if !are_many(rules.len(), words.whole.len()) {
             return self.not_refuted(&words.told(&whole), &rules, literal.word());
         }
-        let mut room = Room::new();
         self.not_refuted(
-            &words.told(&Facts::of(&whole, &mut room)),
+            &words.told(&Facts::of(&whole, room)),
             &rules,
             literal.word(),
         )
@@ -228,11 +228,12 @@ impl<'a> Maker<'a> {
         place: u32,
         next: u32,
         told: Option<Lit>,
+        room: &mut Room,
     ) -> Result<(), OutlineError> {
         let (Some(spot), true) = (self.spots.get(place as usize), next != NOBODY) else {
             return Ok(());
         };
-        for rule in &self.outs_before(needs, spot, next, told)? {
+        for rule in &self.outs_before(needs, spot, next, told, room)? {
             needs.outs.add(place, *rule)?;
         }
         for rule in &needs.held.rules(self.alloc, next)? {
@@ -248,13 +249,14 @@ impl<'a> Maker<'a> {
             outs: Sets::new(self.alloc, kinds.len(), rules)?,
             held: Sets::new(self.alloc, kinds.len(), rules)?,
         };
+        let mut room = Room::new();
         for place in order.iter().rev() {
             let (spot, kind) = self.spot_at(kinds, *place)?;
             if kind == Kind::Return {
                 self.need_at_return(&mut needs, *place, &spot)?;
             }
             for (next, told) in self.ways(&spot, kind) {
-                self.need_before(&mut needs, *place, next, told)?;
+                self.need_before(&mut needs, *place, next, told, &mut room)?;
             }
         }
         Ok(needs)
