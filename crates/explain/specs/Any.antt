@@ -13,8 +13,8 @@ use Rattle.profile.specs.declared.rules.Rule.{Rule}
 use Rattle.profile.specs.Policy.{Policy}
 use Rattle.profile_json.specs.Meaning.{IsText, Means}
 use Rattle.profile_json.specs.ByEntry.{AreRulesOf}
-use Rattle.session.specs.script.Grammar.{LineIs}
-use Rattle.session.specs.script.Commands.{Call}
+use Rattle.explain.specs.script.Grammar.{LineIs}
+use Rattle.explain.specs.script.Commands.{Call}
 use Rattle.explain.specs.declared.told.Told.{Told}
 use Rattle.explain.specs.Phrases.{action_text, call_on, condition_text, machine_with}
 use Rattle.explain.specs.Reason.{entry_at}

@@ -24,3 +24,4 @@ pub mod Rows
 pub mod Tables
 pub mod Reads
 pub mod learn
+pub mod script

@@ -14,6 +14,7 @@ pub mod narrow;
 mod phrases;
 mod reason;
 mod rules;
+pub mod script;
 mod telling;
 mod told;
 

@@ -1,10 +1,3 @@
-mod Pieces
-mod NumberLaws
-mod PairLaws
-mod WhatLaws
-mod ArgumentLaws
-mod CommandLaws
-mod LineLaws
 mod Found
 mod CarryLaws
 mod KeptLaws

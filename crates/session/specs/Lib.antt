@@ -1,4 +1,3 @@
-pub mod script
 pub mod Fault
 pub mod Replies
 pub mod Commands

@@ -12,10 +12,8 @@ mod law;
 mod progress;
 mod reply;
 mod run;
-mod script;
 
 pub use bundles::{Bundle, Bundles};
 pub use fault::ScriptFault;
 pub use law::one_script;
 pub use run::run_script;
-pub use script::{Hex, Request, one_command, one_reading, read_line};

@@ -1,7 +1,7 @@
 -- The record of a command of a script.
 use Rattle.std.specs.Prelude.{◌≡◌, Option, None, Some, IsSomeAnd}
 use Rattle.call_record.specs.declared.layout.Record.{Record}
-use Rattle.session.specs.script.Commands.{Command, Create, Start, Delete, State, Kill, Call}
+use Rattle.explain.specs.script.Commands.{Command, Create, Start, Delete, State, Kill, Call}
 use Rattle.explain.specs.Asked.{IsRecordOf}
 
 -- a call without a program has a record, and nothing else has one

@@ -3,7 +3,7 @@ ghost use Rattle.std.specs.Prelude.{◌≡◌, ◌++◌, codes, IfOk, IfSome, st
 ghost use Rattle.explain.specs.Any.{IsWhat};
 
 use call_tables::Arch;
-use session::{Request, read_line};
+use crate::script::{Request, read_line};
 use std::alloc::{AllocError, Global};
 
 // The line of a script with this word.
