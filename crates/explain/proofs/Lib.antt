@@ -30,7 +30,6 @@ mod Lines
 mod Taken
 mod Come
 mod GatheredLaws
-mod LogResults
 mod LoggedLaws
 mod RefusedLaws
 mod PlayedLaws

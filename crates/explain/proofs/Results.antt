@@ -1,4 +1,5 @@
 -- What holds of the value of a result.
+use Rattle.std.proofs.Common.{◌≡◌, ◌∙◌}
 use Rattle.std.specs.Prelude.{IfOk, Result, Ok, Err}
 
 -- what follows of each value
@@ -15,3 +16,8 @@ if_ok_both P Q R h (Err e) p q = p
 pub if_ok_always : {T E : Type 0} (P : T → Type 0) → ((x : T) → P x) → (r : Result T E) → IfOk r P
 if_ok_always P h (Ok x) = h x
 if_ok_always P h (Err e) = tt
+
+-- what equals a value equals what that equals
+pub if_ok_equal : {T E A : Type 0} (x y z : A) → y ≡ z → (r : Result T E) → IfOk r (λ _. x ≡ y) → IfOk r (λ _. x ≡ z)
+if_ok_equal x y z e (Ok v) h = h ∙ e
+if_ok_equal x y z e (Err v) h = tt

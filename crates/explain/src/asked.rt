@@ -7,10 +7,10 @@ ghost use Rattle.explain.specs.script.Requests.{command_of};
 ghost use Rattle.explain.specs.Asked as spec;
 ghost use Rattle.explain.specs.inner.Found.{IsRecordIn};
 
+use crate::script::{Request, one_command, read_line};
 use call_record::Record;
 use call_tables::Arch;
 use hex::FromHex;
-use crate::script::{Request, one_command, read_line};
 use std::alloc::{AllocError, Global};
 
 fn has_space(argument: &str) -> bool

@@ -10,9 +10,9 @@ ghost use Rattle.session.specs.Wants.{WantsMemory};
 ghost use Rattle.session.specs.inner.Carried.{CarriesOut, Fits, Replies, id_in, program_in};
 
 use crate::bundles::Bundles;
-use explain::script::{Hex, MAX_LINE, Request};
 use call_record::Record;
 use call_tables::Arch;
+use explain::script::{Hex, MAX_LINE, Request};
 use lifecycle::{Command, Reply, Runtime};
 use shared_table::SharedTable;
 use std::alloc::{AllocError, Global};

@@ -1,7 +1,7 @@
 -- What a request and its program say.
 use Rattle.std.specs.Prelude.{ℕ, List}
 use Rattle.std.specs.Option.{option_map}
-use Rattle.explain.specs.declared.script.hex.Hex.{Hex}
+use Rattle.explain.specs.declared.script.digits.Hex.{Hex}
 use Rattle.explain.specs.declared.script.request.Request.{Request}
 use Rattle.explain.specs.declared.script.request.Request.TheVariants as requests
 use Rattle.explain.specs.script.Commands.{Command, Create, Start, Delete, State, Kill, Call}

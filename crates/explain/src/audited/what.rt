@@ -2,8 +2,8 @@
 ghost use Rattle.std.specs.Prelude.{◌≡◌, ◌++◌, codes, IfOk, IfSome, string_bytes};
 ghost use Rattle.explain.specs.Any.{IsWhat};
 
-use call_tables::Arch;
 use crate::script::{Request, read_line};
+use call_tables::Arch;
 use std::alloc::{AllocError, Global};
 
 // The line of a script with this word.

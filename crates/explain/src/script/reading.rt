@@ -5,8 +5,8 @@ ghost use Rattle.explain.specs.script.Grammar.{LineIs};
 ghost use Rattle.explain.specs.script.Requests.{bytes_of, command_of};
 ghost use Rattle.explain.specs.script.inner.Reading.{arguments_at, call_at, command_from, command_of_more, command_of_three, command_of_two, next_at, program_at};
 
+use crate::script::digits::Hex;
 use crate::script::fields::fields_in;
-use crate::script::hex::Hex;
 use crate::script::numbers::number;
 use crate::script::request::Request;
 use crate::script::what::what_call;

@@ -1,5 +1,5 @@
 //! What a line asks for.
-use crate::script::hex::Hex;
+use crate::script::digits::Hex;
 use call_tables::Arch;
 
 /// What a line asks for, with its texts lent from the line.

@@ -5,7 +5,7 @@ use Rattle.explain.specs.learn.Lines.{lines_of}
 use Rattle.explain.specs.learn.Logged.{Logged, calls_from, calls_of, told_on}
 use Rattle.explain.specs.learn.inner.Views.{all_logged}
 use Rattle.explain.proofs.LoggedLaws.{calls_step, more_calls, rest_shorter}
-use Rattle.explain.proofs.LogResults.{if_ok_equal}
+use Rattle.explain.proofs.Results.{if_ok_equal}
 use Rattle.explain.proofs.learn.logged.put_text.Goals as goal
 
 pub line-preserved : goal.line-preserved

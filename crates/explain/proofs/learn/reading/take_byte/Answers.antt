@@ -1,7 +1,7 @@
 use Rattle.std.proofs.Common.{◌≡◌, ℕ, List, [], ◌∷◌, ◌++◌, IsTrue, sym, subst}
 use Rattle.explain.specs.learn.Taken.{AreTaken, HasCome}
 use Rattle.explain.proofs.Come.{byte_came, line_came}
-use Rattle.explain.proofs.LogResults.{if_ok_both}
+use Rattle.explain.proofs.Results.{if_ok_both}
 use Rattle.std.proofs.lemmas.Bool.{ne_eqb}
 use Rattle.explain.proofs.learn.reading.take_byte.Goals as goal
 

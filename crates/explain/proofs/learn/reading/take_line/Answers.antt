@@ -1,6 +1,6 @@
 use Rattle.std.proofs.Common.{[], ◌∷◌, ◌++◌, sym}
 use Rattle.explain.specs.learn.Taken.{AreTaken, Grows, IsCovered}
-use Rattle.explain.proofs.LogResults.{if_ok_always, if_ok_both}
+use Rattle.explain.proofs.Results.{if_ok_always, if_ok_both}
 use Rattle.explain.proofs.Taken.{taken_more, taken_none}
 use Rattle.explain.proofs.learn.reading.take_line.Goals as goal
 

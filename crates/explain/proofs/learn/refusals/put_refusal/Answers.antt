@@ -3,7 +3,7 @@ use Rattle.std.specs.Prelude.{ℕ, count_by, string_bytes}
 use Rattle.explain.specs.learn.Replayed.{call_text, is_alike, place_text, refusal_text, times_text, why_text}
 use Rattle.explain.specs.learn.inner.Views.{all_refused, refused}
 use Rattle.explain.proofs.RefusedLaws.{told_four}
-use Rattle.explain.proofs.LogResults.{if_ok_equal}
+use Rattle.explain.proofs.Results.{if_ok_equal}
 use Rattle.explain.proofs.learn.refusals.put_refusal.Goals as goal
 
 pub returns : goal.returns

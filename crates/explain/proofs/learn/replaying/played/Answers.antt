@@ -7,7 +7,7 @@ use Rattle.explain.specs.declared.learn.logged.LogCall.{LogCall}
 use Rattle.explain.specs.learn.inner.Played.{IsPlayed, Plays}
 use Rattle.explain.specs.learn.inner.Views.{all_logged}
 use Rattle.explain.proofs.PlayedLaws.{logs_played}
-use Rattle.explain.proofs.LogResults.{if_ok_weaker}
+use Rattle.explain.proofs.Results.{if_ok_weaker}
 use Rattle.explain.proofs.learn.replaying.played.Goals as goal
 
 pub returns : goal.returns

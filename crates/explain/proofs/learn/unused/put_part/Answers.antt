@@ -5,7 +5,7 @@ use Rattle.std.proofs.lemmas.List.{drop-map, take-map}
 use denote.Ref.{Bor}
 use Rattle.explain.specs.learn.Unused.{entry_text}
 use Rattle.explain.specs.learn.inner.Views.{names_now}
-use Rattle.explain.proofs.LogResults.{if_ok_equal}
+use Rattle.explain.proofs.Results.{if_ok_equal}
 use Rattle.explain.proofs.learn.unused.put_part.Goals as goal
 
 pub returns : goal.returns

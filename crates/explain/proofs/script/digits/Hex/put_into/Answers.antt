@@ -4,7 +4,7 @@ use Rattle.std.specs.List.{list_all}
 use Rattle.texts.specs.Digits.{is_hexadecimal_digit}
 use Rattle.explain.specs.script.Pairs.{spelled_bytes}
 use Rattle.explain.proofs.script.PairLaws.{digits-pair, length-pair, pair-more, rest-pair}
-use Rattle.explain.proofs.script.hex.Hex.put_into.Goals as goal
+use Rattle.explain.proofs.script.digits.Hex.put_into.Goals as goal
 
 pub pair-preserved : goal.pair-preserved
 pair-preserved c =

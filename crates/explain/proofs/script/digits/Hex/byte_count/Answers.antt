@@ -1,6 +1,6 @@
 use Rattle.explain.specs.script.Requests.{bytes_of}
 use Rattle.explain.proofs.script.PairLaws.{length-spelled}
-use Rattle.explain.proofs.script.hex.Hex.byte_count.Goals as goal
+use Rattle.explain.proofs.script.digits.Hex.byte_count.Goals as goal
 
 pub returns : goal.returns
 unfolding bytes_of

@@ -4,7 +4,7 @@ use Rattle.std.specs.Vec.{vec_capacity}
 use Rattle.std.specs.List.{list_all}
 use Rattle.texts.specs.Digits.{is_hexadecimal_digit}
 use Rattle.explain.specs.script.Pairs.{spelled_bytes}
-use Rattle.explain.proofs.script.hex.Hex.put_into.Given as goal
+use Rattle.explain.proofs.script.digits.Hex.put_into.Given as goal
 
 abbrev pub invariant-pair : goal.invariant-pair
 invariant-pair l = record {
