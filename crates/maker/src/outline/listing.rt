@@ -114,11 +114,13 @@ impl Listing {
         Ok(())
     }
 
-    /// The certificate of the nodes, and whether it states much: it has an entry a node, or more.
+    /// The certificate of the nodes, and whether it states much: it has an entry a node, or more, and half of them speak of rules.
     pub(crate) fn written(&self, alloc: Global) -> Result<Written, OutlineError> {
+        let entries = self.chains.count();
+        let are_many = entries >= self.nodes.len();
         Ok(Written {
             bytes: self.chains.written(alloc, &self.nodes)?,
-            states_much: self.chains.count() >= self.nodes.len(),
+            states_much: are_many && self.chains.count_of_rules() >= entries / 2,
         })
     }
 }

@@ -57,6 +57,17 @@ impl Chains {
         self.entries.items().len()
     }
 
+    /// How many entries speak of rules.
+    pub fn count_of_rules(&self) -> usize {
+        let mut count = 0usize;
+        for (_, claim) in self.entries.items() {
+            if !matches!(claim, Claim::Knows(_)) {
+                count = count.saturating_add(1);
+            }
+        }
+        count
+    }
+
     /// The chain with one claim more.
     pub fn longer(&mut self, chain: u32, claim: Claim) -> Result<u32, FormError> {
         let place = self.entries.place((chain, claim))?;
