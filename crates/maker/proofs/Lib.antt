@@ -1,6 +1,5 @@
 pub mod CheckedLaws
 pub mod TableLaws
-pub mod ShapeLaws
 pub mod CompiledLaws
 pub mod RightLaws
 mod AnswerLaws

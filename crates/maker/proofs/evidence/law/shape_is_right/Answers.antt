@@ -1,4 +1,4 @@
-use Rattle.maker.proofs.ShapeLaws.{right}
+use Rattle.certify.proofs.ShapeLaws.{right}
 use Rattle.maker.proofs.evidence.law.shape_is_right.Goals as goal
 
 pub returns : goal.returns
