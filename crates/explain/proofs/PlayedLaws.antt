@@ -21,7 +21,8 @@ use Rattle.explain.specs.learn.Lines.{lines_of}
 use Rattle.explain.specs.declared.learn.logged.LogCall.{LogCall}
 use Rattle.explain.specs.declared.learn.refusals.RefusedCall.{RefusedCall}
 use Rattle.explain.specs.learn.Logged.{Logged, calls_from, calls_in, calls_of, first_none, told_on}
-use Rattle.explain.specs.learn.Replayed.{LetsThrough, LineIsThrough, Refused, TextIsThrough, count_text, firsts_behind, refusal_text, refused_in, reason_for, replay_text, with_verdict}
+use Rattle.explain.specs.Reason.{reason_of}
+use Rattle.explain.specs.learn.Replayed.{LetsThrough, LineIsThrough, Refused, TextIsThrough, count_text, firsts_behind, refusal_text, refused_in, replay_text, with_verdict}
 use Rattle.explain.specs.learn.inner.Played.{ArePlayed, IsPlayed}
 use Rattle.explain.specs.learn.inner.Views.{all_logged, all_refused, logged, refused}
 
@@ -63,7 +64,7 @@ pub none_refused : (p : Policy) (rules : List Rule) (ends : List ℕ) → IsClea
 none_refused p rules ends clear [] = (λ _. All-nil (Lets p), λ _. refl)
 none_refused p rules ends clear (x ∷ code) =
     let r = words x.record in
-    let one = with_verdict (logged x) (said p r) (reason_for p rules ends r) in
+    let one = with_verdict (logged x) (said p r) (reason_of p rules ends r) in
     let or = refused_or (is_through (said p r)) one (refused_in p rules ends (all_logged code)) in
     let lets = let_through p r clear (words-is_record x.record) in
     let later = none_refused p rules ends clear code in (

@@ -70,4 +70,4 @@ pub record Explains (native : Arch) (bundle : List ℕ) (r : Record) (text : Lis
   pub are : AreRulesOf native bundle rules ends
   pub said : ℕ
   pub says : Says policy (words r) said
-  pub told : text ≡ told_by (family_of native) said (reason_of policy rules ends r) rules ends r
+  pub told : text ≡ told_by (family_of native) said (reason_of policy rules ends (words r)) rules ends r

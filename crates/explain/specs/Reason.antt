@@ -1,7 +1,5 @@
 -- Why a profile says its verdict of a record.
 use Rattle.std.specs.Prelude.{ℕ, List, Option, Some, None, if◌then◌else◌, nat_lt, position, unwrap_or}
-use Rattle.call_record.specs.declared.layout.Record.{Record}
-use Rattle.call_record.specs.Record.{words}
 use Rattle.profile.specs.declared.rules.Rule.{Rule}
 use Rattle.profile.specs.Policy.{Policy}
 use Rattle.profile.specs.Said.{is_native, matches}
@@ -17,6 +15,5 @@ by_rule ends (Some place) = Entry (entry_at ends place)
 by_rule ends None = Default
 
 -- the record is no call of the profile's machines; or the first rule that matches it is of this entry; or none matches
-abbrev pub reason_of : Policy → List Rule → List ℕ → Record → Reason
-reason_of p rules ends r =
-    if is_native p (words r) then by_rule ends (position (λ rule. matches rule (words r)) rules) else Foreign
+abbrev pub reason_of : Policy → List Rule → List ℕ → List ℕ → Reason
+reason_of p rules ends r = if is_native p r then by_rule ends (position (λ rule. matches rule r) rules) else Foreign

@@ -52,7 +52,7 @@ fn first_match(rules: &[Rule], call: &Record) -> Option<usize>
 
 /// Why a profile says its verdict of a record, by the rules of its bundle's entries.
 pub(crate) fn reason_of(profile: &Profile, all: &EntryRules, call: &Record) -> Reason
-    ensures { result ≡ reason_of profile.now all.now.rules.items all.now.ends.items call.now }
+    ensures { result ≡ reason_of profile.now all.now.rules.items all.now.ends.items (words call.now) }
 {
     if !is_native(profile, call) {
         return Reason::Foreign;

@@ -66,7 +66,7 @@ fn explained(
     call: &Record,
 ) -> Result<String, AllocError>
     ensures { IfOk result (λ text. (said : ℕ) × Says profile.now (words call.now) said × (string_bytes text
-        ≡ spec.told_by (family_of native) said (reason_of profile.now all.now.rules.items all.now.ends.items call.now)
+        ≡ spec.told_by (family_of native) said (reason_of profile.now all.now.rules.items all.now.ends.items (words call.now))
         all.now.rules.items all.now.ends.items call.now)) }
 {
     let word = profile.decide(call);

@@ -12,14 +12,14 @@ use Rattle.call_tables.specs.Arch.{machine_name, table_of, token_of}
 use Rattle.call_tables.specs.Table.{name_in}
 use Rattle.profile.specs.declared.rules.Rule.{Rule}
 use Rattle.profile.specs.Policy.{Policy, Says}
-use Rattle.profile.specs.Said.{is_native, matches, said}
+use Rattle.profile.specs.Said.{said}
 use Rattle.profile_json.specs.ByEntry.{AreRulesOf}
 use Rattle.profile_json.specs.Meaning.{IsText, Means}
 use Rattle.explain.specs.declared.reason.Reason.{Reason}
 use Rattle.explain.specs.declared.reason.Reason.TheVariants.{Foreign, Entry, Default}
 use Rattle.explain.specs.declared.told.Told.{Told}
 use Rattle.explain.specs.Phrases.{action_text}
-use Rattle.explain.specs.Reason.{by_rule}
+use Rattle.explain.specs.Reason.{reason_of}
 use Rattle.explain.specs.Told.{RefusesBundle, TellsLine}
 use Rattle.explain.specs.learn.Line.{call_on, words_of_call}
 use Rattle.explain.specs.learn.Lines.{lines_of}
@@ -38,17 +38,13 @@ pub record Refused : Type 0 where
   pub number : ℕ
   pub line : List ℕ
 
--- the record is no call of the profile's machines; or the first rule that matches it is of this entry; or none matches
-abbrev pub reason_for : Policy → List Rule → List ℕ → List ℕ → Reason
-reason_for p rules ends r = if is_native p r then by_rule ends (position (λ rule. matches rule r) rules) else Foreign
-
 abbrev pub with_verdict : Logged → ℕ → Reason → Refused
 with_verdict call v why =
     record { arch = call.arch; nr = word call.words 0; verdict = v; why = why; log = call.log; number = call.number; line = call.line }
 
 abbrev pub refused_of : Policy → List Rule → List ℕ → Logged → List Refused
 refused_of p rules ends call =
-    if is_through (said p call.words) then [] else with_verdict call (said p call.words) (reason_for p rules ends call.words) ∷ []
+    if is_through (said p call.words) then [] else with_verdict call (said p call.words) (reason_of p rules ends call.words) ∷ []
 
 abbrev pub refused_in : Policy → List Rule → List ℕ → List Logged → List Refused
 refused_in p rules ends calls = flat_map (refused_of p rules ends) calls

@@ -6,7 +6,7 @@ ghost use Rattle.explain.specs.learn.Taken.{Grows, IsCovered};
 
 use crate::learn::covering::{fitting, is_noted, whole_of};
 use crate::learn::keeps::{Keep, bits_of, keep_of, values_of};
-use crate::learn::strace::Call;
+use crate::learn::strace::{Call, record_of};
 use call_record::{Record, words_are_a_record};
 use call_tables::Arch;
 use std::alloc::{AllocError, Global};
@@ -18,18 +18,6 @@ pub(crate) struct Seen {
     pub(crate) nr: u32,
     pub(crate) bits: [u32; 6],
     pub(crate) values: [u64; 6],
-}
-
-// A call's record, made at address 0.
-fn record_of(arch: Arch, nr: u32, args: [u64; 6]) -> Record
-    ensures { words result ≡ words_of_call (arch, nr, args) }
-{
-    Record {
-        nr,
-        arch: arch.token(),
-        ip: 0,
-        args,
-    }
 }
 
 impl Seen {

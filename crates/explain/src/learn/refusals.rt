@@ -7,9 +7,9 @@ ghost use Rattle.explain.specs.learn.inner.Refusals.{HaveAlike, IsNext};
 ghost use Rattle.explain.specs.learn.inner.Views.{all_logged, all_refused, logged, refused};
 
 use crate::learn::logged::LogCall;
-use crate::learn::reasons::{reason_of, said_of};
+use crate::learn::reasons::said_of;
 use crate::phrases::ActionText;
-use crate::reason::Reason;
+use crate::reason::{Reason, reason_of};
 use call_record::{Word, lets_through};
 use call_tables::Arch;
 use profile::Profile;

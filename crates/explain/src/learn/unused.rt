@@ -9,7 +9,7 @@ ghost use Rattle.explain.specs.learn.Unused as spec;
 ghost use Rattle.explain.specs.learn.inner.Views.{all_logged, names_now};
 
 use crate::learn::logged::LogCall;
-use crate::learn::reasons::is_match;
+use crate::reason::is_match;
 use profile::Rule;
 use profile_json::EntryRules;
 use std::alloc::{AllocError, Global};

@@ -19,8 +19,8 @@ pub struct Call<'a> {
     pub(crate) given: &'a str,
 }
 
-// The record of a call, made at address 0.
-fn record_of(arch: Arch, nr: u32, args: [u64; 6]) -> Record
+/// The record of a call, made at address 0.
+pub(crate) fn record_of(arch: Arch, nr: u32, args: [u64; 6]) -> Record
     ensures { words result ≡ words_of_call (arch, nr, args) }
 {
     Record {
