@@ -9,7 +9,7 @@ use Rattle.maker.specs.declared.evidence.evidence.Evidence.TheVariants.{Convicti
 use Rattle.maker.specs.Certified.{IsEvidenceFor}
 use Rattle.compare.specs.declared.behind_runc.stub.calls.Calls.{Calls}
 use Rattle.compare.specs.Stub.{IsAnswered, IsOf, enosys}
-use Rattle.compare.proofs.AnyLaws.{any_nil}
+use Rattle.rule_compile.proofs.RulesLaws.{any_nil}
 use Rattle.compare.specs.Behind.{IsBehind}
 
 abbrev IsNo : Bool → Type 0

@@ -11,7 +11,8 @@ use Rattle.compare.specs.declared.behind_runc.stub.region.Region.{Region}
 use Rattle.compare.specs.Stub.{IsAnswered, IsOf, enosys}
 use Rattle.compare.specs.inner.Parts.{IsAmong, Splits, SplitsBy, calls_of}
 use Rattle.compare.specs.inner.Path.{IsIn, answer_of}
-use Rattle.compare.proofs.AnyLaws.{any_cases, any_either, any_left, any_mapped, any_nil, any_right, mapped_any}
+use Rattle.compare.proofs.AnyLaws.{any_mapped, mapped_any}
+use Rattle.rule_compile.proofs.RulesLaws.{any_cases, any_either, any_left, any_nil, any_right}
 
 -- a number is below another one, or is not
 below_or_not : (n m : ℕ) → (n < m) ⊎ (m ≤ n)

@@ -2,7 +2,8 @@ use Rattle.std.proofs.Common.{◌≡◌, ◌⊎◌, ◌↔◌, ℕ, List, [], �
 use Rattle.call_tables.specs.declared.numbers.Numbers.{Numbers}
 use Rattle.call_tables.specs.Numbers.{IsWithin}
 use Rattle.compare.specs.inner.Parts.{IsAmong}
-use Rattle.compare.proofs.AnyLaws.{any_either, any_left, any_one, any_right, one_any}
+use Rattle.compare.proofs.AnyLaws.{any_one, one_any}
+use Rattle.rule_compile.proofs.RulesLaws.{any_either, any_left, any_right}
 use Rattle.compare.proofs.behind_runc.stub.numbers.add.Goals as goal
 
 -- the last numbers are joined with others
