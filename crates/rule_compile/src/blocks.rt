@@ -19,6 +19,7 @@ use crate::question::Subject;
 use crate::ranges::{Leaf, Ranges};
 use crate::remaining::left;
 use crate::starts::{end_of, starts_of, subject_of};
+use bpf_insn::MAX_INSNS;
 use std::alloc::{AllocError, Global};
 
 /// Blocks. Each goes on at blocks before it.
@@ -182,7 +183,8 @@ impl Blocks {
         }
     }
 
-    // Whether so many ranges more may be looked at: then they count as looked at.
+    // Whether so many ranges more may be looked at: then they count as looked at. Of a plan with more blocks than a filter has
+    // instructions there is no filter, since each block takes one at least; so nothing is gained then.
     fn has_room(&mut self, count: usize) -> bool
         ensures blocks { self.new.blocks.items ≡ self.old.blocks.items }
         ensures known { self.new.known.items ≡ self.old.known.items }
@@ -192,7 +194,7 @@ impl Blocks {
         let Some(room) = self.room else {
             return true;
         };
-        if count > room {
+        if count > room || self.blocks.len() > MAX_INSNS {
             return false;
         }
         self.room = Some(room - count);

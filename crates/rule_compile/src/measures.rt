@@ -12,7 +12,7 @@ use bpf_insn::MAX_INSNS;
 const RANGES: usize = 6;
 
 // How many questions of a block are repeated in the time in which a range is looked at.
-const REPEATED: usize = 64;
+const REPEATED: usize = 32;
 
 // As many ranges as four filters can tell apart.
 const MOST: usize = 4 * MAX_INSNS;
