@@ -183,8 +183,8 @@ impl Blocks {
         }
     }
 
-    // Whether so many ranges more may be looked at: then they count as looked at. Of a plan with more blocks than a filter has
-    // instructions there is no filter, since each block takes one at least; so nothing is gained then.
+    // Whether so many ranges more may be looked at: then they count as looked at. Each block takes an instruction at least, so with more
+    // blocks than a filter has instructions the plan is too long. One up to twice as long might still be shortened; that is given up.
     fn has_room(&mut self, count: usize) -> bool
         ensures blocks { self.new.blocks.items ≡ self.old.blocks.items }
         ensures known { self.new.known.items ≡ self.old.known.items }
