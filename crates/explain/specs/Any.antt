@@ -2,7 +2,6 @@
 use Rattle.std.specs.Prelude.{ℕ, ◌≡◌, ◌+◌, ◌==◌, ◌&&◌, Bool, true, if◌then◌else◌, List, [], ◌∷◌, ◌++◌, None, Some, codes}
 use Rattle.std.specs.Fmt.{decimal}
 use Rattle.std.specs.List.{list_any}
-use Rattle.serde_json.specs.Data.{Data}
 use Rattle.texts.specs.Lines.{line_feed}
 use Rattle.call_tables.specs.declared.arch.Arch.{Arch}
 use Rattle.call_tables.specs.declared.arch.Family.{Family}
@@ -11,13 +10,12 @@ use Rattle.call_tables.specs.Numbers.{has_call}
 use Rattle.profile.specs.declared.conditions.Cond.{Cond}
 use Rattle.profile.specs.declared.rules.Rule.{Rule}
 use Rattle.profile.specs.Policy.{Policy}
-use Rattle.profile_json.specs.Meaning.{IsText, Means}
-use Rattle.profile_json.specs.ByEntry.{AreRulesOf}
 use Rattle.explain.specs.script.Grammar.{LineIs}
 use Rattle.explain.specs.script.Commands.{Call}
 use Rattle.explain.specs.declared.told.Told.{Told}
 use Rattle.explain.specs.Phrases.{action_text, call_on, condition_text, machine_with}
 use Rattle.explain.specs.Reason.{entry_at}
+use Rattle.explain.specs.Understood.{IsReadAs}
 
 -- conditions, the first behind `if` and the others behind `and`
 abbrev pub conditions_text : List ℕ → List Cond → List ℕ
@@ -59,13 +57,10 @@ any_text family p rules ends token nr = call_on (machine_with family token nr) t
 
 -- the text tells of a call each entry of the bundle that has a rule for it, with its conditions, and the default
 pub record ExplainsAny (native : Arch) (bundle : List ℕ) (token nr : ℕ) (text : List ℕ) : Type 0 where
-  pub t : Data
-  pub is_text : IsText bundle t
   pub policy : Policy
-  pub means : Means t native policy
   pub rules : List Rule
   pub ends : List ℕ
-  pub are : AreRulesOf native bundle rules ends
+  pub read : IsReadAs native bundle policy rules ends
   pub told : text ≡ any_text (family_of native) policy rules ends token nr
 
 -- a line of a script with this word asks for the call of this machine with this number

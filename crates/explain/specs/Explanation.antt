@@ -2,7 +2,6 @@
 use Rattle.std.specs.Prelude.{ℕ, ◌≡◌, ◌+◌, ◌==◌, ◌&&◌, Bool, if◌then◌else◌, List, [], ◌∷◌, ◌++◌, slice_index, codes}
 use Rattle.std.specs.Fmt.{decimal}
 use Rattle.std.specs.List.{flat_map}
-use Rattle.serde_json.specs.Data.{Data}
 use Rattle.texts.specs.Lines.{line_feed}
 use Rattle.call_tables.specs.declared.arch.Arch.{Arch}
 use Rattle.call_tables.specs.declared.arch.Family.{Family}
@@ -15,12 +14,11 @@ use Rattle.profile.specs.declared.rules.Rule.{Rule}
 use Rattle.profile.specs.Rule.{is_narrow_rule}
 use Rattle.profile.specs.Policy.{Policy, Says}
 use Rattle.profile.specs.Said.{matches, meets}
-use Rattle.profile_json.specs.Meaning.{IsText, Means}
-use Rattle.profile_json.specs.ByEntry.{AreRulesOf}
 use Rattle.explain.specs.declared.reason.Reason.{Reason}
 use Rattle.explain.specs.declared.reason.Reason.TheVariants.{Foreign, Entry, Default}
 use Rattle.explain.specs.Reason.{entry_at, reason_of}
 use Rattle.explain.specs.Phrases.{action_text, call_lines, condition_text, verdict_line}
+use Rattle.explain.specs.Understood.{IsReadAs}
 
 abbrev pub reason_line : Reason → List ℕ
 reason_line Foreign = codes "why foreign" ++ line_feed ∷ []
@@ -61,13 +59,10 @@ told_by family v reason rules ends r = call_lines family r ++ verdict_line v ++ 
 
 -- the text explains the verdict that the profile says, which the bundle means, by the rules of the bundle's entries
 pub record Explains (native : Arch) (bundle : List ℕ) (r : Record) (text : List ℕ) : Type 0 where
-  pub t : Data
-  pub is_text : IsText bundle t
   pub policy : Policy
-  pub means : Means t native policy
   pub rules : List Rule
   pub ends : List ℕ
-  pub are : AreRulesOf native bundle rules ends
+  pub read : IsReadAs native bundle policy rules ends
   pub said : ℕ
   pub says : Says policy (words r) said
   pub told : text ≡ told_by (family_of native) said (reason_of policy rules ends (words r)) rules ends r

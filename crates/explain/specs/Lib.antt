@@ -1,5 +1,6 @@
 pub mod Phrases
 pub mod Reason
+pub mod Understood
 pub mod Explanation
 pub mod Asked
 pub mod Told

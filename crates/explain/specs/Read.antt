@@ -4,7 +4,6 @@ use Rattle.std.specs.Prelude.{codes, drop, take, unwrap_or, length, IfSome}
 use Rattle.std.specs.Fmt.{decimal}
 use Rattle.std.specs.List.{flat_map}
 use Rattle.std.specs.Str.{bytes_eq}
-use Rattle.serde_json.specs.Data.{Data}
 use Rattle.texts.specs.Lines.{line_feed}
 use Rattle.call_tables.specs.declared.arch.Arch.{Arch}
 use Rattle.call_tables.specs.Arch.{machine_name, table_of}
@@ -13,14 +12,13 @@ use Rattle.profile.specs.declared.conditions.Cond.{Cond}
 use Rattle.profile.specs.declared.rules.Rule.{Rule}
 use Rattle.profile.specs.Policy.{Policy}
 use Rattle.profile_json.specs.Breaks.{Breaks}
-use Rattle.profile_json.specs.ByEntry.{AreRulesOf}
 use Rattle.profile_json.specs.Fault.{fault_of, text_of}
-use Rattle.profile_json.specs.Meaning.{IsText, Means}
 use Rattle.profile_json.specs.declared.fault.ProfileError.{ProfileError}
 use Rattle.profile_json.specs.declared.fault.ProfileError.TheVariants.{OutOfMemory, Version}
 use Rattle.explain.specs.declared.told.Told.{Told}
 use Rattle.explain.specs.Phrases.{action_text, condition_text}
 use Rattle.explain.specs.Told.{TellsText}
+use Rattle.explain.specs.Understood.{IsReadAs}
 
 -- the line of the machines
 abbrev pub machines_line : List Arch → List ℕ
@@ -69,13 +67,10 @@ bundle_text policy rules ends =
 
 -- it was done: what the bundle means is told
 pub record TellsMeaning (native : Arch) (bundle : List ℕ) (told : Told) : Type 0 where
-  pub t : Data
-  pub is_text : IsText bundle t
   pub policy : Policy
-  pub means : Means t native policy
   pub rules : List Rule
   pub ends : List ℕ
-  pub are : AreRulesOf native bundle rules ends
+  pub read : IsReadAs native bundle policy rules ends
   pub tells : TellsText (bundle_text policy rules ends) told
 
 -- the bundle is refused for a fault that it has; the first line says so, and what is behind it says where

@@ -3,7 +3,6 @@ use Rattle.std.specs.Prelude.{ℕ, ◌≡◌, ◌↔◌, ◌⊎◌, ◌==◌, �
 use Rattle.std.specs.Prelude.{codes, count_by, length, map, position, unwrap_or}
 use Rattle.std.specs.Fmt.{decimal}
 use Rattle.std.specs.List.{All, flat_map, list_any}
-use Rattle.serde_json.specs.Data.{Data}
 use Rattle.texts.specs.Lines.{line_feed}
 use Rattle.call_record.specs.Verdict.{Through, is_through}
 use Rattle.call_record.specs.Words.{word}
@@ -13,8 +12,6 @@ use Rattle.call_tables.specs.Table.{name_in}
 use Rattle.profile.specs.declared.rules.Rule.{Rule}
 use Rattle.profile.specs.Policy.{Policy, Says}
 use Rattle.profile.specs.Said.{said}
-use Rattle.profile_json.specs.ByEntry.{AreRulesOf}
-use Rattle.profile_json.specs.Meaning.{IsText, Means}
 use Rattle.explain.specs.declared.reason.Reason.{Reason}
 use Rattle.explain.specs.declared.reason.Reason.TheVariants.{Foreign, Entry, Default}
 use Rattle.explain.specs.declared.told.Told.{Told}
@@ -25,6 +22,7 @@ use Rattle.explain.specs.learn.Line.{call_on, words_of_call}
 use Rattle.explain.specs.learn.Lines.{lines_of}
 use Rattle.explain.specs.learn.Logged.{Logged, calls_in, first_none}
 use Rattle.explain.specs.learn.Unused.{unused_text}
+use Rattle.explain.specs.Understood.{IsReadAs}
 
 -- ---- which calls are refused
 
@@ -126,13 +124,10 @@ pub record RefusesLog (native : Arch) (logs : List (List ℕ × List ℕ)) (told
 
 -- The logs were played through the profile that the bundle means. It is done just where each record is carried out.
 pub record Replays (native : Arch) (bundle : List ℕ) (logs : List (List ℕ × List ℕ)) (unused : Bool) (told : Told) : Type 0 where
-  pub t : Data
-  pub is_text : IsText bundle t
   pub policy : Policy
-  pub means : Means t native policy
   pub rules : List Rule
   pub ends : List ℕ
-  pub are : AreRulesOf native bundle rules ends
+  pub read : IsReadAs native bundle policy rules ends
   pub are_logs : first_none native logs ≡ None
   pub tells : told.bytes.items ≡ replay_text policy rules ends unused (calls_in native logs)
   pub done : (told.done ≡ true) ↔ All (TextIsThrough native policy) (map (λ log. log.1) logs)

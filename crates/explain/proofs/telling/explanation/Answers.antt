@@ -5,13 +5,10 @@ returns-clause-explains c =
     let means = c.in_ok-read.ensures.ok in
     let told = c.in_ok-text.ensures in
     record {
-      t = means.0;
-      is_text = means.1;
       policy = c.in_ok-read.read.profile;
-      means = means.2;
       rules = c.in_ok-all.all.rules.items;
       ends = c.in_ok-all.all.ends.items;
-      are = c.in_ok-all.ensures.ok;
+      read = record { t = means.0; is_text = means.1; means = means.2; are = c.in_ok-all.ensures.ok };
       said = told.0;
       says = told.1;
       told = told.2;

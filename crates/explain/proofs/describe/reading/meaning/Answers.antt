@@ -14,13 +14,10 @@ returns-in-Ok c = λ none t is_text means.
     let all = c.in-Ok.all in
     if_ok_weaker (TellsText (string_bytes c.args.text ++ bundle_text p all.rules.items all.ends.items)) (IsRead c.args.native c.args.bundle.now)
     (λ told tells. inl (record {
-      t = t;
-      is_text = is_text;
       policy = p;
-      means = means;
       rules = all.rules.items;
       ends = all.ends.items;
-      are = c.in-Ok.ensures.ok;
+      read = record { t = t; is_text = is_text; means = means; are = c.in-Ok.ensures.ok };
       tells = subst (λ (s : List ℕ). TellsText (s ++ bundle_text p all.rules.items all.ends.items) told) none tells;
     }))
     c.meaning_of.result c.meaning_of.ensures
