@@ -35,7 +35,7 @@ use Rattle.certify.specs.inner.Inverse.{IsLoad}
 use Rattle.certify.specs.inner.Leaf.{IsOfCalls}
 use Rattle.certify.specs.inner.Meant.{IsMeant}
 use Rattle.certify.specs.inner.Path.{AnswersThere, HoldsCall, IsPossible, LeadsOn, fact}
-use Rattle.certify.specs.inner.Plain.{Takes, TakesAtReturn, TakesOfReturn, TakesOnPath, regs_of}
+use Rattle.certify.specs.inner.Plain.{IsWhole, Takes, TakesAtReturn, TakesOfReturn, TakesOnPath, regs_of}
 use Rattle.certify.proofs.ActionLaws.{ends_is}
 use Rattle.certify.proofs.LeadLaws.{paths_lead}
 use Rattle.certify.proofs.LeafLaws.{call_is_record}
@@ -59,6 +59,10 @@ regs_after i held skip now e = ⊎_elim
     ap (λ o. transfer_if o i (regs_of held)) load.operation
     ∙ ap (λ v. record (regs_of held) { a = Masked v all_bits }) words ∙ loaded_regs held load.word ∙ ap regs_of (sym load.now_is))
     (move_of_is (operation_of i.code) i.k held (Some (Goes skip now)) e)
+
+whole : (held : Option ℕ) → IsWhole (regs_of held).a
+whole None = tt
+whole (Some w) = refl
 
 -- ---- facts
 
@@ -349,6 +353,11 @@ module _ (policy : Policy) (p : List Insn) (meant : IsMeant policy p) (pc : ℕ)
         (λ (load : IsLoad op i.k n now). load.skip_is ∙ same_skip 0 skip (ap (λ x. action_by x i) (sym load.operation) ∙ acts))
         (move_of_is op i.k path.held (Some (Goes n now)) e) in
         path_goes path skip now (subst (λ k. move_at op i.k path.held ≡ Some (Goes k now)) same e) (goes_inside p pc i found accepted skip acts)
+
+  pub forks_whole : action_by op i ≡ action.Forks → Takes policy p pc regs known nodes → IsWhole regs.a
+  forks_whole acts takes =
+      let path = on_a_path (λ same. let e : action.Ends ≡ action.Forks = same ∙ acts in cc) takes in
+      subst (λ (s : Regs). IsWhole s.a) (sym path.regs_are) (whole path.held)
 
   pub forks_takes : action_by op i ≡ action.Forks → Takes policy p pc regs known nodes → BothTake policy p pc i regs known nodes
   forks_takes acts takes = by (move_at op i.k path.held) refl where

@@ -22,21 +22,22 @@ ghost use Rattle.certify.specs.declared.fault.PathsError.TheVariants.{OutOfMemor
 ghost use Rattle.certify.specs.inner.Led.{AreLed};
 ghost use Rattle.certify.specs.inner.Limits.{LacksRoom};
 ghost use Rattle.certify.specs.inner.Meant.{IsMeant};
-ghost use Rattle.certify.specs.inner.Plain.{AreShares, HaveRoom, IsParted, PartsAtReturn, TakesAt, TakesAtReturn};
+ghost use Rattle.certify.specs.inner.Plain.{AreShares, HaveRoom, IsParted, IsWhole, PartsAtReturn, TakesAt, TakesAtReturn};
 ghost use Rattle.certify.specs.inner.Places.{AreInside, ArePaths, IsPlace, known_at};
 
-use crate::action::{Action, action_of};
+use crate::action::{Action, action_of, verdict_at};
 use crate::cuts::Cut;
 use crate::fault::PathsError;
+use crate::masks::cut_before;
 use crate::paths::Paths;
 use crate::place::{Next, Place};
 use crate::told::told_or_cut;
 use crate::unlike::{is_wrong_on, likely_record, tried};
-use bpf_insn::{Insn, Operation};
+use bpf_insn::Insn;
 use call_record::{Record, Word, words_are_a_record};
 use cert_check::{is_settled, stated_is_settled};
 use cert_form::Kind;
-use cert_state::{AVal, dead};
+use cert_state::dead;
 use kernel_check::Accepted;
 use profile::Profile;
 use std::alloc::Global;
@@ -50,17 +51,6 @@ fn after(pc: u16, skip: u32) -> u16
     ensures { result ≡ pc + 1 + skip }
 {
     pc + 1 + skip as u16
-}
-
-// The verdict of a return, if it is known there.
-fn verdict_at(from: Place, insn: &Insn) -> Option<u32>
-    ensures { result ≡ verdict_by (operation_of insn.now.code) from.regs insn.now }
-{
-    match (insn.operation(), from.regs.a) {
-        (Some(Operation::ReturnK), _) => Some(insn.k),
-        (Some(Operation::ReturnA), AVal::Const(word)) => Some(word),
-        _ => None,
-    }
 }
 
 // A record of which each word is stated settles a profile.
@@ -186,6 +176,25 @@ fn at_branch(paths: &mut Paths, from: Place, insn: Insn) -> Result<Kind, PathsEr
     Ok(Kind::Step(first, second))
 }
 
+// The node of a place at a comparison, or where a word is cut before it, so that the comparison tells all that it asks.
+fn at_fork(paths: &mut Paths, from: Place, insn: Insn) -> Result<Kind, PathsError>
+    requires paths { ArePaths paths.old }
+    requires from { IsPlace paths.old.entries.items from }
+    requires plain { IsPlain insn }
+    requires taken { from.pc + 1 + insn.jt < 2 ^ 16 }
+    requires not_taken { from.pc + 1 + insn.jf < 2 ^ 16 }
+    ensures paths { OnOk result (ArePaths paths.new) }
+    ensures done { IfOk result (λ kind. IsFork paths.old paths.new from insn kind ⊎ IsCut paths.old paths.new from kind) }
+    ensures whole { IsWhole from.regs.a → IfOk result (IsFork paths.old paths.new from insn) }
+    ensures size { IfErr result IsSize }
+    ensures refused { IfErr result (LacksRoom paths.old from 2) }
+{
+    match cut_before(&paths.known(from), from.regs.a, &insn) {
+        Some(cut) => split(paths, from, cut),
+        None => at_branch(paths, from, insn),
+    }
+}
+
 // The node of a place from which a path goes on at one position, after so many instructions are skipped.
 fn step(paths: &mut Paths, from: Place, insn: Insn, skip: u32) -> Result<Kind, PathsError>
     requires paths { ArePaths paths.old }
@@ -268,7 +277,7 @@ fn at_insn(
 {
     match action_of(&insn) {
         Action::Ends => at_end(paths, profile, program, from, insn),
-        Action::Forks => at_branch(paths, from, insn),
+        Action::Forks => at_fork(paths, from, insn),
         Action::Goes(skip) => step(paths, from, insn, skip),
     }
 }

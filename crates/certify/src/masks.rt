@@ -4,9 +4,13 @@
 //! contradicts another. So a bit is told that such a mask has and of which nothing is known, and each of them becomes a question of
 //! fewer bits.
 
+ghost use Rattle.std.specs.Prelude.{◌≡◌, None};
+ghost use Rattle.certify.specs.inner.Plain.{IsWhole};
+
 use crate::chain::Chain;
 use crate::cuts::Cut;
-use cert_state::{Lit, State};
+use bpf_insn::{Insn, Operation, Test};
+use cert_state::{AVal, Lit, State, is_bit};
 
 // The bits of a word that are told, and what they are.
 #[derive(Clone, Copy)]
@@ -63,4 +67,45 @@ pub(crate) fn cut_of_mask(known: &Chain<'_>) -> Option<Cut> {
     }
     let (word, bits) = best?;
     Cut::bit(word, lowest(bits))
+}
+
+// Whether an instruction compares by order.
+fn is_by_order(insn: &Insn) -> bool {
+    matches!(
+        insn.operation(),
+        Some(Operation::Branch(Test::AtLeast | Test::Greater, _))
+    )
+}
+
+// The word and the one bit of it that A lacks, if it holds the others. If A lacks the lowest bit, a comparison by order tells all that
+// it asks.
+fn bit_lacked(a: AVal) -> Option<(u8, u32)>
+    ensures { IsWhole a → result ≡ None }
+{
+    let AVal::Masked(word, mask) = a else {
+        return None;
+    };
+    if mask >= u32::MAX - 1 {
+        return None;
+    }
+    let bit = mask ^ u32::MAX;
+    if is_bit(bit) {
+        return Some((word, bit));
+    }
+    None
+}
+
+/// Where a word is cut before A is compared by order: at the one bit of it that A lacks, if nothing is known of that. Behind the cut
+/// the comparison tells all that it asks.
+pub(crate) fn cut_before(known: &Chain<'_>, a: AVal, insn: &Insn) -> Option<Cut>
+    ensures { IsWhole a → result ≡ None }
+{
+    let (word, bit) = bit_lacked(a)?;
+    if !is_by_order(insn) {
+        return None;
+    }
+    if told_bits(known, word).mask & bit != 0 {
+        return None;
+    }
+    Cut::bit(word, bit)
 }

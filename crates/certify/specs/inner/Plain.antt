@@ -9,6 +9,7 @@ use Rattle.bpf_insn.specs.declared.instruction.Insn.{Insn}
 use Rattle.bpf_insn.specs.Code.{operation_of}
 use Rattle.profile.specs.Policy.{Policy, IsProfile}
 use Rattle.rule_compile.specs.Shape.{IsPlain, above_all_numbers, depth}
+use Rattle.cert_state.specs.declared.literal.AVal.{AVal}
 use Rattle.cert_state.specs.declared.literal.AVal.TheVariants.{Const, Masked}
 use Rattle.cert_state.specs.declared.literal.Lit.{Lit}
 use Rattle.cert_state.specs.declared.literal.Regs.{Regs}
@@ -29,6 +30,12 @@ use Rattle.certify.specs.inner.Places.{known_at}
 abbrev pub regs_of : Option ℕ → Regs
 regs_of None = record { a = Const 0; x = Const 0; scratch = nothing_stated }
 regs_of (Some w) = record { a = Masked w all_bits; x = Const 0; scratch = nothing_stated }
+
+-- of A a number is known, or that it holds a whole word of the record
+abbrev pub IsWhole : AVal → Type 0
+IsWhole (Masked w m) = m ≡ all_bits
+IsWhole (Const c) = ⊤
+IsWhole _ = ⊥
 
 -- ---- a return
 

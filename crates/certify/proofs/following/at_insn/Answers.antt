@@ -11,11 +11,11 @@ use Rattle.certify.specs.declared.action.Action.TheVariants as action
 use Rattle.certify.specs.declared.fault.PathsError.{PathsError}
 use Rattle.certify.specs.declared.paths.Paths.{Paths}
 use Rattle.certify.specs.inner.Actions.{action_by}
-use Rattle.certify.specs.inner.Follow.{IsCut, IsFollowed, IsReturn}
+use Rattle.certify.specs.inner.Follow.{IsCut, IsFollowed, IsFork, IsReturn}
 use Rattle.certify.specs.inner.Places.{ArePaths, known_at}
 use Rattle.certify.specs.inner.Plain.{AreShares, IsParted}
 use Rattle.certify.proofs.FitLaws.{fork_shares, if_ok, no_shares, only_memory, parted_shares, step_shares}
-use Rattle.certify.proofs.ShareLaws.{ends_takes, forks_takes, goes_takes}
+use Rattle.certify.proofs.ShareLaws.{ends_takes, forks_takes, forks_whole, goes_takes}
 use Rattle.certify.proofs.FollowLaws.{cut_followed, fork_followed, given_there, goes_followed, known_there, return_followed}
 use Rattle.certify.proofs.ToldLaws.{of_size, truly_of_size}
 use Rattle.certify.proofs.WayLaws.{accepted_is, goes_inside, other_inside, taken_inside}
@@ -62,16 +62,16 @@ returns-in-Ends-clause-told c = λ led.
     c.at_end.ensures.wrong known.0 known.1
     (given_there policy p old c.requires.paths c.requires.inside from c.requires.from i c.requires.found accepted led known.0 known.1)
 
-pub at_branch-requires-clause-taken : goal.at_branch-requires-clause-taken
-at_branch-requires-clause-taken c =
+pub at_fork-requires-clause-taken : goal.at_fork-requires-clause-taken
+at_fork-requires-clause-taken c =
     let p = accepted_insns c.args.program.now in
     let i = c.args.insn in
     let accepted = accepted_is c.args.program.now in
     let acts : action_by (operation_of i.code) i ≡ action.Forks = sym c.action_of.ensures ∙ c.in-Forks.is in
     below p accepted (c.args.from.pc + 1 + i.jt) (taken_inside p c.args.from.pc i c.requires.found accepted acts)
 
-pub at_branch-requires-clause-not_taken : goal.at_branch-requires-clause-not_taken
-at_branch-requires-clause-not_taken c =
+pub at_fork-requires-clause-not_taken : goal.at_fork-requires-clause-not_taken
+at_fork-requires-clause-not_taken c =
     let p = accepted_insns c.args.program.now in
     let i = c.args.insn in
     let accepted = accepted_is c.args.program.now in
@@ -82,20 +82,27 @@ pub returns-in-Forks-clause-followed : goal.returns-in-Forks-clause-followed
 returns-in-Forks-clause-followed c =
     let p = accepted_insns c.args.program.now in
     let i = c.args.insn in
+    let old = c.args.paths.now in
+    let new = c.at_fork.new.paths in
+    let from = c.args.from in
+    let policy = c.args.profile.now in
+    let accepted = accepted_is c.args.program.now in
     let acts : action_by (operation_of i.code) i ≡ action.Forks = sym c.action_of.ensures ∙ c.in-Forks.is in
-    on_ok c.at_branch.result c.at_branch.new.paths _ (IsFollowed c.args.profile.now p c.args.paths.now c.at_branch.new.paths c.args.from)
-    c.at_branch.ensures.paths c.at_branch.ensures.fork
-    (λ kind are fork.
-    fork_followed c.args.profile.now p c.args.paths.now c.requires.paths c.requires.inside c.args.from c.requires.from i c.requires.found
-    (accepted_is c.args.program.now) c.at_branch.new.paths are kind acts fork)
+    on_ok c.at_fork.result new _ (IsFollowed policy p old new from) c.at_fork.ensures.paths c.at_fork.ensures.done
+    (λ kind are done. ⊎_elim
+    (λ (fork : IsFork old new from i kind).
+    fork_followed policy p old c.requires.paths c.requires.inside from c.requires.from i c.requires.found accepted new are kind acts fork)
+    (λ (cut : IsCut old new from kind).
+    cut_followed policy p old c.requires.paths c.requires.inside from c.requires.from i c.requires.found accepted new are kind cut)
+    done)
 
 pub returns-in-Forks-clause-truly : goal.returns-in-Forks-clause-truly
 returns-in-Forks-clause-truly c =
-    truly_of_size c.args.profile.now (accepted_insns c.args.program.now) c.at_branch.result c.at_branch.ensures.size
+    truly_of_size c.args.profile.now (accepted_insns c.args.program.now) c.at_fork.result c.at_fork.ensures.size
 
 pub returns-in-Forks-clause-told : goal.returns-in-Forks-clause-told
 returns-in-Forks-clause-told c = λ led.
-    of_size c.args.profile.now (accepted_insns c.args.program.now) c.at_branch.result c.at_branch.ensures.size
+    of_size c.args.profile.now (accepted_insns c.args.program.now) c.at_fork.result c.at_fork.ensures.size
 
 pub step-requires-clause-inside : goal.step-requires-clause-inside
 step-requires-clause-inside c =
@@ -166,15 +173,17 @@ returns-in-Forks-clause-shares c = λ nodes meant takes some.
     let p = accepted_insns c.args.program.now in
     let i = c.args.insn in
     let old = c.args.paths.now in
-    let new = c.at_branch.new.paths in
+    let new = c.at_fork.new.paths in
     let from = c.args.from in
     let policy = c.args.profile.now in
     let small : i.k < 2 ^ 32 = search rules in
     let acts : action_by (operation_of i.code) i ≡ action.Forks = sym c.action_of.ensures ∙ c.in-Forks.is in
     let both = forks_takes policy p meant from.pc from.regs (known_at old.entries.items from) i c.requires.found small c.requires.alive nodes
     acts takes in
-    if_ok c.at_branch.result _ (λ _. AreShares policy p old new nodes)
-    (λ kind fork. fork_shares policy p old new from i kind nodes c.requires.place fork both) c.at_branch.ensures.fork
+    let whole = forks_whole policy p meant from.pc from.regs (known_at old.entries.items from) i c.requires.found small c.requires.alive
+    nodes acts takes in
+    if_ok c.at_fork.result _ (λ _. AreShares policy p old new nodes)
+    (λ kind fork. fork_shares policy p old new from i kind nodes c.requires.place fork both) (c.at_fork.ensures.whole whole)
 
 pub returns-in-Forks-clause-memory : goal.returns-in-Forks-clause-memory
 returns-in-Forks-clause-memory c = λ nodes meant takes some fits.
@@ -190,7 +199,7 @@ returns-in-Forks-clause-memory c = λ nodes meant takes some fits.
     let less = both.less in
     let one = both.first_some in
     let two = both.second_some in
-    only_memory old from c.requires.place nodes 2 c.at_branch.result fits (omega (arith, less, one, two)) both.room c.at_branch.ensures.refused
+    only_memory old from c.requires.place nodes 2 c.at_fork.result fits (omega (arith, less, one, two)) both.room c.at_fork.ensures.refused
 
 pub returns-in-Goes-clause-shares : goal.returns-in-Goes-clause-shares
 returns-in-Goes-clause-shares c = λ nodes meant takes some.
