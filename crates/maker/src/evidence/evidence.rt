@@ -12,6 +12,7 @@ ghost use Rattle.maker.specs.evidence.Conviction.{JudgesTelling, NoneIsRight, Sh
 ghost use Rattle.certify.specs.Error.{IsOfSize};
 
 use crate::evidence::maker::{at_hand, broken};
+use crate::evidence::own::by_compilers_outline;
 use crate::search::{find_beside_rules, find_record};
 use bpf_interp::verdict;
 use call_record::{Record, Word};
@@ -158,6 +159,42 @@ fn without(
     }
 }
 
+// The certificate that is written from the outline of the compiler's filter, if the checker says yes to it.
+fn by_checked_outline(
+    alloc: Global,
+    profile: &Profile,
+    program: &Accepted<'_>,
+) -> Result<Option<Vec<u8>>, CertifyError>
+    ensures valid { IfOk result (λ found. IfSome found (λ bytes. IsValidCertificate profile.now (accepted_insns program.now) bytes.items)) }
+    ensures memory { IfErr result (λ e. e ≡ CertifyError.OutOfMemory) }
+{
+    let Some(bytes) = by_compilers_outline(alloc, profile, *program)? else {
+        return Ok(None);
+    };
+    match broken(alloc, profile, program, &bytes) {
+        None => Ok(Some(bytes)),
+        Some(CheckError::OutOfMemory) => Err(CertifyError::OutOfMemory),
+        Some(_) => Ok(None),
+    }
+}
+
+// The evidence where the paths are too many to follow each: long lists of numbers, as libseccomp's for x86-64 and x32, are followed by
+// the outline of the compiler's filter.
+fn of_many_paths(
+    alloc: Global,
+    profile: &Profile,
+    program: &Accepted<'_>,
+) -> Result<Evidence, CertifyError>
+    ensures evidence { IfOk result (IsEvidence profile.now (accepted_insns program.now)) }
+    ensures size { IfErr result IsOfSize }
+{
+    match by_checked_outline(alloc, profile, program) {
+        Ok(Some(bytes)) => Ok(Evidence::Certificate(bytes)),
+        Ok(None) => without(alloc, profile, program, PathsError::TooLarge),
+        Err(error) => Err(error),
+    }
+}
+
 // The evidence that is met where each path of the filter is followed.
 fn on_its_paths(
     alloc: Global,
@@ -169,6 +206,7 @@ fn on_its_paths(
 {
     match by_paths(alloc, profile, program) {
         Ok(bytes) => Ok(Evidence::Certificate(bytes)),
+        Err(PathsError::TooLarge) => of_many_paths(alloc, profile, program),
         Err(error) => without(alloc, profile, program, error),
     }
 }

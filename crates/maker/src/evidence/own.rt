@@ -100,6 +100,21 @@ fn of_anyone(
     of_shorter(alloc, profile, program, &own)
 }
 
+/// The certificate of a filter that anyone made, written from the outline of the compiler's: a filter that asks for the same in another
+/// order may have one. None, if there is no such one, or it comes out too large.
+pub(crate) fn by_compilers_outline(
+    alloc: Global,
+    profile: &Profile,
+    program: Accepted<'_>,
+) -> Result<Option<Vec<u8>>, CertifyError>
+    ensures { IfErr result (λ e. e ≡ OutOfMemory) }
+{
+    match plan(alloc, profile) {
+        Ok(own) => written(alloc, profile, program, &own.outline),
+        Err(_) => Err(CertifyError::OutOfMemory),
+    }
+}
+
 /// The certificate that is written from a filter's outline, which is given where the compiler made it: of any other filter there is
 /// one where the compiler makes the same. None, where there is no outline, or the certificate comes out too large.
 pub(crate) fn by_outline(

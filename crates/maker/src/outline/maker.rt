@@ -185,6 +185,9 @@ impl<'a> Maker<'a> {
         if let Some(cut) = self.cut_of_part(spot) {
             return self.split(spot, cut);
         }
+        if let Some(cut) = self.cut_of_machine(spot) {
+            return self.split(spot, cut);
+        }
         if !tells(test, spot.a) && self.part_of_number(spot).is_none() {
             return Err(OutlineError::Unlike);
         }

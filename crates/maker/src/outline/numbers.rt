@@ -4,10 +4,10 @@ use crate::outline::conditions::{Answer, beside, by_all, told_apart};
 use crate::outline::maker::Maker;
 use crate::outline::parts::{Cut, are_many, cut_below, listed};
 use crate::outline::rules::Numbered;
-use crate::outline::spot::Which;
+use crate::outline::spot::{Spot, Which};
 use crate::outline::words::{Told, Words};
 use call_tables::Arch;
-use cert_state::{Facts, Knowledge, Lit, Room, range};
+use cert_state::{AVal, Facts, Knowledge, Lit, Room, range};
 use profile::{MAX_RULES, Rule, foreign_numbers};
 use std::alloc::{AllocError, Global};
 
@@ -15,6 +15,9 @@ use std::alloc::{AllocError, Global};
 pub(crate) const NUMBER: u8 = 0;
 
 pub(crate) const TOKEN: u8 = 1;
+
+// Numbers from this one on are those of x32, whose token is that of x86-64.
+const X32_BIT: u32 = 0x4000_0000;
 
 /// Room for what is known of the number and of arguments, where many questions are asked of it. It serves one spot after the other.
 #[derive(Drop)]
@@ -299,6 +302,25 @@ impl<'a> Maker<'a> {
             return Ok(Some(cut));
         }
         Ok(number.and_then(|number| cut_beside(range, number)))
+    }
+
+    // Whether two listed machines have a token.
+    fn is_shared(&self, token: u32) -> bool {
+        let machines = self.profile.machines();
+        machines.iter().filter(|arch| arch.token() == token).count() > 1
+    }
+
+    /// Where the number is cut before it is compared at a spot, if calls are told apart early: between those of two machines with one
+    /// token, so that a list of the numbers of both is followed twice, for the half of them each.
+    pub(crate) fn cut_of_machine(&self, spot: &Spot) -> Option<Cut> {
+        if !self.is_early || spot.a != AVal::Masked(NUMBER, u32::MAX) {
+            return None;
+        }
+        let known = self.words.get(spot.numbers)?;
+        if !self.is_shared(only(known, TOKEN)?) {
+            return None;
+        }
+        cut_within(range_of(known, NUMBER)?, X32_BIT)
     }
 
     // The numbers of a machine's calls of which rules ask for arguments, without those that are excluded, in order.
