@@ -2,6 +2,7 @@
 # gate.sh CCELL MACHINE OLD NEW: compares each bundle of the folder NEW with the one of that name in the folder OLD. Status 0 where
 # each of them lets nothing through that its old one refuses.
 set -u
+[ $# -eq 4 ] || { echo 'usage: gate.sh CCELL MACHINE OLD NEW' >&2; exit 2; }
 status=0
 for new in "$4"/*.json; do
     old=$3/${new##*/}
