@@ -181,6 +181,17 @@ module _ (subject : Subject) (number : ℕ) (old begun asked new : Questions) (f
       let like = both_same (first ∷ more) r w P (met_one first more r w of.1) (SomeMet old.asked.items r w) in
       (λ h. like.0 (met.0 h), λ h. met.1 (like.1 h))
 
+-- a rule of which the first question is not met adds nothing
+pub rule_out : (asked more : List Open) (first : Open) (looked : List ℕ → Type 0) → AreOf first.answer (first ∷ more)
+    → ((r : List ℕ) → looked r → IsMet first.question r → ⊥) → IsAddedLeft asked asked (first ∷ more) looked false
+rule_out asked more first looked of out = λ r at w. (
+  λ met. inl met,
+  λ h. elim h [
+    | inl met ↦ met
+    | inr own ↦ absurd (out r at (All-head (λ o. IsMet o.question r) first more ((met_one first more r w of.1).0 own).0))
+  ],
+)
+
 -- ---- rules, one behind the other
 
 -- some rules are behind: what is left of them, and what is still to come

@@ -127,6 +127,13 @@ impl Question {
         }
     }
 
+    /// Whether it is not met for sure where these bits are this number.
+    pub(crate) fn is_out(&self, subject: Subject, number: u32) -> bool
+        ensures { IsTrue result → (r : List ℕ) → (self.now.subject ≡ subject → AreAlike self.now number (bits subject r)) → IsMet self.now r → ⊥ }
+    {
+        matches!(self.reply(subject, number), Reply::NotMet)
+    }
+
     // What is asked of the low word, which stands in front of the high one. It is at least 0.
     fn reply_of_low(&self, low: u32) -> Reply
         requires { self.now.low ≡ Some low }

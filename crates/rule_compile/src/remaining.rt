@@ -56,6 +56,10 @@ fn add_rule(
     ensures says { AreOf first.now.answer (first.now ∷ more.now) → IfOk result (IsAddedLeft questions.old.asked.items questions.new.asked.items (first.now ∷ more.now) (λ r. AreAlikeAt (first.now ∷ more.now) subject number (bits subject r))) }
     ensures less { OnOk result (Weighs questions.old.asked.items questions.new.asked.items (first.now ∷ more.now) subject) }
 {
+    // Of most rules that compare a word with numbers nothing is left.
+    if first.question.is_out(subject, number) {
+        return Ok(false);
+    }
     questions.begin();
     ask_left(questions, first, subject, number)?;
     ask_all_left(questions, more, subject, number)?;

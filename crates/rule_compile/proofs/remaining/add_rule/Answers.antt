@@ -1,7 +1,18 @@
 use Rattle.std.proofs.Common.{[], ◌∷◌, ap, subst}
-use Rattle.rule_compile.specs.inner.Left.{Weighs}
-use Rattle.rule_compile.proofs.LeftLaws.{rule_added, rule_rules, weighs_first}
+use Rattle.std.proofs.lemmas.List.Elements.{All-head}
+use Rattle.rule_compile.specs.Questions.{bits}
+use Rattle.rule_compile.specs.inner.Left.{AreAlikeAt, IsAlikeAt, Weighs}
+use Rattle.rule_compile.proofs.LeftLaws.{rule_added, rule_out, rule_rules, weighs_first}
 use Rattle.rule_compile.proofs.remaining.add_rule.Goals as goal
+
+pub returns-then-is_out-clause-says : goal.returns-then-is_out-clause-says
+returns-then-is_out-clause-says c = λ of.
+    let subject = c.args.subject in
+    let number = c.args.number in
+    rule_out c.args.questions.now.asked.items c.args.more.now c.args.first.now
+    (λ r. AreAlikeAt (c.args.first.now ∷ c.args.more.now) subject number (bits subject r)) of
+    (λ r at. c.is_out.ensures c.if-is_out.true r
+    (All-head (IsAlikeAt subject number (bits subject r)) c.args.first.now c.args.more.now at))
 
 pub returns-clause-rules : goal.returns-clause-rules
 returns-clause-rules c = λ of before.
