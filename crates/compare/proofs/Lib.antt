@@ -1,3 +1,4 @@
+mod EqualLaws
 mod SameLaws
 mod SidesLaws
 mod ToldLaws

@@ -1,4 +1,5 @@
 pub mod Difference
+pub mod Equal
 pub mod Sameness
 pub mod Order
 pub mod Outcome

@@ -9,6 +9,7 @@ mod change;
 mod convicting;
 mod convictions;
 mod difference;
+mod equal;
 mod filters;
 pub mod lint;
 mod order;
@@ -19,6 +20,7 @@ mod search;
 mod sides;
 mod text;
 mod told;
+mod tried;
 
 pub use behind_runc::{Behind, behind_stub, judge_behind, stub_text, write_behind};
 pub use change::Change;

@@ -12,12 +12,15 @@ ghost use Rattle.compare.specs.Decided.{IsDecided};
 ghost use Rattle.compare.specs.NoMore.{Exceeds};
 ghost use Rattle.profile.specs.Policy.{IsClear, Policy};
 ghost use Rattle.compare.specs.Difference.{IsChange, IsDifference};
+ghost use Rattle.compare.specs.Equal.{AreEqual};
 ghost use Rattle.compare.specs.Order.{TellsLess, TellsMore, is_less, is_more};
 ghost use Rattle.compare.specs.Outcome.{IsComparison};
+ghost use Rattle.compare.specs.declared.outcome.Comparison.TheVariants.{Same};
 ghost use Rattle.compare.specs.Sameness.{AreUnlikeOn};
 
 use crate::change::{Change, changes_of};
 use crate::difference::{Difference, difference_on};
+use crate::equal::are_equal;
 use crate::order::{AtMost, Excess, Size, allows_no_more};
 use crate::records::{asked_by, conditions_on};
 use crate::same::{Sameness, compare_sameness};
@@ -290,8 +293,12 @@ pub(crate) fn compared(
     first: &Profile,
     second: &Profile,
 ) -> Result<Comparison, AllocError>
-    ensures { IfOk result (IsComparison first.now second.now) }
+    ensures is { IfOk result (IsComparison first.now second.now) }
+    ensures equal { AreEqual first.now second.now → IfOk result (λ comparison. comparison ≡ Same) }
 {
+    if are_equal(first, second) {
+        return Ok(Comparison::Same);
+    }
     let list = differences(alloc, family, first, second)?;
     if list.is_empty() {
         return without_difference(alloc, family, first, second);

@@ -6,10 +6,8 @@ use call_tables::{Arch, is_narrow};
 use profile::{Cond, Op, Profile};
 use std::alloc::{AllocError, Global};
 
-// The most patterns of bits that are made of one argument's conditions, and the most records that are tried for a call.
+// The most patterns of bits that are made of one argument's conditions.
 const MOST_PATTERNS: usize = 256;
-
-const MOST_RECORDS: usize = 65_536;
 
 // Bits that an argument has under a mask.
 #[derive(Clone, Copy)]
@@ -82,17 +80,21 @@ fn add_turns(
     Ok(())
 }
 
-// The least numbers of this many bits from these on that have these bits.
+// The least numbers of this many bits from these on that have these bits, up to so many.
 fn least_of(
     alloc: Global,
     bits: u32,
     starts: &[u64],
     patterns: &[Pattern],
+    most: usize,
 ) -> Result<Vec<u64>, AllocError>
     requires { bits ≤ 64 }
 {
     let mut values = Vec::new(alloc);
     for start in starts {
+        if values.len() > most {
+            break;
+        }
         for pattern in patterns {
             if let Some(value) = least_below(bits, *start, pattern.mask, pattern.datum) {
                 values.push(value)?;
@@ -110,6 +112,7 @@ fn values_of(
     narrow: bool,
     conds: &[Cond],
     index: usize,
+    most: usize,
 ) -> Result<Vec<u64>, AllocError> {
     let mut starts: Vec<u64> = vec![in alloc; 0]?;
     let any = Pattern { mask: 0, datum: 0 };
@@ -120,7 +123,7 @@ fn values_of(
         }
     }
     let bits = if narrow { 32 } else { 64 };
-    least_of(alloc, bits, &starts, &patterns)
+    least_of(alloc, bits, &starts, &patterns, most)
 }
 
 // Adds the conditions of a profile's rules for a call.
@@ -137,19 +140,20 @@ fn add_conds(
     Ok(())
 }
 
-// Each of the arguments, with each of the values in one place.
+// Each of the arguments, with each of the values in one place, up to so many.
 fn with_values(
     alloc: Global,
     records: &[[u64; 6]],
     index: usize,
     values: &[u64],
+    most: usize,
 ) -> Result<Vec<[u64; 6]>, AllocError>
     requires { index < 6 }
 {
     let mut more = Vec::new(alloc);
     for args in records {
         for value in values {
-            if more.len() < MOST_RECORDS {
+            if more.len() < most {
                 let mut next = *args;
                 next[index] = *value;
                 more.push(next)?;
@@ -183,17 +187,18 @@ pub(crate) fn conditions_on(
 }
 
 /// The arguments of the records that are tried for a call: all combinations of values at which a condition of the profiles for
-/// it begins or ceases to hold, up to a limit.
+/// it begins or ceases to hold, up to so many.
 pub(crate) fn records(
     alloc: Global,
     conds: &[Cond],
     arch: Arch,
+    most: usize,
 ) -> Result<Vec<[u64; 6]>, AllocError> {
     let narrow = is_narrow(arch.token());
     let mut records: Vec<[u64; 6]> = vec![in alloc; [0; 6]]?;
     for index in 0..6 {
-        let values = values_of(alloc, narrow, conds, index)?;
-        records = with_values(alloc, &records, index, &values)?;
+        let values = values_of(alloc, narrow, conds, index, most)?;
+        records = with_values(alloc, &records, index, &values, most)?;
     }
     Ok(records)
 }

@@ -5,7 +5,8 @@ ghost use Rattle.compare.specs.Difference.{IsDifference};
 
 use crate::calls::calls;
 use crate::difference::{Difference, unlike_verdicts};
-use crate::records::{asked_by, conditions_on, records};
+use crate::records::{asked_by, conditions_on};
+use crate::tried::{Search, ask_alike};
 use call_record::Record;
 use call_tables::{Arch, Family};
 use profile::Profile;
@@ -17,6 +18,14 @@ enum Kind {
     Any,
     Less,
     More,
+}
+
+// What is found of a call: the first difference, and the first of each direction.
+#[derive(Clone, Copy)]
+struct Found {
+    any: Option<Difference>,
+    less: Option<Difference>,
+    more: Option<Difference>,
 }
 
 // The call whose records are tried, and which arguments are asked for.
@@ -87,43 +96,97 @@ fn add_found(list: &mut Vec<Difference>, found: Option<Difference>) -> Result<()
     }
 }
 
-// Whether neither is there.
-fn are_none(less: &Option<Difference>, more: &Option<Difference>) -> bool {
-    less.is_none() && more.is_none()
+// What is found of a call among the records that are tried.
+fn found_among(first: &Profile, second: &Profile, call: Call, tried: &[[u64; 6]]) -> Found
+    ensures any { IfSome result.any (IsDifference first.now second.now) }
+    ensures less { IfSome result.less (IsDifference first.now second.now) }
+    ensures more { IfSome result.more (IsDifference first.now second.now) }
+{
+    let any = first_difference(first, second, call, tried, Kind::Any);
+    if any.is_none() {
+        return Found {
+            any,
+            less: None,
+            more: None,
+        };
+    }
+    Found {
+        any,
+        less: first_difference(first, second, call, tried, Kind::Less),
+        more: first_difference(first, second, call, tried, Kind::More),
+    }
 }
 
-// Adds a record for a call of which two profiles say unlike verdicts, or one for each direction in which they differ, where
-// such are found.
-fn add_differences(
+// The arguments of what is found.
+fn args_of(alloc: Global, found: &Found) -> Result<Vec<[u64; 6]>, AllocError> {
+    let mut args = Vec::new(alloc);
+    for difference in [found.any, found.less, found.more].iter().flatten() {
+        args.push(difference.args)?;
+    }
+    Ok(args)
+}
+
+// Adds a record for each direction, or the first one where it is of neither.
+fn add_all(list: &mut Vec<Difference>, found: Found) -> Result<(), AllocError>
+    ensures { (p q : Policy) → All (IsDifference p q) list.old.items → IfSome found.any (IsDifference p q)
+        → IfSome found.less (IsDifference p q) → IfSome found.more (IsDifference p q)
+        → IfOk result (λ _. All (IsDifference p q) list.new.items) }
+{
+    if found.less.is_none() && found.more.is_none() {
+        return add_found(list, found.any);
+    }
+    add_found(list, found.less)?;
+    add_found(list, found.more)
+}
+
+// What is found of a call. Calls that have the same rules differ on the same arguments.
+fn found_of(
     alloc: Global,
     first: &Profile,
     second: &Profile,
     named: (Family, Arch, u32),
-    list: &mut Vec<Difference>,
-) -> Result<(), AllocError>
-    requires { All (IsDifference first.now second.now) list.old.items }
-    ensures { IfOk result (λ _. All (IsDifference first.now second.now) list.new.items) }
+    search: &mut Search,
+) -> Result<Found, AllocError>
+    ensures any { IfOk result (λ found. IfSome found.any (IsDifference first.now second.now)) }
+    ensures less { IfOk result (λ found. IfSome found.less (IsDifference first.now second.now)) }
+    ensures more { IfOk result (λ found. IfSome found.more (IsDifference first.now second.now)) }
 {
     let (family, arch, nr) = named;
     let conds = conditions_on(alloc, first, second, (arch, nr))?;
-    let tried = records(alloc, &conds, arch)?;
     let call = Call {
         family,
         arch,
         nr,
         asked: asked_by(&conds),
     };
-    let any = first_difference(first, second, call, &tried, Kind::Any);
-    if any.is_none() {
+    if let Some(args) = search.found(first, second, arch, nr) {
+        return Ok(found_among(first, second, call, args));
+    }
+    let tried = search.records(alloc, &conds, arch)?;
+    let found = found_among(first, second, call, &tried);
+    search.keep(arch, nr, args_of(alloc, &found)?)?;
+    Ok(found)
+}
+
+// Adds what is found of a call, if the profiles have not the same rules for it.
+fn add_call(
+    alloc: Global,
+    first: &Profile,
+    second: &Profile,
+    named: (Family, Arch, u32),
+    search: &mut Search,
+    list: &mut Vec<Difference>,
+) -> Result<(), AllocError>
+    ensures { All (IsDifference first.now second.now) list.old.items → IfOk result (λ _. All (IsDifference first.now second.now) list.new.items) }
+{
+    let (_, arch, nr) = named;
+    if ask_alike(first, second, arch, nr) {
         return Ok(());
     }
-    let less = first_difference(first, second, call, &tried, Kind::Less);
-    let more = first_difference(first, second, call, &tried, Kind::More);
-    if are_none(&less, &more) {
-        return add_found(list, any);
+    match found_of(alloc, first, second, named, search) {
+        Ok(found) => add_all(list, found),
+        Err(error) => Err(error),
     }
-    add_found(list, less)?;
-    add_found(list, more)
 }
 
 /// Records for the calls of which two profiles say unlike verdicts, where some are found: those of the tables of a family come
@@ -137,9 +200,11 @@ pub(crate) fn differences(
     ensures { IfOk result (λ list. All (IsDifference first.now second.now) list.items) }
 {
     let mut list = Vec::new(alloc);
+    let mut search = Search::new(alloc);
     let all = calls(alloc, family)?;
     for (arch, nr) in &all {
-        add_differences(alloc, first, second, (family, *arch, *nr), &mut list)?;
+        let named = (family, *arch, *nr);
+        add_call(alloc, first, second, named, &mut search, &mut list)?;
     }
     Ok(list)
 }

@@ -4,13 +4,15 @@
 //! none of this. What the maker owes is that the checker accepts its work, and that it is small. There are two ways. Of a filter
 //! which the compiler makes of a profile with conditions, the certificate is written from the compiler's outline, by `outline`. Of
 //! any other filter each path is followed, by `certify`, which gives a certificate or a record; for profiles without conditions
-//! it is proved that the certificate is found. Where the paths are too many, `search` looks for a record.
+//! it is proved that the certificate is found. Where the paths are too many, the outline of the compiler's filter is tried, and then
+//! `search` looks for a record.
 mod asked;
 mod evidence;
 mod law;
 mod maker;
 mod own;
 
+pub(crate) use asked::asked_calls;
 pub(crate) use evidence::judge;
 pub use evidence::{Conviction, Evidence, convict};
 pub use law::{compiled_is_right, shape_is_right, table_profiles_are_plain};

@@ -28,4 +28,4 @@ mod words;
 
 pub(crate) use asked::AskedCall;
 pub(crate) use fault::OutlineError;
-pub(crate) use making::outlined;
+pub(crate) use making::{are_too_many, outlined};

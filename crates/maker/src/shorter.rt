@@ -4,7 +4,8 @@ ghost use Rattle.std.specs.Prelude.{◌≡◌, IfErr};
 ghost use Rattle.certify.specs.declared.error.CertifyError.TheVariants as maker;
 ghost use Rattle.maker.specs.declared.unready.Unready.TheVariants.{OutOfMemory};
 
-use crate::evidence::{propose_shared, shortened};
+use crate::evidence::{asked_calls, propose_shared, shortened};
+use crate::outline::are_too_many;
 use crate::proposal::Proposal;
 use crate::unready::Unready;
 use bpf_insn::{MAX_INSNS, Program, encode_into};
@@ -13,6 +14,22 @@ use kernel_check::{Accepted, accept};
 use profile::Profile;
 use rule_compile::{Known, Planned, Shorter};
 use std::alloc::{AllocError, Global};
+
+// A certificate that follows each path. None is looked for if a call has more rules than a node has claims: it would come out too large.
+fn by_paths(
+    alloc: Global,
+    profile: &Profile,
+    accepted: &Accepted<'_>,
+    own: &Planned,
+) -> Result<Vec<u8>, CertifyError> {
+    let Ok(calls) = asked_calls(alloc, &own.outline) else {
+        return Err(CertifyError::OutOfMemory);
+    };
+    if are_too_many(&calls) {
+        return Err(CertifyError::TooLarge);
+    }
+    certify_accepted(alloc, profile, accepted)
+}
 
 // A certificate, by what is known of the filter.
 fn certificate_of(
@@ -25,7 +42,7 @@ fn certificate_of(
     match known {
         Known::AsOwn => propose_shared(alloc, profile, accepted, &own.outline),
         Known::Outline(outline) => propose_shared(alloc, profile, accepted, outline),
-        Known::Nothing => certify_accepted(alloc, profile, accepted),
+        Known::Nothing => by_paths(alloc, profile, accepted, own),
     }
 }
 

@@ -255,7 +255,8 @@ fn from_hand(
 /// A certificate that is at hand is taken first: of a profile without conditions, or by the compiler's outline where the compiler
 /// makes the same filter. Of any other filter each path is followed, until it is certified, or a record is met on which it is wrong.
 /// Then a record beside the rules is told in the place of that one, if there is one, and a call of the tables before all others.
-/// Where the paths are too many, or some comparison does not tell all that it asks, a search may still find a record.
+/// Where the paths are too many, the certificate by the outline of the compiler's own filter is tried. Then, or where some comparison does
+/// not tell all that it asks, a search may still find a record.
 #[tactic(auto, using(crate::proofs::RightLaws::judged_of_telling))]
 pub(crate) fn judge(
     alloc: Global,

@@ -86,8 +86,8 @@ fn finished(drafted: Drafted<'_>) -> Result<Vec<u8>, OutlineError> {
     }
 }
 
-// Whether a call has more rules than a node has claims, of which most nodes of the call state that they are out.
-fn are_too_many(calls: &[AskedCall]) -> bool {
+/// Whether a call has more rules than a node has claims, of which most nodes of the call state that they are out.
+pub(crate) fn are_too_many(calls: &[AskedCall]) -> bool {
     for call in calls {
         let mut rules = 0usize;
         for part in &call.parts {

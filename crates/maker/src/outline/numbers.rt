@@ -6,7 +6,7 @@ use crate::outline::parts::{Cut, are_many, cut_below, listed};
 use crate::outline::rules::Numbered;
 use crate::outline::spot::{Spot, Which};
 use crate::outline::words::{Told, Words};
-use call_tables::Arch;
+use call_tables::{Arch, LEAST_X32_NUMBER};
 use cert_state::{AVal, Facts, Knowledge, Lit, Room, range};
 use profile::{MAX_RULES, Rule, foreign_numbers};
 use std::alloc::{AllocError, Global};
@@ -15,9 +15,6 @@ use std::alloc::{AllocError, Global};
 pub(crate) const NUMBER: u8 = 0;
 
 pub(crate) const TOKEN: u8 = 1;
-
-// Numbers from this one on are those of x32, whose token is that of x86-64.
-const X32_BIT: u32 = 0x4000_0000;
 
 /// Room for what is known of the number and of arguments, where many questions are asked of it. It serves one spot after the other.
 #[derive(Drop)]
@@ -320,7 +317,7 @@ impl<'a> Maker<'a> {
         if !self.is_shared(only(known, TOKEN)?) {
             return None;
         }
-        cut_within(range_of(known, NUMBER)?, X32_BIT)
+        cut_within(range_of(known, NUMBER)?, LEAST_X32_NUMBER)
     }
 
     // The numbers of a machine's calls of which rules ask for arguments, without those that are excluded, in order.
