@@ -37,6 +37,7 @@ struct rule {
     int call, number; /* number: where the call has no name */
     unsigned count;
     struct ccell_condition conditions[ARGUMENTS]; /* in the order of arguments */
+    uint64_t key; /* of the call and its conditions: that most rules differ is seen at once */
 };
 
 struct state { uint32_t attributes[ATTRIBUTES], machines; size_t count; };

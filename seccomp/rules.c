@@ -22,8 +22,19 @@ static int read_conditions(struct rule *rule, unsigned count, const struct scmp_
     return 0;
 }
 
+static uint64_t mixed(uint64_t key, uint64_t word) { return (key ^ word) * 0x9e3779b97f4a7c15; }
+
+static uint64_t key_of(const struct rule *rule) {
+    uint64_t key = mixed((uint32_t)rule->call, (uint32_t)rule->number);
+    for (unsigned i = 0; i < rule->count; i++) {
+        const struct ccell_condition *own = &rule->conditions[i];
+        key = mixed(mixed(mixed(mixed(key, own->argument), own->operator_), own->value), own->datum);
+    }
+    return key;
+}
+
 static bool is_same(const struct rule *a, const struct rule *b) {
-    return a->call == b->call && a->number == b->number && a->count == b->count &&
+    return a->key == b->key && a->call == b->call && a->number == b->number && a->count == b->count &&
            !memcmp(a->conditions, b->conditions, a->count * sizeof *a->conditions);
 }
 
@@ -75,6 +86,7 @@ static int add(struct filter *filter, bool exact, uint32_t action, int number, u
     } else if (!one_has(rule.machines, rule.call)) {
         return exact ? -EDOM : 0; /* no machine that is listed has the call */
     }
+    rule.key = key_of(&rule);
     return append(filter, &rule);
 }
 
