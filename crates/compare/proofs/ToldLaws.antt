@@ -1,5 +1,5 @@
 -- What is told of two bundles, by what is told of its parts.
-use Rattle.std.proofs.Common.{ℕ, Bool, List, inl, inr}
+use Rattle.std.proofs.Common.{◌≡◌, ℕ, Bool, List, inl, inr}
 use Rattle.std.specs.Prelude.{IfOk, IfSome, Result, Ok, Err}
 use Rattle.call_tables.specs.declared.arch.Arch.{Arch}
 use Rattle.explain.specs.declared.told.Told.{Told}
@@ -7,9 +7,11 @@ use Rattle.profile.specs.Policy.{Policy}
 use Rattle.profile_json.specs.Breaks.{Breaks}
 use Rattle.profile_json.specs.Fault.{fault_of}
 use Rattle.profile_json.specs.declared.fault.ProfileError.{ProfileError}
+use Rattle.compare.specs.Equal.{AreEqual}
 use Rattle.compare.specs.Outcome.{IsComparison}
 use Rattle.compare.specs.Told.{AreTold, IsBundle, IsCompared, TellsComparison, TellsRefusal}
 use Rattle.compare.specs.declared.outcome.Comparison.{Comparison}
+use Rattle.compare.specs.declared.outcome.Comparison.TheVariants.{Same}
 
 module _ {E : Type 0} (atmost : Bool) (native : Arch) (first second : List ℕ) where
   -- a bundle is refused
@@ -32,6 +34,6 @@ module _ {E : Type 0} (atmost : Bool) (native : Arch) (first second : List ℕ) 
 
 -- how profiles compare is told
 pub are_told : {E : Type 0} (atmost : Bool) (p q : Policy) (comparison : Comparison) (r : Result Told E) → IsComparison p q comparison
-    → IfOk r (TellsComparison atmost comparison) → IfOk r (AreTold atmost p q)
-are_told atmost p q comparison (Ok told) is h = record { comparison = comparison; is = is; tells = h }
-are_told atmost p q comparison (Err x) is h = h
+    → (AreEqual p q → comparison ≡ Same) → IfOk r (TellsComparison atmost comparison) → IfOk r (AreTold atmost p q)
+are_told atmost p q comparison (Ok told) is equal h = record { comparison = comparison; is = is; equal = equal; tells = h }
+are_told atmost p q comparison (Err x) is equal h = h

@@ -11,8 +11,10 @@ use Rattle.profile_json.specs.Fault.{fault_of, text_of as refusal_text}
 use Rattle.profile_json.specs.Meaning.{IsText, Means}
 use Rattle.profile_json.specs.declared.fault.ProfileError.{ProfileError}
 use Rattle.profile_json.specs.declared.fault.ProfileError.TheVariants.{OutOfMemory}
+use Rattle.compare.specs.Equal.{AreEqual}
 use Rattle.compare.specs.Outcome.{IsComparison, is_done, text_of}
 use Rattle.compare.specs.declared.outcome.Comparison.{Comparison}
+use Rattle.compare.specs.declared.outcome.Comparison.TheVariants.{Same}
 
 -- the text of these bytes is a bundle that means the profile
 abbrev pub IsBundle : Arch → List ℕ → Policy → Type 0
@@ -37,10 +39,11 @@ pub record IsRefused (native : Arch) (bundle : List ℕ) (place : ℕ) (told : T
   pub stands : IfSome (fault_of fault) (Breaks bundle native)
   pub tells : TellsRefusal place fault told
 
--- what is told of two profiles is so
+-- what is told of two profiles is so: of such as are the same but for the order of their rules, that they are the same
 pub record AreTold (atmost : Bool) (p q : Policy) (told : Told) : Type 0 where
   pub comparison : Comparison
   pub is : IsComparison p q comparison
+  pub equal : AreEqual p q → comparison ≡ Same
   pub tells : TellsComparison atmost comparison told
 
 -- both bundles mean profiles, of which it is told

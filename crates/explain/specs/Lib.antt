@@ -2,6 +2,7 @@ pub mod Phrases
 pub mod Reason
 pub mod Understood
 pub mod Explanation
+pub mod Explainer
 pub mod Asked
 pub mod Told
 pub mod inner

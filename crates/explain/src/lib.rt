@@ -24,5 +24,5 @@ pub use describe::{
     Configuration, Doubled, Trimmed, annotated, drawn, fault_in, fault_of, read_out, without_unread,
 };
 pub use phrases::{ActionText, ConditionText};
-pub use telling::explanation;
+pub use telling::{Explainer, explanation};
 pub use told::{Told, assembled, explain, record, refused_profile, version};

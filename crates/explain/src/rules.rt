@@ -4,6 +4,7 @@ ghost use Rattle.std.specs.List.{flat_map};
 ghost use Rattle.call_tables.specs.Width as width;
 ghost use Rattle.profile.specs.Said.{meets};
 ghost use Rattle.explain.specs.Explanation as spec;
+ghost use Rattle.explain.specs.Reason.{entry_at};
 
 use crate::phrases::{ActionText, ConditionText};
 use crate::reason::{entry_at, is_match};
@@ -82,13 +83,19 @@ fn is_of(rule: &Rule, call: &Record) -> bool
     rule.nr == call.nr
 }
 
-// Adds the lines of a rule, if it is for the record's call.
-fn put_if_of(text: &mut String, entry: usize, rule: &Rule, call: &Record) -> Result<(), AllocError>
+// Adds the lines of the rule at a place, if it is for the record's call.
+fn put_if_of(
+    text: &mut String,
+    all: &EntryRules,
+    place: usize,
+    rule: &Rule,
+    call: &Record,
+) -> Result<(), AllocError>
     ensures { IfOk result (λ _. string_bytes text.new ≡ string_bytes text.old
-        ++ (if spec.is_of rule.now call.now then spec.rule_lines entry rule.now call.now else [])) }
+        ++ (if spec.is_of rule.now call.now then spec.rule_lines (entry_at all.now.ends.items place) rule.now call.now else [])) }
 {
     if is_of(rule, call) {
-        return put_rule(text, entry, rule, call);
+        return put_rule(text, entry_at(all, place), rule, call);
     }
     Ok(())
 }
@@ -103,7 +110,7 @@ pub(crate) fn put_rules(
         ++ spec.lines_from 0 all.now.rules.items all.now.ends.items call.now) }
 {
     for (place, rule) in all.rules.as_slice().iter().enumerate() {
-        put_if_of(text, entry_at(all, place), rule, call)?;
+        put_if_of(text, all, place, rule, call)?;
     }
     Ok(())
 }

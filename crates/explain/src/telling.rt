@@ -76,8 +76,49 @@ fn explained(
     Ok(text)
 }
 
-/// The text that explains what a bundle, which is read for a native machine, says of a call record: the call, the verdict, why
-/// it is said, and of each rule for that call whether it matches, and which of its conditions hold.
+/// A bundle that was read for a native machine, to explain what it says of call records.
+#[derive(Drop)]
+pub struct Explainer {
+    native: Arch,
+    profile: Profile,
+    all: EntryRules,
+}
+
+impl Explainer {
+    ghost use Rattle.std.specs.Prelude.{ℕ, List, IfErr, IfOk, IfSome, string_bytes};
+    ghost use Rattle.call_tables.specs.declared.arch.Arch.{Arch as TheArch};
+    ghost use Rattle.explain.specs.Explainer.{Reads};
+    ghost use Rattle.explain.specs.Explanation.{Explains};
+    ghost use Rattle.profile_json.specs.Breaks.{Breaks};
+    ghost use Rattle.profile_json.specs.Fault.{fault_of};
+
+    /// Reads a bundle.
+    pub fn new(alloc: Global, native: Arch, bundle: &[u8]) -> Result<Explainer, ProfileError>
+        ensures reads { IfOk result (Reads native bundle.now) }
+        // Unless memory ran out, the fault stands in the bundle.
+        ensures fault { IfErr result (λ e. IfSome (fault_of e) (Breaks bundle.now native)) }
+    {
+        let read = read_bundle(alloc, bundle, native)?;
+        let all = rules_by_entry(alloc, bundle, native)?;
+        Ok(Explainer {
+            native,
+            profile: read.profile,
+            all,
+        })
+    }
+
+    /// The text that explains what the bundle says of a call record: the call, the verdict, why it is said, and of each rule for that
+    /// call whether it matches, and which of its conditions hold.
+    pub fn explanation(&self, alloc: Global, call: &Record) -> Result<String, AllocError>
+        ensures { (native : TheArch) (bundle : List ℕ) → Reads native bundle self.now
+            → IfOk result (λ text. Explains native bundle call.now (string_bytes text)) }
+    {
+        let text = explained(alloc, self.native, &self.profile, &self.all, call)?;
+        Ok(text)
+    }
+}
+
+/// The text that explains what a bundle, which is read for a native machine, says of a call record.
 pub fn explanation(
     alloc: Global,
     native: Arch,
@@ -88,8 +129,6 @@ pub fn explanation(
     // Unless memory ran out, the fault stands in the bundle.
     ensures fault { IfErr result (λ e. IfSome (fault_of e) (Breaks bundle.now native)) }
 {
-    let read = read_bundle(alloc, bundle, native)?;
-    let all = rules_by_entry(alloc, bundle, native)?;
-    let text = explained(alloc, native, &read.profile, &all, call)?;
-    Ok(text)
+    let read = Explainer::new(alloc, native, bundle)?;
+    Ok(read.explanation(alloc, call)?)
 }

@@ -8,6 +8,7 @@ ghost use Rattle.explain.specs.Any as spec;
 
 use crate::calls::machine_with;
 use crate::phrases::{ActionText, ConditionText};
+use crate::reason::entry_at;
 use call_tables::{Arch, Family};
 use profile::{Cond, Profile, Rule, are_for};
 use profile_json::EntryRules;
@@ -107,31 +108,22 @@ pub(crate) fn is_of(rule: &Rule, token: u32, nr: u32) -> bool
     rule.nr == nr
 }
 
-// Adds the line of a rule, if it is for a call.
+// Adds the line of the rule at a place, if it is for a call.
 fn put_if_of(
     text: &mut String,
-    entry: usize,
+    all: &EntryRules,
+    place: usize,
     rule: &Rule,
     token: u32,
     nr: u32,
 ) -> Result<(), AllocError>
     ensures { IfOk result (λ _. string_bytes text.new ≡ string_bytes text.old
-        ++ (if spec.is_of rule.now token nr then spec.rule_line entry rule.now else [])) }
+        ++ (if spec.is_of rule.now token nr then spec.rule_line (entry_at all.now.ends.items place) rule.now else [])) }
 {
     if is_of(rule, token, nr) {
-        return put_rule(text, entry, rule);
+        return put_rule(text, entry_at(all, place), rule);
     }
     Ok(())
-}
-
-// The place of the entry that has the rule at a place.
-fn entry_at(all: &EntryRules, place: usize) -> usize
-    ensures { result ≡ entry_at all.now.ends.items place }
-{
-    match all.entry_of(place) {
-        Some(entry) => entry,
-        None => 0,
-    }
 }
 
 // Adds the lines of the rules for a call.
@@ -140,7 +132,7 @@ fn put_rules(text: &mut String, all: &EntryRules, token: u32, nr: u32) -> Result
         ++ spec.lines_from 0 all.now.rules.items all.now.ends.items token nr) }
 {
     for (place, rule) in all.rules.as_slice().iter().enumerate() {
-        put_if_of(text, entry_at(all, place), rule, token, nr)?;
+        put_if_of(text, all, place, rule, token, nr)?;
     }
     Ok(())
 }

@@ -1,15 +1,4 @@
 use Rattle.explain.proofs.telling.explanation.Goals as goal
 
 pub returns-clause-explains : goal.returns-clause-explains
-returns-clause-explains c =
-    let means = c.in_ok-read.ensures.ok in
-    let told = c.in_ok-text.ensures in
-    record {
-      policy = c.in_ok-read.read.profile;
-      rules = c.in_ok-all.all.rules.items;
-      ends = c.in_ok-all.all.ends.items;
-      read = record { t = means.0; is_text = means.1; means = means.2; are = c.in_ok-all.ensures.ok };
-      said = told.0;
-      says = told.1;
-      told = told.2;
-    }
+returns-clause-explains c = c.in_ok-explanation.ensures c.args.native c.args.bundle.now c.in_ok-read.ensures.reads

@@ -1,0 +1,7 @@
+use Rattle.std.proofs.Common.{sym, ◌∙◌}
+use Rattle.std.proofs.lemmas.Bool.{true≢false}
+use Rattle.compare.proofs.EqualLaws.{equal_say_the_same}
+use Rattle.compare.proofs.outcome.compared.Goals as goal
+
+pub returns-then-are_equal-clause-is : goal.returns-then-are_equal-clause-is
+returns-then-are_equal-clause-is c = equal_say_the_same c.args.first.now c.args.second.now (c.are_equal.ensures.0 c.if-are_equal.true)
