@@ -6,7 +6,9 @@ ghost use Rattle.certify.specs.declared.error.CertifyError.TheVariants.{OutOfMem
 ghost use Rattle.certify.specs.Certificates.{MakesValid, OwnLacksMemory, RightLacksRoom, TellingLacksRoom};
 ghost use Rattle.maker.specs.evidence.AtHand.{HasOwnValid, IsValidOne, MakesOwnValid};
 
+use crate::evidence::asked::asked_calls;
 use crate::evidence::own::by_outline;
+use crate::outline::are_too_many;
 use cert_check::{CheckError, check_accepted};
 use certify::{CertifyError, PathsError, by_paths, certify_accepted};
 use kernel_check::Accepted;
@@ -92,18 +94,71 @@ fn or_followed(
     }
 }
 
-// What the makers propose, with the filter's outline where the compiler made it.
+// The certificate that follows each path of a filter of the compiler, of which none was written from its outline. If that came out too large,
+// as it does unless a call has too many rules for it, this one would be larger: none is looked for.
+fn beside_outline(
+    alloc: Global,
+    profile: &Profile,
+    program: &Accepted<'_>,
+    outline: &Outline,
+) -> Result<Vec<u8>, CertifyError>
+    ensures telling { TellingLacksRoom profile.now (accepted_insns program.now) result }
+{
+    let Ok(calls) = asked_calls(alloc, outline) else {
+        return Err(CertifyError::OutOfMemory);
+    };
+    if !are_too_many(&calls) {
+        return Err(CertifyError::TooLarge);
+    }
+    certify_accepted(alloc, profile, program)
+}
+
+// What is at hand of a filter of the compiler, or else what follows each path.
+fn of_compilers(
+    alloc: Global,
+    profile: &Profile,
+    program: &Accepted<'_>,
+    outline: &Outline,
+    hand: Option<Vec<u8>>,
+) -> Result<Vec<u8>, CertifyError>
+    ensures own { IsValidOne profile.now (accepted_insns program.now) hand → MakesValid profile.now (accepted_insns program.now) result }
+    ensures telling { TellingLacksRoom profile.now (accepted_insns program.now) result }
+    ensures never { IsValidOne profile.now (accepted_insns program.now) hand → IfErr result (λ e. e ≡ OutOfMemory) }
+{
+    match hand {
+        Some(bytes) => Ok(bytes),
+        None => beside_outline(alloc, profile, program, outline),
+    }
+}
+
+// What the makers propose of a filter that the compiler made, with its outline.
 fn proposed(
     alloc: Global,
     profile: &Profile,
     program: &Accepted<'_>,
-    outline: Option<&Outline>,
+    outline: &Outline,
 ) -> Result<Vec<u8>, CertifyError>
     ensures own { MakesOwnValid profile.now (accepted_insns program.now) result }
     ensures telling { TellingLacksRoom profile.now (accepted_insns program.now) result }
     ensures never { OwnLacksMemory profile.now (accepted_insns program.now) result }
 {
-    match at_hand(alloc, profile, program, outline) {
+    match at_hand(alloc, profile, program, Some(outline)) {
+        Ok(hand) => of_compilers(alloc, profile, program, outline, hand),
+        Err(error) => Err(error),
+    }
+}
+
+// What is at hand of a filter that anyone made, or else what follows each path.
+fn anyones(
+    alloc: Global,
+    profile: &Profile,
+    program: &Accepted<'_>,
+) -> Result<Vec<u8>, CertifyError>
+    ensures own { MakesOwnValid profile.now (accepted_insns program.now) result }
+    ensures telling { TellingLacksRoom profile.now (accepted_insns program.now) result }
+    ensures never { OwnLacksMemory profile.now (accepted_insns program.now) result }
+{
+    match at_hand(alloc, profile, program, None) {
         Ok(hand) => or_followed(alloc, profile, program, hand),
         Err(error) => Err(error),
     }
@@ -127,7 +182,7 @@ pub fn certified(
     ensures sure { RightLacksRoom profile.now (accepted_insns program.now) result }
     ensures never { OwnLacksMemory profile.now (accepted_insns program.now) result }
 {
-    match proposed(alloc, profile, program, None) {
+    match anyones(alloc, profile, program) {
         Ok(bytes) => once_checked(alloc, profile, program, bytes),
         Err(error) => Err(error),
     }
@@ -146,7 +201,7 @@ pub(crate) fn propose(
     ensures sure { RightLacksRoom profile.now (accepted_insns program.now) result }
     ensures never { OwnLacksMemory profile.now (accepted_insns program.now) result }
 {
-    proposed(alloc, profile, program, Some(outline))
+    proposed(alloc, profile, program, outline)
 }
 
 /// What the makers propose of a filter that `shorten` gives, with its outline: the checker was not asked.
