@@ -4,19 +4,25 @@ ghost use Rattle.compare.specs.Convictions.{Convicts, TellsAll};
 ghost use Rattle.maker.specs.Certified.{Certifies};
 ghost use Rattle.cli.specs.Dispatch.{AnswersAll};
 
-use crate::comparing::tell_why;
+use crate::comparing::put_text;
 use crate::files::{Files, read, read_filter};
 use crate::stops::Stop;
 use call_tables::Arch;
 use compare::{convictions_of, write_convictions};
+use explain::Explainer;
 use maker::{Conviction, Evidence, judge_bundle, write_judged};
 use std::alloc::Global;
 use texts::{Sink, WriteFault};
 
-// Explains each record that was told, if there is memory.
+// Explains each record that was told, if there is memory. The bundle is read once.
 fn tell_each<E: Sink>(alloc: Global, native: Arch, bundle: &[u8], all: &[Conviction], err: &mut E) {
+    let Ok(explainer) = Explainer::new(alloc, native, bundle) else {
+        return;
+    };
     for found in all {
-        tell_why(alloc, native, bundle, found, err);
+        if let Ok(text) = explainer.explanation(alloc, &found.call) {
+            put_text(text, err);
+        }
     }
 }
 

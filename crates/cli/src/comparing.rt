@@ -19,14 +19,8 @@ pub(crate) fn put_text<E: Sink>(text: String, err: &mut E)
     let _ = write_all(text.as_bytes(), err);
 }
 
-/// Explains a record that convicts a filter, if there is memory.
-pub(crate) fn tell_why<E: Sink>(
-    alloc: Global,
-    native: Arch,
-    bundle: &[u8],
-    found: &Conviction,
-    err: &mut E,
-)
+// Explains a record that convicts a filter, if there is memory.
+fn tell_why<E: Sink>(alloc: Global, native: Arch, bundle: &[u8], found: &Conviction, err: &mut E)
     ensures { MayTellWhy E.held E.failures err.old err.new native bundle.now found.now.call }
 {
     match explain_found(alloc, native, bundle, found) {

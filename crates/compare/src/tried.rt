@@ -104,7 +104,12 @@ impl Search {
     }
 
     /// Keeps what was found of a call.
-    pub(crate) fn keep(&mut self, arch: Arch, nr: u32, found: Vec<[u64; 6]>) -> Result<(), AllocError> {
+    pub(crate) fn keep(
+        &mut self,
+        arch: Arch,
+        nr: u32,
+        found: Vec<[u64; 6]>,
+    ) -> Result<(), AllocError> {
         if self.tried.len() < MOST_KEPT {
             self.tried.push(Tried { arch, nr, found })?;
         }

@@ -5,6 +5,12 @@ use call_record::Record;
 use kernel_check::Accepted;
 use std::alloc::AllocError;
 
+// The word of a record that holds the lower half of the first argument.
+const FIRST_ARGUMENT: usize = 4;
+
+// The most comparisons on one way that are looked at.
+const MOST_ASKED: usize = 64;
+
 /// A comparison with a number, of the bits under a mask of one word of the record.
 #[derive(Clone, Copy, Debug)]
 pub(crate) struct Asked {
@@ -123,10 +129,12 @@ fn behind(pc: u16, skip: u32) -> Option<u16> {
     u16::try_from(next).ok()
 }
 
-// Adds the comparison, if there is one.
+// Adds the comparison, if there is one of an argument, and room.
 fn add(asked: Option<Asked>, out: &mut Vec<Asked>) -> Result<(), AllocError> {
     if let Some(asked) = asked {
-        out.push(asked)?;
+        if asked.word >= FIRST_ARGUMENT && out.len() < MOST_ASKED {
+            out.push(asked)?;
+        }
     }
     Ok(())
 }
@@ -152,8 +160,8 @@ fn follow(
     Ok(Some((pc, next)))
 }
 
-/// Adds the comparisons that a filter makes of words of a call record. A filter that keeps words in its scratch memory is not followed
-/// on.
+/// Adds the comparisons that a filter makes of a call record's arguments, up to so many. A filter that keeps words in its scratch memory is
+/// not followed on.
 pub(crate) fn add_asked(
     filter: &Accepted<'_>,
     call: &Record,

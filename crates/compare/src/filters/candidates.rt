@@ -5,9 +5,6 @@ use call_record::Record;
 use kernel_check::Accepted;
 use std::alloc::{AllocError, Global};
 
-/// The most records of one call that are tried.
-pub(crate) const MOST_RECORDS: usize = 96;
-
 // The number with other bits in its low or its high half.
 fn with_half(wide: u64, is_high: bool, half: u32) -> u64 {
     if is_high {
@@ -33,8 +30,8 @@ fn with_word(call: &Record, word: usize, value: u32) -> Record {
 }
 
 // Adds a record, if it is a new one and there is room.
-fn add(call: Record, todo: &mut Vec<Record>) -> Result<(), AllocError> {
-    if todo.len() >= MOST_RECORDS {
+fn add(call: Record, most: usize, todo: &mut Vec<Record>) -> Result<(), AllocError> {
+    if todo.len() >= most {
         return Ok(());
     }
     if todo.contains(&call) {
@@ -49,37 +46,43 @@ fn add_with(
     call: &Record,
     asked: &Asked,
     bits: u32,
+    most: usize,
     todo: &mut Vec<Record>,
 ) -> Result<(), AllocError> {
     if asked.word >= 16 {
         return Ok(());
     }
     let kept = call.word(asked.word) & !asked.mask;
-    add(
-        with_word(call, asked.word, kept | (bits & asked.mask)),
-        todo,
-    )
+    let other = with_word(call, asked.word, kept | (bits & asked.mask));
+    add(other, most, todo)
 }
 
 // Adds the records that lie on both sides of a comparison.
-fn add_beside(call: &Record, asked: &Asked, todo: &mut Vec<Record>) -> Result<(), AllocError> {
-    add_with(call, asked, asked.number, todo)?;
-    add_with(call, asked, asked.number.wrapping_add(1), todo)?;
-    add_with(call, asked, asked.number.wrapping_sub(1), todo)?;
-    add_with(call, asked, 0, todo)
+fn add_beside(
+    call: &Record,
+    asked: &Asked,
+    most: usize,
+    todo: &mut Vec<Record>,
+) -> Result<(), AllocError> {
+    let number = asked.number;
+    add_with(call, asked, number, most, todo)?;
+    add_with(call, asked, number.wrapping_add(1), most, todo)?;
+    add_with(call, asked, number.wrapping_sub(1), most, todo)?;
+    add_with(call, asked, 0, most, todo)
 }
 
-/// Adds the records of a call that a filter tells apart from one of them.
+/// Adds the records of a call that a filter tells apart from one of them, until there are so many.
 pub(crate) fn add_candidates(
     alloc: Global,
     filter: &Accepted<'_>,
     call: &Record,
+    most: usize,
     todo: &mut Vec<Record>,
 ) -> Result<(), AllocError> {
     let mut asked = Vec::new(alloc);
     add_asked(filter, call, &mut asked)?;
     for it in &asked {
-        add_beside(call, it, todo)?;
+        add_beside(call, it, most, todo)?;
     }
     Ok(())
 }

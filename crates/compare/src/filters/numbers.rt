@@ -5,6 +5,9 @@ use call_tables::{Arch, Numbers};
 use kernel_check::Accepted;
 use std::alloc::{AllocError, Global};
 
+// The most numbers with which filters compare that are tried.
+const MOST_COMPARED: usize = 4096;
+
 // Adds a number with which a filter compares, and those beside it.
 fn add_beside(number: u32, numbers: &mut Vec<u32>) -> Result<(), AllocError> {
     numbers.push(number)?;
@@ -23,6 +26,22 @@ fn add_compared(filter: &Accepted<'_>, numbers: &mut Vec<u32>) -> Result<(), All
         }
     }
     Ok(())
+}
+
+// Adds the numbers with which two filters compare, and those beside them, the lowest first, up to so many.
+fn add_all_compared(
+    alloc: Global,
+    old: &Accepted<'_>,
+    new: &Accepted<'_>,
+    numbers: &mut Vec<u32>,
+) -> Result<(), AllocError> {
+    let mut compared = Vec::new(alloc);
+    add_compared(old, &mut compared)?;
+    add_compared(new, &mut compared)?;
+    compared.sort_unstable();
+    compared.dedup();
+    compared.truncate(MOST_COMPARED);
+    numbers.append(&mut compared)
 }
 
 // Adds the numbers of a range.
@@ -53,8 +72,7 @@ pub(crate) fn numbers_of(
     for machine in machines {
         add_calls(*machine, &mut numbers)?;
     }
-    add_compared(old, &mut numbers)?;
-    add_compared(new, &mut numbers)?;
+    add_all_compared(alloc, old, new, &mut numbers)?;
     numbers.sort_unstable();
     numbers.dedup();
     Ok(numbers)

@@ -6,13 +6,58 @@ ghost use Rattle.kernel_check.specs.Lent.{accepted_insns};
 ghost use Rattle.compare.specs.Differ.{AnswerUnlike};
 
 use crate::difference::Difference;
-use crate::filters::candidates::{MOST_RECORDS, add_candidates};
+use crate::filters::candidates::add_candidates;
 use crate::filters::numbers::numbers_of;
 use crate::filters::unlike::unlike;
 use call_record::Record;
 use call_tables::Family;
 use kernel_check::Accepted;
 use std::alloc::{AllocError, Global};
+
+// The most records of one call that are tried.
+const MOST_RECORDS: usize = 96;
+
+// So many records are tried as have so many instructions to run in both filters together, but one of each call at least.
+const MOST_STEPS: usize = 0x400_0000;
+
+// How many records may be tried yet, and how many calls are still to come.
+#[derive(Clone, Copy)]
+struct Left {
+    records: usize,
+    calls: usize,
+}
+
+impl Left {
+    // What may be tried of so many calls.
+    fn of(old: &Accepted<'_>, new: &Accepted<'_>, calls: usize) -> Left {
+        let steps = old.program().len().saturating_add(new.program().len());
+        Left {
+            records: MOST_STEPS.checked_div(steps).unwrap_or(MOST_STEPS),
+            calls,
+        }
+    }
+
+    // The most records of the next call: each call behind it keeps one.
+    fn most(self) -> usize {
+        let records = self.records.saturating_sub(self.calls);
+        records.max(1).min(MOST_RECORDS)
+    }
+
+    // What is left after so many records of a call.
+    fn after(self, tried: usize) -> Left {
+        Left {
+            records: self.records.saturating_sub(tried),
+            calls: self.calls.saturating_sub(1),
+        }
+    }
+}
+
+// What is found of a call, and how many records were tried.
+#[derive(Clone, Copy)]
+struct Searched {
+    found: Option<Difference>,
+    tried: usize,
+}
 
 // The record of a call whose arguments are 0.
 fn plain_call(token: u32, number: u32) -> Record {
@@ -24,30 +69,36 @@ fn plain_call(token: u32, number: u32) -> Record {
     }
 }
 
-// The first record on which two filters answer unlike verdicts, of those of one call that they tell apart.
+// The first record on which two filters answer unlike verdicts, of those of one call that they tell apart, up to so many.
 fn search_call(
     alloc: Global,
     family: Family,
     old: &Accepted<'_>,
     new: &Accepted<'_>,
-    token: u32,
-    number: u32,
-) -> Result<Option<Difference>, AllocError>
-    ensures { IfOk result (λ found. IfSome found (AnswerUnlike (accepted_insns old.now) (accepted_insns new.now))) }
+    call: Record,
+    most: usize,
+) -> Result<Searched, AllocError>
+    ensures { IfOk result (λ searched. IfSome searched.found (AnswerUnlike (accepted_insns old.now) (accepted_insns new.now))) }
 {
     let mut todo = Vec::new(alloc);
-    todo.push(plain_call(token, number))?;
-    for at in 0..MOST_RECORDS {
-        let Some(call) = todo.get(at).copied() else {
-            return Ok(None);
+    todo.push(call)?;
+    for tried in 0..most {
+        let Some(call) = todo.get(tried).copied() else {
+            return Ok(Searched { found: None, tried });
         };
-        if let Some(found) = unlike(family, old, new, &call) {
-            return Ok(Some(found));
+        let found = unlike(family, old, new, &call);
+        if found.is_some() {
+            return Ok(Searched { found, tried });
         }
-        add_candidates(alloc, old, &call, &mut todo)?;
-        add_candidates(alloc, new, &call, &mut todo)?;
+        if todo.len() < most {
+            add_candidates(alloc, old, &call, most, &mut todo)?;
+            add_candidates(alloc, new, &call, most, &mut todo)?;
+        }
     }
-    Ok(None)
+    Ok(Searched {
+        found: None,
+        tried: most,
+    })
 }
 
 // Adds a difference, if there is one.
@@ -70,14 +121,17 @@ fn add_differences(
     new: &Accepted<'_>,
     token: u32,
     numbers: &[u32],
+    left: &mut Left,
     all: &mut Vec<Difference>,
 ) -> Result<(), AllocError>
     requires { All (AnswerUnlike (accepted_insns old.now) (accepted_insns new.now)) all.old.items }
     ensures { IfOk result (λ _. All (AnswerUnlike (accepted_insns old.now) (accepted_insns new.now)) all.new.items) }
 {
     for number in numbers {
-        let found = search_call(alloc, family, old, new, token, *number)?;
-        add(found, all)?;
+        let call = plain_call(token, *number);
+        let searched = search_call(alloc, family, old, new, call, left.most())?;
+        *left = left.after(searched.tried);
+        add(searched.found, all)?;
     }
     Ok(())
 }
@@ -94,11 +148,15 @@ pub fn find_differences(
 {
     let mut all = Vec::new(alloc);
     let numbers = numbers_of(alloc, family.machines(), old, new)?;
+    let calls = numbers.len().saturating_mul(family.machines().len());
+    let mut left = Left::of(old, new, calls);
     let mut before = 0;
     for machine in family.machines() {
         let token = machine.token();
         if token != before {
-            add_differences(alloc, family, old, new, token, &numbers, &mut all)?;
+            add_differences(
+                alloc, family, old, new, token, &numbers, &mut left, &mut all,
+            )?;
         }
         before = token;
     }
