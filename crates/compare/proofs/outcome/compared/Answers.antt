@@ -1,5 +1,3 @@
-use Rattle.std.proofs.Common.{sym, ◌∙◌}
-use Rattle.std.proofs.lemmas.Bool.{true≢false}
 use Rattle.compare.proofs.EqualLaws.{equal_say_the_same}
 use Rattle.compare.proofs.outcome.compared.Goals as goal
 
