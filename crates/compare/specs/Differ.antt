@@ -1,6 +1,5 @@
 -- Calls of which two filters answer unlike verdicts.
-use Rattle.std.specs.Prelude.{ℕ, ◌≡◌, ◌≢◌, List, [], Some, IfSome}
-use Rattle.std.specs.List.{All}
+use Rattle.std.specs.Prelude.{◌≡◌, ◌≢◌, List, Some, IfSome}
 use Rattle.call_record.specs.Words.{IsRecord}
 use Rattle.call_tables.specs.Arch.{token_of}
 use Rattle.bpf_insn.specs.declared.instruction.Insn.{Insn}
