@@ -12,7 +12,7 @@ mod law;
 mod maker;
 mod own;
 
-pub(crate) use asked::asked_calls;
+pub(crate) use asked::has_too_many;
 pub(crate) use evidence::judge;
 pub use evidence::{Conviction, Evidence, convict};
 pub use law::{compiled_is_right, shape_is_right, table_profiles_are_plain};

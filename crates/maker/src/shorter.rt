@@ -4,8 +4,7 @@ ghost use Rattle.std.specs.Prelude.{◌≡◌, IfErr};
 ghost use Rattle.certify.specs.declared.error.CertifyError.TheVariants as maker;
 ghost use Rattle.maker.specs.declared.unready.Unready.TheVariants.{OutOfMemory};
 
-use crate::evidence::{asked_calls, propose_shared, shortened};
-use crate::outline::are_too_many;
+use crate::evidence::{has_too_many, propose_shared, shortened};
 use crate::proposal::Proposal;
 use crate::unready::Unready;
 use bpf_insn::{MAX_INSNS, Program, encode_into};
@@ -22,13 +21,11 @@ fn by_paths(
     accepted: &Accepted<'_>,
     own: &Planned,
 ) -> Result<Vec<u8>, CertifyError> {
-    let Ok(calls) = asked_calls(alloc, &own.outline) else {
-        return Err(CertifyError::OutOfMemory);
-    };
-    if are_too_many(&calls) {
-        return Err(CertifyError::TooLarge);
+    match has_too_many(alloc, &own.outline) {
+        Ok(true) => Err(CertifyError::TooLarge),
+        Ok(false) => certify_accepted(alloc, profile, accepted),
+        Err(_) => Err(CertifyError::OutOfMemory),
     }
-    certify_accepted(alloc, profile, accepted)
 }
 
 // A certificate, by what is known of the filter.

@@ -1,6 +1,6 @@
 //! What the maker by outlines is told of the compiler's outline.
 
-use crate::outline::AskedCall;
+use crate::outline::{AskedCall, are_too_many};
 use rule_compile::{Asked, Call, Open, Outline, Part};
 use std::alloc::{AllocError, Global};
 
@@ -42,4 +42,10 @@ pub(crate) fn asked_calls(alloc: Global, outline: &Outline) -> Result<Vec<AskedC
         }
     }
     Ok(calls)
+}
+
+/// Whether a call has more rules than a node of a certificate has claims: no certificate is written from the outline.
+pub(crate) fn has_too_many(alloc: Global, outline: &Outline) -> Result<bool, AllocError> {
+    let calls = asked_calls(alloc, outline)?;
+    Ok(are_too_many(&calls))
 }

@@ -6,15 +6,14 @@ ghost use Rattle.certify.specs.declared.error.CertifyError.TheVariants.{OutOfMem
 ghost use Rattle.certify.specs.Certificates.{MakesValid, OwnLacksMemory, RightLacksRoom, TellingLacksRoom};
 ghost use Rattle.maker.specs.evidence.AtHand.{HasOwnValid, IsValidOne, MakesOwnValid};
 
-use crate::evidence::asked::asked_calls;
+use crate::evidence::asked::has_too_many;
 use crate::evidence::own::by_outline;
-use crate::outline::are_too_many;
 use cert_check::{CheckError, check_accepted};
 use certify::{CertifyError, PathsError, by_paths, certify_accepted};
 use kernel_check::Accepted;
 use profile::{Profile, Rule};
 use rule_compile::Outline;
-use std::alloc::Global;
+use std::alloc::{AllocError, Global};
 
 // Whether no rule has a condition.
 fn are_plain(rules: &[Rule]) -> bool
@@ -77,89 +76,50 @@ fn once_checked(
     }
 }
 
+// Whether the certificate that is written from an outline came out too large, where there is none: the one that follows each path would be
+// larger. Of a call with too many rules none is written.
+fn came_out_too_large(alloc: Global, outline: Option<&Outline>) -> Result<bool, AllocError> {
+    match outline {
+        Some(outline) => Ok(!has_too_many(alloc, outline)?),
+        None => Ok(false),
+    }
+}
+
 // What is at hand, or else what follows each path.
 fn or_followed(
     alloc: Global,
     profile: &Profile,
     program: &Accepted<'_>,
+    outline: Option<&Outline>,
     hand: Option<Vec<u8>>,
 ) -> Result<Vec<u8>, CertifyError>
     ensures own { IsValidOne profile.now (accepted_insns program.now) hand → MakesValid profile.now (accepted_insns program.now) result }
     ensures telling { TellingLacksRoom profile.now (accepted_insns program.now) result }
     ensures never { IsValidOne profile.now (accepted_insns program.now) hand → IfErr result (λ e. e ≡ OutOfMemory) }
 {
-    match hand {
-        Some(bytes) => Ok(bytes),
-        None => certify_accepted(alloc, profile, program),
+    if let Some(bytes) = hand {
+        return Ok(bytes);
+    }
+    match came_out_too_large(alloc, outline) {
+        Ok(true) => Err(CertifyError::TooLarge),
+        Ok(false) => certify_accepted(alloc, profile, program),
+        Err(_) => Err(CertifyError::OutOfMemory),
     }
 }
 
-// The certificate that follows each path of a filter of the compiler, of which none was written from its outline. If that came out too large,
-// as it does unless a call has too many rules for it, this one would be larger: none is looked for.
-fn beside_outline(
-    alloc: Global,
-    profile: &Profile,
-    program: &Accepted<'_>,
-    outline: &Outline,
-) -> Result<Vec<u8>, CertifyError>
-    ensures telling { TellingLacksRoom profile.now (accepted_insns program.now) result }
-{
-    let Ok(calls) = asked_calls(alloc, outline) else {
-        return Err(CertifyError::OutOfMemory);
-    };
-    if !are_too_many(&calls) {
-        return Err(CertifyError::TooLarge);
-    }
-    certify_accepted(alloc, profile, program)
-}
-
-// What is at hand of a filter of the compiler, or else what follows each path.
-fn of_compilers(
-    alloc: Global,
-    profile: &Profile,
-    program: &Accepted<'_>,
-    outline: &Outline,
-    hand: Option<Vec<u8>>,
-) -> Result<Vec<u8>, CertifyError>
-    ensures own { IsValidOne profile.now (accepted_insns program.now) hand → MakesValid profile.now (accepted_insns program.now) result }
-    ensures telling { TellingLacksRoom profile.now (accepted_insns program.now) result }
-    ensures never { IsValidOne profile.now (accepted_insns program.now) hand → IfErr result (λ e. e ≡ OutOfMemory) }
-{
-    match hand {
-        Some(bytes) => Ok(bytes),
-        None => beside_outline(alloc, profile, program, outline),
-    }
-}
-
-// What the makers propose of a filter that the compiler made, with its outline.
+// What the makers propose, with the filter's outline where the compiler made it.
 fn proposed(
     alloc: Global,
     profile: &Profile,
     program: &Accepted<'_>,
-    outline: &Outline,
+    outline: Option<&Outline>,
 ) -> Result<Vec<u8>, CertifyError>
     ensures own { MakesOwnValid profile.now (accepted_insns program.now) result }
     ensures telling { TellingLacksRoom profile.now (accepted_insns program.now) result }
     ensures never { OwnLacksMemory profile.now (accepted_insns program.now) result }
 {
-    match at_hand(alloc, profile, program, Some(outline)) {
-        Ok(hand) => of_compilers(alloc, profile, program, outline, hand),
-        Err(error) => Err(error),
-    }
-}
-
-// What is at hand of a filter that anyone made, or else what follows each path.
-fn anyones(
-    alloc: Global,
-    profile: &Profile,
-    program: &Accepted<'_>,
-) -> Result<Vec<u8>, CertifyError>
-    ensures own { MakesOwnValid profile.now (accepted_insns program.now) result }
-    ensures telling { TellingLacksRoom profile.now (accepted_insns program.now) result }
-    ensures never { OwnLacksMemory profile.now (accepted_insns program.now) result }
-{
-    match at_hand(alloc, profile, program, None) {
-        Ok(hand) => or_followed(alloc, profile, program, hand),
+    match at_hand(alloc, profile, program, outline) {
+        Ok(hand) => or_followed(alloc, profile, program, outline, hand),
         Err(error) => Err(error),
     }
 }
@@ -182,7 +142,7 @@ pub fn certified(
     ensures sure { RightLacksRoom profile.now (accepted_insns program.now) result }
     ensures never { OwnLacksMemory profile.now (accepted_insns program.now) result }
 {
-    match anyones(alloc, profile, program) {
+    match proposed(alloc, profile, program, None) {
         Ok(bytes) => once_checked(alloc, profile, program, bytes),
         Err(error) => Err(error),
     }
@@ -201,7 +161,7 @@ pub(crate) fn propose(
     ensures sure { RightLacksRoom profile.now (accepted_insns program.now) result }
     ensures never { OwnLacksMemory profile.now (accepted_insns program.now) result }
 {
-    proposed(alloc, profile, program, outline)
+    proposed(alloc, profile, program, Some(outline))
 }
 
 /// What the makers propose of a filter that `shorten` gives, with its outline: the checker was not asked.
