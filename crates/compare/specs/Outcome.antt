@@ -1,6 +1,6 @@
 -- How two profiles compare, and the text that tells it.
 use Rattle.std.specs.Prelude.{ℕ, suc, ◌==◌, ◌||◌, not, Bool, true, false, if◌then◌else◌, List, [], ◌∷◌, ◌++◌}
-use Rattle.std.specs.Prelude.{Option, Some, None, ⊤, codes}
+use Rattle.std.specs.Prelude.{Option, Some, None, codes}
 use Rattle.std.specs.Fmt.{decimal}
 use Rattle.std.specs.List.{All, flat_map}
 use Rattle.texts.specs.Lines.{line_feed}
@@ -20,11 +20,11 @@ use Rattle.compare.specs.declared.outcome.Comparison.TheVariants.{Same, Differ, 
 use Rattle.compare.specs.declared.sides.Sides.{Sides}
 use Rattle.compare.specs.declared.sides.Sides.TheVariants.{Alike, NoMore, NoLess, MoreAndLess}
 
--- what is so of two profiles. Where it was not decided, nothing is.
+-- what is so of two profiles: of the calls that are told also where it was not decided what they come to
 abbrev pub IsComparison : Policy → Policy → Comparison → Type 0
 IsComparison p q Same = SayTheSame p q
 IsComparison p q (Differ changes sides) = All (IsChange p q) changes.items × IsSides p q changes.items sides
-IsComparison p q (Undecided size) = ⊤
+IsComparison p q (Undecided changes size) = All (IsChange p q) changes.items
 
 -- ---- the text
 
@@ -89,7 +89,7 @@ size_text TooLarge = codes "undecided 2 TooLarge\n"
 abbrev pub text_of : Comparison → List ℕ
 text_of Same = codes "same\n"
 text_of (Differ changes sides) = flat_map line_of changes.items ++ sides_text sides
-text_of (Undecided size) = size_text size
+text_of (Undecided changes size) = flat_map line_of changes.items ++ size_text size
 
 -- ---- the status
 
@@ -104,4 +104,4 @@ is_no_more MoreAndLess = false
 abbrev pub is_done : Bool → Comparison → Bool
 is_done atmost Same = true
 is_done atmost (Differ changes sides) = if atmost then is_no_more sides else false
-is_done atmost (Undecided size) = false
+is_done atmost (Undecided changes size) = false

@@ -43,8 +43,8 @@ pub enum Comparison {
     Same,
     /// Calls of which they say unlike verdicts, and what the second allows beside the first.
     Differ(Vec<Change>, Sides),
-    /// It was not decided, for a size.
-    Undecided(Size),
+    /// Calls of which they say unlike verdicts, as far as some were found; what the second allows was not decided, for a size.
+    Undecided(Vec<Change>, Size),
 }
 
 // Which arguments of a call the rules of two profiles ask for.
@@ -163,8 +163,8 @@ fn by_sides(
     ensures { IfOk result (IsComparison first.now second.now) }
 {
     match (more, less) {
-        (AtMost::Undecided(size), _) => Ok(Comparison::Undecided(*size)),
-        (_, AtMost::Undecided(size)) => Ok(Comparison::Undecided(*size)),
+        (AtMost::Undecided(size), _) => Ok(Comparison::Undecided(changes, *size)),
+        (_, AtMost::Undecided(size)) => Ok(Comparison::Undecided(changes, *size)),
         (AtMost::Yes, AtMost::Yes) => Ok(Comparison::Differ(changes, Sides::Alike)),
         (AtMost::Yes, AtMost::No(found)) => {
             let lost = lost(alloc, family, first, second, found)?;
@@ -219,6 +219,13 @@ fn with_conviction(
     with_differences(alloc, family, first, second, &list)
 }
 
+// Two profiles of which nothing is known, for a size.
+fn unknown(alloc: Global, size: Size) -> Comparison
+    ensures { (p q : Policy) → IsComparison p q result }
+{
+    Comparison::Undecided(Vec::new(alloc), size)
+}
+
 // Two profiles, by a filter that answers what the first one says.
 fn by_filter(
     alloc: Global,
@@ -234,7 +241,7 @@ fn by_filter(
     match compare_sameness(alloc, second, filter)? {
         Sameness::Same => Ok(Comparison::Same),
         Sameness::Unlike(found) => with_conviction(alloc, family, first, second, &found),
-        Sameness::TooLarge => Ok(Comparison::Undecided(Size::TooLarge)),
+        Sameness::TooLarge => Ok(unknown(alloc, Size::TooLarge)),
     }
 }
 
@@ -282,7 +289,7 @@ fn without_difference(
     match compile(alloc, first) {
         Ok(filter) => by_bytes(alloc, family, first, second, &filter),
         Err(CompileError::OutOfMemory) => Err(AllocError),
-        Err(CompileError::TooLong) => Ok(Comparison::Undecided(Size::TooLong)),
+        Err(CompileError::TooLong) => Ok(unknown(alloc, Size::TooLong)),
     }
 }
 

@@ -173,6 +173,15 @@ fn put_list(text: &mut String, changes: &[Change], sides: Sides) -> Result<(), A
     text.push_str(sides_text(sides))
 }
 
+// Adds the lines of changes, and for which size it was not decided what they come to.
+fn put_undecided(text: &mut String, changes: &[Change], size: Size) -> Result<(), AllocError>
+    ensures { IfOk result (λ _. string_bytes text.new ≡ string_bytes text.old
+        ++ flat_map spec.line_of changes.now ++ spec.size_text size) }
+{
+    put_changes(text, changes)?;
+    text.push_str(size_text(size))
+}
+
 // Adds how two profiles compare.
 fn put_comparison(text: &mut String, comparison: &Comparison) -> Result<(), AllocError>
     ensures { IfOk result (λ _. string_bytes text.new ≡ string_bytes text.old ++ spec.text_of comparison.now) }
@@ -180,7 +189,7 @@ fn put_comparison(text: &mut String, comparison: &Comparison) -> Result<(), Allo
     match comparison {
         Comparison::Same => text.push_str("same\n"),
         Comparison::Differ(changes, sides) => put_list(text, changes, *sides),
-        Comparison::Undecided(size) => text.push_str(size_text(*size)),
+        Comparison::Undecided(changes, size) => put_undecided(text, changes, *size),
     }
 }
 
@@ -212,6 +221,6 @@ pub(crate) fn is_done(atmost: bool, comparison: &Comparison) -> bool
     match comparison {
         Comparison::Same => true,
         Comparison::Differ(_, sides) => { if atmost { is_no_more(*sides) } else { false } }
-        Comparison::Undecided(_) => false,
+        Comparison::Undecided(_, _) => false,
     }
 }

@@ -11,3 +11,6 @@ pub returns-in-Same : goal.returns-in-Same
 returns-in-Same c =
     subst (IsSameness c.args.first.now c.args.second.now) c.in-Same.is
     (c.in_ok-compare_sameness.ensures c.args.first.now c.requires.right)
+
+pub returns-in-TooLarge : goal.returns-in-TooLarge
+returns-in-TooLarge c = c.unknown.ensures c.args.first.now c.args.second.now
