@@ -219,6 +219,17 @@ impl<S: State> Agreement<'_, S> {
         self.is_yes(place, rule)
     }
 
+    /// The same, of a rule without conditions alone.
+    pub(crate) fn says_alone_at(&self, place: usize, rule: &Rule, arch: Arch, nr: u32) -> bool
+        requires { place < 8192 }
+        ensures { IsTrue result → SaysAt (out_of self.now) (met_of self.now) (known_of self.now) self.now.word arch place rule.now }
+    {
+        if !rule.conds.is_empty() {
+            return false;
+        }
+        self.says_at(place, rule, arch, nr)
+    }
+
     // Whether a rule of which a condition is said to be met is of this number and is seen to say the verdict.
     fn one_met_says(&self, arch: Arch, nr: u32) -> bool
         ensures { let a = self.now in IsTrue result → OneSays a.profile.now (out_of a) (met_of a) (known_of a) a.word arch }
@@ -240,8 +251,8 @@ impl<S: State> Agreement<'_, S> {
         false
     }
 
-    // Whether a rule of the only number that is possible is seen to say the verdict, first of those of which conditions are
-    // said to be met: mostly it is one of them. Then no other rule is asked.
+    // Whether a rule of the only number that is possible is seen to say the verdict: one of which conditions are said to be met,
+    // as mostly, or one without conditions. Then no other rule is asked.
     fn one_says(&self, arch: Arch) -> bool
         ensures { let a = self.now in IsTrue result → OneSays a.profile.now (out_of a) (met_of a) (known_of a) a.word arch }
     {

@@ -12,14 +12,14 @@ use call_tables::Arch;
 use cert_state::State;
 
 impl<S: State> Agreement<'_, S> {
-    /// Whether a rule for a call is seen to say the verdict.
+    /// Whether a rule for a call is seen to say the verdict, of those without conditions: `call_agrees` asks each of the others once.
     pub(crate) fn call_says(&self, arch: Arch, number: u32) -> bool
         ensures { let a = self.now in IsTrue result → OneSays a.profile.now (out_of a) (met_of a) (known_of a) a.word arch }
     {
         let rules = self.profile.rules();
         let mut next = self.profile.latest(arch.token(), number);
         while let Some(place) = next {
-            if self.says_at(place, &rules[place], arch, number) {
+            if self.says_alone_at(place, &rules[place], arch, number) {
                 return true;
             }
             next = self.profile.earlier(place);

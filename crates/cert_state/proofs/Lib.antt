@@ -13,3 +13,4 @@ pub mod WordLaws
 pub mod SortedLaws
 pub mod MoreLaws
 pub mod LearnedLaws
+pub mod ColumnsLaws

@@ -4,3 +4,4 @@ pub mod Exclusion
 pub mod Gathered
 pub mod Sorted
 pub mod Compared
+pub mod Columns

@@ -7,12 +7,13 @@ ghost use Rattle.cert_state.specs.inner.Exclusion.{IsSuch};
 use crate::gathered::{briefly_of, gives};
 use crate::literal::Lit;
 use crate::points::range_by;
+use crate::searched::InTurn;
 use crate::state::State;
 use crate::summary::summarize;
 use call_record::least_below;
 
 // Whether a literal is stated.
-pub(crate) fn states<S: State>(state: &S, wanted: &Lit) -> bool
+pub(crate) fn is_stated<S: State>(state: &S, wanted: &Lit) -> bool
     ensures { IsTrue result ↔ Contains (S.known state.now) wanted.now }
 {
     let mut at = state.start();
@@ -97,7 +98,11 @@ pub(crate) fn none_between(low: u32, high: u32, mask: u32, datum: u32) -> bool
 pub fn entails<S: State>(state: &S, literal: &Lit) -> bool
     ensures { IsTrue result ↔ Entails (S.known state.now) literal.now }
 {
-    gives(state, &briefly_of(state, literal.word()), literal)
+    gives(
+        &InTurn { state },
+        &briefly_of(state, literal.word()),
+        literal,
+    )
 }
 
 /// Whether the literals of a word can not all be true.

@@ -8,9 +8,10 @@ ghost use Rattle.cert_state.specs.Entailment.{Differ, Entails, IsDeadAt};
 ghost use Rattle.cert_state.specs.inner.Summary.{summary_of, unknown};
 ghost use Rattle.cert_state.specs.inner.Gathered.{AreFactsOf, Follows, Holds, IsExact, IsOther};
 
-use crate::entailment::{is_dead_at, is_excluded, none_between, states};
+use crate::entailment::{is_dead_at, is_excluded, none_between};
 use crate::literal::{Lit, NO_REGS};
 use crate::points::range_by;
+use crate::searched::Searched;
 use crate::state::{Listed, State};
 use crate::summary::{Summary, summarize};
 
@@ -233,25 +234,25 @@ fn lies(facts: &WordFacts, low: u32, high: u32) -> bool
 }
 
 // Whether a literal `In` of a word follows.
-fn bounds<S: State>(state: &S, facts: &WordFacts, word: u8, low: u32, high: u32) -> bool
-    requires { AreFactsOf (S.known state.now) word facts.now }
-    ensures { IsTrue result ↔ Entails (S.known state.now) (In word low high) }
+fn bounds<K: Searched>(known: &K, facts: &WordFacts, word: u8, low: u32, high: u32) -> bool
+    requires { AreFactsOf (K.lits known.now) word facts.now }
+    ensures { IsTrue result ↔ Entails (K.lits known.now) (In word low high) }
 {
     if lies(facts, low, high) {
         return true;
     }
-    states(state, &Lit::In(word, low, high))
+    known.states(&Lit::In(word, low, high))
 }
 
-// Whether a literal is among those of a state, which is not asked where it is known not to be.
-fn is_stated<S: State>(state: &S, literal: Lit, never: bool) -> bool
-    requires { never ≡ true → Contains (S.known state.now) literal → ⊥ }
-    ensures { IsTrue result ↔ Contains (S.known state.now) literal }
+// Whether a literal is among others, which is not asked where it is known not to be.
+fn is_among<K: Searched>(known: &K, literal: Lit, never: bool) -> bool
+    requires { never ≡ true → Contains (K.lits known.now) literal → ⊥ }
+    ensures { IsTrue result ↔ Contains (K.lits known.now) literal }
 {
     if never {
         return false;
     }
-    states(state, &literal)
+    known.states(&literal)
 }
 
 // Whether the `Bits` of a word say the datum under the mask.
@@ -269,9 +270,9 @@ fn is_one(facts: &WordFacts, mask: u32, datum: u32) -> bool
 }
 
 // Whether a literal `Bits` of a word follows.
-fn fixes<S: State>(state: &S, facts: &WordFacts, word: u8, mask: u32, datum: u32) -> bool
-    requires { AreFactsOf (S.known state.now) word facts.now }
-    ensures { IsTrue result ↔ Entails (S.known state.now) (Bits word mask datum) }
+fn fixes<K: Searched>(known: &K, facts: &WordFacts, word: u8, mask: u32, datum: u32) -> bool
+    requires { AreFactsOf (K.lits known.now) word facts.now }
+    ensures { IsTrue result ↔ Entails (K.lits known.now) (Bits word mask datum) }
 {
     if says(facts, mask, datum) {
         return true;
@@ -279,7 +280,7 @@ fn fixes<S: State>(state: &S, facts: &WordFacts, word: u8, mask: u32, datum: u32
     if is_one(facts, mask, datum) {
         return true;
     }
-    is_stated(state, Lit::Bits(word, mask, datum), facts.whole)
+    is_among(known, Lit::Bits(word, mask, datum), facts.whole)
 }
 
 // Whether the `Bits` of a word say another datum on a bit of the mask.
@@ -309,10 +310,17 @@ fn misses(facts: &WordFacts, mask: u32, datum: u32) -> bool
     none_in(facts.low, facts.high, mask, datum)
 }
 
+// Whether a datum has no bit outside a mask.
+fn is_inside(datum: u32, mask: u32) -> bool
+    ensures { IsTrue result ↔ (bit_and datum mask ≡ datum) }
+{
+    datum & mask == datum
+}
+
 // Whether a literal `NotBits` of a word follows.
-fn excludes<S: State>(state: &S, facts: &WordFacts, word: u8, mask: u32, datum: u32) -> bool
-    requires { AreFactsOf (S.known state.now) word facts.now }
-    ensures { IsTrue result ↔ Entails (S.known state.now) (NotBits word mask datum) }
+fn excludes<K: Searched>(known: &K, facts: &WordFacts, word: u8, mask: u32, datum: u32) -> bool
+    requires { AreFactsOf (K.lits known.now) word facts.now }
+    ensures { IsTrue result ↔ Entails (K.lits known.now) (NotBits word mask datum) }
 {
     if differs(facts, mask, datum) {
         return true;
@@ -323,21 +331,25 @@ fn excludes<S: State>(state: &S, facts: &WordFacts, word: u8, mask: u32, datum: 
     if facts.free {
         return false;
     }
-    if is_excluded(state, word, mask, datum) {
+    if known.excludes(word, mask, datum) {
         return true;
     }
-    is_stated(state, Lit::NotBits(word, mask, datum), facts.exact)
+    // If it were stated, and its datum had no bit outside the mask, it would exclude that itself.
+    if is_inside(datum, mask) {
+        return false;
+    }
+    is_among(known, Lit::NotBits(word, mask, datum), facts.exact)
 }
 
 /// Whether a literal follows, by what was gathered of its word.
-pub(crate) fn gives<S: State>(state: &S, facts: &WordFacts, literal: &Lit) -> bool
-    requires { AreFactsOf (S.known state.now) (index_of literal.now) facts.now }
-    ensures { IsTrue result ↔ Entails (S.known state.now) literal.now }
+pub(crate) fn gives<K: Searched>(known: &K, facts: &WordFacts, literal: &Lit) -> bool
+    requires { AreFactsOf (K.lits known.now) (index_of literal.now) facts.now }
+    ensures { IsTrue result ↔ Entails (K.lits known.now) literal.now }
 {
     match *literal {
-        Lit::In(w, low, high) => bounds(state, facts, w, low, high),
-        Lit::Bits(w, m, d) => fixes(state, facts, w, m, d),
-        Lit::NotBits(w, m, d) => excludes(state, facts, w, m, d),
+        Lit::In(w, low, high) => bounds(known, facts, w, low, high),
+        Lit::Bits(w, m, d) => fixes(known, facts, w, m, d),
+        Lit::NotBits(w, m, d) => excludes(known, facts, w, m, d),
     }
 }
 

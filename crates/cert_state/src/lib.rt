@@ -8,6 +8,7 @@
 #![tactic(auto)]
 
 mod after;
+mod columns;
 mod entailment;
 mod gathered;
 mod knowledge;
@@ -16,6 +17,7 @@ mod learned;
 mod literal;
 mod one_word;
 mod points;
+mod searched;
 mod sharp;
 mod sorted;
 mod state;

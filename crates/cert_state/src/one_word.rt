@@ -6,6 +6,7 @@ ghost use Rattle.cert_state.specs.inner.Gathered.{AreFactsOf, AreFactsOf-prop, A
 
 use crate::gathered::{NOTHING, WordFacts, dies, gives, with_one};
 use crate::literal::{Lit, NO_REGS, Regs};
+use crate::searched::InTurn;
 use crate::state::State;
 use std::alloc::{AllocError, Global};
 
@@ -131,7 +132,8 @@ impl LearnedWord {
         requires { index_of literal.now ≡ word_of self.now }
         ensures { IsTrue result ↔ Entails (lits_of self.now) literal.now }
     {
-        gives(&Only { lits: &self.lits }, &self.facts, literal)
+        let own = Only { lits: &self.lits };
+        gives(&InTurn { state: &own }, &self.facts, literal)
     }
 
     /// Whether the literals can not all be true.
@@ -157,5 +159,6 @@ impl LearnedWord {
 pub(crate) fn is_sure(literal: &Lit) -> bool
     ensures { IsTrue result ↔ Entails [] literal.now }
 {
-    gives(&Only { lits: &[] }, &NOTHING, literal)
+    let none = Only { lits: &[] };
+    gives(&InTurn { state: &none }, &NOTHING, literal)
 }

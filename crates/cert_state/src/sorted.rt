@@ -4,17 +4,13 @@ ghost use Rattle.std.specs.Int.{bit_at};
 ghost use Rattle.cert_state.specs.inner.Gathered.{AreFactsOf};
 ghost use Rattle.cert_state.specs.inner.Sorted.{IsPartOf, IsSorted, IsSorted-prop, of_word};
 
+use crate::columns::{NO_LITERAL, ROOM, Table};
 use crate::entailment::entails;
 use crate::gathered::{NOTHING, WordFacts, facts_of, gives};
 use crate::knowledge::Knowledge;
 use crate::literal::{Lit, Regs};
 use crate::points::range;
 use crate::state::State;
-
-// How many literals a node has at most, and one more.
-const ROOM: usize = 513;
-
-const NO_LITERAL: Lit = Lit::In(0, 0, 0);
 
 /// The literals of one word of a state.
 #[derive(Clone, Copy)]
@@ -67,7 +63,8 @@ const NO_PART: Part = Part {
 pub struct Room {
     /// The literals as they come.
     copy: [Lit; ROOM],
-    lits: [Lit; ROOM],
+    /// The literals by their words.
+    table: Table,
     parts: [Part; 16],
 }
 
@@ -76,16 +73,9 @@ impl Room {
     pub fn new() -> Room {
         Room {
             copy: [NO_LITERAL; ROOM],
-            lits: [NO_LITERAL; ROOM],
+            table: Table::new(),
             parts: [NO_PART; 16],
         }
-    }
-
-    // The literals by their words.
-    fn lits(&self) -> &[Lit]
-        ensures { result.now ≡ self.now.lits }
-    {
-        &self.lits
     }
 }
 
@@ -108,15 +98,16 @@ fn put_word<S: State>(
     state: &S,
     seen: u64,
     word: u8,
-    lits: &mut [Lit],
+    table: &mut Table,
     from: usize,
 ) -> Option<usize>
-    requires room { from ≤ length lits.old }
+    requires room { from ≤ length table.old.lits }
     requires word { word < 16 }
     requires seen { bit_at seen word ≡ 0 → of_word word (S.known state.now) ≡ [] }
-    ensures before { take from lits.new ≡ take from lits.old }
-    ensures put { IfSome result (λ to.
-        (from ≤ to) × (to ≤ length lits.old) × (slice_range lits.new from to ≡ of_word word (S.known state.now))) }
+    ensures size { length table.new.lits ≡ length table.old.lits }
+    ensures before { take from table.new.lits ≡ take from table.old.lits }
+    ensures put { IfSome result (λ to. (from ≤ to) × (to ≤ length table.old.lits)
+        × (slice_range table.new.lits from to ≡ of_word word (S.known state.now))) }
 {
     if seen >> word & 1 == 0 {
         return Some(from);
@@ -125,10 +116,10 @@ fn put_word<S: State>(
     let mut at = state.start();
     while let Some((literal, next)) = state.next(at) {
         if literal.word() == word {
-            if to == lits.len() {
+            if to == table.len() {
                 return None;
             }
-            lits[to] = literal;
+            table.put(to, literal);
             to += 1;
         }
         at = next;
@@ -137,14 +128,15 @@ fn put_word<S: State>(
 }
 
 // The part of a word whose literals stand there.
-fn part_of<S: State>(state: &S, word: u8, lits: &[Lit], from: usize, to: usize) -> Part
-    requires { (from ≤ to) × (to ≤ length lits.now) × (slice_range lits.now from to ≡ of_word word (S.known state.now)) }
-    ensures part { IsPartOf (S.known state.now) lits.now word result }
+fn part_of<S: State>(state: &S, word: u8, table: &Table, from: usize, to: usize) -> Part
+    requires { (from ≤ to) × (to ≤ length table.now.lits)
+        × (slice_range table.now.lits from to ≡ of_word word (S.known state.now)) }
+    ensures part { IsPartOf (S.known state.now) table.now.lits word result }
     ensures end { result.to ≡ to }
 {
     let own = OfWord {
         state,
-        lits: &lits[from..to],
+        lits: table.rows(from, to).lits,
     };
     Part {
         from,
@@ -171,16 +163,16 @@ fn copy_all<S: State>(state: &S, lits: &mut [Lit]) -> Option<usize>
 }
 
 // Puts the literals of a state by their words, with where those of each word stand. False says that there is no room for them.
-fn by_words<S: State>(state: &S, lits: &mut [Lit], parts: &mut [Part; 16]) -> bool
-    ensures { result ≡ true → IsSorted (S.known state.now) lits.new parts.new }
+fn by_words<S: State>(state: &S, table: &mut Table, parts: &mut [Part; 16]) -> bool
+    ensures { result ≡ true → IsSorted (S.known state.now) table.new.lits parts.new }
 {
     let seen = spoken(state);
     let mut from = 0;
     for i in 0..16_usize {
-        let Some(to) = put_word(state, seen, i as u8, lits, from) else {
+        let Some(to) = put_word(state, seen, i as u8, table, from) else {
             return false;
         };
-        parts[i] = part_of(state, i as u8, lits, from, to);
+        parts[i] = part_of(state, i as u8, table, from, to);
         from = to;
     }
     true
@@ -188,9 +180,9 @@ fn by_words<S: State>(state: &S, lits: &mut [Lit], parts: &mut [Part; 16]) -> bo
 
 // The literals of a state by their words. The state is read once: its literals may stand far apart.
 fn sort<S: State>(state: &S, room: &mut Room) -> bool
-    ensures { result ≡ true → IsSorted (S.known state.now) room.new.lits room.new.parts }
+    ensures { result ≡ true → IsSorted (S.known state.now) room.new.table.lits room.new.parts }
 {
-    let Room { copy, lits, parts } = room;
+    let Room { copy, table, parts } = room;
     let Some(count) = copy_all(state, copy) else {
         return false;
     };
@@ -198,7 +190,7 @@ fn sort<S: State>(state: &S, room: &mut Room) -> bool
         state,
         lits: &copy[0..count],
     };
-    by_words(&own, lits, parts)
+    by_words(&own, table, parts)
 }
 
 /// A state with what it says of each word, gathered once, for many questions. A question costs a few comparisons, or at
@@ -209,7 +201,7 @@ pub struct Facts<'a, S: State> {
     room: &'a Room,
     /// Whether there was room for all.
     all: bool,
-    ghost so: { all ≡ true → IsSorted (S.known state.now) room.now.lits room.now.parts } by { IsSorted-prop (S.known state.now) room.now.lits room.now.parts all },
+    ghost so: { all ≡ true → IsSorted (S.known state.now) room.now.table.lits room.now.parts } by { IsSorted-prop (S.known state.now) room.now.table.lits room.now.parts all },
 }
 
 impl<'a, S: State> Facts<'a, S> {
@@ -228,7 +220,7 @@ impl<'a, S: State> Facts<'a, S> {
     fn part(&self, word: u8) -> Part
         requires word { word < 16 }
         requires all { self.now.all ≡ true }
-        ensures { IsPartOf (S.known self.now.state.now) self.now.room.now.lits word result }
+        ensures { IsPartOf (S.known self.now.state.now) self.now.room.now.table.lits word result }
     {
         self.room.parts[word as usize]
     }
@@ -243,10 +235,7 @@ impl<S: State> Knowledge for Facts<'_, S> {
             return entails(self.state, literal);
         }
         let part = self.part(word);
-        let own = OfWord {
-            state: self.state,
-            lits: &self.room.lits()[part.from..part.to],
-        };
+        let own = self.room.table.rows(part.from, part.to);
         gives(&own, &part.facts, literal)
     }
 

@@ -11,6 +11,9 @@ use profile_json::{EntryRules, read_bundle, rules_by_entry};
 use std::alloc::{AllocError, Global};
 use std::fmt::Write;
 
+// How many different events are listed. A system has fewer calls.
+const MOST_EVENTS: usize = 1024;
+
 // An event, and how many lines tell it.
 #[derive(Clone, Copy, PartialEq, Eq)]
 struct Counted {
@@ -18,28 +21,50 @@ struct Counted {
     count: u64,
 }
 
+// The first different events of lines, and how many lines tell others.
+#[derive(Drop)]
+struct Events {
+    list: Vec<Counted>,
+    others: u64,
+}
+
 // Counts an event.
-fn count(events: &mut Vec<Counted>, event: Event) -> Result<(), AllocError> {
-    let found = events.iter().position(|counted| counted.event == event);
+fn count(events: &mut Events, event: Event) -> Result<(), AllocError> {
+    let found = events
+        .list
+        .iter()
+        .position(|counted| counted.event == event);
     if let Some(place) = found {
-        if let Some(counted) = events.get_mut(place) {
+        if let Some(counted) = events.list.get_mut(place) {
             counted.count = counted.count.saturating_add(1);
         }
         return Ok(());
     }
-    events.push(Counted { event, count: 1 })?;
+    if events.list.len() >= MOST_EVENTS {
+        events.others = events.others.saturating_add(1);
+        return Ok(());
+    }
+    events.list.push(Counted { event, count: 1 })?;
     Ok(())
 }
 
 // The events that lines tell, each once.
-fn events_in(alloc: Global, text: &str) -> Result<Vec<Counted>, AllocError> {
-    let mut events = Vec::new(alloc);
+fn events_in(alloc: Global, text: &str) -> Result<Events, AllocError> {
+    let mut events = Events {
+        list: Vec::new(alloc),
+        others: 0,
+    };
     for line in text.split('\n') {
         if let Some(event) = event_on(line) {
             count(&mut events, event)?;
         }
     }
     Ok(events)
+}
+
+// Whether an event is of this call.
+fn is_of_call(counted: &Counted, token: u32, nr: u32) -> bool {
+    counted.event.token == token && counted.event.nr == nr
 }
 
 // Adds how often an event is told, the action, and whether it is one that the bundle may give.
@@ -56,7 +81,7 @@ fn put_event(text: &mut String, profile: &Profile, counted: &Counted) -> Result<
     }
 }
 
-// Adds what a bundle says of events.
+// Adds what a bundle says of events; of a call that an earlier one was of, the entries stand there.
 fn put_events(
     text: &mut String,
     native: Arch,
@@ -64,13 +89,26 @@ fn put_events(
     all: &EntryRules,
     events: &[Counted],
 ) -> Result<(), AllocError> {
-    for counted in events {
+    for (place, counted) in events.iter().enumerate() {
         let Event { token, nr, .. } = counted.event;
         put_number(text, native.family(), token, nr)?;
         put_event(text, profile, counted)?;
-        put_said(text, profile, all, token, nr)?;
+        let mut before = events.iter().take(place);
+        if before.any(|earlier| is_of_call(earlier, token, nr)) {
+            text.push_str("entries as above\n")?;
+        } else {
+            put_said(text, profile, all, token, nr)?;
+        }
     }
     Ok(())
+}
+
+// Adds how many lines tell events that are not listed, if there are some.
+fn put_others(text: &mut String, others: u64) -> Result<(), AllocError> {
+    if others == 0 {
+        return Ok(());
+    }
+    writeln!(text, "more lines that tell others: {others}")
 }
 
 // The line that tells that no line is of a filter's answer.
@@ -90,11 +128,12 @@ fn audited(
     text: &str,
 ) -> Result<Told, AllocError> {
     let events = events_in(alloc, text)?;
-    if events.is_empty() {
+    if events.list.is_empty() {
         return no_event(alloc);
     }
     let mut told = String::new(alloc);
-    put_events(&mut told, native, profile, all, &events)?;
+    put_events(&mut told, native, profile, all, &events.list)?;
+    put_others(&mut told, events.others)?;
     Ok(Told {
         bytes: told.into_bytes(),
         done: true,

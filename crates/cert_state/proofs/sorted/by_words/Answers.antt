@@ -11,12 +11,12 @@ loop-i-preserved g c =
     let known = g.S.State.known c.args.state.now in
     let i = c.loop-i.i in
     let parts = c.loop-i.parts in
-    let lits = c.put_word.new.lits in
+    let lits = c.put_word.new.table.lits in
     let so = c.loop-i.invariant in
     let size = so.sixteen in
     let one = c.part_of.result in
     let put = c.in-Some.ensures.put in
-    let room : length lits ≡ length c.args.lits.now = omega arith in
+    let room : length lits ≡ length c.args.table.now.lits = c.put_word.ensures.size ∙ so.room in
     record {
       within = omega (arith, put.1, so.room);
       room = room;
@@ -29,7 +29,7 @@ loop-i-preserved g c =
             | inr other ↦
                 rw (get_or-set_other parts i w one d other)
                 (let old = so.parts w d (omega arith) in (
-                  part_stays known c.loop-i.lits lits w c.loop-i.from (slice_index_or parts w d) old.1 (omega (arith, room, so.within)) c.in-Some.ensures.before old.0,
+                  part_stays known c.loop-i.table.lits lits w c.loop-i.from (slice_index_or parts w d) old.1 (omega (arith, room, so.within)) c.in-Some.ensures.before old.0,
                   omega (arith, old.1, put.0),
                 ))
           ];

@@ -3,14 +3,14 @@ use Rattle.call_tables.specs.Arch.{token_of}
 use Rattle.cert_check.proofs.CallLaws.{goes_down, inside, stands_there}
 use Rattle.cert_check.proofs.agree.Agreement.call_says.Goals as goal
 
-pub returns-then-says_at : goal.returns-then-says_at
-returns-then-says_at g c =
+pub returns-then-says_alone_at : goal.returns-then-says_alone_at
+returns-then-says_alone_at g c =
     let rules = c.args.self.now.profile.now.rules in
     let rule = c.index-rules-place.result in
     let place = c.in-Some.place in
     let stands = stands_there rules c.rules-rules.result.now c.loop-next.next place rule c.rules-rules.ensures.rules c.index-rules-place.is
     c.in-Some.is c.loop-next.invariant in
-    let says = c.if-says_at.ensures refl in
+    let says = c.if-says_alone_at.ensures refl in
     λ _. record { place = place; rule = rule; is_of = record { stands = stands; left = says.left }; is_yes = says.is_yes; word = says.word }
 
 pub loop-next-smaller : goal.loop-next-smaller

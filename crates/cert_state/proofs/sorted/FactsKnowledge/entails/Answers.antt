@@ -10,7 +10,7 @@ returns g c =
     let known = g.S.State.known c.args.self.now.state.now in
     let l = c.args.literal.now in
     let part = c.part-part.result in
-    let same = ap (λ ls. slice_range ls part.from part.to) c.lits.ensures ∙ c.part-part.ensures.literals in
+    let same = c.rows-own.ensures ∙ c.part-part.ensures.literals in
     let at = sym c.word-word.ensures in (
       λ t. entails_of_all c.word-word.result known l at (subst (λ (ks : List Lit). Entails ks l) same (c.gives.ensures.0 t)),
       λ h. c.gives.ensures.1 (subst (λ (ks : List Lit). Entails ks l) (sym same) (entails_of_own c.word-word.result known l at h)),

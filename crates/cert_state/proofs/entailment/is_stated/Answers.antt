@@ -1,7 +1,7 @@
 use Rattle.std.proofs.Common.{rules, ◌≡◌, inl, inr}
 use Rattle.std.specs.Prelude.{Contains}
 use Rattle.cert_state.proofs.ListLaws.{contains_split, contains_later}
-use Rattle.cert_state.proofs.entailment.states.Goals as goal
+use Rattle.cert_state.proofs.entailment.is_stated.Goals as goal
 
 pub loop-literal-preserved : goal.loop-literal-preserved
 loop-literal-preserved g c =
