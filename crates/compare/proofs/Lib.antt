@@ -19,3 +19,4 @@ pub mod WriteLaws
 pub mod AnyLaws
 pub mod StubRunLaws
 pub mod SplitLaws
+pub mod PartLaws

@@ -1,3 +1,4 @@
 pub mod Excess
 pub mod Path
 pub mod Parts
+pub mod ProfileParts

@@ -14,14 +14,14 @@ fn is_same(a: &Rule, b: &Rule) -> bool
 }
 
 // Whether a rule is one of these.
-fn has(rules: &[Rule], rule: &Rule) -> bool
+pub(crate) fn has(rules: &[Rule], rule: &Rule) -> bool
     ensures { IsTrue result ↔ Contains rules.now rule.now }
 {
     rules.iter().any(|other| is_same(other, rule))
 }
 
 // Whether each of these rules is one of the others.
-fn has_all(rules: &[Rule], these: &[Rule]) -> bool
+pub(crate) fn has_all(rules: &[Rule], these: &[Rule]) -> bool
     ensures { IsTrue result ↔ All (λ rule. Contains rules.now rule) these.now }
 {
     for rule in these {
@@ -32,13 +32,13 @@ fn has_all(rules: &[Rule], these: &[Rule]) -> bool
     true
 }
 
-fn are_same_machines(these: &[Arch], others: &[Arch]) -> bool
+pub(crate) fn are_same_machines(these: &[Arch], others: &[Arch]) -> bool
     ensures { IsTrue result ↔ (these.now ≡ others.now) }
 {
     these == others
 }
 
-fn is_same_word(a: Word, b: Word) -> bool
+pub(crate) fn is_same_word(a: Word, b: Word) -> bool
     ensures { IsTrue result ↔ (a ≡ b) }
 {
     a == b

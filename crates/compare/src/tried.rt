@@ -1,16 +1,20 @@
 //! Calls whose records were tried, of which calls with the same rules need not be asked again.
 
 use crate::records::records;
-use call_record::Word;
 use call_tables::Arch;
 use profile::{Cond, MAX_RULES, Profile, Rule};
 use std::alloc::{AllocError, Global};
 
-// The most records that are tried for a call, and how many in all; so many are tried for each call even then.
+// The most records that are tried for a call.
 const MOST_RECORDS: usize = 65_536;
 
+// The most that are tried in all.
 const MOST_IN_ALL: usize = 8 * MOST_RECORDS;
 
+// How often a record is asked whether it meets a condition, in all.
+const MOST_QUESTIONS: usize = 1 << 29;
+
+// As many are tried for each call, even where no more are left in all.
 const FEWEST_RECORDS: usize = 256;
 
 // How many calls are kept.
@@ -24,11 +28,12 @@ struct Tried {
     found: Vec<[u64; 6]>,
 }
 
-/// The calls that were tried, and how many records may be tried yet.
+/// The calls that were tried, and how many records may be tried and how many questions asked yet.
 #[derive(Drop)]
 pub(crate) struct Search {
     tried: Vec<Tried>,
-    left: usize,
+    records: usize,
+    questions: usize,
 }
 
 fn is_alike(a: &Rule, b: &Rule) -> bool {
@@ -67,7 +72,8 @@ impl Search {
     pub(crate) fn new(alloc: Global) -> Search {
         Search {
             tried: Vec::new(alloc),
-            left: MOST_IN_ALL,
+            records: MOST_IN_ALL,
+            questions: MOST_QUESTIONS,
         }
     }
 
@@ -97,9 +103,13 @@ impl Search {
         conds: &[Cond],
         arch: Arch,
     ) -> Result<Vec<[u64; 6]>, AllocError> {
-        let most = self.left.min(MOST_RECORDS).max(FEWEST_RECORDS);
+        let by_questions = self.questions.checked_div(conds.len());
+        let most = self.records.min(by_questions.unwrap_or(MOST_RECORDS));
+        let most = most.min(MOST_RECORDS).max(FEWEST_RECORDS);
         let args = records(alloc, conds, arch, most)?;
-        self.left = self.left.saturating_sub(args.len());
+        let asked = args.len().saturating_mul(conds.len());
+        self.records = self.records.saturating_sub(args.len());
+        self.questions = self.questions.saturating_sub(asked);
         Ok(args)
     }
 

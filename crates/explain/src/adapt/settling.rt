@@ -4,6 +4,8 @@ mod calls;
 mod choice;
 mod covering;
 mod judged;
+mod kinds;
+mod lists;
 mod rules;
 mod winning;
 

@@ -56,16 +56,12 @@ impl<'a> Keep<'a> {
         let places = places_of(digits)?;
         Some(Keep { name, places })
     }
-
-    // Whether a call is by this name.
-    fn is_of(&self, call: &Call<'_>) -> bool {
-        call.arch.number(self.name) == Some(call.nr)
-    }
 }
 
 /// Which of those that are asked for a call is by its name.
 pub(crate) fn keep_of(keeps: &[Keep<'_>], call: &Call<'_>) -> Option<usize> {
-    keeps.iter().position(|keep| keep.is_of(call))
+    let name = call.arch.name(call.nr)?;
+    keeps.iter().position(|keep| keep.name == name)
 }
 
 /// Whether a name is that of a call of which values are kept.

@@ -1,6 +1,6 @@
 //! Entries, written in parts where their arguments are cut.
 use crate::narrow::conditions::put_conditions;
-use crate::narrow::narrowing::{CutError, Plan, conditions};
+use crate::narrow::narrowing::{CutError, MOST_PARTS, Plan, conditions, parts};
 use crate::narrow::plans::{agree, cuts, lowered, plan_of};
 use crate::narrow::text::Text;
 use crate::phrases::ConditionText;
@@ -10,6 +10,9 @@ use profile::{Cond, Rule};
 use profile_json::EntryRules;
 use serde_json::Value;
 use std::alloc::{AllocError, Global};
+
+// How many entries a bundle may have.
+const MOST_ENTRIES: usize = 1024;
 
 /// The text of the entries, what was changed in them, and whether they can be written.
 #[derive(Drop)]
@@ -56,6 +59,16 @@ fn tell_lowered(text: &mut Text, conds: &[Cond], lowers: &[Cond]) {
     }
 }
 
+// Whether conditions of a call whose arguments are cut stand for more parts than a bundle may have.
+fn are_too_many(alloc: Global, conds: &[Cond], plan: &Plan) -> Result<bool, AllocError> {
+    let mut count = 1usize;
+    for cond in conds {
+        let own = parts(alloc, cond, plan[cond.index as usize])?;
+        count = count.saturating_mul(own.len());
+    }
+    Ok(count > MOST_PARTS)
+}
+
 impl<'a> Entries<'a> {
     /// No entries yet.
     pub(crate) fn new(alloc: Global, machines: &'a [Arch]) -> Entries<'a> {
@@ -99,6 +112,24 @@ impl<'a> Entries<'a> {
     fn refuse(&mut self, at: usize, name: &str, why: &str) {
         self.is_refused = true;
         self.changes.put(format_args!("linux.seccomp.syscalls[{at}]: {name}: {why}\n"));
+    }
+
+    // Tells that an entry becomes too many for one call.
+    fn refuse_parts(&mut self, at: usize, name: &str) {
+        self.refuse(at, name, "is more parts than a bundle may have");
+    }
+
+    // Whether there are more entries than a bundle may have.
+    fn is_full(&self) -> bool {
+        self.count > MOST_ENTRIES
+    }
+
+    // Tells that there are more entries than a bundle may have.
+    fn refuse_more(&mut self) {
+        self.is_refused = true;
+        self.changes.put(format_args!(
+            "linux.seccomp.syscalls: more than the {MOST_ENTRIES} entries that a bundle may have\n"
+        ));
     }
 
     // Tells what an entry became for one call, and what is read of values that its arguments cannot have.
@@ -158,6 +189,10 @@ impl<'a> Entries<'a> {
             );
             return Ok(());
         }
+        if are_too_many(self.alloc, lowers, plan)? {
+            self.refuse_parts(at, name);
+            return Ok(());
+        }
         // There are six arguments.
         match conditions(self.alloc, &lowers[..lowers.len().min(6)], plan) {
             Ok(lists) => {
@@ -166,7 +201,7 @@ impl<'a> Entries<'a> {
                 Ok(())
             }
             Err(CutError::TooMany) => {
-                self.refuse(at, name, "is more parts than a bundle may have");
+                self.refuse_parts(at, name);
                 Ok(())
             }
             Err(CutError::OutOfMemory) => Err(AllocError),
@@ -189,7 +224,7 @@ impl<'a> Entries<'a> {
         Ok(())
     }
 
-    // Adds what an entry says of each of its calls.
+    // Adds what an entry says of each of its calls, until there are too many.
     fn put_calls(
         &mut self,
         at: usize,
@@ -200,6 +235,9 @@ impl<'a> Entries<'a> {
         for name in names {
             let name = name.as_str().unwrap_or("");
             self.put_call(at, entry, name, conds)?;
+            if self.is_full() {
+                break;
+            }
         }
         Ok(())
     }
@@ -236,10 +274,14 @@ impl<'a> Entries<'a> {
         self.put_calls(at, entry, names, conds)
     }
 
-    /// Adds the entries.
+    /// Adds the entries, until there are too many.
     pub(crate) fn put_all(&mut self, list: &[Value], all: &EntryRules) -> Result<(), AllocError> {
         for (at, entry) in list.iter().enumerate() {
             self.put_entry(at, entry, conds_of(all, at))?;
+            if self.is_full() {
+                self.refuse_more();
+                break;
+            }
         }
         Ok(())
     }

@@ -1,17 +1,19 @@
-//! The places of rules, by their calls.
-use crate::adapt::settling::rules::is_among;
+//! The places of rules, by all that they say.
+use crate::adapt::settling::lists::Lists;
 use profile::Rule;
 use std::alloc::{AllocError, Global};
 use std::collections::BTreeMap;
+use std::slice;
 
-/// For each call the places of the different rules for it, each at its first.
+/// The place of each different rule, by its call, its verdict and the number of its conditions. Of equal rules it is that of the last.
 #[derive(Drop)]
 pub(crate) struct Calls {
-    places: BTreeMap<u64, Vec<usize>>,
+    lists: Lists,
+    places: BTreeMap<(u64, u32, usize), usize>,
 }
 
-// The token and the number of a rule's call.
-fn key_of(rule: &Rule) -> u64 {
+/// The token and the number of a rule's call.
+pub(crate) fn call_of(rule: &Rule) -> u64 {
     u64::from(rule.arch.token()) << 32 | u64::from(rule.nr)
 }
 
@@ -19,43 +21,34 @@ impl Calls {
     /// The places of these rules.
     pub(crate) fn of(alloc: Global, rules: &[Rule]) -> Result<Calls, AllocError> {
         let mut calls = Calls {
+            lists: Lists::new(alloc),
             places: BTreeMap::new(alloc),
         };
         for (place, rule) in rules.iter().enumerate() {
-            calls.add(alloc, rules, place, rule)?;
+            calls.add(place, rule)?;
         }
         Ok(calls)
     }
 
-    /// The places of the rules for a rule's call.
+    /// The places at which a rule is to be looked for: one, or none.
     pub(crate) fn places(&self, rule: &Rule) -> &[usize] {
-        match self.places.get(&key_of(rule)) {
-            Some(places) => places.as_slice(),
+        match self.place(rule) {
+            Some(place) => slice::from_ref(place),
             None => &[],
         }
     }
 
-    fn add(
-        &mut self,
-        alloc: Global,
-        rules: &[Rule],
-        place: usize,
-        rule: &Rule,
-    ) -> Result<(), AllocError> {
-        if is_among(rules, self.places(rule), rule) {
-            return Ok(());
-        }
-        self.put(alloc, key_of(rule), place)
+    // The place of a rule.
+    fn place(&self, rule: &Rule) -> Option<&usize> {
+        let list = self.lists.number(rule.conds.as_slice())?;
+        self.places.get(&(call_of(rule), rule.word.0, list))
     }
 
-    fn put(&mut self, alloc: Global, key: u64, place: usize) -> Result<(), AllocError> {
-        if let Some(places) = self.places.get_mut(&key) {
-            places.push(place)?;
-            return Ok(());
-        }
-        let mut places = Vec::new(alloc);
-        places.push(place)?;
-        self.places.insert(key, places)?;
+    // Adds a rule.
+    fn add(&mut self, place: usize, rule: &Rule) -> Result<(), AllocError> {
+        let list = self.lists.add(rule.conds.as_slice())?;
+        self.places
+            .insert((call_of(rule), rule.word.0, list), place)?;
         Ok(())
     }
 }

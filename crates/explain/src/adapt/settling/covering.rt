@@ -53,8 +53,8 @@ fn is_implied(cond: &Cond, conds: &[Cond]) -> bool
     false
 }
 
-// Whether a record that meets all of some conditions meets all of others.
-fn are_implied(all: &[Cond], conds: &[Cond]) -> bool
+/// Whether a record that meets all of some conditions meets all of others.
+pub(crate) fn are_implied(all: &[Cond], conds: &[Cond]) -> bool
     ensures { IsTrue result → (r : List ℕ) → AreMet r conds.now → AreMet r all.now }
 {
     for cond in all {
