@@ -3,7 +3,7 @@ use Rattle.std.proofs.Common.{◌≡◌, ◌≢◌, ℕ, ◌∷◌, [], List, Bo
 use Rattle.std.specs.Prelude.{slice_index_or}
 use Rattle.std.specs.List.{All, Any, Contains, list_any}
 use Rattle.std.proofs.lemmas.Bool.{and_from, cases_Bool, eq-eqb, or_left, or_right, or_parts, true≢false}
-use Rattle.std.proofs.lemmas.List.Elements.{All-contains, All-contains_itself, Contains-tail}
+use Rattle.std.proofs.lemmas.List.Elements.{All-contains, All-contains_itself}
 use Rattle.call_record.specs.Words.{IsRecord, word}
 use Rattle.call_record.specs.Verdict.{Through}
 use Rattle.call_tables.specs.Arch.{token_of}
@@ -32,8 +32,8 @@ module _ (r : List ℕ) where
     unmatched = λ native none.
         said.unmatched (subst (Any (HasCall (word r 1) (word r 0))) framed.machines native)
         (λ k d within matches.
-            All-contains (λ rule. Matches rule r → ⊥) q.rules (slice_index_or p.rules k d) none
-            (to (slice_index_or p.rules k d) matches (All-contains_itself p.rules k d within)) matches)
+        All-contains (λ rule. Matches rule r → ⊥) q.rules (slice_index_or p.rules k d) none
+        (to (slice_index_or p.rules k d) matches (All-contains_itself p.rules k d within)) matches)
         ∙ sym framed.default_word;
   }
 
@@ -104,10 +104,10 @@ unmatched : (r : List ℕ) (rules others : List Rule) → has_call r rules ≡ f
 unmatched r rules others none rule matches own =
     absurd (true≢false (sym (found (is_for (word r 1) (word r 0)) rules rule own (its_call r rule matches)) ∙ none))
 
-Apart : List ℕ → Policy → Policy → Policy → Policy → Type 0
+abbrev Apart : List ℕ → Policy → Policy → Policy → Policy → Type 0
 Apart r p q a b = ((v : ℕ) → Says p r v ↔ Says a r v) × ((v : ℕ) → Says q r v ↔ Says b r v)
 
-Alike : List ℕ → Policy → Policy → Policy → Policy → Type 0
+abbrev Alike : List ℕ → Policy → Policy → Policy → Policy → Type 0
 Alike r p q a b = ((v : ℕ) → Says p r v → Says q r v) × ((v : ℕ) → Says a r v → Says b r v)
 
 apart_by : (r : List ℕ) (p q a b : Policy) → AreParts p q a b
@@ -158,3 +158,11 @@ exceeds p q a b r new old law clear parts h =
           absurd (h.refused (subst Through
           ((law b r new clear h.is_record).0 (alike.1 new h.says_new) ∙ sym ((law b r old clear h.is_record).0 h.says_old)) h.through))
     ]
+
+-- the same of the same lists
+pub rest_held : (a a2 b b2 q q2 p p2 : List Rule) → a ≡ a2 → b ≡ b2 → q ≡ q2 → p ≡ p2 → All (IsLeftOrShared a b q) p
+    → All (IsLeftOrShared a2 b2 q2) p2
+rest_held a a2 b b2 q q2 p p2 part other_part others whole all =
+    subst (λ x. All (IsLeftOrShared x b2 q2) p2) part
+    (subst (λ x. All (IsLeftOrShared a x q2) p2) other_part
+    (subst (λ x. All (IsLeftOrShared a b x) p2) others (subst (All (IsLeftOrShared a b q)) whole all)))

@@ -14,6 +14,7 @@ mod filters;
 pub mod lint;
 mod order;
 mod outcome;
+mod parts;
 mod records;
 mod same;
 mod search;

@@ -21,7 +21,8 @@ ghost use Rattle.compare.specs.Sameness.{AreUnlikeOn};
 use crate::change::{Change, changes_of};
 use crate::difference::{Difference, difference_on};
 use crate::equal::are_equal;
-use crate::order::{AtMost, Excess, Size, allows_no_more};
+use crate::order::{AtMost, Excess, Size};
+use crate::parts::{first_allows_no_more, parts, second_allows_no_more};
 use crate::records::{asked_by, conditions_on};
 use crate::same::{Sameness, compare_sameness};
 use crate::search::differences;
@@ -198,8 +199,9 @@ fn with_differences(
     ensures { IfOk result (IsComparison first.now second.now) }
 {
     let changes = changes_of(alloc, list)?;
-    let more = allows_no_more(alloc, second, first)?;
-    let less = allows_no_more(alloc, first, second)?;
+    let apart = parts(alloc, first, second)?;
+    let more = second_allows_no_more(alloc, first, second, &apart)?;
+    let less = first_allows_no_more(alloc, first, second, &apart)?;
     by_sides(alloc, family, first, second, changes, &more, &less)
 }
 

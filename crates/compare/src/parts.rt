@@ -45,12 +45,7 @@ fn is_left_or_shared(rule: &Rule, part: &[Rule], other_part: &[Rule], others: &[
 }
 
 // Whether that is so of each rule.
-fn are_left_or_shared(
-    rules: &[Rule],
-    part: &[Rule],
-    other_part: &[Rule],
-    others: &[Rule],
-) -> bool
+fn are_left_or_shared(rules: &[Rule], part: &[Rule], other_part: &[Rule], others: &[Rule]) -> bool
     ensures { IsTrue result → All (IsLeftOrShared part.now other_part.now others.now) rules.now }
 {
     for rule in rules {
@@ -81,7 +76,12 @@ fn is_part(part: &Profile, whole: &Profile, other_part: &Profile, other: &Profil
     if !has_all(whole.rules(), part.rules()) {
         return false;
     }
-    are_left_or_shared(whole.rules(), part.rules(), other_part.rules(), other.rules())
+    are_left_or_shared(
+        whole.rules(),
+        part.rules(),
+        other_part.rules(),
+        other.rules(),
+    )
 }
 
 // Whether two profiles are the parts of two others.
@@ -165,8 +165,8 @@ fn are_clear(profile: &Profile, other: &Profile)
     each_record_is_said_one_verdict();
 }
 
-/// Whether a new profile allows no more than an old one: asked of their parts, and of the whole if that is too large.
-pub(crate) fn part_allows_no_more(
+// Whether a new profile allows no more than an old one: asked of their parts, and of the whole if that is too large.
+fn part_allows_no_more(
     alloc: Global,
     new: &Profile,
     old: &Profile,
@@ -181,5 +181,37 @@ pub(crate) fn part_allows_no_more(
         AtMost::Yes => Ok(AtMost::Yes),
         AtMost::No(found) => Ok(AtMost::No(found)),
         AtMost::Undecided(_) => allows_no_more(alloc, new, old),
+    }
+}
+
+/// Whether the first of two profiles with these parts, if they have some, allows no more than the second.
+pub(crate) fn first_allows_no_more(
+    alloc: Global,
+    first: &Profile,
+    second: &Profile,
+    parts: &Option<(Profile, Profile)>,
+) -> Result<AtMost, AllocError>
+    requires { IfSome parts.now (λ found. AreParts first.now second.now found.0 found.1) }
+    ensures { IfOk result (IsDecided first.now second.now) }
+{
+    match parts {
+        Some((one, other)) => part_allows_no_more(alloc, first, second, one, other),
+        None => allows_no_more(alloc, first, second),
+    }
+}
+
+/// Whether the second of two profiles with these parts, if they have some, allows no more than the first.
+pub(crate) fn second_allows_no_more(
+    alloc: Global,
+    first: &Profile,
+    second: &Profile,
+    parts: &Option<(Profile, Profile)>,
+) -> Result<AtMost, AllocError>
+    requires { IfSome parts.now (λ found. AreParts first.now second.now found.0 found.1) }
+    ensures { IfOk result (IsDecided second.now first.now) }
+{
+    match parts {
+        Some((one, other)) => part_allows_no_more(alloc, second, first, other, one),
+        None => allows_no_more(alloc, second, first),
     }
 }
