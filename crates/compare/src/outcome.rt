@@ -187,6 +187,23 @@ fn by_sides(
     }
 }
 
+// Two profiles with these changes, by what is asked of their parts.
+fn with_changes(
+    alloc: Global,
+    family: Family,
+    first: &Profile,
+    second: &Profile,
+    changes: Vec<Change>,
+) -> Result<Comparison, AllocError>
+    requires { All (IsChange first.now second.now) changes.items }
+    ensures { IfOk result (IsComparison first.now second.now) }
+{
+    let apart = parts(alloc, first, second)?;
+    let more = second_allows_no_more(alloc, first, second, &apart)?;
+    let less = first_allows_no_more(alloc, first, second, &apart)?;
+    by_sides(alloc, family, first, second, changes, &more, &less)
+}
+
 // Two profiles of which some calls differ.
 fn with_differences(
     alloc: Global,
@@ -199,10 +216,7 @@ fn with_differences(
     ensures { IfOk result (IsComparison first.now second.now) }
 {
     let changes = changes_of(alloc, list)?;
-    let apart = parts(alloc, first, second)?;
-    let more = second_allows_no_more(alloc, first, second, &apart)?;
-    let less = first_allows_no_more(alloc, first, second, &apart)?;
-    by_sides(alloc, family, first, second, changes, &more, &less)
+    with_changes(alloc, family, first, second, changes)
 }
 
 // Two profiles that say unlike verdicts of a record.
