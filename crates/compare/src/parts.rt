@@ -118,7 +118,7 @@ fn part_of(
     }
 }
 
-// Two profiles, if they are the parts of two others and not the whole.
+// Two profiles, if they are the parts of two others, with no more than half of their rules: else the whole is asked at once.
 fn checked(
     first: &Profile,
     second: &Profile,
@@ -128,7 +128,7 @@ fn checked(
     ensures { IfSome result (λ found. AreParts first.now second.now found.0 found.1) }
 {
     let all = first.rules().len() + second.rules().len();
-    if one.rules().len() + other.rules().len() == all {
+    if one.rules().len() + other.rules().len() > all / 2 {
         return None;
     }
     if are_parts(first, second, &one, &other) {

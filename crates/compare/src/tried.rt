@@ -12,7 +12,7 @@ const MOST_RECORDS: usize = 65_536;
 const MOST_IN_ALL: usize = 8 * MOST_RECORDS;
 
 // How often a record is asked whether it meets a condition, in all.
-const MOST_QUESTIONS: usize = 1 << 29;
+const MOST_QUESTIONS: usize = 1 << 28;
 
 // As many are tried for each call, even where no more are left in all.
 const FEWEST_RECORDS: usize = 256;
