@@ -65,8 +65,11 @@ fn are_too_many(alloc: Global, conds: &[Cond], plan: &Plan) -> Result<bool, Allo
     for cond in conds {
         let own = parts(alloc, cond, plan[cond.index as usize])?;
         count = count.saturating_mul(own.len());
+        if count > MOST_PARTS {
+            return Ok(true);
+        }
     }
-    Ok(count > MOST_PARTS)
+    Ok(false)
 }
 
 impl<'a> Entries<'a> {
