@@ -1,4 +1,5 @@
 pub mod Elements
+pub mod TestLaws
 pub mod OutsLaws
 pub mod MetsLaws
 pub mod Agreement
@@ -18,4 +19,6 @@ pub mod CheckLaws
 pub mod SharedLaws
 pub mod NumberLaws
 pub mod CallLaws
+pub mod AlikeLaws
+pub mod ToldLaws
 pub mod SeveralLaws

@@ -4,19 +4,18 @@ use Rattle.std.proofs.Common.{◌∷◌, length, refl, sym, subst, ap, ◌∙◌
 use Rattle.std.specs.Prelude.{◌↔◌, Contains, Some, replicate, slice_get, slice_index_or}
 use Rattle.std.proofs.lemmas.Bool.{cases_eq, eq-eqb, ne_eqb}
 use Rattle.std.proofs.lemmas.List.{get_or-replicate, length-replicate}
-use Rattle.std.proofs.lemmas.Option.{slice_get-get_or, same_Some}
+use Rattle.std.proofs.lemmas.Option.{slice_get-get_or, slice_get_within, same_Some}
 use Rattle.profile.specs.declared.conditions.Cond.{Cond}
 use Rattle.cert_state.specs.declared.literal.Lit.{Lit}
 use Rattle.profile.specs.declared.rules.Rule.{Rule}
 use Rattle.profile.specs.Rule.{is_narrow_rule}
 use Rattle.profile.specs.Policy.{Policy}
-use Rattle.cert_check.specs.Agree.{AllAreYes, IsNo, IsYes, OneIsNo, SomeIsNo}
+use Rattle.cert_check.specs.Agree.{IsYes, OneIsNo, SomeIsNo}
 use Rattle.cert_check.specs.Rules.{IsMetBy}
-use Rattle.cert_check.specs.Judged.{IsJudged}
-use Rattle.cert_check.specs.inner.Judged.{AreYes, IsAnswered, IsNoNorMet, IsYesOrMet}
+use Rattle.cert_check.specs.inner.Judged.{IsAnswer, IsAnswered}
 use Rattle.cert_check.specs.declared.judged.Answered.{Answered}
-use Rattle.cert_check.specs.declared.judged.Judged.{Judged}
-use Rattle.cert_check.specs.declared.judged.Judged.TheVariants.{Yes, No, Open}
+use Rattle.cert_check.specs.declared.judged.Asked.{Asked}
+use Rattle.cert_check.specs.declared.judged.Asked.TheVariants.{AllYes, OneNo}
 use Rattle.cert_check.specs.inner.Marked.{is_said, AreMetMarked, AreMetMarkedBut, IsClear}
 use Rattle.cert_check.proofs.Elements.{contains_at}
 use Rattle.cert_check.proofs.OutsLaws.{cases, first, later, same_answer}
@@ -113,41 +112,61 @@ all_marked places table rest e so rule own d below within =
 -- ---- conditions asked
 
 -- an answer to the conditions of a rule, of arguments as wide as its machine's
-pub as_asked : (known : List Lit) (answered : Answered) (rule : Rule) → answered.narrow ≡ is_narrow_rule rule
-    → answered.conds.now ≡ rule.conds.items → IsAnswered known answered
-    → IsJudged (AreYes (is_narrow_rule rule) known rule.conds.items) (SomeIsNo (is_narrow_rule rule) known rule.conds.items) answered.judged
-as_asked known answered rule narrow conds so =
-    subst (λ b. IsJudged (AreYes b known rule.conds.items) (SomeIsNo b known rule.conds.items) answered.judged) narrow
-    (subst (λ cs. IsJudged (AreYes answered.narrow known cs) (SomeIsNo answered.narrow known cs) answered.judged) conds so)
+pub as_asked : (known : List Lit) (answered : Answered) (rule : Rule) (asked : Asked) → answered.asked ≡ asked
+    → answered.narrow ≡ is_narrow_rule rule → answered.conds.now ≡ rule.conds.items → IsAnswered known answered
+    → IsAnswer asked (is_narrow_rule rule) [] known 0 rule.conds.items answered.is_so
+as_asked known answered rule asked question narrow conds so =
+    subst (λ q. IsAnswer q (is_narrow_rule rule) [] known 0 rule.conds.items answered.is_so) question
+    (subst (λ b. IsAnswer answered.asked b [] known 0 rule.conds.items answered.is_so) narrow
+    (subst (λ cs. IsAnswer answered.asked answered.narrow [] known 0 cs answered.is_so) conds so))
+
+-- of no conditions all are yes
+pub none_asked : (known : List Lit) → IsAnswer AllYes false [] known 0 [] true
+none_asked known = (λ _ own c its. absurd (let within = slice_get_within [] own c its in omega (arith, within)), λ _. refl)
 
 -- where no condition of a rule is said to be met, all are asked
-pub none_left : (narrow : Bool) (met : List (ℕ × ℕ)) (known : List Lit) (place : ℕ) (conds : List Cond) (judged : Judged) → length conds ≤ 6
-    → ((own : ℕ) → own < 6 → Contains met (place, own) → ⊥) → IsJudged (AreYes narrow known conds) (SomeIsNo narrow known conds) judged
-    → IsJudged (AllAreYes narrow met known place conds) (OneIsNo narrow met known place conds) judged
-none_left narrow met known place conds Yes few none so = λ own c its. inr (so c (contains_at conds own c its))
-none_left narrow met known place conds No few none so = record {
-  own = so.1.0;
-  cond = so.0;
-  stands = slice_get-get_or conds so.1.0 so.0 so.1.1 ∙ ap Some so.1.2;
-  not_met = none so.1.0 (omega (arith, few, so.1.1));
-  is_no = so.2;
-}
-none_left narrow met known place conds Open few none so = (
-  λ all. so.0 (λ c has. elim (all has.0 c (slice_get-get_or conds has.0 c has.1 ∙ ap Some has.2)) [
-    | inl told ↦ absurd (none has.0 (omega (arith, few, has.1)) told)
-    | inr holds ↦ holds
+pub none_left : (asked : Asked) (narrow : Bool) (met : List (ℕ × ℕ)) (known : List Lit) (place : ℕ) (conds : List Cond) (is_so : Bool)
+    → length conds ≤ 6 → ((own : ℕ) → own < 6 → Contains met (place, own) → ⊥)
+    → IsAnswer asked narrow [] known 0 conds is_so → IsAnswer asked narrow met known place conds is_so
+none_left AllYes narrow met known place conds is_so few none so = (
+  λ t own c its. elim (so.0 t own c its) [ inl told ↦ absurd (omega (arith, told.1)) | inr holds ↦ inr holds ],
+  λ all. so.1 (λ own c its. elim (all own c its) [
+    | inl told ↦ absurd (let within = slice_get_within conds own c its in none own (omega (arith, few, within)) told)
+    | inr holds ↦ inr holds
   ]),
-  λ one. so.1 (one.cond, contains_at conds one.own one.cond one.stands, one.is_no),
+)
+none_left OneNo narrow met known place conds is_so few none so = (
+  λ t.
+      let one = so.0 t in
+      let within = slice_get_within conds one.own one.cond one.stands in
+      record {
+        own = one.own;
+        cond = one.cond;
+        stands = one.stands;
+        not_met = none one.own (omega (arith, few, within));
+        is_no = one.is_no;
+      },
+  λ one. so.1 (record {
+    own = one.own;
+    cond = one.cond;
+    stands = one.stands;
+    not_met = λ told. absurd (omega (arith, told.1));
+    is_no = one.is_no;
+  }),
 )
 
--- where a condition is not said to be met, it is asked
-pub unless_met : (narrow : Bool) (met : List (ℕ × ℕ)) (known : List Lit) (place own : ℕ) (c : Cond) (judged : Judged)
-    → (Contains met (place, own) → ⊥) → IsJudged (IsYes narrow known c) (IsNo narrow known c) judged
-    → IsJudged (IsYesOrMet narrow met known place own c) (IsNoNorMet narrow met known place own c) judged
-unless_met narrow met known place own c Yes none so = inr so
-unless_met narrow met known place own c No none so = (none, so)
-unless_met narrow met known place own c Open none so =
-    (λ h. elim h [ inl told ↦ none told | inr holds ↦ so.0 holds ], λ h. so.1 h.1)
+-- where none is said to be met, one is no that is among the conditions
+pub one_among : (narrow : Bool) (known : List Lit) (conds : List Cond) → OneIsNo narrow [] known 0 conds ↔ SomeIsNo narrow known conds
+one_among narrow known conds = (
+  λ one. (one.cond, contains_at conds one.own one.cond one.stands, one.is_no),
+  λ some. record {
+    own = some.1.0;
+    cond = some.0;
+    stands = slice_get-get_or conds some.1.0 some.0 some.1.1 ∙ ap Some some.1.2;
+    not_met = λ told. absurd (omega (arith, told.1));
+    is_no = some.2;
+  },
+)
 
 -- a condition that the profile has at these places is met for one of the two reasons
 pub met_by : (policy : Policy) (met : List (ℕ × ℕ)) (known : List Lit) (place : ℕ × ℕ) (rule : Rule) (c : Cond)

@@ -1,19 +1,15 @@
 -- Rules that are said to be out: places marked one by one, and rules asked one by one.
-use Rattle.std.proofs.Common.{◌≡◌, ℕ, zero, suc, ◌<◌, Bool, true, false, List, [], ◌∷◌, length, refl, sym, subst, ◌∙◌, inl, inr, ◌⊎◌, arith}
-use Rattle.std.specs.Prelude.{◌↔◌, All, Contains, Some, replicate, slice_get, slice_index_or}
-use Rattle.std.proofs.lemmas.Bool.{cases_Bool, cases_eq, eq-eqb, ne_eqb}
+use Rattle.std.proofs.Common.{◌≡◌, ℕ, zero, suc, ◌<◌, Bool, true, false, List, [], ◌∷◌, refl, sym, subst, ◌∙◌, inl, inr, ◌⊎◌, arith}
+use Rattle.std.specs.Prelude.{◌↔◌, Contains, Some, replicate, slice_get, slice_index_or}
+use Rattle.std.proofs.lemmas.Bool.{cases_eq, eq-eqb, ne_eqb}
 use Rattle.std.proofs.lemmas.List.{get_or-replicate}
-use Rattle.std.proofs.lemmas.List.Elements.{All-contains, All-weaker}
-use Rattle.std.proofs.lemmas.Option.{same_Some, slice_get_within}
+use Rattle.std.proofs.lemmas.Option.{same_Some}
 use Rattle.profile.specs.declared.rules.Rule.{Rule}
 use Rattle.profile.specs.Policy.{Policy}
 use Rattle.cert_state.specs.declared.literal.Lit.{Lit}
-use Rattle.cert_form.specs.Nodes.{PlainNode}
 use Rattle.cert_check.specs.Agree.{IsRefuted}
-use Rattle.cert_check.specs.Rules.{Edge, IsOutOn, known_on}
-use Rattle.cert_check.specs.inner.Judged.{IsOutThen}
+use Rattle.cert_check.specs.inner.Followed.{IsOutBy}
 use Rattle.cert_check.specs.inner.Marked.{is_among, AreMarked, AreMarkedBut}
-use Rattle.cert_check.proofs.Elements.{each_of, element_at}
 
 -- a list that is an element and the rest
 module _ {X : Type 0} (x : X) (all rest : List X) (e : all ≡ x ∷ rest) where
@@ -89,35 +85,10 @@ all_marked places table rest e so k d lt =
 
 -- ---- rules asked
 
-is_or_not : (places : List ℕ) (k : ℕ) → Contains places k ⊎ (Contains places k → ⊥)
-is_or_not places k = elim (cases_Bool (is_among places k)) [
-  | inl is ↦ inl ((among places k).0 is)
-  | inr other ↦ inr (λ has. let e : false ≡ true = sym other ∙ (among places k).1 has in cc)
-]
-
--- a place that is not newly said to be out
-pub not_new : (here there : List ℕ) (known : List Lit) (place : ℕ) (rule : Rule) → (Contains there place × (Contains here place → ⊥) → ⊥)
-    → IsOutThen here there known place rule
-not_new here there known place rule new has = elim (is_or_not here place) [ inl is ↦ inl is | inr other ↦ absurd (new (has, other)) ]
-
--- what is said of each rule at its place is said of each place that is one of a rule
-pub all_out : (policy : Policy) (n : PlainNode) (e : Edge) (m : PlainNode) → All (λ place. place < length policy.rules) m.out
-    → ((k : ℕ) (rule : Rule) → slice_get policy.rules k ≡ Some rule → IsOutThen n.out m.out (known_on n e) k rule)
-    → All (IsOutOn policy n e) m.out
-all_out policy n e m below each = each_of (IsOutOn policy n e) m.out (λ place has. of_place place has) where
-  of_place : (place : ℕ) → Contains m.out place → IsOutOn policy n e place
-  of_place place has =
-      let within = All-contains (λ p. p < length policy.rules) m.out place below has in
-      let got = element_at policy.rules place within in
-      record { rule = got.0; stands = got.1; reason = each place got.0 got.1 has }
-
-pub out_of_each : (policy : Policy) (n : PlainNode) (e : Edge) (m : PlainNode) → All (IsOutOn policy n e) m.out
-    → (k : ℕ) (rule : Rule) → slice_get policy.rules k ≡ Some rule → IsOutThen n.out m.out (known_on n e) k rule
-out_of_each policy n e m all k rule stands has =
-    let is = All-contains (IsOutOn policy n e) m.out k all has in
-    subst (λ r. Contains n.out k ⊎ IsRefuted (known_on n e) r) (same_Some is.rule rule (sym is.stands ∙ stands)) is.reason
-
-pub below_of : (policy : Policy) (n : PlainNode) (e : Edge) (m : PlainNode) → All (IsOutOn policy n e) m.out
-    → All (λ place. place < length policy.rules) m.out
-below_of policy n e m all =
-    All-weaker (IsOutOn policy n e) (λ place. place < length policy.rules) (λ place is. slice_get_within policy.rules place is.rule is.stands) m.out all
+-- a rule that the profile has at a place is out for one of the two reasons
+pub out_by : (policy : Policy) (out : List ℕ) (known : List Lit) (place : ℕ) (rule : Rule) → slice_get policy.rules place ≡ Some rule
+    → (Contains out place ⊎ IsRefuted known rule) ↔ IsOutBy policy out known place
+out_by policy out known place rule stands = (
+  λ reason. record { rule = rule; stands = stands; reason = reason },
+  λ is. subst (λ r. Contains out place ⊎ IsRefuted known r) (same_Some is.rule rule (sym is.stands ∙ stands)) is.reason,
+)

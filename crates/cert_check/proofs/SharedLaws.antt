@@ -1,6 +1,8 @@
 -- Claims that are new on the way to a node, and those that its chain shares with the node before.
-use Rattle.std.proofs.Common.{◌≡◌, ℕ, true, List, [], ◌∷◌, ◌<◌, ◌++◌, refl, sym, ◌∙◌, subst, inl, inr, ◌⊎◌, arith, ap}
-use Rattle.std.specs.Prelude.{All, Contains, Option, length, option_to_list, slice_get}
+use Rattle.std.proofs.Common.{◌≡◌, ℕ, Bool, true, false, not, Some, None, List, [], ◌∷◌, ◌<◌, ◌++◌, refl, sym, ◌∙◌, subst, inl, inr, ◌⊎◌, arith, ap}
+use Rattle.std.specs.Prelude.{◌↔◌, All, Contains, IsTrue, Option, length, option_to_list, slice_get}
+use Rattle.std.specs.Option.{is_some}
+use Rattle.std.proofs.lemmas.Bool.{cases_eq, ne_eqb}
 use Rattle.std.proofs.lemmas.List.Elements.{All-nil, All-cons, All-head, All-tail, All-weaker, All-contains}
 use Rattle.std.proofs.lemmas.List.Elements.{Contains-append_left, Contains-append_right}
 use Rattle.profile.specs.declared.rules.Rule.{Rule}
@@ -11,12 +13,12 @@ use Rattle.cert_form.specs.declared.node.Claim.{Claim}
 use Rattle.cert_form.specs.declared.node.Claim.TheVariants.{Knows, Out, Met}
 use Rattle.cert_form.specs.Nodes.{PlainNode, literals_in, mets_in, outs_in}
 use Rattle.cert_form.specs.declared.lent.NodeView.{NodeView}
-use Rattle.cert_form.specs.Reading.{claims_in, claims_left, has_entries}
+use Rattle.cert_form.specs.Reading.{claims_in, claims_left, has_entries, version_of}
 use Rattle.cert_form.specs.Views.{AreLast, certificate_of, claims_from, claims_of, is_chained, says}
 use Rattle.cert_form.proofs.NumberLaws.{stated_by_some}
-use Rattle.cert_form.proofs.ReadLaws.{known_claimed, mets_claimed, outs_claimed}
+use Rattle.cert_form.proofs.ReadLaws.{claims_are, known_claimed, last_of, mets_claimed, no_claims, none_at_0, outs_claimed}
 use Rattle.cert_check.specs.Rules.{Edge, IsMetBy, IsOutOn, known_on}
-use Rattle.cert_check.specs.inner.Followed.{AllFollow, AreBut, IsFact, IsPlaced, IsShown}
+use Rattle.cert_check.specs.inner.Followed.{AllFollow, AreBut, FollowsBy, IsFact, IsPlaced, StopsAt}
 use Rattle.cert_check.proofs.Elements.{each_of, element_at, of_some}
 use Rattle.cert_check.proofs.OutsLaws.{cases, first, later}
 
@@ -103,16 +105,25 @@ module _ (policy : Policy) (n : PlainNode) (e : Edge) where
   Follows (Out place) = IsOutOn policy n e place
   Follows (Met place own) = IsMetBy policy n.met (known_on n e) (place, own)
 
-  newly : (place own : ℕ) → IsMetBy policy [] (known_on n e) (place, own) → IsMetBy policy n.met (known_on n e) (place, own)
-  newly place own is = elim is.reason [
+  -- by what the node before claims, or by what is known alone
+  by_all : (claim : Claim) → FollowsBy policy n.out n.met (known_on n e) claim ↔ Follows claim
+  by_all (Knows l) = (λ is. is, λ is. is)
+  by_all (Out place) = (
+    λ is. record { rule = is.rule; stands = is.stands; reason = is.reason },
+    λ is. record { rule = is.rule; stands = is.stands; reason = is.reason },
+  )
+  by_all (Met place own) = (λ is. is, λ is. is)
+
+  shown : (claim : Claim) → FollowsBy policy [] [] (known_on n e) claim → Follows claim
+  shown (Knows l) is = is
+  shown (Out place) is = elim is.reason [
+    | inl has ↦ absurd (omega (arith, has.1))
+    | inr so ↦ record { rule = is.rule; stands = is.stands; reason = inr so }
+  ]
+  shown (Met place own) is = elim is.reason [
     | inl has ↦ absurd (omega (arith, has.1))
     | inr so ↦ record { rule = is.rule; stands = is.stands; cond = is.cond; its = is.its; reason = inr so }
   ]
-
-  shown : (claim : Claim) → IsShown policy (known_on n e) claim → Follows claim
-  shown (Knows l) is = is
-  shown (Out place) is = record { rule = is.0; stands = is.1; reason = inr is.2 }
-  shown (Met place own) is = newly place own is
 
   by_fact : (claim : Claim) → IsFact e.fact claim → Follows claim
   by_fact (Knows l) is =
@@ -166,15 +177,17 @@ module _ (policy : Policy) (n : PlainNode) (e : Edge) where
       → ((claim : Claim) → Contains last claim → Follows claim) → AreBut P last all → All Follows all
   all_but P last all so rest but = All-weaker (λ c. P c ⊎ Contains last c) Follows (λ c h. elim h [ inl is ↦ so c is | inr has ↦ rest c has ]) all but
 
-  -- the claims of the node there are the fact of the edge, new ones that are shown, and those that both share
-  follow : (m : PlainNode) (mine theirs new last : List Claim) → States mine n → States theirs m → AreLast last mine
-      → All (IsPlaced policy) last
-      → AreBut (IsFact e.fact) new theirs → AreBut (IsShown policy (known_on n e)) last new → AllFollow policy n e m
-  follow m mine theirs new last here there shared placed facts shows =
+  -- the claims of the node there are the fact of the edge, those that are shown, those that follow, and those that both share
+  follow : (m : PlainNode) (mine theirs new left last : List Claim) → States mine n → States theirs m
+      → All (λ claim. Contains mine claim × IsPlaced policy claim) last
+      → AreBut (IsFact e.fact) new theirs → AreBut (FollowsBy policy [] [] (known_on n e)) left new
+      → AreBut (FollowsBy policy n.out n.met (known_on n e)) last left → AllFollow policy n e m
+  follow m mine theirs new left last here there shared facts shows rest =
       let of_last : (claim : Claim) → Contains last claim → Follows claim = λ claim has.
-      before mine here claim (subst (λ cs. Contains cs claim) shared.1 (Contains-append_right shared.0 last claim has))
-      (All-contains (IsPlaced policy) last claim placed has) in
-      let of_new : All Follows new = all_but (IsShown policy (known_on n e)) last new shown of_last shows in
+      let is = All-contains (λ c. Contains mine c × IsPlaced policy c) last claim shared has in before mine here claim is.0 is.1 in
+      let of_left : All Follows left = all_but (FollowsBy policy n.out n.met (known_on n e)) last left (λ c is. (by_all c).0 is) of_last rest in
+      let of_new : All Follows new = all_but (FollowsBy policy [] [] (known_on n e)) left new shown (λ claim has.
+      All-contains Follows left claim of_left has) shows in
       let all : All Follows theirs = all_but (IsFact e.fact) new theirs by_fact (λ claim has. All-contains Follows new claim of_new has) facts in
       record {
         literals = subst (All (Entails (known_on n e))) there.known (all_literals theirs all);
@@ -182,18 +195,93 @@ module _ (policy : Policy) (n : PlainNode) (e : Edge) where
         mets = subst (All (IsMetBy policy n.met (known_on n e))) there.met (all_mets theirs all);
       }
 
--- the same of nodes of one certificate, by the places where the new claims begin and where the shared ones do
-pub new_follow : (policy : Policy) (node there : NodeView) (e : Edge) (from shared : ℕ) → certificate_of node ≡ certificate_of there
-    → is_chained node ≡ true → AreLast (claims_from node shared) (claims_of node)
-    → All (IsPlaced policy) (claims_in (certificate_of node))
+  -- and each follows, where all that the node there claims does
+  each_follows : (m : PlainNode) (theirs : List Claim) → States theirs m → AllFollow policy n e m → (claim : Claim) → Contains theirs claim
+      → Follows claim
+  each_follows m theirs there h (Knows l) has =
+      All-contains (Entails (known_on n e)) m.known l h.literals (subst (λ ls. Contains ls l) there.known (in_literals theirs l has))
+  each_follows m theirs there h (Out place) has =
+      All-contains (IsOutOn policy n e) m.out place h.outs (subst (λ ps. Contains ps place) there.out (in_outs theirs place has))
+  each_follows m theirs there h (Met place own) has =
+      All-contains (IsMetBy policy n.met (known_on n e)) m.met (place, own) h.mets
+      (subst (λ ps. Contains ps (place, own)) there.met (in_mets theirs place own has))
+
+-- the same of nodes of one certificate, by the places where the new claims begin, those that are not shown, and the shared ones
+pub all_follow : (policy : Policy) (node there : NodeView) (e : Edge) (from left shared : ℕ) → certificate_of node ≡ certificate_of there
+    → is_chained there ≡ true
+    → All (λ claim. Contains (claims_of node) claim × IsPlaced policy claim) (claims_from there shared)
     → AreBut (IsFact e.fact) (claims_from there from) (claims_of there)
-    → AreBut (IsShown policy (known_on (says node) e)) (claims_from there shared) (claims_from there from)
+    → AreBut (FollowsBy policy [] [] (known_on (says node) e)) (claims_from there left) (claims_from there from)
+    → AreBut (FollowsBy policy (says node).out (says node).met (known_on (says node) e)) (claims_from there shared) (claims_from there left)
     → AllFollow policy (says node) e (says there)
-new_follow policy node there e from shared same chained last placed facts shows =
-    let alike : claims_from node shared ≡ claims_from there shared = ap (λ bytes. claims_left bytes shared) same in
-    let its : All (IsPlaced policy) (claims_from node shared) = each_of (IsPlaced policy) (claims_from node shared) (λ claim has.
-    All-contains (IsPlaced policy) (claims_in (certificate_of node)) claim placed (stated_by_some node claim
-    (subst (λ cs. Contains cs claim) last.1 (Contains-append_right last.0 (claims_from node shared) claim has)))) in
-    follow policy (says node) e (says there) (claims_of node) (claims_of there) (claims_from there from) (claims_from there shared)
-    (states node chained) (states there (ap has_entries (sym same) ∙ chained)) (subst (λ cs. AreLast cs (claims_of node)) alike last)
-    (subst (All (IsPlaced policy)) alike its) facts shows
+all_follow policy node there e from left shared same chained last facts shows rest =
+    follow policy (says node) e (says there) (claims_of node) (claims_of there) (claims_from there from) (claims_from there left) (claims_from there shared)
+    (states node (ap has_entries same ∙ chained)) (states there chained) last facts shows rest
+
+pub rest_follow : (policy : Policy) (node there : NodeView) (e : Edge) (from left : ℕ) → is_chained there ≡ true
+    → AreLast (claims_from there from) (claims_of there) → AreLast (claims_from there left) (claims_from there from)
+    → AllFollow policy (says node) e (says there)
+    → All (FollowsBy policy (says node).out (says node).met (known_on (says node) e)) (claims_from there left)
+rest_follow policy node there e from left chained last its h =
+    let among = last_of (claims_from there left) (claims_from there from) (claims_of there) its last in
+    each_of (FollowsBy policy (says node).out (says node).met (known_on (says node) e)) (claims_from there left) (λ claim has.
+    (by_all policy (says node) e claim).1 (each_follows policy (says node) e (says there) (claims_of there) (states there chained) h claim
+    (subst (λ cs. Contains cs claim) among.1 (Contains-append_right among.0 (claims_from there left) claim has))))
+
+-- the shared claims are those of the node before, and the profile has their rules
+pub are_shared : (policy : Policy) (node there : NodeView) (shared : ℕ) → certificate_of node ≡ certificate_of there
+    → AreLast (claims_from node shared) (claims_of node) → All (IsPlaced policy) (claims_in (certificate_of node))
+    → All (λ claim. Contains (claims_of node) claim × IsPlaced policy claim) (claims_from there shared)
+are_shared policy node there shared same last placed =
+    subst (All (λ claim. Contains (claims_of node) claim × IsPlaced policy claim)) (ap (λ bytes. claims_left bytes shared) same)
+    (each_of (λ claim. Contains (claims_of node) claim × IsPlaced policy claim) (claims_from node shared) (λ claim has.
+    let is = subst (λ cs. Contains cs claim) last.1 (Contains-append_right last.0 (claims_from node shared) claim has) in
+    (is, All-contains (IsPlaced policy) (claims_in (certificate_of node)) claim placed (stated_by_some node claim is))))
+
+-- behind the last entry nothing is claimed
+pub none_at_end : (bytes : List ℕ) → claims_left bytes 0 ≡ []
+none_at_end bytes = elim (cases_eq (version_of bytes) 1) [
+  | inl one ↦ no_claims bytes 0 one
+  | inr other ↦ claims_are bytes 0 other ∙ none_at_0 bytes
+]
+
+-- without entries a node claims nothing but literals
+none_listed : (bytes : List ℕ) (place : ℕ) → has_entries bytes ≡ false → claims_left bytes place ≡ []
+unfolding has_entries
+none_listed bytes place listed = elim (cases_eq (version_of bytes) 1) [
+  | inl one ↦ no_claims bytes place one
+  | inr other ↦ absurd (let e : true ≡ false = sym (rw (ne_eqb (version_of bytes) 1 other) refl) ∙ listed in cc)
+]
+
+none_claimed : (node : NodeView) → is_chained node ≡ false → claims_of node ≡ []
+unfolding claims_of certificate_of
+none_claimed node listed = none_listed node.bytes.now _ listed
+
+pub literals_follow : (policy : Policy) (n : PlainNode) (e : Edge) (there : NodeView) → is_chained there ≡ false
+    → All (Entails (known_on n e)) (says there).known → AllFollow policy n e (says there)
+literals_follow policy n e there listed h =
+    let none = none_claimed there listed in
+    record {
+      literals = h;
+      outs = subst (All (IsOutOn policy n e)) (sym (ap outs_in none) ∙ outs_claimed there) (All-nil (IsOutOn policy n e));
+      mets = subst (All (IsMetBy policy n.met (known_on n e))) (sym (ap mets_in none) ∙ mets_claimed there)
+          (All-nil (IsMetBy policy n.met (known_on n e)));
+    }
+
+-- what is left after one claim are the last of what was left
+pub last_again : (claim : Claim) (left rest all : List Claim) → left ≡ claim ∷ rest → AreLast left all → AreLast rest all
+last_again claim left rest all e last = last_of rest left all (claim ∷ [], sym e) last
+
+-- where all are so, the last ones are
+pub last_so : (P : Claim → Type 0) (last all : List Claim) → AreLast last all → All P all → All P last
+last_so P last all is so = each_of P last (λ claim has.
+    All-contains P all claim so (subst (λ cs. Contains cs claim) is.1 (Contains-append_right is.0 last claim has)))
+
+-- whether a search found none tells whether all are so
+pub told_by : (P : Claim → Type 0) (node : NodeView) (from end : ℕ) (stop : Option ℕ) (none : Bool) → is_some stop ≡ not none
+    → StopsAt P node from end stop
+    → (IsTrue none → AreBut P (claims_from node end) (claims_from node from)) × (All P (claims_from node from) → IsTrue none)
+told_by P node from end None true e so = (λ _. so, λ _. refl)
+told_by P node from end None false e so = absurd (let x : false ≡ true = e in cc)
+told_by P node from end (Some at) true e so = absurd (let x : true ≡ false = e in cc)
+told_by P node from end (Some at) false e so = (λ t. let x : false ≡ true = t in cc, λ all. absurd (so.2 all))

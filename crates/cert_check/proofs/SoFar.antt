@@ -1,15 +1,14 @@
--- One condition more, and one rule more.
+-- One element more, and one rule more.
 use Rattle.std.proofs.Common.{◌≡◌, ◌≢◌, ℕ, ◌+◌, ◌<◌, Bool, true, false, List, length, ap, sym, subst, ◌∙◌, inl, inr, ◌⊎◌, arith}
 use Rattle.std.specs.Prelude.{slice_index_or, Some}
 use Rattle.std.proofs.lemmas.Bool.{cases_lt}
 use Rattle.std.proofs.lemmas.List.{get_or_default}
 use Rattle.std.proofs.lemmas.Option.{slice_get-get_or}
 use Rattle.call_tables.specs.declared.arch.Arch.{Arch}
-use Rattle.profile.specs.declared.conditions.Cond.{Cond}
 use Rattle.profile.specs.declared.rules.Rule.{Rule}
 use Rattle.cert_state.specs.declared.literal.Lit.{Lit}
-use Rattle.cert_check.specs.Agree.{IsYes, IsNo, IsYesRule, IsNoRule, IsLeft}
-use Rattle.cert_check.specs.inner.Judged.{ConditionsSoFar, LeftSoFar, IsYesOrMet, IsNoNorMet, RulesSoFar, IsOther}
+use Rattle.cert_check.specs.Agree.{IsYesRule, IsNoRule, IsLeft}
+use Rattle.cert_check.specs.inner.Judged.{RulesSoFar, IsOther}
 
 -- what holds of the first elements at their places and of the next one holds of one more
 pub one_more_placed : {X : Type 0} (P : ℕ → X → Type 0) (xs : List X) (n : ℕ) (x : X) → n < length xs → slice_index_or xs n x ≡ x
@@ -32,44 +31,6 @@ pub one_more_at : {X : Type 0} (P : X → Type 0) (xs : List X) (n : ℕ) (d0 : 
     → (k : ℕ) (d : X) → k < n + 1 → P (slice_index_or xs k d)
 one_more_at P xs n d0 inside before here =
     one_more P xs n (slice_index_or xs n d0) inside (get_or_default xs n (slice_index_or xs n d0) d0 inside) before here
-
-pub condition_is_yes : (narrow : Bool) (known : List Lit) (conds : List Cond) (n : ℕ) (b : Bool) (c : Cond)
-    → n < length conds → slice_index_or conds n c ≡ c
-    → IsYes narrow known c → ConditionsSoFar narrow known conds n b → ConditionsSoFar narrow known conds (n + 1) b
-condition_is_yes narrow known conds n b c inside at yes_here so = record {
-  yes_so_far = λ e. one_more (IsYes narrow known) conds n c inside at (so.yes_so_far e) yes_here;
-  not_all = so.not_all;
-  none_no = one_more (λ x. IsNo narrow known x → ⊥) conds n c inside at so.none_no (λ never. never.1 yes_here);
-}
-
-pub condition_is_open : (narrow : Bool) (known : List Lit) (conds : List Cond) (n : ℕ) (b : Bool) (c : Cond)
-    → n < length conds → slice_index_or conds n c ≡ c
-    → (IsYes narrow known c → ⊥) → (IsNo narrow known c → ⊥)
-    → ConditionsSoFar narrow known conds n b → ConditionsSoFar narrow known conds (n + 1) false
-condition_is_open narrow known conds n b c inside at not_yes not_no so = record {
-  yes_so_far = λ e. cc;
-  not_all = λ e. (c, (n, inside, at), not_yes);
-  none_no = one_more (λ x. IsNo narrow known x → ⊥) conds n c inside at so.none_no not_no;
-}
-
--- the same where some conditions are said to be met
-module _ (narrow : Bool) (met : List (ℕ × ℕ)) (known : List Lit) (place : ℕ) (conds : List Cond) (n : ℕ) (b : Bool) (c : Cond)
-    (inside : n < length conds) (at : slice_index_or conds n c ≡ c) (so : LeftSoFar narrow met known place conds n b) where
-  pub left_is_yes : IsYesOrMet narrow met known place n c → LeftSoFar narrow met known place conds (n + 1) b
-  left_is_yes here = record {
-    yes_so_far = λ e. one_more_placed (IsYesOrMet narrow met known place) conds n c inside at (so.yes_so_far e) here;
-    not_all = so.not_all;
-    none_no = one_more_placed (λ k x. IsNoNorMet narrow met known place k x → ⊥) conds n c inside at so.none_no
-        (λ never. elim here [ inl said ↦ never.0 said | inr is ↦ never.1.1 is ]);
-  }
-
-  pub left_is_open : (IsYesOrMet narrow met known place n c → ⊥) → (IsNoNorMet narrow met known place n c → ⊥)
-      → LeftSoFar narrow met known place conds (n + 1) false
-  left_is_open not_yes not_no = record {
-    yes_so_far = λ e. cc;
-    not_all = λ e all. not_yes (all n c (slice_get-get_or conds n c inside ∙ ap Some at));
-    none_no = one_more_placed (λ k x. IsNoNorMet narrow met known place k x → ⊥) conds n c inside at so.none_no not_no;
-  }
 
 module _ (out : List ℕ) (met : List (ℕ
     × ℕ)) (known : List Lit) (v : ℕ) (arch : Arch) (rules : List Rule) (n : ℕ) (others : Bool) (rule : Rule)

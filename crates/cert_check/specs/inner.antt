@@ -9,3 +9,5 @@ pub mod Among
 pub mod Followed
 pub mod Passed
 pub mod Agreed
+pub mod Alike
+pub mod Told

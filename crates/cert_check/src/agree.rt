@@ -1,34 +1,24 @@
 //! Whether what is known of a record settles the verdict that a profile says of it.
-ghost use Rattle.std.specs.Prelude.{◌≡◌, ◌≢◌, ◌<◌, ◌↔◌, ◌⊎◌, ℕ, false, true, IsTrue, All, Any, Contains};
+ghost use Rattle.std.specs.Prelude.{◌≡◌, ◌≢◌, ◌<◌, ◌↔◌, ◌⊎◌, false, true, IsTrue, All, Any, Contains, length};
 ghost use Rattle.call_tables.specs.Arch.{token_of};
 ghost use Rattle.call_tables.specs.declared.arch.Arch.{Arch as TheArch};
-ghost use Rattle.profile.specs.Rule.{is_narrow_rule};
-ghost use Rattle.cert_state.specs.declared.literal.Lit.TheVariants.{Bits};
+ghost use Rattle.cert_state.specs.declared.literal.Lit.TheVariants.{Bits, NotBits};
 ghost use Rattle.cert_state.specs.Literals.{all_bits};
 ghost use Rattle.cert_state.specs.Entailment.{Entails};
 ghost use Rattle.cert_check.specs.inner.Asked.{known_of, met_of, out_of};
 ghost use Rattle.cert_check.specs.Agree.{Agrees, ForeignNumbersAgree, IsAmong, IsLeft, IsYesRule, ListedAgrees, MachineAgrees, OneSays, RulesAgree};
-ghost use Rattle.cert_check.specs.inner.Judged.{AreJudgedAt, Bears, IsAnswered, IsJudgedAt, IsKnownNumber, IsRuleJudged, NumberLies, SaysAt};
+ghost use Rattle.cert_check.specs.inner.Alike.{FirstAgree};
+ghost use Rattle.cert_check.specs.inner.Judged.{NumberLies, SaysAt};
+ghost use Rattle.cert_check.specs.inner.Told.{AreTold};
 
-use crate::answered::{answer_of, no_answer};
-use crate::claims::{Mets, Outs};
-use crate::conditions::judge_left;
-use crate::judged::{Answered, Bearing, Judged, Number};
-use crate::numbers::{NUMBER, ask_number, number_of, number_range};
+use crate::answered::ask;
+use crate::judged::{Answered, Asked, Bearing};
+use crate::judging::Agreement;
+use crate::numbers::{NUMBER, number_of, number_range};
 use call_record::Word;
 use call_tables::{Arch, Numbers};
 use cert_state::{Facts, Knowledge, Lit, State};
-use profile::{Cond, Op, Profile, Rule, foreign_numbers};
-
-/// What a verdict is judged by: the profile, what a node says of its rules, and what is known of the record.
-#[derive(Drop)]
-pub(crate) struct Agreement<'a, S: State> {
-    pub(crate) profile: &'a Profile,
-    pub(crate) outs: Outs<'a, 'a>,
-    pub(crate) mets: Mets<'a, 'a>,
-    pub(crate) facts: &'a Facts<'a, S>,
-    pub(crate) word: Word,
-}
+use profile::{Profile, Rule, foreign_numbers};
 
 // The word of a record that holds the machine's token.
 pub(crate) const TOKEN: u8 = 1;
@@ -40,8 +30,8 @@ fn is_for(rule: &Rule, arch: Arch) -> bool
     rule.arch.token() == arch.token()
 }
 
-// Whether the number is known to be one of some.
-fn is_among<S: State>(facts: &Facts<'_, S>, all: &[Numbers]) -> bool
+/// Whether the number is known to be one of some.
+pub(crate) fn is_among<S: State>(facts: &Facts<'_, S>, all: &[Numbers]) -> bool
     ensures { IsTrue result ↔ IsAmong (S.known facts.now.state.now) all.now }
 {
     all.iter().any(|numbers| facts.entails(&Lit::In(NUMBER, numbers.first, numbers.last)))
@@ -52,6 +42,13 @@ pub(crate) fn is_of<S: State>(facts: &Facts<'_, S>, arch: Arch) -> bool
     ensures { IsTrue result ↔ Entails (S.known facts.now.state.now) (Bits 1 all_bits (token_of arch)) }
 {
     facts.entails(&Lit::Bits(TOKEN, u32::MAX, arch.token()))
+}
+
+/// Whether the record is known to have another token.
+pub(crate) fn is_other<S: State>(facts: &Facts<'_, S>, token: u32) -> bool
+    ensures { IsTrue result ↔ Entails (S.known facts.now.state.now) (NotBits 1 all_bits token) }
+{
+    facts.entails(&Lit::NotBits(TOKEN, u32::MAX, token))
 }
 
 // Whether the record is known to be of one of the machines.
@@ -66,103 +63,7 @@ fn is_listed<S: State>(facts: &Facts<'_, S>, machines: &[Arch]) -> bool
     false
 }
 
-// Whether a rule of the record's machine is settled, by the answers to its number and to its conditions.
-fn judge_rule(number: Number, conds: Judged) -> Judged
-    ensures { IsRuleJudged number conds result }
-{
-    match conds {
-        Judged::No => Judged::No,
-        Judged::Yes => {
-            if number.own {
-                return Judged::Yes;
-            }
-            if number.other {
-                Judged::No
-            } else {
-                Judged::Open
-            }
-        }
-        Judged::Open => {
-            if number.other {
-                return Judged::No;
-            }
-            Judged::Open
-        }
-    }
-}
-
 impl<S: State> Agreement<'_, S> {
-    // The answer to the conditions of the rule at a place, and the last answer to conditions of which none was said to be
-    // met: that is no answer for a rule with conditions that are.
-    fn answer_at<'r>(
-        &self,
-        place: usize,
-        rule: &'r Rule,
-        last: Answered<'r>,
-    ) -> (Judged, Answered<'r>)
-        requires place { place < 8192 }
-        requires last { IsAnswered (known_of self.now) last }
-        ensures judged { AreJudgedAt (is_narrow_rule rule.now) (met_of self.now) (known_of self.now) place rule.now.conds.items result.0 }
-        ensures answer { IsAnswered (known_of self.now) result.1 }
-    {
-        let conds = rule.conds.as_slice();
-        if self.mets.has_some(place) {
-            let narrow = rule.is_narrow();
-            let judged = judge_left(self.facts, &self.mets, place, narrow, conds);
-            return (judged, last);
-        }
-        let answer = answer_of(self.facts, rule, last);
-        (answer.judged, answer)
-    }
-
-    // How a rule of the record's machine bears on the verdict, by whether it is settled.
-    fn bearing_of(&self, rule: &Rule, judged: Judged) -> Bearing
-        ensures { (place : ℕ) → IsJudgedAt (met_of self.now) (known_of self.now) place rule.now judged
-            → Bears (met_of self.now) (known_of self.now) self.now.word place rule.now result }
-    {
-        if rule.word == self.word {
-            match judged {
-                Judged::Yes => Bearing::Settles,
-                Judged::No => Bearing::Agrees,
-                Judged::Open => Bearing::Agrees,
-            }
-        } else {
-            match judged {
-                Judged::Yes => Bearing::Differs,
-                Judged::No => Bearing::Agrees,
-                Judged::Open => Bearing::Differs,
-            }
-        }
-    }
-
-    /// How the rule of the record's machine at a place bears on the verdict, with the last answer to conditions. Those of a rule
-    /// of another number are not asked for, nor are those of a rule with the verdict whose number is not known to be the call's.
-    pub(crate) fn weigh<'r>(
-        &self,
-        place: usize,
-        rule: &'r Rule,
-        number: Number,
-        last: Answered<'r>,
-    ) -> (Bearing, Answered<'r>)
-        requires place { place < 8192 }
-        requires number { IsKnownNumber (known_of self.now) rule.now.nr number }
-        requires last { IsAnswered (known_of self.now) last }
-        ensures bearing { Bears (met_of self.now) (known_of self.now) self.now.word place rule.now result.0 }
-        ensures answer { IsAnswered (known_of self.now) result.1 }
-    {
-        if !number.own {
-            if number.other {
-                return (Bearing::Agrees, last);
-            }
-            if rule.word == self.word {
-                return (Bearing::Agrees, last);
-            }
-        }
-        let (conds, answer) = self.answer_at(place, rule, last);
-        let judged = judge_rule(number, conds);
-        (self.bearing_of(rule, judged), answer)
-    }
-
     // Whether a rule at a place is for the machine, and is not said to be out.
     fn is_left(&self, place: usize, rule: &Rule, arch: Arch) -> bool
         requires { place < 8192 }
@@ -193,13 +94,10 @@ impl<S: State> Agreement<'_, S> {
         requires { place < 8192 }
         ensures { IsTrue result → IsYesRule (met_of self.now) (known_of self.now) place rule.now }
     {
-        let number = ask_number(self.facts, rule.nr);
-        let (conds, _) = self.answer_at(place, rule, no_answer());
-        match judge_rule(number, conds) {
-            Judged::Yes => true,
-            Judged::No => false,
-            Judged::Open => false,
+        if !self.facts.entails(&Lit::Bits(NUMBER, u32::MAX, rule.nr)) {
+            return false;
         }
+        ask(self.facts, &self.mets, place, rule, Asked::AllYes)
     }
 
     /// Whether a rule at a place is of this number, says the verdict, is left for the machine, and is yes.
@@ -271,16 +169,19 @@ impl<S: State> Agreement<'_, S> {
     // Whether the rules that are left for a machine agree with the verdict. Rules with other verdicts are asked for their
     // conditions where their number is possible, until one may match.
     fn rules_agree_within(&self, arch: Arch, range: (u32, u32)) -> bool
-        requires { NumberLies (known_of self.now) range.0 range.1 }
+        requires told { AreTold self.now.profile.now (known_of self.now) self.now.word self.now.told.now }
+        requires range { NumberLies (known_of self.now) range.0 range.1 }
         ensures { let a = self.now in IsTrue result ↔ RulesAgree a.profile.now (out_of a) (met_of a) (known_of a) a.word arch }
     {
         let mut others = false;
         let mut place = 0_usize;
         let mut numbers = [None; 512];
         let mut last = Answered {
+            asked: Asked::AllYes,
             narrow: false,
             conds: &[],
-            judged: Judged::Yes,
+            is_so: true,
+            likely: 0,
         };
         for rule in self.profile.rules() {
             if self.is_asked(place, rule, arch, others) {
@@ -303,6 +204,7 @@ impl<S: State> Agreement<'_, S> {
 
     // The same. Where but one number is possible, the rules for other calls are not looked at.
     fn all_rules_agree(&self, arch: Arch) -> bool
+        requires told { AreTold self.now.profile.now (known_of self.now) self.now.word self.now.told.now }
         ensures { let a = self.now in IsTrue result ↔ RulesAgree a.profile.now (out_of a) (met_of a) (known_of a) a.word arch }
     {
         let (least, greatest) = number_range(self.facts);
@@ -312,10 +214,16 @@ impl<S: State> Agreement<'_, S> {
         self.rules_agree_within(arch, (least, greatest))
     }
 
-    // Whether the rules that are left for a machine agree with the verdict.
-    fn rules_agree(&self, arch: Arch) -> bool
+    // Whether the rules that are left for a machine agree with the verdict, where the first machines do.
+    fn rules_agree(&self, arch: Arch, count: usize) -> bool
+        requires told { AreTold self.now.profile.now (known_of self.now) self.now.word self.now.told.now }
+        requires first { let a = self.now in FirstAgree a.profile.now (out_of a) (met_of a) (known_of a) a.word count }
+        requires count { count < length self.now.profile.now.machines }
         ensures { let a = self.now in IsTrue result ↔ RulesAgree a.profile.now (out_of a) (met_of a) (known_of a) a.word arch }
     {
+        if self.agrees_as_before(arch, count) {
+            return true;
+        }
         if self.one_says(arch) {
             return true;
         }
@@ -336,8 +244,11 @@ impl<S: State> Agreement<'_, S> {
         is_among(self.facts, own)
     }
 
-    // Whether a machine agrees with the verdict.
-    fn machine_agrees(&self, arch: Arch) -> bool
+    // Whether a machine agrees with the verdict, where the first machines do.
+    fn machine_agrees(&self, arch: Arch, count: usize) -> bool
+        requires told { AreTold self.now.profile.now (known_of self.now) self.now.word self.now.told.now }
+        requires first { let a = self.now in FirstAgree a.profile.now (out_of a) (met_of a) (known_of a) a.word count }
+        requires count { count < length self.now.profile.now.machines }
         ensures { let a = self.now in IsTrue result ↔ MachineAgrees a.profile.now (out_of a) (met_of a) (known_of a) a.word arch }
     {
         let foreign = foreign_numbers(self.profile.machines(), arch);
@@ -347,27 +258,31 @@ impl<S: State> Agreement<'_, S> {
         if is_among(self.facts, foreign) {
             return true;
         }
-        self.rules_agree(arch)
+        self.rules_agree(arch, count)
     }
 
-    // Whether a listed machine is another than the record's, or agrees with the verdict.
-    fn listed_agrees(&self, arch: Arch) -> bool
+    // Whether a listed machine is another than the record's, or agrees with the verdict, where the first machines do.
+    fn listed_agrees(&self, arch: Arch, count: usize) -> bool
+        requires told { AreTold self.now.profile.now (known_of self.now) self.now.word self.now.told.now }
+        requires first { let a = self.now in FirstAgree a.profile.now (out_of a) (met_of a) (known_of a) a.word count }
+        requires count { count < length self.now.profile.now.machines }
         ensures { let a = self.now in IsTrue result ↔ ListedAgrees a.profile.now (out_of a) (met_of a) (known_of a) a.word arch }
     {
-        let token = arch.token();
-        if self.facts.entails(&Lit::NotBits(TOKEN, u32::MAX, token)) {
+        if is_other(self.facts, arch.token()) {
             return true;
         }
-        self.machine_agrees(arch)
+        self.machine_agrees(arch, count)
     }
 
     // Whether each listed machine does.
-    fn all_agree(&self, machines: &[Arch]) -> bool
+    fn all_agree(&self) -> bool
+        requires told { AreTold self.now.profile.now (known_of self.now) self.now.word self.now.told.now }
         ensures { let a = self.now in IsTrue result
-            ↔ All (ListedAgrees a.profile.now (out_of a) (met_of a) (known_of a) a.word) machines.now }
+            ↔ All (ListedAgrees a.profile.now (out_of a) (met_of a) (known_of a) a.word) a.profile.now.machines }
     {
-        for arch in machines {
-            if !self.listed_agrees(*arch) {
+        let machines = self.profile.machines();
+        for count in 0..machines.len() {
+            if !self.listed_agrees(machines[count], count) {
                 return false;
             }
         }
@@ -388,11 +303,12 @@ impl<S: State> Agreement<'_, S> {
     /// Whether the profile says the verdict of each record of which this is known, and also that no rule matches that is out
     /// and that the conditions are met that are said to be.
     pub(crate) fn agrees(&self) -> bool
+        requires told { AreTold self.now.profile.now (known_of self.now) self.now.word self.now.told.now }
         ensures { let a = self.now in IsTrue result ↔ Agrees a.profile.now (out_of a) (met_of a) (known_of a) a.word }
     {
         if !self.foreign_agrees() {
             return false;
         }
-        self.all_agree(self.profile.machines())
+        self.all_agree()
     }
 }

@@ -1,24 +1,15 @@
 //! Answers to the conditions of rules, of which neighbours often ask the same.
-ghost use Rattle.std.specs.Prelude.{◌≡◌, ◌↔◌, List, IsTrue};
+ghost use Rattle.std.specs.Prelude.{◌≡◌, ◌↔◌, ◌<◌, ◌≤◌, List, IsTrue, length};
 ghost use Rattle.profile.specs.Rule.{is_narrow_rule};
 ghost use Rattle.cert_state.specs.declared.literal.Lit.{Lit as TheLit};
-ghost use Rattle.cert_check.specs.inner.Judged.{IsAnswered};
+ghost use Rattle.cert_check.specs.inner.Claimed.{mets_of};
+ghost use Rattle.cert_check.specs.inner.Judged.{IsAnswer, IsAnswered};
 
-use crate::conditions::judge_conditions;
-use crate::judged::{Answered, Judged};
+use crate::claims::Mets;
+use crate::conditions::{all_are_yes, one_no};
+use crate::judged::{Answered, Asked};
 use cert_state::{Facts, State};
 use profile::{Cond, Op, Rule};
-
-/// The answer before any was given: no conditions, which are all met.
-pub(crate) fn no_answer<'a>() -> Answered<'a>
-    ensures { (known : List TheLit) → IsAnswered known result }
-{
-    Answered {
-        narrow: false,
-        conds: &[],
-        judged: Judged::Yes,
-    }
-}
 
 // Whether two operators are the same one.
 fn is_same_op(a: Op, b: Op) -> bool
@@ -43,8 +34,8 @@ fn is_same(a: &Cond, b: &Cond) -> bool
     a.datum == b.datum
 }
 
-// Whether these are the same conditions in the same order.
-fn are_same(a: &[Cond], b: &[Cond]) -> bool
+/// Whether these are the same conditions in the same order.
+pub(crate) fn are_same(a: &[Cond], b: &[Cond]) -> bool
     ensures { IsTrue result → a.now ≡ b.now }
 {
     if a.len() != b.len() {
@@ -58,25 +49,90 @@ fn are_same(a: &[Cond], b: &[Cond]) -> bool
     true
 }
 
-/// The answer to the conditions of a rule: the last one, where that was to the same conditions of arguments as wide.
+// Whether two questions are the same one.
+fn is_same_question(a: Asked, b: Asked) -> bool
+    ensures { IsTrue result ↔ (a ≡ b) }
+{
+    a == b
+}
+
+// Whether an answer is one to this question, of the same conditions of arguments as wide.
+fn answers(last: &Answered<'_>, asked: Asked, narrow: bool, conds: &[Cond]) -> bool
+    ensures { IsTrue result → (last.now.asked ≡ asked) × (last.now.narrow ≡ narrow) × (last.now.conds.now ≡ conds.now) }
+{
+    if last.narrow != narrow {
+        return false;
+    }
+    if !is_same_question(last.asked, asked) {
+        return false;
+    }
+    are_same(last.conds, conds)
+}
+
+/// Whether what is asked is so of the conditions of the rule at a place, of which some are said to be met; and the place of the
+/// condition that is no, or the likely one.
+pub(crate) fn ask_from<S: State>(
+    facts: &Facts<'_, S>,
+    mets: &Mets<'_, '_>,
+    place: usize,
+    rule: &Rule,
+    asked: Asked,
+    likely: usize,
+) -> (bool, usize)
+    requires { place < 8192 }
+    ensures answer { IsAnswer asked (is_narrow_rule rule.now) (mets_of mets.now.node) (S.known facts.now.state.now) place rule.now.conds.items result.0 }
+    ensures few { length rule.now.conds.items ≤ 6 }
+{
+    let narrow = rule.is_narrow();
+    let conds = rule.conds.as_slice();
+    match asked {
+        Asked::AllYes => (all_are_yes(facts, mets, place, narrow, conds), likely),
+        Asked::OneNo => match one_no(facts, mets, place, narrow, conds, likely) {
+            Some(own) => (true, own),
+            None => (false, likely),
+        },
+    }
+}
+
+/// Whether it is so, where no condition is likelier than another to be no.
+pub(crate) fn ask<S: State>(
+    facts: &Facts<'_, S>,
+    mets: &Mets<'_, '_>,
+    place: usize,
+    rule: &Rule,
+    asked: Asked,
+) -> bool
+    requires { place < 8192 }
+    ensures { IsAnswer asked (is_narrow_rule rule.now) (mets_of mets.now.node) (S.known facts.now.state.now) place rule.now.conds.items result }
+{
+    ask_from(facts, mets, place, rule, asked, usize::MAX).0
+}
+
+/// Whether it is so where none is said to be met: as the last answer says, if that was to the same question.
 pub(crate) fn answer_of<'a, S: State>(
     facts: &Facts<'_, S>,
     rule: &'a Rule,
+    asked: Asked,
     last: Answered<'a>,
 ) -> Answered<'a>
     requires { IsAnswered (S.known facts.now.state.now) last }
     ensures answer { IsAnswered (S.known facts.now.state.now) result }
+    ensures asked { result.asked ≡ asked }
     ensures narrow { result.narrow ≡ is_narrow_rule rule.now }
     ensures conds { result.conds.now ≡ rule.now.conds.items }
+    ensures few { length rule.now.conds.items ≤ 6 }
 {
     let narrow = rule.is_narrow();
     let conds = rule.conds.as_slice();
-    if last.narrow == narrow && are_same(last.conds, conds) {
+    if answers(&last, asked, narrow, conds) {
         return last;
     }
+    let (is_so, likely) = ask_from(facts, &Mets::none(), 0, rule, asked, last.likely);
     Answered {
+        asked,
         narrow,
         conds,
-        judged: judge_conditions(facts, narrow, conds),
+        is_so,
+        likely,
     }
 }

@@ -3,10 +3,10 @@ ghost use Rattle.std.specs.Prelude.{◌≡◌, ◌↔◌, IsTrue};
 ghost use Rattle.cert_check.specs.inner.Asked.{known_of, met_of, out_of};
 ghost use Rattle.cert_check.specs.Agree.{OneSays, RulesAgree};
 ghost use Rattle.cert_check.specs.inner.Judged.{IsOnlyNumber};
+ghost use Rattle.cert_check.specs.inner.Told.{AreTold};
 
-use crate::agree::Agreement;
-use crate::answered::no_answer;
-use crate::judged::Bearing;
+use crate::judged::{Answered, Asked, Bearing};
+use crate::judging::Agreement;
 use crate::numbers::ask_number;
 use call_tables::Arch;
 use cert_state::State;
@@ -30,16 +30,25 @@ impl<S: State> Agreement<'_, S> {
     /// Whether the rules that are left for a machine agree with the verdict, where the number is known to be no other one: those
     /// for other calls are refuted.
     pub(crate) fn call_agrees(&self, arch: Arch, nr: u32) -> bool
-        requires { IsOnlyNumber (known_of self.now) nr }
+        requires told { AreTold self.now.profile.now (known_of self.now) self.now.word self.now.told.now }
+        requires only { IsOnlyNumber (known_of self.now) nr }
         ensures { let a = self.now in IsTrue result ↔ RulesAgree a.profile.now (out_of a) (met_of a) (known_of a) a.word arch }
     {
         let rules = self.profile.rules();
         let number = ask_number(self.facts, nr);
         let mut others = false;
+        let mut last = Answered {
+            asked: Asked::AllYes,
+            narrow: false,
+            conds: &[],
+            is_so: true,
+            likely: 0,
+        };
         let mut next = self.profile.latest(arch.token(), nr);
         while let Some(place) = next {
             if !self.outs.has(place) {
-                let (bearing, _) = self.weigh(place, &rules[place], number, no_answer());
+                let (bearing, answer) = self.weigh(place, &rules[place], number, last);
+                last = answer;
                 match bearing {
                     Bearing::Settles => return true,
                     Bearing::Agrees => {}

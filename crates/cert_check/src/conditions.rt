@@ -2,9 +2,9 @@
 ghost use Rattle.std.specs.Prelude.{◌≡◌, ◌↔◌, ◌<◌, ◌≤◌, ◌+◌, ◌*◌, ◌/◌, ◌%◌, ◌^◌, ◌⊎◌, IsTrue, MatchOption, length, true, false};
 ghost use Rattle.cert_state.specs.Points.{HasNoPoint};
 ghost use Rattle.cert_check.specs.inner.Claimed.{mets_of};
-ghost use Rattle.cert_check.specs.Agree.{AtBothEnds, HasAbove, HasBits, IsNo, IsRangeAbove, IsYes, LacksAbove, LacksBits, SomeIsNo};
+ghost use Rattle.cert_check.specs.Agree.{AllAreYes, AtBothEnds, HasAbove, HasBits, IsNo, IsRangeAbove, IsYes, LacksAbove, LacksBits, OneIsNo};
 ghost use Rattle.cert_check.specs.Judged.{IsJudged};
-ghost use Rattle.cert_check.specs.inner.Judged.{AreEnds, AreJudgedAt, AreYes, IsNoNorMet, IsOrder, IsYesOrMet};
+ghost use Rattle.cert_check.specs.inner.Judged.{AreEnds, IsNoNorMet, IsOrder, IsYesOrMet};
 
 use crate::claims::Mets;
 use crate::judged::Judged;
@@ -68,34 +68,28 @@ fn lacks_bits<K: Knowledge>(known: &K, narrow: bool, index: u8, mask: u64, datum
     lacks_above(known, narrow, index, mask_above, datum_above)
 }
 
-// Whether an argument has these bits.
-fn judge_bits<K: Knowledge>(known: &K, narrow: bool, index: u8, mask: u64, datum: u64) -> Judged
+// Whether an argument is known to have these bits under a mask, and not to have others as well.
+fn only_has_bits<K: Knowledge>(known: &K, narrow: bool, index: u8, mask: u64, datum: u64) -> bool
     requires { index < 6 }
-    ensures { let told = K.known known.now in IsJudged (HasBits narrow told index mask datum)
-        (LacksBits narrow told index mask datum × (HasBits narrow told index mask datum → ⊥)) result }
+    ensures { let told = K.known known.now in IsTrue result
+        ↔ (HasBits narrow told index mask datum × (LacksBits narrow told index mask datum → ⊥)) }
 {
-    if has_bits(known, narrow, index, mask, datum) {
-        return Judged::Yes;
+    if !has_bits(known, narrow, index, mask, datum) {
+        return false;
     }
-    if lacks_bits(known, narrow, index, mask, datum) {
-        return Judged::No;
-    }
-    Judged::Open
+    !lacks_bits(known, narrow, index, mask, datum)
 }
 
-// Whether an argument is another number.
-fn judge_other<K: Knowledge>(known: &K, narrow: bool, index: u8, value: u64) -> Judged
+// Whether it is known to have others, and not these as well.
+fn only_lacks_bits<K: Knowledge>(known: &K, narrow: bool, index: u8, mask: u64, datum: u64) -> bool
     requires { index < 6 }
-    ensures { let told = K.known known.now in IsJudged (LacksBits narrow told index 0xffffffffffffffff value)
-        (HasBits narrow told index 0xffffffffffffffff value × (LacksBits narrow told index 0xffffffffffffffff value → ⊥)) result }
+    ensures { let told = K.known known.now in IsTrue result
+        ↔ (LacksBits narrow told index mask datum × (HasBits narrow told index mask datum → ⊥)) }
 {
-    if lacks_bits(known, narrow, index, u64::MAX, value) {
-        return Judged::Yes;
+    if !lacks_bits(known, narrow, index, mask, datum) {
+        return false;
     }
-    if has_bits(known, narrow, index, u64::MAX, value) {
-        return Judged::No;
-    }
-    Judged::Open
+    !has_bits(known, narrow, index, mask, datum)
 }
 
 // The least and the greatest number that the high half of an argument may be. That of a narrow one counts as 0.
@@ -152,9 +146,35 @@ fn judge_order<K: Knowledge>(known: &K, narrow: bool, cond: &Cond) -> Judged
     }
 }
 
-/// Whether a condition is met, of an argument that is narrow or is not, by what is known of the record.
-pub fn judge_condition<K: Knowledge>(known: &K, narrow: bool, cond: &Cond) -> Judged
-    ensures { let told = K.known known.now in IsJudged (IsYes narrow told cond.now) (IsNo narrow told cond.now) result }
+// Whether a comparison by order is yes.
+fn is_order_yes<K: Knowledge>(known: &K, narrow: bool, cond: &Cond) -> bool
+    requires { IsOrder cond.now.op }
+    ensures { IsTrue result ↔ AtBothEnds narrow (K.known known.now) cond.now.index cond.now.op cond.now.value true }
+{
+    match judge_order(known, narrow, cond) {
+        Judged::Yes => true,
+        Judged::No => false,
+        Judged::Open => false,
+    }
+}
+
+// Whether a comparison by order is no.
+fn is_order_no<K: Knowledge>(known: &K, narrow: bool, cond: &Cond) -> bool
+    requires { IsOrder cond.now.op }
+    ensures { let told = K.known known.now in IsTrue result
+        ↔ (AtBothEnds narrow told cond.now.index cond.now.op cond.now.value false
+        × (AtBothEnds narrow told cond.now.index cond.now.op cond.now.value true → ⊥)) }
+{
+    match judge_order(known, narrow, cond) {
+        Judged::No => true,
+        Judged::Yes => false,
+        Judged::Open => false,
+    }
+}
+
+/// Whether a condition is yes, of an argument that is narrow or is not, by what is known of the record.
+pub(crate) fn is_yes<K: Knowledge>(known: &K, narrow: bool, cond: &Cond) -> bool
+    ensures { IsTrue result ↔ IsYes narrow (K.known known.now) cond.now }
 {
     let Cond {
         index,
@@ -164,69 +184,126 @@ pub fn judge_condition<K: Knowledge>(known: &K, narrow: bool, cond: &Cond) -> Ju
         ..
     } = *cond;
     match op {
-        Op::Eq => judge_bits(known, narrow, index, u64::MAX, value),
-        Op::MaskedEq => judge_bits(known, narrow, index, value, datum),
-        Op::Ne => judge_other(known, narrow, index, value),
-        Op::Lt | Op::Le | Op::Ge | Op::Gt => judge_order(known, narrow, cond),
+        Op::Eq => has_bits(known, narrow, index, u64::MAX, value),
+        Op::MaskedEq => has_bits(known, narrow, index, value, datum),
+        Op::Ne => lacks_bits(known, narrow, index, u64::MAX, value),
+        Op::Lt | Op::Le | Op::Ge | Op::Gt => is_order_yes(known, narrow, cond),
     }
 }
 
-/// Whether conditions are all yes, or one is no.
-pub(crate) fn judge_conditions<K: Knowledge>(known: &K, narrow: bool, conds: &[Cond]) -> Judged
-    ensures { let told = K.known known.now in IsJudged (AreYes narrow told conds.now) (SomeIsNo narrow told conds.now) result }
+/// Whether it is no.
+pub(crate) fn is_no<K: Knowledge>(known: &K, narrow: bool, cond: &Cond) -> bool
+    ensures { IsTrue result ↔ IsNo narrow (K.known known.now) cond.now }
 {
-    let mut all_yes = true;
-    for cond in conds {
-        match judge_condition(known, narrow, cond) {
-            Judged::Yes => {}
-            Judged::No => return Judged::No,
-            Judged::Open => all_yes = false,
-        }
+    let Cond {
+        index,
+        op,
+        value,
+        datum,
+        ..
+    } = *cond;
+    match op {
+        Op::Eq => only_lacks_bits(known, narrow, index, u64::MAX, value),
+        Op::MaskedEq => only_lacks_bits(known, narrow, index, value, datum),
+        Op::Ne => only_has_bits(known, narrow, index, u64::MAX, value),
+        Op::Lt | Op::Le | Op::Ge | Op::Gt => is_order_no(known, narrow, cond),
     }
-    if all_yes { Judged::Yes } else { Judged::Open }
 }
 
-// Whether a condition of the rule at a place is settled, or is said to be met, which counts as yes.
-fn judge_unless_met<K: Knowledge>(
+/// Whether a condition is met, of an argument that is narrow or is not, by what is known of the record.
+pub fn judge_condition<K: Knowledge>(known: &K, narrow: bool, cond: &Cond) -> Judged
+    ensures { let told = K.known known.now in IsJudged (IsYes narrow told cond.now) (IsNo narrow told cond.now) result }
+{
+    if is_yes(known, narrow, cond) {
+        return Judged::Yes;
+    }
+    if is_no(known, narrow, cond) {
+        return Judged::No;
+    }
+    Judged::Open
+}
+
+// Whether a condition of the rule at a place is yes, or is said to be met.
+fn is_yes_or_met<K: Knowledge>(
     known: &K,
     mets: &Mets<'_, '_>,
     place: usize,
     own: usize,
     narrow: bool,
     cond: &Cond,
-) -> Judged
+) -> bool
     requires place { place < 8192 }
     requires own { own < 6 }
-    ensures { let met = mets_of mets.now.node in let told = K.known known.now in
-        IsJudged (IsYesOrMet narrow met told place own cond.now) (IsNoNorMet narrow met told place own cond.now) result }
+    ensures { IsTrue result ↔ IsYesOrMet narrow (mets_of mets.now.node) (K.known known.now) place own cond.now }
 {
     if mets.has(place, own) {
-        return Judged::Yes;
+        return true;
     }
-    judge_condition(known, narrow, cond)
+    is_yes(known, narrow, cond)
 }
 
-/// Whether the conditions of the rule at a place, of which some are said to be met, are all yes, or one is no.
-pub(crate) fn judge_left<K: Knowledge>(
+// Whether it is no, and is not said to be met.
+fn is_no_nor_met<K: Knowledge>(
+    known: &K,
+    mets: &Mets<'_, '_>,
+    place: usize,
+    own: usize,
+    narrow: bool,
+    cond: &Cond,
+) -> bool
+    requires place { place < 8192 }
+    requires own { own < 6 }
+    ensures { IsTrue result ↔ IsNoNorMet narrow (mets_of mets.now.node) (K.known known.now) place own cond.now }
+{
+    if mets.has(place, own) {
+        return false;
+    }
+    is_no(known, narrow, cond)
+}
+
+/// Whether the conditions of the rule at a place, of which some are said to be met, are all yes.
+pub(crate) fn all_are_yes<K: Knowledge>(
     known: &K,
     mets: &Mets<'_, '_>,
     place: usize,
     narrow: bool,
     conds: &[Cond],
-) -> Judged
+) -> bool
     requires place { place < 8192 }
     requires few { length conds.now ≤ 6 }
-    ensures { AreJudgedAt narrow (mets_of mets.now.node) (K.known known.now) place conds.now result }
+    ensures { IsTrue result ↔ AllAreYes narrow (mets_of mets.now.node) (K.known known.now) place conds.now }
 {
-    let mut all_yes = true;
-    let mut own = 0_usize;
-    for cond in conds {
-        match judge_unless_met(known, mets, place, own, narrow, cond) {
-            Judged::Yes => {}
-            Judged::No => return Judged::No,
-            Judged::Open => all_yes = false,
+    for own in 0..conds.len() {
+        if !is_yes_or_met(known, mets, place, own, narrow, &conds[own]) {
+            return false;
         }
-        own += 1;
     }
-    if all_yes { Judged::Yes } else { Judged::Open }
+    true
+}
+
+/// The place of one of them that is no, if there is one: that at a likely place is asked first.
+pub(crate) fn one_no<K: Knowledge>(
+    known: &K,
+    mets: &Mets<'_, '_>,
+    place: usize,
+    narrow: bool,
+    conds: &[Cond],
+    likely: usize,
+) -> Option<usize>
+    requires place { place < 8192 }
+    requires few { length conds.now ≤ 6 }
+    ensures { let fails = OneIsNo narrow (mets_of mets.now.node) (K.known known.now) place conds.now in
+        MatchOption result (fails → ⊥) (λ _. fails) }
+{
+    if likely < conds.len() {
+        if is_no_nor_met(known, mets, place, likely, narrow, &conds[likely]) {
+            return Some(likely);
+        }
+    }
+    for own in 0..conds.len() {
+        if is_no_nor_met(known, mets, place, own, narrow, &conds[own]) {
+            return Some(own);
+        }
+    }
+    None
 }

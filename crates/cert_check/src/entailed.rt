@@ -161,24 +161,18 @@ fn entails_all<S: State, T: State>(known: &With<'_, S>, there: &T, room: &mut Ro
 }
 
 impl Passage<'_> {
-    // Whether all that the node there claims follows. Mostly its new claims tell that.
+    // Whether all that the node there claims follows: where it has no chain, these are literals.
     fn claims_follow(&self, room: &mut Room) -> bool
         ensures { IsTrue result ↔ ClaimsFollow self.now }
     {
-        if self.new_claims_follow(room) {
-            return true;
+        if self.there.is_chained() {
+            return self.chain_follows(room);
         }
         let known = With {
             state: self.node,
             more: self.way.fact,
         };
-        if !entails_all(&known, self.there, room) {
-            return false;
-        }
-        if !self.outs_follow(room) {
-            return false;
-        }
-        self.mets_follow(room)
+        entails_all(&known, self.there, room)
     }
 
     // Whether what is known on the way gives what the node there says.

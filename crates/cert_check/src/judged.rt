@@ -28,10 +28,22 @@ pub(crate) struct Number {
     pub(crate) other: bool,
 }
 
-/// Conditions, and the answer to them, of arguments that are narrow or are not.
+/// What is asked of conditions.
+#[derive(Clone, Copy, PartialEq, Eq)]
+pub(crate) enum Asked {
+    /// Whether all are yes.
+    AllYes,
+    /// Whether one is no.
+    OneNo,
+}
+
+/// What was asked of conditions, of arguments that are narrow or are not, and whether it is so.
 #[derive(Clone, Copy)]
 pub(crate) struct Answered<'a> {
+    pub(crate) asked: Asked,
     pub(crate) narrow: bool,
     pub(crate) conds: &'a [Cond],
-    pub(crate) judged: Judged,
+    pub(crate) is_so: bool,
+    /// The place of the last condition that was no: often one argument refutes many rules.
+    pub(crate) likely: usize,
 }

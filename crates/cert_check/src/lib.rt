@@ -3,6 +3,7 @@
 
 mod agree;
 mod agreed;
+mod alike;
 mod answered;
 mod calls;
 mod checked;
@@ -13,6 +14,7 @@ mod edges;
 mod entailed;
 mod fault;
 mod judged;
+mod judging;
 mod law;
 mod nodes;
 mod numbers;
@@ -22,6 +24,8 @@ mod root;
 mod settled;
 mod several;
 mod split;
+mod told;
+mod weighing;
 
 pub use checked::Checked;
 pub use checking::{check, check_accepted};

@@ -11,11 +11,11 @@ ghost use Rattle.cert_check.specs.inner.Broken.{ReturnsAt};
 ghost use Rattle.cert_check.specs.inner.Claimed.{mets_of, outs_of};
 ghost use Rattle.cert_check.specs.inner.Marked.{IsClear};
 
-use crate::agree::Agreement;
 use crate::agreed::Agreed;
 use crate::claims::{
     FEW_RULES, Mets, Outs, SOME_RULES, has_no_met, has_none, mark_mets, mark_outs,
 };
+use crate::judging::Agreement;
 use bpf_insn::{Insn, Operation};
 use call_record::Word;
 use cert_form::{Kind, NodeView};
@@ -56,8 +56,9 @@ fn agrees_with(
         mets,
         facts: &facts,
         word,
+        told: &[],
     };
-    agreement.agrees()
+    agreement.agrees_in_all()
 }
 
 // The same by a table for the conditions, in which none is marked yet.
@@ -210,6 +211,7 @@ fn says_of_each(profile: &Profile, node: &NodeView<'_>, word: Word, room: &mut R
         mets: Mets::none(),
         facts: &facts,
         word,
+        told: &[],
     };
     agreement.says_of_each()
 }

@@ -2,8 +2,8 @@
 ghost use Rattle.std.specs.Prelude.{◌↔◌, [], IsTrue};
 ghost use Rattle.cert_check.specs.Agree.{Agrees};
 
-use crate::agree::Agreement;
 use crate::claims::{Mets, Outs};
+use crate::judging::Agreement;
 use call_record::Word;
 use cert_state::{Facts, Room, State};
 use profile::Profile;
@@ -21,6 +21,7 @@ pub fn is_settled<S: State>(profile: &Profile, state: &S, word: Word) -> bool
         mets: Mets::none(),
         facts: &facts,
         word,
+        told: &[],
     };
-    agreement.agrees()
+    agreement.agrees_in_all()
 }

@@ -3,7 +3,8 @@ ghost use Rattle.std.specs.Prelude.{◌↔◌, ◌≤◌, IsTrue};
 ghost use Rattle.cert_check.specs.Several.{AreSaidOf, IsSaidOf, SaysAlone, SaysOfEach, SaysOfRange};
 ghost use Rattle.cert_check.specs.inner.Asked.{known_of};
 
-use crate::agree::{Agreement, is_of};
+use crate::agree::is_of;
+use crate::judging::Agreement;
 use crate::numbers::NUMBER;
 use call_record::Word;
 use call_tables::Arch;

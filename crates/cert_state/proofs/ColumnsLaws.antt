@@ -1,12 +1,14 @@
 -- Literals and their numbers in columns.
-use Rattle.std.proofs.Common.{◌≡◌, ℕ, ◌+◌, ◌-◌, ◌*◌, ◌<◌, ◌≤◌, List, [], ◌∷◌, ◌++◌, map, length, take, drop, sym, subst, ap, refl, ◌∙◌, arith, inl, inr, ◌↔◌, ◌⊎◌}
+use Rattle.std.proofs.Common.{◌≡◌, ℕ, ◌+◌, ◌-◌, ◌<◌, ◌≤◌, List, [], ◌∷◌, ◌++◌, map, length, take, drop, sym, subst, ap, refl, ◌∙◌, arith, inl, inr, ◌↔◌, ◌⊎◌}
 use Rattle.std.specs.Prelude.{Contains, bit_and, slice_index_or, slice_range, slice_set}
-use Rattle.std.proofs.lemmas.List.{drop-map, take-map, map-set, get_or-map, length-map, take_more, take_all}
-use Rattle.std.proofs.lemmas.List.Elements.{Contains-append_left, Contains-push, Contains-push_cases}
+use Rattle.std.proofs.lemmas.List.{map-set, get_or-map, length-drop, length-take-le, get_or-drop, get_or-take, take_more}
+use Rattle.std.specs.Int.Bits.{and_zero_r}
+use Rattle.std.proofs.lemmas.List.Elements.{Contains-append_left, Contains-get_or, Contains-push, Contains-push_cases}
 use Rattle.cert_state.specs.declared.literal.Lit.{Lit}
 use Rattle.cert_state.specs.declared.literal.Lit.TheVariants.{In, Bits, NotBits}
 use Rattle.cert_state.specs.Entailment.{IsExcluded}
-use Rattle.cert_state.specs.inner.Columns.{AreRows, ExcludesBy, HasNumbers, first_of, second_of, tag_of}
+use Rattle.cert_state.specs.Literals.{index_of}
+use Rattle.cert_state.specs.inner.Columns.{AreRows, ExcludesBy, HasNumbers, datum_out, first_of, mask_out, second_of, tag_of}
 
 -- two literals of the same numbers are one
 pub same_numbers : (k l : Lit) → HasNumbers k (tag_of l) (first_of l) (second_of l) → k ≡ l
@@ -28,44 +30,49 @@ pub at_row : (f : Lit → ℕ) (lits : List Lit) (column : List ℕ) (row : ℕ)
     → slice_index_or column row n ≡ f (slice_index_or lits row l)
 at_row f lits column row l n lt e = ap (λ xs. slice_index_or xs row n) e ∙ get_or-map f lits row l n lt
 
--- one more literal excludes, or one before it
+-- a literal of the word that excludes is stated
 module _ (lits : List Lit) (w m d : ℕ) where
-  excludes_by : (l k : Lit) → l ≡ k → ExcludesBy k (4 * w + 2) m d → Contains lits l → IsExcluded lits w m d
-  excludes_by l (In v a b) is h has = absurd (omega (arith, h.0))
-  excludes_by l (Bits v a b) is h has = absurd (omega (arith, h.0))
-  excludes_by l (NotBits v a b) is h has = record {
+  nothing : bit_and d 0 ≡ 1 → ⊥
+  nothing h = let zero = and_zero_r d in omega (arith, h, zero)
+
+  pub excluded_by : (l : Lit) → index_of l ≡ w → Contains lits l → ExcludesBy l m d → IsExcluded lits w m d
+  excluded_by (In v a b) at has h = absurd (nothing h.1)
+  excluded_by (Bits v a b) at has h = absurd (nothing h.1)
+  excluded_by (NotBits v a b) at has h = record {
     mask = a;
     datum = b;
-    stated = let e : v ≡ w = omega (arith, h.0) in subst (Contains lits) (is ∙ ap (λ x. NotBits x a b) e) has;
-    within = h.1;
-    same = h.2;
+    stated = subst (λ x. Contains lits (NotBits x a b)) at has;
+    within = h.0;
+    same = h.1;
   }
 
-  pub excluded_by : (l : Lit) → Contains lits l → ExcludesBy l (4 * w + 2) m d → IsExcluded lits w m d
-  excluded_by l has h = excludes_by l l refl h has
-
-module _ (lits : List Lit) (row : ℕ) (l : Lit) (lt : row < length lits) where
+-- with one more row, the literal of that row is one of them, or an earlier one is
+module _ (lits : List Lit) (from row : ℕ) (l : Lit) (le : from ≤ row) (lt : row < length lits) where
   abbrev pub last : Lit
   last = slice_index_or lits row l
 
-  here : take (row + 1) lits ≡ take row lits ++ last ∷ []
-  here = take_more lits row l lt
+  here : slice_range lits from (row + 1) ≡ slice_range lits from row ++ last ∷ []
+  here =
+      ap (λ n. take n (drop from lits)) (omega (arith, le))
+      ∙ take_more (drop from lits) (row - from) l (let long = length-drop from lits in omega (arith, le, lt, long))
+      ∙ ap (λ x. slice_range lits from row ++ x ∷ [])
+      (get_or-drop from lits (row - from) l ∙ ap (λ n. slice_index_or lits n l) (omega (arith, le)))
 
-  pub last_or_before : (x : Lit) → Contains (take (row + 1) lits) x ↔ (Contains (take row lits) x ⊎ (last ≡ x))
+  pub last_or_before : (x : Lit) → Contains (slice_range lits from (row + 1)) x ↔ (Contains (slice_range lits from row) x ⊎ (last ≡ x))
   last_or_before x = (
-    λ has. Contains-push_cases (take row lits) last x (subst (λ ls. Contains ls x) here has),
+    λ has. Contains-push_cases (slice_range lits from row) last x (subst (λ ls. Contains ls x) here has),
     λ h. subst (λ ls. Contains ls x) (sym here) (elim h [
-      | inl before ↦ Contains-append_left (take row lits) (last ∷ []) x before
-      | inr is ↦ subst (Contains (take row lits ++ last ∷ [])) is (Contains-push (take row lits) last)
+      | inl before ↦ Contains-append_left (slice_range lits from row) (last ∷ []) x before
+      | inr is ↦ subst (Contains (slice_range lits from row ++ last ∷ [])) is (Contains-push (slice_range lits from row) last)
     ]),
   )
 
-  pub excluded_or_before : (w m d : ℕ)
-      → IsExcluded (take (row + 1) lits) w m d ↔ (IsExcluded (take row lits) w m d ⊎ ExcludesBy last (4 * w + 2) m d)
-  excluded_or_before w m d = (
+  pub excluded_or_before : (w m d : ℕ) → index_of last ≡ w
+      → IsExcluded (slice_range lits from (row + 1)) w m d ↔ (IsExcluded (slice_range lits from row) w m d ⊎ ExcludesBy last m d)
+  excluded_or_before w m d at = (
     λ h. elim ((last_or_before (NotBits w h.mask h.datum)).0 h.stated) [
       | inl before ↦ inl (record { mask = h.mask; datum = h.datum; stated = before; within = h.within; same = h.same })
-      | inr is ↦ inr (subst (λ k. ExcludesBy k (4 * w + 2) m d) (sym is) (refl, h.within, h.same))
+      | inr is ↦ inr (subst (λ k. ExcludesBy k m d) (sym is) (h.within, h.same))
     ],
     λ h. elim h [
       | inl out ↦ record {
@@ -75,41 +82,44 @@ module _ (lits : List Lit) (row : ℕ) (l : Lit) (lt : row < length lits) where
         within = out.within;
         same = out.same;
       }
-      | inr by ↦ excluded_by (take (row + 1) lits) w m d last ((last_or_before last).1 (inr refl)) by
+      | inr by ↦ excluded_by (slice_range lits from (row + 1)) w m d last at ((last_or_before last).1 (inr refl)) by
     ],
   )
 
--- a column is as long as the list
-pub as_long : (f : Lit → ℕ) (lits : List Lit) (column : List ℕ) → column ≡ map f lits → length column ≡ length lits
-as_long f lits column e = ap length e ∙ length-map lits f
-
--- the rows from one place to another
-pub rows_between : (lits : List Lit) (tags firsts seconds : List ℕ) (a b : ℕ) → AreRows lits tags firsts seconds
-    → AreRows (slice_range lits a b) (slice_range tags a b) (slice_range firsts a b) (slice_range seconds a b)
-rows_between lits tags firsts seconds a b so = record {
-  has_tags = between tag_of tags so.has_tags;
-  has_firsts = between first_of firsts so.has_firsts;
-  has_seconds = between second_of seconds so.has_seconds;
-}
-  where
-    between : (f : Lit → ℕ) (column : List ℕ) → column ≡ map f lits → slice_range column a b ≡ map f (slice_range lits a b)
-    between f column e = ap (λ xs. slice_range xs a b) e ∙ ap (take (b - a)) (drop-map f a lits) ∙ take-map f (b - a) (drop a lits)
+-- each of the rows from one place to another is one of all that are there
+pub row_among : (lits : List Lit) (from to row : ℕ) (l : Lit) → from ≤ row → row < to → to ≤ length lits
+    → Contains (slice_range lits from to) (slice_index_or lits row l)
+row_among lits from to row l le lt within =
+    let at : row - from < to - from = omega (arith, le, lt) in
+    let left = length-drop from lits in
+    let long = length-take-le (to - from) (drop from lits) (omega (arith, within, left)) in
+    subst (Contains (slice_range lits from to))
+    (get_or-take (to - from) (drop from lits) (row - from) l at ∙ get_or-drop from lits (row - from) l ∙ ap (λ n. slice_index_or lits n l) (omega (arith, le)))
+    (Contains-get_or (slice_range lits from to) (row - from) l (omega (arith, at, long)))
 
 -- a literal that is put in a row
-pub rows_with : (lits : List Lit) (tags firsts seconds : List ℕ) (row : ℕ) (l : Lit) → AreRows lits tags firsts seconds
+pub rows_with : (lits : List Lit) (tags firsts seconds masks excluded : List ℕ) (row : ℕ) (l : Lit) → AreRows lits tags firsts seconds masks excluded
     → AreRows (slice_set lits row l) (slice_set tags row (tag_of l)) (slice_set firsts row (first_of l)) (slice_set seconds row (second_of l))
-rows_with lits tags firsts seconds row l so = record {
+    (slice_set masks row (mask_out l)) (slice_set excluded row (datum_out l))
+rows_with lits tags firsts seconds masks excluded row l so = record {
   has_tags = with tag_of tags so.has_tags;
   has_firsts = with first_of firsts so.has_firsts;
   has_seconds = with second_of seconds so.has_seconds;
+  has_masks = with mask_out masks so.has_masks;
+  has_excluded = with datum_out excluded so.has_excluded;
 }
   where
     with : (f : Lit → ℕ) (column : List ℕ) → column ≡ map f lits → slice_set column row (f l) ≡ map f (slice_set lits row l)
     with f column e = ap (λ xs. slice_set xs row (f l)) e ∙ sym (map-set f lits row l)
 
 -- by its numbers
-pub rows_put : (lits : List Lit) (tags firsts seconds : List ℕ) (row : ℕ) (l : Lit) (n : ℕ × ℕ × ℕ) → n ≡ (tag_of l, first_of l, second_of l)
-    → AreRows lits tags firsts seconds → AreRows (slice_set lits row l) (slice_set tags row n.0) (slice_set firsts row n.1) (slice_set seconds row n.2)
-rows_put lits tags firsts seconds row l n is so =
-    subst (λ k. AreRows (slice_set lits row l) (slice_set tags row k.0) (slice_set firsts row k.1) (slice_set seconds row k.2)) (sym is)
-    (rows_with lits tags firsts seconds row l so)
+pub rows_put : (lits : List Lit) (tags firsts seconds masks excluded : List ℕ) (row : ℕ) (l : Lit) (n : ℕ × ℕ × ℕ) (out : ℕ × ℕ)
+    → n ≡ (tag_of l, first_of l, second_of l) → out ≡ (mask_out l, datum_out l) → AreRows lits tags firsts seconds masks excluded
+    → AreRows (slice_set lits row l) (slice_set tags row n.0) (slice_set firsts row n.1) (slice_set seconds row n.2)
+    (slice_set masks row out.0) (slice_set excluded row out.1)
+rows_put lits tags firsts seconds masks excluded row l n out is also so =
+    subst (λ k. AreRows (slice_set lits row l) (slice_set tags row n.0) (slice_set firsts row n.1) (slice_set seconds row n.2)
+    (slice_set masks row k.0) (slice_set excluded row k.1)) (sym also)
+    (subst (λ k. AreRows (slice_set lits row l) (slice_set tags row k.0) (slice_set firsts row k.1) (slice_set seconds row k.2)
+    (slice_set masks row (mask_out l)) (slice_set excluded row (datum_out l))) (sym is)
+    (rows_with lits tags firsts seconds masks excluded row l so))

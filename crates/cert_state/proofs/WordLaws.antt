@@ -2,7 +2,7 @@
 use Rattle.std.proofs.Common.{◌≡◌, ℕ, cond, List, [], ◌∷◌, sym, refl, ap, subst, ◌∙◌, inl, inr, ⊎_elim}
 use Rattle.std.specs.Prelude.{All, Contains, bit_and, bit_or, get_or}
 use Rattle.std.proofs.lemmas.Bool.{cases_eq, eq-eqb, ne_eqb}
-use Rattle.std.proofs.lemmas.List.Elements.{All-contains, Contains-get_or}
+use Rattle.std.proofs.lemmas.List.Elements.{All-cons, All-contains, All-nil, Contains-get_or}
 use Rattle.cert_state.specs.declared.literal.Lit.{Lit}
 use Rattle.cert_state.specs.declared.literal.Lit.TheVariants.{In, Bits, NotBits}
 use Rattle.cert_state.specs.Literals.{index_of, Meets}
@@ -41,6 +41,14 @@ among w x (l ∷ ls) has = ⊎_elim
     ])
     (λ (ne : index_of l ≡ w → ⊥).
     contains_later l _ ls refl x (among w x ls (subst (λ ks. Contains ks x) (other_first w l ls ne) has)))
+    (cases_eq (index_of l) w)
+
+-- and each of them is of the word
+pub all_own : (w : ℕ) (ls : List Lit) → All (λ l. index_of l ≡ w) (of_word w ls)
+all_own w [] = All-nil (λ l. index_of l ≡ w)
+all_own w (l ∷ ls) = ⊎_elim
+    (λ (at : index_of l ≡ w). subst (All (λ k. index_of k ≡ w)) (sym (own_first w l ls at)) (All-cons (λ k. index_of k ≡ w) l (of_word w ls) at (all_own w ls)))
+    (λ (ne : index_of l ≡ w → ⊥). subst (All (λ k. index_of k ≡ w)) (sym (other_first w l ls ne)) (all_own w ls))
     (cases_eq (index_of l) w)
 
 -- and so are the unions

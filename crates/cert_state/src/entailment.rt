@@ -81,7 +81,8 @@ fn is_one_of(number: u32, low: u32, high: u32, mask: u32, datum: u32) -> bool
     low <= number && number <= high && number & mask == datum
 }
 
-// Whether no number from `low` to `high` has the datum under the mask.
+// Whether no number from `low` to `high` has the datum under the mask. It is always a call: what is asked more often stays short.
+#[inline(never)]
 pub(crate) fn none_between(low: u32, high: u32, mask: u32, datum: u32) -> bool
     ensures { IsTrue result ↔ NoneBetween low high mask datum }
 {
@@ -95,6 +96,8 @@ pub(crate) fn none_between(low: u32, high: u32, mask: u32, datum: u32) -> bool
 }
 
 /// Whether a literal follows from those of a state: it is stated, or the others of its word give it.
+// It is always a call, too: `Facts` needs it only for a state that it has no room for.
+#[inline(never)]
 pub fn entails<S: State>(state: &S, literal: &Lit) -> bool
     ensures { IsTrue result ↔ Entails (S.known state.now) literal.now }
 {

@@ -136,7 +136,7 @@ fn part_of<S: State>(state: &S, word: u8, table: &Table, from: usize, to: usize)
 {
     let own = OfWord {
         state,
-        lits: table.rows(from, to).lits,
+        lits: &table.lits[from..to],
     };
     Part {
         from,
@@ -217,12 +217,12 @@ impl<'a, S: State> Facts<'a, S> {
     }
 
     // The part of a word.
-    fn part(&self, word: u8) -> Part
+    fn part(&self, word: u8) -> &Part
         requires word { word < 16 }
         requires all { self.now.all ≡ true }
-        ensures { IsPartOf (S.known self.now.state.now) self.now.room.now.table.lits word result }
+        ensures { IsPartOf (S.known self.now.state.now) self.now.room.now.table.lits word result.now }
     {
-        self.room.parts[word as usize]
+        &self.room.parts[word as usize]
     }
 }
 
@@ -235,7 +235,7 @@ impl<S: State> Knowledge for Facts<'_, S> {
             return entails(self.state, literal);
         }
         let part = self.part(word);
-        let own = self.room.table.rows(part.from, part.to);
+        let own = self.room.table.rows(word, part.from, part.to);
         gives(&own, &part.facts, literal)
     }
 
@@ -243,7 +243,7 @@ impl<S: State> Knowledge for Facts<'_, S> {
         if !self.all {
             return range(self.state, word);
         }
-        let facts = self.part(word).facts;
+        let facts = &self.part(word).facts;
         if facts.low > facts.high {
             return None;
         }

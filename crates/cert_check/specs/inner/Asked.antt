@@ -2,7 +2,7 @@
 use Rattle.std.specs.Prelude.{ℕ, List}
 use Rattle.cert_state.specs.declared.literal.Lit.{Lit}
 use Rattle.cert_state.specs.declared.state.State.{Ghosts}
-use Rattle.cert_check.specs.declared.agree.Agreement.{Agreement}
+use Rattle.cert_check.specs.declared.judging.Agreement.{Agreement}
 use Rattle.cert_check.specs.inner.Claimed.{mets_of, outs_of}
 
 -- the rules that are said to be out, the conditions that are said to be met, and what is known of the record

@@ -1,5 +1,5 @@
 -- The claims of a node's chain, and those of them that follow on the way to it.
-use Rattle.std.specs.Prelude.{◌≡◌, ℕ, ◌<◌, ◌⊎◌, ⊤, Bool, IsTrue, List, [], Option, Some, slice_get, length, All, Contains}
+use Rattle.std.specs.Prelude.{◌≡◌, ℕ, ◌<◌, ◌⊎◌, ⊤, Bool, IsTrue, List, Option, None, Some, slice_get, length, All, Contains}
 use Rattle.std.specs.Option.{IsSomeAnd, IsSomeAnd-prop}
 use Rattle.std.proofs.Props.{props}
 use Rattle.profile.specs.declared.rules.Rule.{Rule}
@@ -9,6 +9,8 @@ use Rattle.cert_state.specs.Entailment.{Entails}
 use Rattle.cert_form.specs.declared.node.Claim.{Claim}
 use Rattle.cert_form.specs.declared.node.Claim.TheVariants.{Knows, Out, Met}
 use Rattle.cert_form.specs.Nodes.{PlainNode}
+use Rattle.cert_form.specs.declared.lent.NodeView.{NodeView}
+use Rattle.cert_form.specs.Views.{AreLast, claims_from}
 use Rattle.cert_check.specs.Agree.{IsRefuted}
 use Rattle.cert_check.specs.Rules.{Edge, IsMetBy, IsOutOn, known_on}
 
@@ -28,15 +30,17 @@ IsPlaced-prop policy (Met place own) =
 pub ArePlaced-prop : (policy : Policy) (told : Bool) (claims : List Claim) → IsProp (IsTrue told → All (IsPlaced policy) claims)
 ArePlaced-prop policy told claims = hlevel (props, IsPlaced-prop)
 
--- the rule at a place is refuted by what is known
-abbrev pub IsRefutedAt : Policy → List Lit → ℕ → Type 0
-IsRefutedAt policy known place = (rule : Rule) × (slice_get policy.rules place ≡ Some rule) × IsRefuted known rule
+-- the rule of the profile at a place is out: it was among those that were, or what is known refutes it
+pub record IsOutBy (policy : Policy) (out : List ℕ) (known : List Lit) (place : ℕ) : Type 0 where
+  pub rule : Rule
+  pub stands : slice_get policy.rules place ≡ Some rule
+  pub reason : Contains out place ⊎ IsRefuted known rule
 
--- a claim follows from what is known, whatever else was claimed
-abbrev pub IsShown : Policy → List Lit → Claim → Type 0
-IsShown policy known (Knows l) = Entails known l
-IsShown policy known (Out place) = IsRefutedAt policy known place
-IsShown policy known (Met place own) = IsMetBy policy [] known (place, own)
+-- a claim follows from what is known, where these rules were out and these conditions met
+abbrev pub FollowsBy : Policy → List ℕ → List (ℕ × ℕ) → List Lit → Claim → Type 0
+FollowsBy policy out met known (Knows l) = Entails known l
+FollowsBy policy out met known (Out place) = IsOutBy policy out known place
+FollowsBy policy out met known (Met place own) = IsMetBy policy met known (place, own)
 
 -- a claim is the fact of an edge
 abbrev pub IsFact : Option Lit → Claim → Type 0
@@ -47,6 +51,13 @@ IsFact fact (Met place own) = ⊥
 -- each claim is so, or is one of the last
 abbrev pub AreBut : (Claim → Type 0) → List Claim → List Claim → Type 0
 AreBut P last all = All (λ claim. P claim ⊎ Contains last claim) all
+
+-- the first claim of a node that is not so, from one place of its chain on and up to another, is at this place, if any is
+abbrev pub StopsAt : (Claim → Type 0) → NodeView → ℕ → ℕ → Option ℕ → Type 0
+StopsAt P node from end None = AreBut P (claims_from node end) (claims_from node from)
+StopsAt P node from end (Some at) =
+    AreBut P (claims_from node at) (claims_from node from) × AreLast (claims_from node at) (claims_from node from)
+    × (All P (claims_from node from) → ⊥)
 
 -- all that a node claims follows on the way to it
 pub record AllFollow (policy : Policy) (n : PlainNode) (e : Edge) (m : PlainNode) : Type 0 where

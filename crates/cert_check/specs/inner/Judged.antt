@@ -1,22 +1,21 @@
 -- Questions that may be open, as the code answers them.
 use Rattle.std.specs.Prelude.{◌≡◌, ◌≢◌, ◌↔◌, ℕ, ◌+◌, ◌*◌, ◌^◌, ◌<◌, ◌⊎◌, ⊤, true, false, Bool, IsTrue}
-use Rattle.std.specs.Prelude.{List, Option, Some, IfSome, Contains, slice_get, slice_index_or}
+use Rattle.std.specs.Prelude.{List, [], Option, Some, IfSome, Contains, slice_get, slice_index_or}
 use Rattle.call_tables.specs.declared.arch.Arch.{Arch}
 use Rattle.profile.specs.declared.conditions.Op.{Op}
 use Rattle.profile.specs.declared.conditions.Op.TheVariants.{Ne, Eq, MaskedEq}
 use Rattle.profile.specs.declared.conditions.Cond.{Cond}
 use Rattle.profile.specs.declared.rules.Rule.{Rule}
-use Rattle.profile.specs.Rule.{is_narrow_rule}
 use Rattle.cert_state.specs.declared.literal.Lit.{Lit}
 use Rattle.cert_state.specs.declared.literal.Lit.TheVariants.{Bits, NotBits}
 use Rattle.cert_state.specs.Literals.{all_bits}
 use Rattle.cert_state.specs.Points.{IsRange}
 use Rattle.cert_state.specs.Entailment.{Entails}
-use Rattle.cert_check.specs.Agree.{IsRangeAbove, IsYes, IsNo, IsYesRule, IsNoRule, IsRefuted, IsLeft, SomeIsNo, AllAreYes, OneIsNo}
-use Rattle.cert_check.specs.declared.judged.Judged.{Judged}
-use Rattle.cert_check.specs.Judged.{IsJudged}
+use Rattle.cert_check.specs.Agree.{IsRangeAbove, IsYes, IsNo, IsYesRule, IsNoRule, IsLeft, AllAreYes, OneIsNo}
 use Rattle.cert_check.specs.declared.judged.Number.{Number}
 use Rattle.cert_check.specs.declared.judged.Answered.{Answered}
+use Rattle.cert_check.specs.declared.judged.Asked.{Asked}
+use Rattle.cert_check.specs.declared.judged.Asked.TheVariants.{AllYes, OneNo}
 use Rattle.cert_check.specs.declared.judged.Bearing.{Bearing}
 use Rattle.cert_check.specs.declared.judged.Bearing.TheVariants.{Settles, Agrees, Differs}
 
@@ -38,29 +37,12 @@ pub record AreEnds (narrow : Bool) (known : List Lit) (j low high : ℕ) : Type 
   pub low_is : low ≡ least + 2 ^ 32 * least_above
   pub high_is : high ≡ greatest + 2 ^ 32 * greatest_above
 
--- all of the conditions are yes
-abbrev pub AreYes : Bool → List Lit → List Cond → Type 0
-AreYes narrow known conds = (c : Cond) → Contains conds c → IsYes narrow known c
-
--- of the first conditions each is yes, or one is open, and none is no
-pub record ConditionsSoFar (narrow : Bool) (known : List Lit) (conds : List Cond) (n : ℕ) (all_yes : Bool) : Type 0 where
-  pub yes_so_far : all_yes ≡ true → (k : ℕ) (d : Cond) → k < n → IsYes narrow known (slice_index_or conds k d)
-  pub not_all : all_yes ≡ false → (c : Cond) × Contains conds c × (IsYes narrow known c → ⊥)
-  pub none_no : (k : ℕ) (d : Cond) → k < n → IsNo narrow known (slice_index_or conds k d) → ⊥
-
 -- a condition of the rule at a place is yes, or is said to be met; it is no, and is not
 abbrev pub IsYesOrMet : Bool → List (ℕ × ℕ) → List Lit → ℕ → ℕ → Cond → Type 0
 IsYesOrMet narrow met known place own c = Contains met (place, own) ⊎ IsYes narrow known c
 
 abbrev pub IsNoNorMet : Bool → List (ℕ × ℕ) → List Lit → ℕ → ℕ → Cond → Type 0
 IsNoNorMet narrow met known place own c = (Contains met (place, own) → ⊥) × IsNo narrow known c
-
--- the same of the first conditions of the rule at a place
-pub record LeftSoFar (narrow : Bool) (met : List (ℕ
-    × ℕ)) (known : List Lit) (place : ℕ) (conds : List Cond) (n : ℕ) (all_yes : Bool) : Type 0 where
-  pub yes_so_far : all_yes ≡ true → (k : ℕ) (d : Cond) → k < n → IsYesOrMet narrow met known place k (slice_index_or conds k d)
-  pub not_all : all_yes ≡ false → AllAreYes narrow met known place conds → ⊥
-  pub none_no : (k : ℕ) (d : Cond) → k < n → IsNoNorMet narrow met known place k (slice_index_or conds k d) → ⊥
 
 -- what is known of a number is so
 abbrev pub IsKnownNumber : List Lit → ℕ → Number → Type 0
@@ -83,25 +65,15 @@ IsOnlyNumber known nr = (n : ℕ) → n ≢ nr → IsOtherNumber known n
 abbrev pub AreKnownNumbers : List Lit → List (Option Number) → Type 0
 AreKnownNumbers known numbers = (n : ℕ) (d : Option Number) → n < 512 → IfSome (slice_index_or numbers n d) (IsKnownNumber known n)
 
--- the answer is that to the conditions, of arguments that are narrow or are not
+-- what is asked is answered: whether the conditions of the rule at a place are all yes, or whether one is no
+abbrev pub IsAnswer : Asked → Bool → List (ℕ × ℕ) → List Lit → ℕ → List Cond → Bool → Type 0
+IsAnswer AllYes narrow met known place conds is_so = IsTrue is_so ↔ AllAreYes narrow met known place conds
+IsAnswer OneNo narrow met known place conds is_so = IsTrue is_so ↔ OneIsNo narrow met known place conds
+
+-- the answer that was given is one, where no condition is said to be met: then the place does not matter
 abbrev pub IsAnswered : List Lit → Answered → Type 0
 IsAnswered known answered =
-    IsJudged (AreYes answered.narrow known answered.conds.now) (SomeIsNo answered.narrow known answered.conds.now) answered.judged
-
--- the answer is that to the conditions of the rule at a place
-abbrev pub AreJudgedAt : Bool → List (ℕ × ℕ) → List Lit → ℕ → List Cond → Judged → Type 0
-AreJudgedAt narrow met known place conds answer =
-    IsJudged (AllAreYes narrow met known place conds) (OneIsNo narrow met known place conds) answer
-
--- the answer is that to the rule at a place
-abbrev pub IsJudgedAt : List (ℕ × ℕ) → List Lit → ℕ → Rule → Judged → Type 0
-IsJudgedAt met known place rule answer = IsJudged (IsYesRule met known place rule) (IsNoRule met known place rule) answer
-
--- it follows from those to the rule's number and to its conditions, whatever is known
-abbrev pub IsRuleJudged : Number → Judged → Judged → Type 0
-IsRuleJudged number conds answer =
-    (met : List (ℕ × ℕ)) (known : List Lit) (place : ℕ) (rule : Rule) → IsKnownNumber known rule.nr number
-    → AreJudgedAt (is_narrow_rule rule) met known place rule.conds.items conds → IsJudgedAt met known place rule answer
+    IsAnswer answered.asked answered.narrow [] known 0 answered.conds.now answered.is_so
 
 -- a rule at a place says another verdict than v, and is not no
 abbrev pub IsOther : List (ℕ × ℕ) → List Lit → ℕ → ℕ → Rule → Type 0
@@ -130,14 +102,6 @@ pub record RulesSoFar (out : List ℕ) (met : List (ℕ
   pub settled : others ≡ false → (k : ℕ) (d : Rule) → k < n → IsLeft out arch k (slice_index_or rules k d)
       → IsNoRule met known k (slice_index_or rules k d) ⊎ ((slice_index_or rules k d).word ≡ v)
   pub another : others ≡ true → AnotherIsLeft out met known v arch rules
-
--- the rule at a place, where it is said to be out there and is not here, is refuted
-abbrev pub IsOutThen : List ℕ → List ℕ → List Lit → ℕ → Rule → Type 0
-IsOutThen here there known place rule = Contains there place → Contains here place ⊎ IsRefuted known rule
-
--- so are the first rules
-abbrev pub AreOutSoFar : List ℕ → List ℕ → List Lit → List Rule → ℕ → Type 0
-AreOutSoFar here there known rules n = (k : ℕ) (d : Rule) → k < n → IsOutThen here there known k (slice_index_or rules k d)
 
 -- a rule at a place is left for the machine, is yes, and has the verdict v
 pub record SaysAt (out : List ℕ) (met : List (ℕ × ℕ)) (known : List Lit) (v : ℕ) (arch : Arch) (place : ℕ) (rule : Rule) : Type 0 where

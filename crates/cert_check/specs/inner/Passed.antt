@@ -1,19 +1,19 @@
 -- What follows on a way on from a node.
-use Rattle.std.specs.Prelude.{All}
-use Rattle.cert_form.specs.Views.{says}
+use Rattle.std.specs.Prelude.{ℕ, Bool, IsTrue, List, All}
+use Rattle.cert_state.specs.declared.literal.Lit.{Lit}
+use Rattle.cert_form.specs.Views.{claims_from, says}
 use Rattle.cert_check.specs.declared.passage.Passage.{Passage}
-use Rattle.cert_check.specs.Rules.{IsMetBy, IsOutOn, known_on}
-use Rattle.cert_check.specs.inner.Followed.{AllFollow}
+use Rattle.cert_check.specs.inner.Followed.{AllFollow, AreBut, FollowsBy}
 use Rattle.cert_check.specs.inner.Ways.{edge_of}
 
--- each rule that the node there says to be out is out on the way to it
-abbrev pub OutsFollow : Passage → Type 0
-OutsFollow p = All (IsOutOn p.profile.now (says p.node.now) (edge_of p.way.now)) (says p.there.now).out
+-- it is told whether the claims there follow from one place of the chain on and up to another, where these rules were out:
+-- if so, each does or is one of the last, and if not, not each does
+abbrev pub RestFollows : Passage → List ℕ → List Lit → ℕ × ℕ → Bool → Type 0
+RestFollows p out known asked told =
+    (IsTrue told → AreBut (FollowsBy p.profile.now out (says p.node.now).met known) (claims_from p.there.now asked.1)
+    (claims_from p.there.now asked.0))
+    × (All (FollowsBy p.profile.now out (says p.node.now).met known) (claims_from p.there.now asked.0) → IsTrue told)
 
--- each condition that it says to be met is met on the way
-abbrev pub MetsFollow : Passage → Type 0
-MetsFollow p = All (IsMetBy p.profile.now (says p.node.now).met (known_on (says p.node.now) (edge_of p.way.now))) (says p.there.now).met
-
--- and so all that it claims
+-- all that the node there claims follows
 abbrev pub ClaimsFollow : Passage → Type 0
 ClaimsFollow p = AllFollow p.profile.now (says p.node.now) (edge_of p.way.now) (says p.there.now)

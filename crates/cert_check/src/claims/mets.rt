@@ -1,19 +1,15 @@
 //! The conditions that a node says to be met, by the places of their rules in the profile's order and their own, and
-//! whether they are met on the way to it.
-ghost use Rattle.std.specs.Prelude.{◌≡◌, ◌↔◌, ◌+◌, ◌*◌, ◌<◌, ◌⊎◌, [], ℕ, Bool as TheBool, Contains, IsTrue, length, slice_index_or, true, ◌++◌, All, option_to_list};
+//! whether one is met on the way to another.
+ghost use Rattle.std.specs.Prelude.{◌≡◌, ◌↔◌, ◌+◌, ◌*◌, ◌<◌, ◌⊎◌, [], ℕ, Bool as TheBool, Contains, IsTrue, length, slice_index_or, true};
 ghost use Rattle.cert_form.specs.Views.{says};
 ghost use Rattle.cert_check.specs.inner.Claimed.{mets_of};
 ghost use Rattle.cert_check.specs.inner.Marked.{AreMetMarked, IsClear};
-ghost use Rattle.cert_check.specs.Agree.{IsYes};
 ghost use Rattle.cert_check.specs.Rules.{IsMetBy};
-ghost use Rattle.cert_check.specs.inner.Passed.{MetsFollow};
 
-use crate::conditions::judge_condition;
-use crate::judged::Judged;
-use crate::passage::Passage;
+use crate::conditions::is_yes;
 use cert_form::NodeView;
-use cert_state::{Facts, Room, State, With};
-use profile::{Cond, MAX_RULES, Profile};
+use cert_state::{Facts, State};
+use profile::Profile;
 
 /// The conditions that a node says to be met, each marked at its place in a table of six for each of the first rules: a
 /// profile has at most 8,192 rules of at most six conditions. Without a node none is.
@@ -147,17 +143,6 @@ pub(crate) fn has_no_met(node: &NodeView<'_>) -> bool
     node.next_met(node.first_met()).is_none()
 }
 
-// Whether what is known makes a condition yes.
-fn is_yes<S: State>(facts: &Facts<'_, S>, narrow: bool, cond: &Cond) -> bool
-    ensures { IsTrue result ↔ IsYes narrow (S.known facts.now.state.now) cond.now }
-{
-    match judge_condition(facts, narrow, cond) {
-        Judged::Yes => true,
-        Judged::No => false,
-        Judged::Open => false,
-    }
-}
-
 // Whether a condition, by the places of its rule and its own, is met: it is one of the profile's, and was met before or
 // is yes by what is known.
 pub(crate) fn is_met<S: State>(
@@ -183,97 +168,4 @@ pub(crate) fn is_met<S: State>(
         return true;
     }
     is_yes(facts, rule.is_narrow(), &conds[own])
-}
-
-// Whether each condition that a node says to be met was so before or is yes by what is known.
-fn all_are_met<S: State>(
-    profile: &Profile,
-    known: &With<'_, S>,
-    here: &Mets<'_, '_>,
-    there: &NodeView<'_>,
-    room: &mut Room,
-) -> bool
-    ensures { IsTrue result ↔ All (IsMetBy profile.now (mets_of here.now.node)
-        (S.known known.now.state.now ++ option_to_list known.now.more)) (says there.now).met }
-{
-    let facts = Facts::of(known, room);
-    let mut at = there.first_met();
-    while let Some((place, next)) = there.next_met(at) {
-        if !is_met(profile, &facts, here, place) {
-            return false;
-        }
-        at = next;
-    }
-    true
-}
-
-impl Passage<'_> {
-    // Whether each condition that the node there says to be met is met on the way to it, by a table for those that the node
-    // before says to be met.
-    fn mets_follow_by(&self, table: &mut [bool], room: &mut Room) -> bool
-        requires { IsClear table.old }
-        ensures { IsTrue result ↔ MetsFollow self.now }
-    {
-        mark_mets(self.node, table);
-        let known = With {
-            state: self.node,
-            more: self.way.fact,
-        };
-        all_are_met(
-            self.profile,
-            &known,
-            &Mets::of(self.node, table),
-            self.there,
-            room,
-        )
-    }
-
-    // The same where the profile has few rules. A table is made in a function of its own, so that no other way makes room
-    // for it.
-    #[inline(never)]
-    fn mets_follow_by_few(&self, room: &mut Room) -> bool
-        ensures { IsTrue result ↔ MetsFollow self.now }
-    {
-        self.mets_follow_by(&mut [false; 6 * FEW_RULES], room)
-    }
-
-    // The same where it has some more.
-    #[inline(never)]
-    fn mets_follow_by_some(&self, room: &mut Room) -> bool
-        ensures { IsTrue result ↔ MetsFollow self.now }
-    {
-        self.mets_follow_by(&mut [false; 6 * SOME_RULES], room)
-    }
-
-    // The same where it has many.
-    #[inline(never)]
-    fn mets_follow_by_many(&self, room: &mut Room) -> bool
-        ensures { IsTrue result ↔ MetsFollow self.now }
-    {
-        self.mets_follow_by(&mut [false; 6 * MAX_RULES], room)
-    }
-
-    /// Whether each condition that the node there says to be met is met on the way to it.
-    pub(crate) fn mets_follow(&self, room: &mut Room) -> bool
-        ensures { IsTrue result ↔ MetsFollow self.now }
-    {
-        if has_no_met(self.there) {
-            return true;
-        }
-        if has_no_met(self.node) {
-            let known = With {
-                state: self.node,
-                more: self.way.fact,
-            };
-            return all_are_met(self.profile, &known, &Mets::none(), self.there, room);
-        }
-        let rules = self.profile.rules().len();
-        if rules <= FEW_RULES {
-            return self.mets_follow_by_few(room);
-        }
-        if rules <= SOME_RULES {
-            return self.mets_follow_by_some(room);
-        }
-        self.mets_follow_by_many(room)
-    }
 }

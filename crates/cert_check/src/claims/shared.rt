@@ -1,17 +1,18 @@
 //! The claims of a node that are new on the way to it: its chain and that of the node before mostly share all but a few.
-ghost use Rattle.std.specs.Prelude.{◌↔◌, ◌<◌, ◌++◌, All, IsTrue, length, option_to_list, slice_get};
+ghost use Rattle.std.specs.Prelude.{◌↔◌, ◌<◌, All, Contains, IsTrue, length, slice_get};
 ghost use Rattle.std.specs.Option.{IsSomeAnd};
-ghost use Rattle.cert_form.specs.Views.{all_claims, claims_from, claims_of};
-ghost use Rattle.cert_check.specs.inner.Followed.{AreBut, IsFact, IsPlaced, IsRefutedAt, IsShown};
-ghost use Rattle.cert_check.specs.inner.Passed.{ClaimsFollow};
+ghost use Rattle.cert_form.specs.Views.{AreLast, all_claims, claims_from, claims_of, is_chained, says};
+ghost use Rattle.cert_check.specs.inner.Claimed.{mets_of, outs_of};
+ghost use Rattle.cert_check.specs.inner.Followed.{AreBut, FollowsBy, IsFact, IsPlaced, StopsAt};
+ghost use Rattle.cert_check.specs.inner.Marked.{IsClear};
+ghost use Rattle.cert_check.specs.inner.Passed.{ClaimsFollow, RestFollows};
 
-use crate::claims::mets::{Mets, is_met};
-use crate::claims::outs::refutes;
-use crate::conditions::judge_conditions;
+use crate::claims::mets::{FEW_RULES, Mets, SOME_RULES, has_no_met, is_met, mark_mets};
+use crate::claims::outs::{Outs, has_none, is_out, mark_outs};
 use crate::passage::Passage;
 use cert_form::{CertView, Claim, NodeView};
 use cert_state::{Facts, Knowledge, Lit, Room, State, With};
-use profile::Profile;
+use profile::{MAX_RULES, Profile};
 
 // Whether a number is below another.
 fn is_below(number: usize, end: usize) -> bool
@@ -57,28 +58,22 @@ pub(crate) fn are_placed(profile: &Profile, view: &CertView<'_>) -> bool
     true
 }
 
-// Whether what is known refutes the rule at a place.
-fn is_refuted_at<S: State>(profile: &Profile, facts: &Facts<'_, S>, place: u32) -> bool
-    ensures { IsTrue result ↔ IsRefutedAt profile.now (S.known facts.now.state.now) place }
-{
-    let rules = profile.rules();
-    let place = place as usize;
-    if place >= rules.len() {
-        return false;
-    }
-    let rule = &rules[place];
-    let conds = judge_conditions(facts, rule.is_narrow(), rule.conds.as_slice());
-    refutes(facts, rule, conds)
-}
-
-// Whether a claim follows from what is known, whatever else was claimed.
-fn is_shown<S: State>(profile: &Profile, facts: &Facts<'_, S>, claim: Claim) -> bool
-    ensures { IsTrue result ↔ IsShown profile.now (S.known facts.now.state.now) claim }
+// Whether a claim follows from what is known, where these rules were out and these conditions met; and which condition is likely
+// to be no.
+fn follows<S: State>(
+    profile: &Profile,
+    facts: &Facts<'_, S>,
+    outs: &Outs<'_, '_>,
+    mets: &Mets<'_, '_>,
+    claim: Claim,
+    likely: usize,
+) -> (bool, usize)
+    ensures { IsTrue result.0 ↔ FollowsBy profile.now (outs_of outs.now.node) (mets_of mets.now.node) (S.known facts.now.state.now) claim }
 {
     match claim {
-        Claim::Knows(literal) => facts.entails(&literal),
-        Claim::Out(place) => is_refuted_at(profile, facts, place),
-        Claim::Met(place, own) => is_met(profile, facts, &Mets::none(), (place, own)),
+        Claim::Knows(literal) => (facts.entails(&literal), likely),
+        Claim::Out(place) => is_out(profile, facts, outs, place, likely),
+        Claim::Met(place, own) => (is_met(profile, facts, mets, (place, own)), likely),
     }
 }
 
@@ -95,7 +90,8 @@ fn is_fact(fact: Option<Lit>, claim: Claim) -> bool
 
 // The place of a node's chain behind those first claims that are the fact of an edge, or where the shared ones begin.
 fn after_fact(fact: Option<Lit>, node: &NodeView<'_>, shared: usize) -> usize
-    ensures { AreBut (IsFact fact) (claims_from node.now result) (claims_of node.now) }
+    ensures facts { AreBut (IsFact fact) (claims_from node.now result) (claims_of node.now) }
+    ensures last { AreLast (claims_from node.now result) (claims_of node.now) }
 {
     let mut at = node.chain();
     while at != shared {
@@ -110,46 +106,149 @@ fn after_fact(fact: Option<Lit>, node: &NodeView<'_>, shared: usize) -> usize
     at
 }
 
-// Whether each claim of a node from a place on follows from what is known, up to where the shared ones begin.
-fn are_shown<S: State>(
+// The place of the first claim of a node that does not follow, from one place of its chain on and up to another, if there
+// is one.
+fn first_open<S: State>(
     profile: &Profile,
-    known: &With<'_, S>,
+    facts: &Facts<'_, S>,
+    outs: &Outs<'_, '_>,
+    mets: &Mets<'_, '_>,
     node: &NodeView<'_>,
-    from: usize,
-    shared: usize,
-    room: &mut Room,
-) -> bool
-    ensures { let all = S.known known.now.state.now ++ option_to_list known.now.more in
-        IsTrue result → AreBut (IsShown profile.now all) (claims_from node.now shared) (claims_from node.now from) }
+    asked: (usize, usize),
+) -> Option<usize>
+    ensures { let P = FollowsBy profile.now (outs_of outs.now.node) (mets_of mets.now.node) (S.known facts.now.state.now) in
+        StopsAt P node.now asked.0 asked.1 result }
 {
-    let facts = Facts::of(known, room);
-    let mut at = from;
-    while at != shared {
+    let mut at = asked.0;
+    let mut likely = 0_usize;
+    while at != asked.1 {
         let Some((claim, next)) = node.next_claim(at) else {
-            return true;
+            return None;
         };
-        if !is_shown(profile, &facts, claim) {
-            return false;
+        let (so, own) = follows(profile, facts, outs, mets, claim, likely);
+        if !so {
+            return Some(at);
         }
+        likely = own;
         at = next;
     }
-    true
+    None
 }
 
 impl Passage<'_> {
-    /// Whether all that the node there claims is seen to follow by its new claims alone: the others are claims of the node
-    /// before, since their chains are one from where they meet. Where it is not, it may follow all the same, as where
-    /// `placed` does not tell that the profile has the rules of all claims.
-    pub(crate) fn new_claims_follow(&self, room: &mut Room) -> bool
-        ensures { IsTrue result → ClaimsFollow self.now }
+    // Whether the claims there between two places of the chain follow, by these rules that were out and by a table for the
+    // conditions that the node before says to be met.
+    fn rest_follows_by<S: State>(
+        &self,
+        facts: &Facts<'_, S>,
+        outs: &Outs<'_, '_>,
+        asked: (usize, usize),
+        table: &mut [bool],
+    ) -> bool
+        requires { IsClear table.old }
+        ensures { RestFollows self.now (outs_of outs.now.node) (S.known facts.now.state.now) asked result }
+    {
+        mark_mets(self.node, table);
+        let mets = Mets::of(self.node, table);
+        first_open(self.profile, facts, outs, &mets, self.there, asked).is_none()
+    }
+
+    // The same where the profile has few rules. A table is made in a function of its own, so that no other way makes room
+    // for it.
+    #[inline(never)]
+    fn rest_follows_by_few<S: State>(
+        &self,
+        facts: &Facts<'_, S>,
+        outs: &Outs<'_, '_>,
+        asked: (usize, usize),
+    ) -> bool
+        ensures { RestFollows self.now (outs_of outs.now.node) (S.known facts.now.state.now) asked result }
+    {
+        self.rest_follows_by(facts, outs, asked, &mut [false; 6 * FEW_RULES])
+    }
+
+    // The same where it has some more.
+    #[inline(never)]
+    fn rest_follows_by_some<S: State>(
+        &self,
+        facts: &Facts<'_, S>,
+        outs: &Outs<'_, '_>,
+        asked: (usize, usize),
+    ) -> bool
+        ensures { RestFollows self.now (outs_of outs.now.node) (S.known facts.now.state.now) asked result }
+    {
+        self.rest_follows_by(facts, outs, asked, &mut [false; 6 * SOME_RULES])
+    }
+
+    // The same where it has many.
+    #[inline(never)]
+    fn rest_follows_by_many<S: State>(
+        &self,
+        facts: &Facts<'_, S>,
+        outs: &Outs<'_, '_>,
+        asked: (usize, usize),
+    ) -> bool
+        ensures { RestFollows self.now (outs_of outs.now.node) (S.known facts.now.state.now) asked result }
+    {
+        self.rest_follows_by(facts, outs, asked, &mut [false; 6 * MAX_RULES])
+    }
+
+    // Whether they follow by these rules that were out and by the conditions that the node before says to be met.
+    fn rest_follows_but_for<S: State>(
+        &self,
+        facts: &Facts<'_, S>,
+        outs: &Outs<'_, '_>,
+        asked: (usize, usize),
+    ) -> bool
+        ensures { RestFollows self.now (outs_of outs.now.node) (S.known facts.now.state.now) asked result }
+    {
+        if has_no_met(self.node) {
+            let mets = Mets::none();
+            return first_open(self.profile, facts, outs, &mets, self.there, asked).is_none();
+        }
+        let rules = self.profile.rules().len();
+        if rules <= FEW_RULES {
+            return self.rest_follows_by_few(facts, outs, asked);
+        }
+        if rules <= SOME_RULES {
+            return self.rest_follows_by_some(facts, outs, asked);
+        }
+        self.rest_follows_by_many(facts, outs, asked)
+    }
+
+    // Whether they follow by all that the node before claims.
+    #[inline(never)]
+    fn rest_follows<S: State>(&self, facts: &Facts<'_, S>, asked: (usize, usize)) -> bool
+        ensures { RestFollows self.now (says self.now.node.now).out (S.known facts.now.state.now) asked result }
+    {
+        if has_none(self.node) {
+            return self.rest_follows_but_for(facts, &Outs::none(), asked);
+        }
+        let mut marked = [false; 8192];
+        mark_outs(self.node, &mut marked);
+        self.rest_follows_but_for(facts, &Outs::of(self.node, &marked), asked)
+    }
+
+    // The place of the chain there from which on each claim is one of the node before, of a rule and a condition that the
+    // profile has. Where `placed` does not tell that, it is behind the last one.
+    fn shared(&self) -> usize
+        ensures { All (λ claim. Contains (claims_of self.now.node.now) claim × IsPlaced self.now.profile.now claim)
+            (claims_from self.now.there.now result) }
     {
         if !self.placed {
-            return false;
+            return 0;
         }
-        if !self.node.is_chained() {
-            return false;
-        }
-        let shared = self.node.meeting(self.there);
+        self.node.meeting(self.there)
+    }
+
+    /// Whether all that the chain there claims follows. Mostly its new claims do by what is known alone: the others are
+    /// claims of the node before, since the two chains are one from where they meet. From the first one on that does not,
+    /// those that are left are asked by what the node before claims, too.
+    pub(crate) fn chain_follows(&self, room: &mut Room) -> bool
+        requires { IsTrue (is_chained self.now.there.now) }
+        ensures { IsTrue result ↔ ClaimsFollow self.now }
+    {
+        let shared = self.shared();
         let from = after_fact(self.way.fact, self.there, shared);
         if from == shared {
             return true;
@@ -158,6 +257,21 @@ impl Passage<'_> {
             state: self.node,
             more: self.way.fact,
         };
-        are_shown(self.profile, &known, self.there, from, shared, room)
+        let facts = Facts::of(&known, room);
+        if !self.placed {
+            return self.rest_follows(&facts, (from, shared));
+        }
+        let (outs, mets) = (Outs::none(), Mets::none());
+        match first_open(
+            self.profile,
+            &facts,
+            &outs,
+            &mets,
+            self.there,
+            (from, shared),
+        ) {
+            None => true,
+            Some(first) => self.rest_follows(&facts, (first, shared)),
+        }
     }
 }

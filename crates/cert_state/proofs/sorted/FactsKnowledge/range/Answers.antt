@@ -7,5 +7,5 @@ returns-then-facts g c =
 
 pub returns : goal.returns
 returns g c =
-    range_of_all c.args.word (g.S.State.known c.args.self.now.state.now) c.part.result.facts.low c.part.result.facts.high
+    range_of_all c.args.word (g.S.State.known c.args.self.now.state.now) c.part.result.now.facts.low c.part.result.now.facts.high
     (c.part.ensures.facts.range c.if-facts.false)

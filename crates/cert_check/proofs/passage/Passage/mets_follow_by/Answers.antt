@@ -1,4 +1,0 @@
-use Rattle.cert_check.proofs.passage.Passage.mets_follow_by.Goals as goal
-
-pub returns : goal.returns
-returns c = simp c.of.ensures at c.all_are_met.ensures

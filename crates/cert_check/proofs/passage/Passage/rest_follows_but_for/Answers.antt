@@ -1,0 +1,13 @@
+use Rattle.std.proofs.Common.{refl, sym, ◌∙◌}
+use Rattle.cert_form.specs.Views.{says}
+use Rattle.cert_check.specs.inner.Claimed.{outs_of}
+use Rattle.cert_check.specs.inner.Followed.{FollowsBy}
+use Rattle.cert_check.proofs.SharedLaws.{told_by}
+use Rattle.cert_check.proofs.passage.Passage.rest_follows_but_for.Goals as goal
+
+pub returns-then-has_no_met : goal.returns-then-has_no_met
+returns-then-has_no_met g c =
+    let P = FollowsBy c.args.self.now.profile.now (outs_of c.args.outs.now.node) (says c.args.self.now.node.now).met (g.S.State.known c.args.facts.now.state.now) in
+    let none = c.none-mets.ensures ∙ sym (c.if-has_no_met.ensures.0 refl) in
+    told_by P c.args.self.now.there.now c.args.asked.0 c.args.asked.1 c.first_open.result c.is_none.result c.is_none.ensures
+    (simp none at c.first_open.ensures)

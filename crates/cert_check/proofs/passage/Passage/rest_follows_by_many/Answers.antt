@@ -1,0 +1,5 @@
+use Rattle.cert_check.proofs.MetsLaws.{made_clear}
+use Rattle.cert_check.proofs.passage.Passage.rest_follows_by_many.Goals as goal
+
+pub rest_follows_by-requires : goal.rest_follows_by-requires
+rest_follows_by-requires g c = made_clear 49152

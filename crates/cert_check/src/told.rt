@@ -1,0 +1,150 @@
+//! Answers to the conditions of rules where the record may be of several machines: what an entry asks is asked once for all machines
+//! whose arguments are as wide.
+ghost use Rattle.std.specs.Prelude.{◌≡◌, ◌<◌, ◌↔◌, IsTrue, IfSome, None, Some, replicate, slice_get};
+ghost use Rattle.profile.specs.declared.rules.Rule.{Rule as TheRule};
+ghost use Rattle.cert_check.specs.Agree.{Agrees};
+ghost use Rattle.cert_check.specs.inner.Asked.{known_of, met_of, out_of};
+ghost use Rattle.cert_check.specs.inner.Told.{AreTold, IsToldOf, question_of};
+
+use crate::agree::is_other;
+use crate::alike::say_the_same;
+use crate::answered::ask_from;
+use crate::claims::Mets;
+use crate::judged::Asked;
+use crate::judging::Agreement;
+use crate::numbers::number_range;
+use cert_state::State;
+use profile::Rule;
+
+impl<S: State> Agreement<'_, S> {
+    // The answer at a place, if there is one.
+    pub(crate) fn told_at(&self, place: usize) -> Option<bool>
+        requires told { AreTold self.now.profile.now (known_of self.now) self.now.word self.now.told.now }
+        ensures { (rule : TheRule) → slice_get self.now.profile.now.rules place ≡ Some rule
+            → IfSome result (IsToldOf (known_of self.now) self.now.word rule) }
+    {
+        if place < self.told.len() {
+            self.told[place]
+        } else {
+            None
+        }
+    }
+
+    /// What is asked of a rule's conditions.
+    pub(crate) fn question(&self, rule: &Rule) -> Asked
+        ensures { result ≡ question_of self.now.word rule.now }
+    {
+        if rule.word == self.word {
+            Asked::AllYes
+        } else {
+            Asked::OneNo
+        }
+    }
+
+    // Whether a rule at a place is worth asking: it is not out, its number is possible, and if it says the verdict, no other one is.
+    fn is_wanted(&self, place: usize, rule: &Rule, range: (u32, u32)) -> bool
+        requires { place < 8192 }
+    {
+        let (least, greatest) = range;
+        if rule.nr < least || rule.nr > greatest {
+            return false;
+        }
+        if rule.word == self.word && least != greatest {
+            return false;
+        }
+        !self.outs.has(place)
+    }
+
+    // The answer for a rule: that of an earlier one which says the same, or what comes of asking; and the place of the condition
+    // that is no, or the likely one.
+    fn tell(
+        &self,
+        rule: &Rule,
+        before: usize,
+        likely: usize,
+        table: &[Option<bool>; 8192],
+    ) -> (bool, usize)
+        requires { AreTold self.now.profile.now (known_of self.now) self.now.word table.now }
+        ensures { IsToldOf (known_of self.now) self.now.word rule.now result.0 }
+    {
+        let rules = self.profile.rules();
+        if before < rules.len() && before < 8192 {
+            if let Some(is_so) = table[before] {
+                if say_the_same(&rules[before], rule) {
+                    return (is_so, likely);
+                }
+            }
+        }
+        let asked = self.question(rule);
+        ask_from(self.facts, &Mets::none(), 0, rule, asked, likely)
+    }
+
+    // Answers for all rules that are worth asking, in a table where there is none. Often one argument refutes many.
+    fn tell_all(&self, table: &mut [Option<bool>; 8192])
+        requires { table.old ≡ replicate 8192 None }
+        ensures { AreTold self.now.profile.now (known_of self.now) self.now.word table.new }
+    {
+        let range = number_range(self.facts);
+        // The places of the last wide rule and of the last narrow one.
+        let mut before = [0_usize; 2];
+        let mut likely = 0_usize;
+        let mut place = 0_usize;
+        for rule in self.profile.rules() {
+            if self.is_wanted(place, rule, range) {
+                let width = if rule.is_narrow() { 1 } else { 0 };
+                let (is_so, own) = self.tell(rule, before[width], likely, table);
+                table[place] = Some(is_so);
+                before[width] = place;
+                likely = own;
+            }
+            place += 1;
+        }
+    }
+
+    // Whether the record may be of machines of two tokens.
+    fn has_two_tokens(&self) -> bool {
+        let mut first = None;
+        for arch in self.profile.machines() {
+            let token = arch.token();
+            if first != Some(token) && !is_other(self.facts, token) {
+                if first.is_some() {
+                    return true;
+                }
+                first = Some(token);
+            }
+        }
+        false
+    }
+
+    // Whether the profile says the verdict, by a table of answers. It is made in a function of its own, so that no other return
+    // makes room for it.
+    #[inline(never)]
+    fn agrees_by_table(&self) -> bool
+        requires told { AreTold self.now.profile.now (known_of self.now) self.now.word self.now.told.now }
+        ensures { let a = self.now in IsTrue result ↔ Agrees a.profile.now (out_of a) (met_of a) (known_of a) a.word }
+    {
+        let mut table = [None; 8192];
+        self.tell_all(&mut table);
+        let told = Agreement {
+            profile: self.profile,
+            outs: self.outs,
+            mets: self.mets,
+            facts: self.facts,
+            word: self.word,
+            told: &table,
+        };
+        told.agrees()
+    }
+
+    /// Whether the profile says the verdict of each record of which this is known, and also that no rule matches that is out
+    /// and that the conditions are met that are said to be.
+    pub(crate) fn agrees_in_all(&self) -> bool
+        requires told { AreTold self.now.profile.now (known_of self.now) self.now.word self.now.told.now }
+        ensures { let a = self.now in IsTrue result ↔ Agrees a.profile.now (out_of a) (met_of a) (known_of a) a.word }
+    {
+        if self.has_two_tokens() {
+            return self.agrees_by_table();
+        }
+        self.agrees()
+    }
+}

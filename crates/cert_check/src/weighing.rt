@@ -1,0 +1,141 @@
+//! How a rule of the record's machine bears on a verdict.
+ghost use Rattle.std.specs.Prelude.{◌≡◌, ◌≢◌, ◌<◌, Some, slice_get};
+ghost use Rattle.profile.specs.Rule.{is_narrow_rule};
+ghost use Rattle.cert_check.specs.Agree.{OneIsNo};
+ghost use Rattle.cert_check.specs.inner.Asked.{known_of, met_of};
+ghost use Rattle.cert_check.specs.inner.Judged.{Bears, IsAnswer, IsAnswered, IsKnownNumber};
+ghost use Rattle.cert_check.specs.inner.Told.{AreTold, question_of};
+
+use crate::answered::{answer_of, ask};
+use crate::judged::{Answered, Asked, Bearing, Number};
+use crate::judging::Agreement;
+use cert_state::State;
+use profile::Rule;
+
+impl<S: State> Agreement<'_, S> {
+    // Whether what is asked is so of the conditions of the rule at a place, with the last answer where none was said to be met:
+    // that is no answer for a rule with conditions that are.
+    fn answer_at<'r>(
+        &self,
+        place: usize,
+        rule: &'r Rule,
+        asked: Asked,
+        last: Answered<'r>,
+    ) -> (bool, Answered<'r>)
+        requires told { AreTold self.now.profile.now (known_of self.now) self.now.word self.now.told.now }
+        requires place { place < 8192 }
+        requires stands { slice_get self.now.profile.now.rules place ≡ Some rule.now }
+        requires question { asked ≡ question_of self.now.word rule.now }
+        requires last { IsAnswered (known_of self.now) last }
+        ensures is_so { IsAnswer asked (is_narrow_rule rule.now) (met_of self.now) (known_of self.now) place rule.now.conds.items result.0 }
+        ensures answer { IsAnswered (known_of self.now) result.1 }
+    {
+        if self.mets.has_some(place) {
+            return (ask(self.facts, &self.mets, place, rule, asked), last);
+        }
+        if let Some(is_so) = self.told_at(place) {
+            return (is_so, last);
+        }
+        let answer = answer_of(self.facts, rule, asked, last);
+        (answer.is_so, answer)
+    }
+
+    // How a rule of the record's machine at a place bears on the verdict that it says. Its conditions are not asked for where
+    // its number is not known to be the call's.
+    fn weigh_own<'r>(
+        &self,
+        place: usize,
+        rule: &'r Rule,
+        number: Number,
+        last: Answered<'r>,
+    ) -> (Bearing, Answered<'r>)
+        requires told { AreTold self.now.profile.now (known_of self.now) self.now.word self.now.told.now }
+        requires place { place < 8192 }
+        requires stands { slice_get self.now.profile.now.rules place ≡ Some rule.now }
+        requires number { IsKnownNumber (known_of self.now) rule.now.nr number }
+        requires word { rule.now.word ≡ self.now.word }
+        requires last { IsAnswered (known_of self.now) last }
+        ensures bearing { Bears (met_of self.now) (known_of self.now) self.now.word place rule.now result.0 }
+        ensures answer { IsAnswered (known_of self.now) result.1 }
+    {
+        if !number.own {
+            return (Bearing::Agrees, last);
+        }
+        let (all_yes, answer) = self.answer_at(place, rule, Asked::AllYes, last);
+        if all_yes {
+            return (Bearing::Settles, answer);
+        }
+        (Bearing::Agrees, answer)
+    }
+
+    // How a rule at a place bears on another verdict, of whose conditions none is no.
+    fn weigh_left(&self, place: usize, rule: &Rule, number: Number) -> Bearing
+        requires place { place < 8192 }
+        requires number { IsKnownNumber (known_of self.now) rule.now.nr number }
+        requires word { rule.now.word ≢ self.now.word }
+        requires none { OneIsNo (is_narrow_rule rule.now) (met_of self.now) (known_of self.now) place rule.now.conds.items → ⊥ }
+        ensures { Bears (met_of self.now) (known_of self.now) self.now.word place rule.now result }
+    {
+        if !number.other {
+            return Bearing::Differs;
+        }
+        if !number.own {
+            return Bearing::Agrees;
+        }
+        if ask(self.facts, &self.mets, place, rule, Asked::AllYes) {
+            return Bearing::Differs;
+        }
+        Bearing::Agrees
+    }
+
+    // How a rule of the record's machine at a place bears on another verdict. Its conditions are not asked for where the call's
+    // number is known to be another.
+    fn weigh_other<'r>(
+        &self,
+        place: usize,
+        rule: &'r Rule,
+        number: Number,
+        last: Answered<'r>,
+    ) -> (Bearing, Answered<'r>)
+        requires told { AreTold self.now.profile.now (known_of self.now) self.now.word self.now.told.now }
+        requires place { place < 8192 }
+        requires stands { slice_get self.now.profile.now.rules place ≡ Some rule.now }
+        requires number { IsKnownNumber (known_of self.now) rule.now.nr number }
+        requires word { rule.now.word ≢ self.now.word }
+        requires last { IsAnswered (known_of self.now) last }
+        ensures bearing { Bears (met_of self.now) (known_of self.now) self.now.word place rule.now result.0 }
+        ensures answer { IsAnswered (known_of self.now) result.1 }
+    {
+        if !number.own && number.other {
+            return (Bearing::Agrees, last);
+        }
+        let (one_no, answer) = self.answer_at(place, rule, Asked::OneNo, last);
+        if one_no {
+            return (Bearing::Agrees, answer);
+        }
+        (self.weigh_left(place, rule, number), answer)
+    }
+
+    /// How the rule of the record's machine at a place bears on the verdict, with the last answer to conditions. A rule that says
+    /// the verdict is asked whether it is yes, another one whether it is no.
+    pub(crate) fn weigh<'r>(
+        &self,
+        place: usize,
+        rule: &'r Rule,
+        number: Number,
+        last: Answered<'r>,
+    ) -> (Bearing, Answered<'r>)
+        requires told { AreTold self.now.profile.now (known_of self.now) self.now.word self.now.told.now }
+        requires place { place < 8192 }
+        requires stands { slice_get self.now.profile.now.rules place ≡ Some rule.now }
+        requires number { IsKnownNumber (known_of self.now) rule.now.nr number }
+        requires last { IsAnswered (known_of self.now) last }
+        ensures bearing { Bears (met_of self.now) (known_of self.now) self.now.word place rule.now result.0 }
+        ensures answer { IsAnswered (known_of self.now) result.1 }
+    {
+        if rule.word == self.word {
+            return self.weigh_own(place, rule, number, last);
+        }
+        self.weigh_other(place, rule, number, last)
+    }
+}
