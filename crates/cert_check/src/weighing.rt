@@ -42,6 +42,7 @@ impl<S: State> Agreement<'_, S> {
 
     // How a rule of the record's machine at a place bears on the verdict that it says. Its conditions are not asked for where
     // its number is not known to be the call's.
+    #[inline(always)]
     fn weigh_own<'r>(
         &self,
         place: usize,
@@ -88,8 +89,8 @@ impl<S: State> Agreement<'_, S> {
         Bearing::Agrees
     }
 
-    // How a rule of the record's machine at a place bears on another verdict. Its conditions are not asked for where the call's
-    // number is known to be another.
+    // How a rule of the record's machine at a place bears on another verdict.
+    #[inline(always)]
     fn weigh_other<'r>(
         &self,
         place: usize,
@@ -106,9 +107,6 @@ impl<S: State> Agreement<'_, S> {
         ensures bearing { Bears (met_of self.now) (known_of self.now) self.now.word place rule.now result.0 }
         ensures answer { IsAnswered (known_of self.now) result.1 }
     {
-        if !number.own && number.other {
-            return (Bearing::Agrees, last);
-        }
         let (one_no, answer) = self.answer_at(place, rule, Asked::OneNo, last);
         if one_no {
             return (Bearing::Agrees, answer);
@@ -117,7 +115,8 @@ impl<S: State> Agreement<'_, S> {
     }
 
     /// How the rule of the record's machine at a place bears on the verdict, with the last answer to conditions. A rule that says
-    /// the verdict is asked whether it is yes, another one whether it is no.
+    /// the verdict is asked whether it is yes, another one whether it is no; and one of another number nothing, which is most often so.
+    #[inline(always)]
     pub(crate) fn weigh<'r>(
         &self,
         place: usize,
@@ -133,6 +132,9 @@ impl<S: State> Agreement<'_, S> {
         ensures bearing { Bears (met_of self.now) (known_of self.now) self.now.word place rule.now result.0 }
         ensures answer { IsAnswered (known_of self.now) result.1 }
     {
+        if !number.own && number.other {
+            return (Bearing::Agrees, last);
+        }
         if rule.word == self.word {
             return self.weigh_own(place, rule, number, last);
         }
