@@ -10,7 +10,7 @@ use Rattle.cert_state.specs.declared.literal.Lit.{Lit}
 use Rattle.profile.specs.declared.rules.Rule.{Rule}
 use Rattle.profile.specs.Rule.{is_narrow_rule}
 use Rattle.profile.specs.Policy.{Policy}
-use Rattle.cert_check.specs.Agree.{IsYes, OneIsNo, SomeIsNo}
+use Rattle.cert_check.specs.Agree.{IsNoRule, IsYes, OneIsNo, SomeIsNo}
 use Rattle.cert_check.specs.Rules.{IsMetBy}
 use Rattle.cert_check.specs.inner.Judged.{IsAnswer, IsAnswered}
 use Rattle.cert_check.specs.declared.judged.Answered.{Answered}
@@ -153,6 +153,14 @@ none_left OneNo narrow met known place conds is_so few none so = (
     not_met = λ told. absurd (omega (arith, told.1));
     is_no = one.is_no;
   }),
+)
+
+-- a rule of which a condition is no is no
+pub no_rule : (met : List (ℕ × ℕ)) (known : List Lit) (place : ℕ) (rule : Rule) → OneIsNo (is_narrow_rule rule) met known place rule.conds.items
+    → IsNoRule met known place rule
+no_rule met known place rule one = (
+  inr one,
+  λ yes. elim (yes.1 one.own one.cond one.stands) [ inl said ↦ one.not_met said | inr holds ↦ one.is_no.1 holds ],
 )
 
 -- where none is said to be met, one is no that is among the conditions

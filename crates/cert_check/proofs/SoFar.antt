@@ -8,7 +8,8 @@ use Rattle.call_tables.specs.declared.arch.Arch.{Arch}
 use Rattle.profile.specs.declared.rules.Rule.{Rule}
 use Rattle.cert_state.specs.declared.literal.Lit.{Lit}
 use Rattle.cert_check.specs.Agree.{IsYesRule, IsNoRule, IsLeft}
-use Rattle.cert_check.specs.inner.Judged.{RulesSoFar, IsOther}
+use Rattle.cert_check.specs.declared.judged.Bearing.TheVariants.{Agrees}
+use Rattle.cert_check.specs.inner.Judged.{Bears, RulesSoFar, IsOther}
 
 -- what holds of the first elements at their places and of the next one holds of one more
 pub one_more_placed : {X : Type 0} (P : ℕ → X → Type 0) (xs : List X) (n : ℕ) (x : X) → n < length xs → slice_index_or xs n x ≡ x
@@ -35,13 +36,17 @@ one_more_at P xs n d0 inside before here =
 module _ (out : List ℕ) (met : List (ℕ
     × ℕ)) (known : List Lit) (v : ℕ) (arch : Arch) (rules : List Rule) (n : ℕ) (others : Bool) (rule : Rule)
     (inside : n < length rules) (at : slice_index_or rules n rule ≡ rule) (so : RulesSoFar out met known v arch rules n others) where
-  -- a rule of another machine, one that is out, or one with another verdict where such a one is left
-  pub rule_passed : (IsLeft out arch n rule → (others ≡ true) × (rule.word ≢ v)) → RulesSoFar out met known v arch rules (n + 1) others
+  -- a rule of another machine, one that is out, one with another verdict where such a one is left, or one that agrees
+  pub rule_passed : (IsLeft out arch n rule → ((others ≡ true) × (rule.word ≢ v)) ⊎ Bears met known v n rule Agrees)
+      → RulesSoFar out met known v arch rules (n + 1) others
   rule_passed gone = record {
     none_sure = one_more_placed (λ k x. IsLeft out arch k x → IsYesRule met known k x
-        → x.word ≢ v) rules n rule inside at so.none_sure (λ left _. (gone left).1);
+        → x.word ≢ v) rules n rule inside at so.none_sure (λ left yes. elim (gone left) [ inl past ↦ past.1 | inr agrees ↦ agrees.0 yes ]);
     settled = λ e. one_more_placed (λ k x. IsLeft out arch k x → IsNoRule met known k x
-        ⊎ (x.word ≡ v)) rules n rule inside at (so.settled e) (λ left. absurd (let t = (gone left).0 in let untrue : false ≡ true = sym e ∙ t in cc));
+        ⊎ (x.word ≡ v)) rules n rule inside at (so.settled e) (λ left. elim (gone left) [
+          | inl past ↦ absurd (let untrue : false ≡ true = sym e ∙ past.0 in cc)
+          | inr agrees ↦ agrees.1
+        ]);
     another = so.another;
   }
 

@@ -1,19 +1,22 @@
 //! Whether what is known of a record settles the verdict that a profile says of it.
-ghost use Rattle.std.specs.Prelude.{◌≡◌, ◌≢◌, ◌<◌, ◌↔◌, ◌⊎◌, false, true, IsTrue, All, Any, Contains, length};
+ghost use Rattle.std.specs.Prelude.{◌≡◌, ◌≢◌, ◌<◌, ◌↔◌, ◌⊎◌, false, true, IsTrue, All, Any, Contains, Some, length, slice_get};
 ghost use Rattle.call_tables.specs.Arch.{token_of};
 ghost use Rattle.call_tables.specs.declared.arch.Arch.{Arch as TheArch};
+ghost use Rattle.profile.specs.declared.rules.Rule.{Rule as TheRule};
 ghost use Rattle.cert_state.specs.declared.literal.Lit.TheVariants.{Bits, NotBits};
 ghost use Rattle.cert_state.specs.Literals.{all_bits};
 ghost use Rattle.cert_state.specs.Entailment.{Entails};
 ghost use Rattle.cert_check.specs.inner.Asked.{known_of, met_of, out_of};
 ghost use Rattle.cert_check.specs.Agree.{Agrees, ForeignNumbersAgree, IsAmong, IsLeft, IsYesRule, ListedAgrees, MachineAgrees, OneSays, RulesAgree};
 ghost use Rattle.cert_check.specs.inner.Alike.{FirstAgree};
-ghost use Rattle.cert_check.specs.inner.Judged.{NumberLies, SaysAt};
+ghost use Rattle.cert_check.specs.declared.judged.Bearing.TheVariants.{Agrees as Agreeing};
+ghost use Rattle.cert_check.specs.inner.Judged.{Bears, NumberLies, SaysAt};
 ghost use Rattle.cert_check.specs.inner.Told.{AreTold};
 
 use crate::answered::ask;
 use crate::judged::{Answered, Asked, Bearing};
 use crate::judging::Agreement;
+use crate::likely::Likely;
 use crate::numbers::{NUMBER, number_of, number_range};
 use call_record::Word;
 use call_tables::{Arch, Numbers};
@@ -75,18 +78,39 @@ impl<S: State> Agreement<'_, S> {
         !self.outs.has(place)
     }
 
+    /// Whether the rule at a place is neither said to be out nor told to agree. The rule is not looked at.
+    #[inline(always)]
+    pub(crate) fn is_open(&self, place: usize) -> bool
+        requires told { AreTold self.now.profile.now (known_of self.now) self.now.word self.now.told.now }
+        requires place { place < 8192 }
+        ensures left { IsTrue result → Contains (out_of self.now) place → ⊥ }
+        ensures passed { result ≡ false → (rule : TheRule) → slice_get self.now.profile.now.rules place ≡ Some rule
+            → Contains (out_of self.now) place ⊎ Bears (met_of self.now) (known_of self.now) self.now.word place rule Agreeing }
+    {
+        if self.outs.has(place) {
+            return false;
+        }
+        !self.agrees_at(place)
+    }
+
     // Whether a rule at a place is left for a machine and is still asked: once another verdict is possible, rules with other
     // verdicts are not.
     fn is_asked(&self, place: usize, rule: &Rule, arch: Arch, others: bool) -> bool
-        requires { place < 8192 }
+        requires told { AreTold self.now.profile.now (known_of self.now) self.now.word self.now.told.now }
+        requires place { place < 8192 }
+        requires stands { slice_get self.now.profile.now.rules place ≡ Some rule.now }
         ensures left { IsTrue result → IsLeft (out_of self.now) arch place rule.now }
         ensures passed { result ≡ false → IsLeft (out_of self.now) arch place rule.now
-            → (others ≡ true) × (rule.now.word ≢ self.now.word) }
+            → ((others ≡ true) × (rule.now.word ≢ self.now.word))
+            ⊎ Bears (met_of self.now) (known_of self.now) self.now.word place rule.now Agreeing }
     {
+        if !self.is_open(place) {
+            return false;
+        }
         if others && rule.word != self.word {
             return false;
         }
-        self.is_left(place, rule, arch)
+        is_for(rule, arch)
     }
 
     // Whether the rule at a place is known to be yes.
@@ -168,7 +192,7 @@ impl<S: State> Agreement<'_, S> {
 
     // Whether the rules that are left for a machine agree with the verdict. Rules with other verdicts are asked for their
     // conditions where their number is possible, until one may match.
-    fn rules_agree_within(&self, arch: Arch, range: (u32, u32)) -> bool
+    fn rules_agree_within(&self, arch: Arch, range: (u32, u32), likely: &mut Likely) -> bool
         requires told { AreTold self.now.profile.now (known_of self.now) self.now.word self.now.told.now }
         requires range { NumberLies (known_of self.now) range.0 range.1 }
         ensures { let a = self.now in IsTrue result ↔ RulesAgree a.profile.now (out_of a) (met_of a) (known_of a) a.word arch }
@@ -181,14 +205,11 @@ impl<S: State> Agreement<'_, S> {
             narrow: false,
             conds: &[],
             is_so: true,
-            likely: 0,
         };
         for rule in self.profile.rules() {
             if self.is_asked(place, rule, arch, others) {
                 let number = number_of(self.facts, range, &mut numbers, rule.nr);
-                let (bearing, answer) = self.weigh(place, rule, number, last);
-                last = answer;
-                match bearing {
+                match self.weigh(place, rule, number, &mut last, likely) {
                     Bearing::Settles => return true,
                     Bearing::Agrees => {}
                     Bearing::Differs => others = true,
@@ -203,19 +224,19 @@ impl<S: State> Agreement<'_, S> {
     }
 
     // The same. Where but one number is possible, the rules for other calls are not looked at.
-    fn all_rules_agree(&self, arch: Arch) -> bool
+    fn all_rules_agree(&self, arch: Arch, likely: &mut Likely) -> bool
         requires told { AreTold self.now.profile.now (known_of self.now) self.now.word self.now.told.now }
         ensures { let a = self.now in IsTrue result ↔ RulesAgree a.profile.now (out_of a) (met_of a) (known_of a) a.word arch }
     {
         let (least, greatest) = number_range(self.facts);
         if least == greatest {
-            return self.call_agrees(arch, least);
+            return self.call_agrees(arch, least, likely);
         }
-        self.rules_agree_within(arch, (least, greatest))
+        self.rules_agree_within(arch, (least, greatest), likely)
     }
 
     // Whether the rules that are left for a machine agree with the verdict, where the first machines do.
-    fn rules_agree(&self, arch: Arch, count: usize) -> bool
+    fn rules_agree(&self, arch: Arch, count: usize, likely: &mut Likely) -> bool
         requires told { AreTold self.now.profile.now (known_of self.now) self.now.word self.now.told.now }
         requires first { let a = self.now in FirstAgree a.profile.now (out_of a) (met_of a) (known_of a) a.word count }
         requires count { count < length self.now.profile.now.machines }
@@ -227,7 +248,7 @@ impl<S: State> Agreement<'_, S> {
         if self.one_says(arch) {
             return true;
         }
-        self.all_rules_agree(arch)
+        self.all_rules_agree(arch, likely)
     }
 
     /// Whether no foreign number is possible, of these, or such a one gets its verdict.
@@ -245,7 +266,7 @@ impl<S: State> Agreement<'_, S> {
     }
 
     // Whether a machine agrees with the verdict, where the first machines do.
-    fn machine_agrees(&self, arch: Arch, count: usize) -> bool
+    fn machine_agrees(&self, arch: Arch, count: usize, likely: &mut Likely) -> bool
         requires told { AreTold self.now.profile.now (known_of self.now) self.now.word self.now.told.now }
         requires first { let a = self.now in FirstAgree a.profile.now (out_of a) (met_of a) (known_of a) a.word count }
         requires count { count < length self.now.profile.now.machines }
@@ -258,11 +279,11 @@ impl<S: State> Agreement<'_, S> {
         if is_among(self.facts, foreign) {
             return true;
         }
-        self.rules_agree(arch, count)
+        self.rules_agree(arch, count, likely)
     }
 
     // Whether a listed machine is another than the record's, or agrees with the verdict, where the first machines do.
-    fn listed_agrees(&self, arch: Arch, count: usize) -> bool
+    fn listed_agrees(&self, arch: Arch, count: usize, likely: &mut Likely) -> bool
         requires told { AreTold self.now.profile.now (known_of self.now) self.now.word self.now.told.now }
         requires first { let a = self.now in FirstAgree a.profile.now (out_of a) (met_of a) (known_of a) a.word count }
         requires count { count < length self.now.profile.now.machines }
@@ -271,18 +292,18 @@ impl<S: State> Agreement<'_, S> {
         if is_other(self.facts, arch.token()) {
             return true;
         }
-        self.machine_agrees(arch, count)
+        self.machine_agrees(arch, count, likely)
     }
 
     // Whether each listed machine does.
-    fn all_agree(&self) -> bool
+    fn all_agree(&self, likely: &mut Likely) -> bool
         requires told { AreTold self.now.profile.now (known_of self.now) self.now.word self.now.told.now }
         ensures { let a = self.now in IsTrue result
             ↔ All (ListedAgrees a.profile.now (out_of a) (met_of a) (known_of a) a.word) a.profile.now.machines }
     {
         let machines = self.profile.machines();
         for count in 0..machines.len() {
-            if !self.listed_agrees(machines[count], count) {
+            if !self.listed_agrees(machines[count], count, likely) {
                 return false;
             }
         }
@@ -302,13 +323,13 @@ impl<S: State> Agreement<'_, S> {
 
     /// Whether the profile says the verdict of each record of which this is known, and also that no rule matches that is out
     /// and that the conditions are met that are said to be.
-    pub(crate) fn agrees(&self) -> bool
+    pub(crate) fn agrees(&self, likely: &mut Likely) -> bool
         requires told { AreTold self.now.profile.now (known_of self.now) self.now.word self.now.told.now }
         ensures { let a = self.now in IsTrue result ↔ Agrees a.profile.now (out_of a) (met_of a) (known_of a) a.word }
     {
         if !self.foreign_agrees() {
             return false;
         }
-        self.all_agree()
+        self.all_agree(likely)
     }
 }

@@ -1,13 +1,14 @@
 //! Answers to the conditions of rules, of which neighbours often ask the same.
-ghost use Rattle.std.specs.Prelude.{◌≡◌, ◌↔◌, ◌<◌, ◌≤◌, List, IsTrue, length};
+ghost use Rattle.std.specs.Prelude.{◌≡◌, ◌↔◌, ◌<◌, ◌≤◌, List, [], IsTrue, length};
 ghost use Rattle.profile.specs.Rule.{is_narrow_rule};
 ghost use Rattle.cert_state.specs.declared.literal.Lit.{Lit as TheLit};
 ghost use Rattle.cert_check.specs.inner.Claimed.{mets_of};
 ghost use Rattle.cert_check.specs.inner.Judged.{IsAnswer, IsAnswered};
 
 use crate::claims::Mets;
-use crate::conditions::{all_are_yes, one_no};
+use crate::conditions::{one_no, one_open};
 use crate::judged::{Answered, Asked};
+use crate::likely::Likely;
 use cert_state::{Facts, State};
 use profile::{Cond, Op, Rule};
 
@@ -70,15 +71,15 @@ fn answers(last: &Answered<'_>, asked: Asked, narrow: bool, conds: &[Cond]) -> b
 }
 
 /// Whether what is asked is so of the conditions of the rule at a place, of which some are said to be met; and the place of the
-/// condition that is no, or the likely one.
+/// condition that decided it, if one did.
 pub(crate) fn ask_from<S: State>(
     facts: &Facts<'_, S>,
     mets: &Mets<'_, '_>,
     place: usize,
     rule: &Rule,
     asked: Asked,
-    likely: usize,
-) -> (bool, usize)
+    likely: (usize, usize),
+) -> (bool, Option<usize>)
     requires { place < 8192 }
     ensures answer { IsAnswer asked (is_narrow_rule rule.now) (mets_of mets.now.node) (S.known facts.now.state.now) place rule.now.conds.items result.0 }
     ensures few { length rule.now.conds.items ≤ 6 }
@@ -86,15 +87,18 @@ pub(crate) fn ask_from<S: State>(
     let narrow = rule.is_narrow();
     let conds = rule.conds.as_slice();
     match asked {
-        Asked::AllYes => (all_are_yes(facts, mets, place, narrow, conds), likely),
+        Asked::AllYes => match one_open(facts, mets, place, narrow, conds, likely) {
+            Some(own) => (false, Some(own)),
+            None => (true, None),
+        },
         Asked::OneNo => match one_no(facts, mets, place, narrow, conds, likely) {
-            Some(own) => (true, own),
-            None => (false, likely),
+            Some(own) => (true, Some(own)),
+            None => (false, None),
         },
     }
 }
 
-/// Whether it is so, where no condition is likelier than another to be no.
+/// Whether it is so, where no condition is likelier than another to decide it.
 pub(crate) fn ask<S: State>(
     facts: &Facts<'_, S>,
     mets: &Mets<'_, '_>,
@@ -105,34 +109,54 @@ pub(crate) fn ask<S: State>(
     requires { place < 8192 }
     ensures { IsAnswer asked (is_narrow_rule rule.now) (mets_of mets.now.node) (S.known facts.now.state.now) place rule.now.conds.items result }
 {
-    ask_from(facts, mets, place, rule, asked, usize::MAX).0
+    ask_from(facts, mets, place, rule, asked, (usize::MAX, usize::MAX)).0
 }
 
-/// Whether it is so where none is said to be met: as the last answer says, if that was to the same question.
+/// Whether it is so where none is said to be met, by what decided the rule at the nodes before; which is kept.
+pub(crate) fn ask_likely<S: State>(
+    facts: &Facts<'_, S>,
+    place: usize,
+    rule: &Rule,
+    asked: Asked,
+    likely: &mut Likely,
+) -> bool
+    requires { place < 8192 }
+    ensures answer { IsAnswer asked (is_narrow_rule rule.now) [] (S.known facts.now.state.now) 0 rule.now.conds.items result }
+    ensures few { length rule.now.conds.items ≤ 6 }
+{
+    let (is_so, decides) = ask_from(facts, &Mets::none(), 0, rule, asked, likely.of(place));
+    if let Some(own) = decides {
+        likely.keep(place, own);
+    }
+    is_so
+}
+
+/// The same, as the last answer says if that was to the same question. Else this answer takes its place.
 pub(crate) fn answer_of<'a, S: State>(
     facts: &Facts<'_, S>,
+    place: usize,
     rule: &'a Rule,
     asked: Asked,
-    last: Answered<'a>,
-) -> Answered<'a>
-    requires { IsAnswered (S.known facts.now.state.now) last }
-    ensures answer { IsAnswered (S.known facts.now.state.now) result }
-    ensures asked { result.asked ≡ asked }
-    ensures narrow { result.narrow ≡ is_narrow_rule rule.now }
-    ensures conds { result.conds.now ≡ rule.now.conds.items }
+    last: &mut Answered<'a>,
+    likely: &mut Likely,
+) -> bool
+    requires place { place < 8192 }
+    requires last { IsAnswered (S.known facts.now.state.now) last.old }
+    ensures answer { IsAnswer asked (is_narrow_rule rule.now) [] (S.known facts.now.state.now) 0 rule.now.conds.items result }
+    ensures kept { IsAnswered (S.known facts.now.state.now) last.new }
     ensures few { length rule.now.conds.items ≤ 6 }
 {
     let narrow = rule.is_narrow();
     let conds = rule.conds.as_slice();
-    if answers(&last, asked, narrow, conds) {
-        return last;
+    if answers(last, asked, narrow, conds) {
+        return last.is_so;
     }
-    let (is_so, likely) = ask_from(facts, &Mets::none(), 0, rule, asked, last.likely);
-    Answered {
+    let is_so = ask_likely(facts, place, rule, asked, likely);
+    *last = Answered {
         asked,
         narrow,
         conds,
         is_so,
-        likely,
-    }
+    };
+    is_so
 }

@@ -7,6 +7,7 @@ ghost use Rattle.cert_check.specs.inner.Told.{AreTold};
 
 use crate::judged::{Answered, Asked, Bearing};
 use crate::judging::Agreement;
+use crate::likely::Likely;
 use crate::numbers::ask_number;
 use call_tables::Arch;
 use cert_state::State;
@@ -29,7 +30,7 @@ impl<S: State> Agreement<'_, S> {
 
     /// Whether the rules that are left for a machine agree with the verdict, where the number is known to be no other one: those
     /// for other calls are refuted.
-    pub(crate) fn call_agrees(&self, arch: Arch, nr: u32) -> bool
+    pub(crate) fn call_agrees(&self, arch: Arch, nr: u32, likely: &mut Likely) -> bool
         requires told { AreTold self.now.profile.now (known_of self.now) self.now.word self.now.told.now }
         requires only { IsOnlyNumber (known_of self.now) nr }
         ensures { let a = self.now in IsTrue result ↔ RulesAgree a.profile.now (out_of a) (met_of a) (known_of a) a.word arch }
@@ -42,14 +43,11 @@ impl<S: State> Agreement<'_, S> {
             narrow: false,
             conds: &[],
             is_so: true,
-            likely: 0,
         };
         let mut next = self.profile.latest(arch.token(), nr);
         while let Some(place) = next {
-            if !self.outs.has(place) {
-                let (bearing, answer) = self.weigh(place, &rules[place], number, last);
-                last = answer;
-                match bearing {
+            if self.is_open(place) {
+                match self.weigh(place, &rules[place], number, &mut last, likely) {
                     Bearing::Settles => return true,
                     Bearing::Agrees => {}
                     Bearing::Differs => others = true,

@@ -261,44 +261,92 @@ fn is_no_nor_met<K: Knowledge>(
     is_no(known, narrow, cond)
 }
 
-/// Whether the conditions of the rule at a place, of which some are said to be met, are all yes.
-pub(crate) fn all_are_yes<K: Knowledge>(
+// Whether one of the conditions of the rule at a place stands here that is neither yes nor said to be met.
+fn is_open_at<K: Knowledge>(
     known: &K,
     mets: &Mets<'_, '_>,
     place: usize,
     narrow: bool,
     conds: &[Cond],
+    own: usize,
 ) -> bool
     requires place { place < 8192 }
     requires few { length conds.now ≤ 6 }
-    ensures { IsTrue result ↔ AllAreYes narrow (mets_of mets.now.node) (K.known known.now) place conds.now }
+    ensures { IsTrue result → AllAreYes narrow (mets_of mets.now.node) (K.known known.now) place conds.now → ⊥ }
 {
-    for own in 0..conds.len() {
-        if !is_yes_or_met(known, mets, place, own, narrow, &conds[own]) {
-            return false;
-        }
+    if own >= conds.len() {
+        return false;
     }
-    true
+    !is_yes_or_met(known, mets, place, own, narrow, &conds[own])
 }
 
-/// The place of one of them that is no, if there is one: that at a likely place is asked first.
+// Whether one stands here that is no.
+fn is_no_at<K: Knowledge>(
+    known: &K,
+    mets: &Mets<'_, '_>,
+    place: usize,
+    narrow: bool,
+    conds: &[Cond],
+    own: usize,
+) -> bool
+    requires place { place < 8192 }
+    requires few { length conds.now ≤ 6 }
+    ensures { IsTrue result → OneIsNo narrow (mets_of mets.now.node) (K.known known.now) place conds.now }
+{
+    if own >= conds.len() {
+        return false;
+    }
+    is_no_nor_met(known, mets, place, own, narrow, &conds[own])
+}
+
+/// The place of one of the conditions of the rule at a place that is neither yes nor said to be met, if there is one: those at two
+/// likely places are asked first.
+pub(crate) fn one_open<K: Knowledge>(
+    known: &K,
+    mets: &Mets<'_, '_>,
+    place: usize,
+    narrow: bool,
+    conds: &[Cond],
+    likely: (usize, usize),
+) -> Option<usize>
+    requires place { place < 8192 }
+    requires few { length conds.now ≤ 6 }
+    ensures { let all = AllAreYes narrow (mets_of mets.now.node) (K.known known.now) place conds.now in
+        MatchOption result all (λ _. all → ⊥) }
+{
+    if is_open_at(known, mets, place, narrow, conds, likely.0) {
+        return Some(likely.0);
+    }
+    if is_open_at(known, mets, place, narrow, conds, likely.1) {
+        return Some(likely.1);
+    }
+    for own in 0..conds.len() {
+        if !is_yes_or_met(known, mets, place, own, narrow, &conds[own]) {
+            return Some(own);
+        }
+    }
+    None
+}
+
+/// The place of one of them that is no, if there is one.
 pub(crate) fn one_no<K: Knowledge>(
     known: &K,
     mets: &Mets<'_, '_>,
     place: usize,
     narrow: bool,
     conds: &[Cond],
-    likely: usize,
+    likely: (usize, usize),
 ) -> Option<usize>
     requires place { place < 8192 }
     requires few { length conds.now ≤ 6 }
     ensures { let fails = OneIsNo narrow (mets_of mets.now.node) (K.known known.now) place conds.now in
         MatchOption result (fails → ⊥) (λ _. fails) }
 {
-    if likely < conds.len() {
-        if is_no_nor_met(known, mets, place, likely, narrow, &conds[likely]) {
-            return Some(likely);
-        }
+    if is_no_at(known, mets, place, narrow, conds, likely.0) {
+        return Some(likely.0);
+    }
+    if is_no_at(known, mets, place, narrow, conds, likely.1) {
+        return Some(likely.1);
     }
     for own in 0..conds.len() {
         if is_no_nor_met(known, mets, place, own, narrow, &conds[own]) {

@@ -44,6 +44,4 @@ pub(crate) struct Answered<'a> {
     pub(crate) narrow: bool,
     pub(crate) conds: &'a [Cond],
     pub(crate) is_so: bool,
-    /// The place of the last condition that was no: often one argument refutes many rules.
-    pub(crate) likely: usize,
 }

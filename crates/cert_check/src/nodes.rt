@@ -14,9 +14,9 @@ use crate::fault::CheckError;
 use crate::passage::Origin;
 use crate::returned::return_is_kept;
 use crate::root::root_is_kept;
+use crate::scratch::Scratch;
 use crate::split::split_is_kept;
 use cert_form::CertView;
-use cert_state::Room;
 use kernel_check::Accepted;
 use profile::Profile;
 
@@ -28,7 +28,7 @@ fn check_node(
     i: u32,
     placed: bool,
     agreed: &mut Agreed,
-    room: &mut Room,
+    scratch: &mut Scratch,
 ) -> Result<(), CheckError>
     requires within { i < length (nodes_of view.now) }
     requires placed { IsTrue placed → All (IsPlaced profile.now) (all_claims view.now) }
@@ -55,10 +55,10 @@ fn check_node(
         node: &node,
         placed,
     };
-    if !origin.entail_is_kept(&ways, room) {
+    if !origin.entail_is_kept(&ways, &mut scratch.room) {
         return Err(CheckError::Entail(i));
     }
-    if !return_is_kept(profile, &insn, &node, agreed, room) {
+    if !return_is_kept(profile, &insn, &node, agreed, scratch) {
         return Err(CheckError::Return(i));
     }
     Ok(())
@@ -81,10 +81,18 @@ pub(crate) fn check_nodes(
     }
     let placed = are_placed(profile, view);
     let mut agreed = Agreed::none();
-    let mut room = Room::new();
+    let mut scratch = Scratch::new();
     for i in 0..view.len() {
         let i = i as u32;
-        check_node(profile, accepted, view, i, placed, &mut agreed, &mut room)?;
+        check_node(
+            profile,
+            accepted,
+            view,
+            i,
+            placed,
+            &mut agreed,
+            &mut scratch,
+        )?;
     }
     Ok(())
 }

@@ -16,10 +16,11 @@ use crate::claims::{
     FEW_RULES, Mets, Outs, SOME_RULES, has_no_met, has_none, mark_mets, mark_outs,
 };
 use crate::judging::Agreement;
+use crate::scratch::Scratch;
 use bpf_insn::{Insn, Operation};
 use call_record::Word;
 use cert_form::{Kind, NodeView};
-use cert_state::{AVal, Facts, Room};
+use cert_state::{AVal, Facts};
 use profile::{MAX_RULES, Profile};
 
 // The verdict that a return gives, where it is known.
@@ -43,12 +44,13 @@ fn agrees_with(
     outs: Outs<'_, '_>,
     mets: Mets<'_, '_>,
     word: Word,
-    room: &mut Room,
+    scratch: &mut Scratch,
 ) -> bool
     requires outs { outs_of outs.node ≡ (says node.now).out }
     requires mets { mets_of mets.node ≡ (says node.now).met }
     ensures { let n = says node.now in IsTrue result ↔ Agrees profile.now n.out n.met n.known word }
 {
+    let Scratch { room, likely } = scratch;
     let facts = Facts::of(node, room);
     let agreement = Agreement {
         profile,
@@ -58,7 +60,7 @@ fn agrees_with(
         word,
         told: &[],
     };
-    agreement.agrees_in_all()
+    agreement.agrees_in_all(likely)
 }
 
 // The same by a table for the conditions, in which none is marked yet.
@@ -68,14 +70,14 @@ fn agrees_by(
     outs: Outs<'_, '_>,
     word: Word,
     table: &mut [bool],
-    room: &mut Room,
+    scratch: &mut Scratch,
 ) -> bool
     requires outs { outs_of outs.node ≡ (says node.now).out }
     requires table { IsClear table.old }
     ensures { let n = says node.now in IsTrue result ↔ Agrees profile.now n.out n.met n.known word }
 {
     mark_mets(node, table);
-    agrees_with(profile, node, outs, Mets::of(node, table), word, room)
+    agrees_with(profile, node, outs, Mets::of(node, table), word, scratch)
 }
 
 // The same where the profile has few rules. A table is made in a function of its own, and where the node names something
@@ -86,12 +88,19 @@ fn agrees_by_few(
     node: &NodeView<'_>,
     outs: Outs<'_, '_>,
     word: Word,
-    room: &mut Room,
+    scratch: &mut Scratch,
 ) -> bool
     requires { outs_of outs.node ≡ (says node.now).out }
     ensures { let n = says node.now in IsTrue result ↔ Agrees profile.now n.out n.met n.known word }
 {
-    agrees_by(profile, node, outs, word, &mut [false; 6 * FEW_RULES], room)
+    agrees_by(
+        profile,
+        node,
+        outs,
+        word,
+        &mut [false; 6 * FEW_RULES],
+        scratch,
+    )
 }
 
 // The same where it has some more.
@@ -101,7 +110,7 @@ fn agrees_by_some(
     node: &NodeView<'_>,
     outs: Outs<'_, '_>,
     word: Word,
-    room: &mut Room,
+    scratch: &mut Scratch,
 ) -> bool
     requires { outs_of outs.node ≡ (says node.now).out }
     ensures { let n = says node.now in IsTrue result ↔ Agrees profile.now n.out n.met n.known word }
@@ -112,7 +121,7 @@ fn agrees_by_some(
         outs,
         word,
         &mut [false; 6 * SOME_RULES],
-        room,
+        scratch,
     )
 }
 
@@ -123,12 +132,19 @@ fn agrees_by_many(
     node: &NodeView<'_>,
     outs: Outs<'_, '_>,
     word: Word,
-    room: &mut Room,
+    scratch: &mut Scratch,
 ) -> bool
     requires { outs_of outs.node ≡ (says node.now).out }
     ensures { let n = says node.now in IsTrue result ↔ Agrees profile.now n.out n.met n.known word }
 {
-    agrees_by(profile, node, outs, word, &mut [false; 6 * MAX_RULES], room)
+    agrees_by(
+        profile,
+        node,
+        outs,
+        word,
+        &mut [false; 6 * MAX_RULES],
+        scratch,
+    )
 }
 
 // Whether the profile says a verdict of all that a node knows, of which these rules are out.
@@ -137,42 +153,42 @@ fn agrees_but_for(
     node: &NodeView<'_>,
     outs: Outs<'_, '_>,
     word: Word,
-    room: &mut Room,
+    scratch: &mut Scratch,
 ) -> bool
     requires { outs_of outs.node ≡ (says node.now).out }
     ensures { let n = says node.now in IsTrue result ↔ Agrees profile.now n.out n.met n.known word }
 {
     if has_no_met(node) {
-        return agrees_with(profile, node, outs, Mets::none(), word, room);
+        return agrees_with(profile, node, outs, Mets::none(), word, scratch);
     }
     let rules = profile.rules().len();
     if rules <= FEW_RULES {
-        return agrees_by_few(profile, node, outs, word, room);
+        return agrees_by_few(profile, node, outs, word, scratch);
     }
     if rules <= SOME_RULES {
-        return agrees_by_some(profile, node, outs, word, room);
+        return agrees_by_some(profile, node, outs, word, scratch);
     }
-    agrees_by_many(profile, node, outs, word, room)
+    agrees_by_many(profile, node, outs, word, scratch)
 }
 
 // The same by a table of the rules that the node says to be out.
 #[inline(never)]
-fn agrees_by_outs(profile: &Profile, node: &NodeView<'_>, word: Word, room: &mut Room) -> bool
+fn agrees_by_outs(profile: &Profile, node: &NodeView<'_>, word: Word, scratch: &mut Scratch) -> bool
     ensures { let n = says node.now in IsTrue result ↔ Agrees profile.now n.out n.met n.known word }
 {
     let mut marked = [false; 8192];
     mark_outs(node, &mut marked);
-    agrees_but_for(profile, node, Outs::of(node, &marked), word, room)
+    agrees_but_for(profile, node, Outs::of(node, &marked), word, scratch)
 }
 
 // Whether the profile says a verdict of all that a node knows.
-fn agrees_on(profile: &Profile, node: &NodeView<'_>, word: Word, room: &mut Room) -> bool
+fn agrees_on(profile: &Profile, node: &NodeView<'_>, word: Word, scratch: &mut Scratch) -> bool
     ensures { let n = says node.now in IsTrue result ↔ Agrees profile.now n.out n.met n.known word }
 {
     if has_none(node) {
-        return agrees_but_for(profile, node, Outs::none(), word, room);
+        return agrees_but_for(profile, node, Outs::none(), word, scratch);
     }
-    agrees_by_outs(profile, node, word, room)
+    agrees_by_outs(profile, node, word, scratch)
 }
 
 // The same, which is not found out again of a chain and a verdict of which it is kept that they agree.
@@ -181,7 +197,7 @@ fn agrees_once(
     node: &NodeView<'_>,
     word: Word,
     agreed: &mut Agreed,
-    room: &mut Room,
+    scratch: &mut Scratch,
 ) -> bool
     requires { AreAgreed profile.now (certificate_of node.now) agreed.old }
     ensures answer { let n = says node.now in IsTrue result ↔ Agrees profile.now n.out n.met n.known word }
@@ -190,7 +206,7 @@ fn agrees_once(
     if agreed.has(node, word) {
         return true;
     }
-    if !agrees_on(profile, node, word, room) {
+    if !agrees_on(profile, node, word, scratch) {
         return false;
     }
     agreed.keep(node, word);
@@ -198,13 +214,13 @@ fn agrees_once(
 }
 
 // Whether a rule without conditions says a verdict of each number that a node of a sharp certificate leaves possible.
-fn says_of_each(profile: &Profile, node: &NodeView<'_>, word: Word, room: &mut Room) -> bool
+fn says_of_each(profile: &Profile, node: &NodeView<'_>, word: Word, scratch: &mut Scratch) -> bool
     ensures { let n = says node.now in IsTrue result ↔ IsTrue n.sharp × SaysOfEach profile.now n.known word }
 {
     if !node.is_sharp() {
         return false;
     }
-    let facts = Facts::of(node, room);
+    let facts = Facts::of(node, &mut scratch.room);
     let agreement = Agreement {
         profile,
         outs: Outs::none(),
@@ -222,16 +238,16 @@ fn return_agrees(
     node: &NodeView<'_>,
     word: Word,
     agreed: &mut Agreed,
-    room: &mut Room,
+    scratch: &mut Scratch,
 ) -> bool
     requires { AreAgreed profile.now (certificate_of node.now) agreed.old }
     ensures answer { IsTrue result ↔ ReturnAgrees profile.now (says node.now) word }
     ensures kept { AreAgreed profile.now (certificate_of node.now) agreed.new }
 {
-    if says_of_each(profile, node, word, room) {
+    if says_of_each(profile, node, word, scratch) {
         return true;
     }
-    agrees_once(profile, node, word, agreed, room)
+    agrees_once(profile, node, word, agreed, scratch)
 }
 
 // Whether the instruction returns a verdict that is known, and the profile's on all that the node knows.
@@ -240,7 +256,7 @@ fn returns(
     insn: &Insn,
     node: &NodeView<'_>,
     agreed: &mut Agreed,
-    room: &mut Room,
+    scratch: &mut Scratch,
 ) -> bool
     requires { AreAgreed profile.now (certificate_of node.now) agreed.old }
     ensures answer { IsTrue result ↔ ReturnsAt profile.now insn.now (says node.now) }
@@ -249,7 +265,7 @@ fn returns(
     let Some(word) = returned_by(insn, node) else {
         return false;
     };
-    return_agrees(profile, node, Word(word), agreed, room)
+    return_agrees(profile, node, Word(word), agreed, scratch)
 }
 
 /// Whether a node, if it is a return, returns the profile's verdict at its instruction.
@@ -258,14 +274,14 @@ pub(crate) fn return_is_kept(
     insn: &Insn,
     node: &NodeView<'_>,
     agreed: &mut Agreed,
-    room: &mut Room,
+    scratch: &mut Scratch,
 ) -> bool
     requires { AreAgreed profile.now (certificate_of node.now) agreed.old }
     ensures answer { IsTrue result ↔ ((says node.now).kind ≡ kind.Return → ReturnsAt profile.now insn.now (says node.now)) }
     ensures kept { AreAgreed profile.now (certificate_of node.now) agreed.new }
 {
     match node.kind() {
-        Kind::Return => returns(profile, insn, node, agreed, room),
+        Kind::Return => returns(profile, insn, node, agreed, scratch),
         Kind::Step(_, _) => true,
         Kind::Split(_, _, _, _) => true,
         Kind::Dead => true,

@@ -4,17 +4,18 @@ ghost use Rattle.cert_check.specs.Agree.{Agrees};
 
 use crate::claims::{Mets, Outs};
 use crate::judging::Agreement;
+use crate::scratch::Scratch;
 use call_record::Word;
-use cert_state::{Facts, Room, State};
+use cert_state::{Facts, State};
 use profile::Profile;
 
 /// Whether the profile says a verdict of each record of which a state knows: the first way of a return, where no rule is said to be
-/// out and no condition to be met.
-pub fn is_settled<S: State>(profile: &Profile, state: &S, word: Word) -> bool
+/// out and no condition to be met. The room serves one question after the other.
+pub fn is_settled<S: State>(profile: &Profile, state: &S, word: Word, scratch: &mut Scratch) -> bool
     ensures { IsTrue result ↔ Agrees profile.now [] [] (S.known state.now) word }
 {
-    let mut room = Room::new();
-    let facts = Facts::of(state, &mut room);
+    let Scratch { room, likely } = scratch;
+    let facts = Facts::of(state, room);
     let agreement = Agreement {
         profile,
         outs: Outs::none(),
@@ -23,5 +24,5 @@ pub fn is_settled<S: State>(profile: &Profile, state: &S, word: Word) -> bool
         word,
         told: &[],
     };
-    agreement.agrees_in_all()
+    agreement.agrees_in_all(likely)
 }

@@ -4,20 +4,33 @@ ghost use Rattle.std.specs.Prelude.{◌≡◌, ◌<◌, ◌↔◌, IsTrue, IfSom
 ghost use Rattle.profile.specs.declared.rules.Rule.{Rule as TheRule};
 ghost use Rattle.cert_check.specs.Agree.{Agrees};
 ghost use Rattle.cert_check.specs.inner.Asked.{known_of, met_of, out_of};
-ghost use Rattle.cert_check.specs.inner.Told.{AreTold, IsToldOf, question_of};
+ghost use Rattle.cert_check.specs.declared.judged.Bearing.TheVariants.{Agrees as Agreeing};
+ghost use Rattle.cert_check.specs.inner.Judged.{Bears};
+ghost use Rattle.cert_check.specs.inner.Told.{AreTold, IsToldOf, question_of, turn};
 
 use crate::agree::is_other;
 use crate::alike::say_the_same;
-use crate::answered::ask_from;
-use crate::claims::Mets;
+use crate::answered::ask_likely;
 use crate::judged::Asked;
 use crate::judging::Agreement;
+use crate::likely::Likely;
 use crate::numbers::number_range;
 use cert_state::State;
 use profile::Rule;
 
+/// Whether a rule bears on a verdict, by the answer to what is asked of its conditions; and that answer, by whether it bears on it.
+pub(crate) fn turned(asked: Asked, so: bool) -> bool
+    ensures { result ≡ turn asked so }
+{
+    match asked {
+        Asked::AllYes => so,
+        Asked::OneNo => !so,
+    }
+}
+
 impl<S: State> Agreement<'_, S> {
-    // The answer at a place, if there is one.
+    // Whether the rule at a place bears on the verdict by its conditions, if that is told.
+    #[inline(always)]
     pub(crate) fn told_at(&self, place: usize) -> Option<bool>
         requires told { AreTold self.now.profile.now (known_of self.now) self.now.word self.now.told.now }
         ensures { (rule : TheRule) → slice_get self.now.profile.now.rules place ≡ Some rule
@@ -27,6 +40,25 @@ impl<S: State> Agreement<'_, S> {
             self.told[place]
         } else {
             None
+        }
+    }
+
+    /// Whether the rule at a place is told to agree with the verdict.
+    #[inline(always)]
+    pub(crate) fn agrees_at(&self, place: usize) -> bool
+        requires told { AreTold self.now.profile.now (known_of self.now) self.now.word self.now.told.now }
+        requires place { place < 8192 }
+        ensures { IsTrue result → (rule : TheRule) → slice_get self.now.profile.now.rules place ≡ Some rule
+            → Bears (met_of self.now) (known_of self.now) self.now.word place rule Agreeing }
+    {
+        match self.told_at(place) {
+            None => false,
+            Some(bears) => {
+                if bears {
+                    return false;
+                }
+                !self.mets.has_some(place)
+            }
         }
     }
 
@@ -55,47 +87,48 @@ impl<S: State> Agreement<'_, S> {
         !self.outs.has(place)
     }
 
-    // The answer for a rule: that of an earlier one which says the same, or what comes of asking; and the place of the condition
-    // that is no, or the likely one.
+    // Whether the rule at a place bears on the verdict by its conditions: as an earlier one does which says the same, or by what
+    // comes of asking.
     fn tell(
         &self,
+        place: usize,
         rule: &Rule,
         before: usize,
-        likely: usize,
         table: &[Option<bool>; 8192],
-    ) -> (bool, usize)
-        requires { AreTold self.now.profile.now (known_of self.now) self.now.word table.now }
-        ensures { IsToldOf (known_of self.now) self.now.word rule.now result.0 }
+        likely: &mut Likely,
+    ) -> bool
+        requires place { place < 8192 }
+        requires told { AreTold self.now.profile.now (known_of self.now) self.now.word table.now }
+        ensures { IsToldOf (known_of self.now) self.now.word rule.now result }
     {
         let rules = self.profile.rules();
         if before < rules.len() && before < 8192 {
-            if let Some(is_so) = table[before] {
+            if let Some(bears) = table[before] {
                 if say_the_same(&rules[before], rule) {
-                    return (is_so, likely);
+                    return bears;
                 }
             }
         }
         let asked = self.question(rule);
-        ask_from(self.facts, &Mets::none(), 0, rule, asked, likely)
+        let is_so = ask_likely(self.facts, place, rule, asked, likely);
+        turned(asked, is_so)
     }
 
-    // Answers for all rules that are worth asking, in a table where there is none. Often one argument refutes many.
-    fn tell_all(&self, table: &mut [Option<bool>; 8192])
+    // Tells it of all rules that are worth asking, in a table where nothing is told.
+    fn tell_all(&self, table: &mut [Option<bool>; 8192], likely: &mut Likely)
         requires { table.old ≡ replicate 8192 None }
         ensures { AreTold self.now.profile.now (known_of self.now) self.now.word table.new }
     {
         let range = number_range(self.facts);
         // The places of the last wide rule and of the last narrow one.
         let mut before = [0_usize; 2];
-        let mut likely = 0_usize;
         let mut place = 0_usize;
         for rule in self.profile.rules() {
             if self.is_wanted(place, rule, range) {
                 let width = if rule.is_narrow() { 1 } else { 0 };
-                let (is_so, own) = self.tell(rule, before[width], likely, table);
-                table[place] = Some(is_so);
+                let bears = self.tell(place, rule, before[width], table, likely);
+                table[place] = Some(bears);
                 before[width] = place;
-                likely = own;
             }
             place += 1;
         }
@@ -119,12 +152,12 @@ impl<S: State> Agreement<'_, S> {
     // Whether the profile says the verdict, by a table of answers. It is made in a function of its own, so that no other return
     // makes room for it.
     #[inline(never)]
-    fn agrees_by_table(&self) -> bool
+    fn agrees_by_table(&self, likely: &mut Likely) -> bool
         requires told { AreTold self.now.profile.now (known_of self.now) self.now.word self.now.told.now }
         ensures { let a = self.now in IsTrue result ↔ Agrees a.profile.now (out_of a) (met_of a) (known_of a) a.word }
     {
         let mut table = [None; 8192];
-        self.tell_all(&mut table);
+        self.tell_all(&mut table, likely);
         let told = Agreement {
             profile: self.profile,
             outs: self.outs,
@@ -133,18 +166,18 @@ impl<S: State> Agreement<'_, S> {
             word: self.word,
             told: &table,
         };
-        told.agrees()
+        told.agrees(likely)
     }
 
     /// Whether the profile says the verdict of each record of which this is known, and also that no rule matches that is out
     /// and that the conditions are met that are said to be.
-    pub(crate) fn agrees_in_all(&self) -> bool
+    pub(crate) fn agrees_in_all(&self, likely: &mut Likely) -> bool
         requires told { AreTold self.now.profile.now (known_of self.now) self.now.word self.now.told.now }
         ensures { let a = self.now in IsTrue result ↔ Agrees a.profile.now (out_of a) (met_of a) (known_of a) a.word }
     {
         if self.has_two_tokens() {
-            return self.agrees_by_table();
+            return self.agrees_by_table(likely);
         }
-        self.agrees()
+        self.agrees(likely)
     }
 }

@@ -9,35 +9,36 @@ ghost use Rattle.cert_check.specs.inner.Told.{AreTold, question_of};
 use crate::answered::{answer_of, ask};
 use crate::judged::{Answered, Asked, Bearing, Number};
 use crate::judging::Agreement;
+use crate::likely::Likely;
+use crate::told::turned;
 use cert_state::State;
 use profile::Rule;
 
 impl<S: State> Agreement<'_, S> {
-    // Whether what is asked is so of the conditions of the rule at a place, with the last answer where none was said to be met:
-    // that is no answer for a rule with conditions that are.
+    // Whether what is asked is so of the conditions of the rule at a place. The last answer serves where none is said to be met.
     fn answer_at<'r>(
         &self,
         place: usize,
         rule: &'r Rule,
         asked: Asked,
-        last: Answered<'r>,
-    ) -> (bool, Answered<'r>)
+        last: &mut Answered<'r>,
+        likely: &mut Likely,
+    ) -> bool
         requires told { AreTold self.now.profile.now (known_of self.now) self.now.word self.now.told.now }
         requires place { place < 8192 }
         requires stands { slice_get self.now.profile.now.rules place ≡ Some rule.now }
         requires question { asked ≡ question_of self.now.word rule.now }
-        requires last { IsAnswered (known_of self.now) last }
-        ensures is_so { IsAnswer asked (is_narrow_rule rule.now) (met_of self.now) (known_of self.now) place rule.now.conds.items result.0 }
-        ensures answer { IsAnswered (known_of self.now) result.1 }
+        requires last { IsAnswered (known_of self.now) last.old }
+        ensures is_so { IsAnswer asked (is_narrow_rule rule.now) (met_of self.now) (known_of self.now) place rule.now.conds.items result }
+        ensures kept { IsAnswered (known_of self.now) last.new }
     {
         if self.mets.has_some(place) {
-            return (ask(self.facts, &self.mets, place, rule, asked), last);
+            return ask(self.facts, &self.mets, place, rule, asked);
         }
-        if let Some(is_so) = self.told_at(place) {
-            return (is_so, last);
+        if let Some(bears) = self.told_at(place) {
+            return turned(asked, bears);
         }
-        let answer = answer_of(self.facts, rule, asked, last);
-        (answer.is_so, answer)
+        answer_of(self.facts, place, rule, asked, last, likely)
     }
 
     // How a rule of the record's machine at a place bears on the verdict that it says. Its conditions are not asked for where
@@ -48,25 +49,25 @@ impl<S: State> Agreement<'_, S> {
         place: usize,
         rule: &'r Rule,
         number: Number,
-        last: Answered<'r>,
-    ) -> (Bearing, Answered<'r>)
+        last: &mut Answered<'r>,
+        likely: &mut Likely,
+    ) -> Bearing
         requires told { AreTold self.now.profile.now (known_of self.now) self.now.word self.now.told.now }
         requires place { place < 8192 }
         requires stands { slice_get self.now.profile.now.rules place ≡ Some rule.now }
         requires number { IsKnownNumber (known_of self.now) rule.now.nr number }
         requires word { rule.now.word ≡ self.now.word }
-        requires last { IsAnswered (known_of self.now) last }
-        ensures bearing { Bears (met_of self.now) (known_of self.now) self.now.word place rule.now result.0 }
-        ensures answer { IsAnswered (known_of self.now) result.1 }
+        requires last { IsAnswered (known_of self.now) last.old }
+        ensures bearing { Bears (met_of self.now) (known_of self.now) self.now.word place rule.now result }
+        ensures kept { IsAnswered (known_of self.now) last.new }
     {
         if !number.own {
-            return (Bearing::Agrees, last);
+            return Bearing::Agrees;
         }
-        let (all_yes, answer) = self.answer_at(place, rule, Asked::AllYes, last);
-        if all_yes {
-            return (Bearing::Settles, answer);
+        if self.answer_at(place, rule, Asked::AllYes, last, likely) {
+            return Bearing::Settles;
         }
-        (Bearing::Agrees, answer)
+        Bearing::Agrees
     }
 
     // How a rule at a place bears on another verdict, of whose conditions none is no.
@@ -96,25 +97,25 @@ impl<S: State> Agreement<'_, S> {
         place: usize,
         rule: &'r Rule,
         number: Number,
-        last: Answered<'r>,
-    ) -> (Bearing, Answered<'r>)
+        last: &mut Answered<'r>,
+        likely: &mut Likely,
+    ) -> Bearing
         requires told { AreTold self.now.profile.now (known_of self.now) self.now.word self.now.told.now }
         requires place { place < 8192 }
         requires stands { slice_get self.now.profile.now.rules place ≡ Some rule.now }
         requires number { IsKnownNumber (known_of self.now) rule.now.nr number }
         requires word { rule.now.word ≢ self.now.word }
-        requires last { IsAnswered (known_of self.now) last }
-        ensures bearing { Bears (met_of self.now) (known_of self.now) self.now.word place rule.now result.0 }
-        ensures answer { IsAnswered (known_of self.now) result.1 }
+        requires last { IsAnswered (known_of self.now) last.old }
+        ensures bearing { Bears (met_of self.now) (known_of self.now) self.now.word place rule.now result }
+        ensures kept { IsAnswered (known_of self.now) last.new }
     {
-        let (one_no, answer) = self.answer_at(place, rule, Asked::OneNo, last);
-        if one_no {
-            return (Bearing::Agrees, answer);
+        if self.answer_at(place, rule, Asked::OneNo, last, likely) {
+            return Bearing::Agrees;
         }
-        (self.weigh_left(place, rule, number), answer)
+        self.weigh_left(place, rule, number)
     }
 
-    /// How the rule of the record's machine at a place bears on the verdict, with the last answer to conditions. A rule that says
+    /// How the rule of the record's machine at a place bears on the verdict, by the last answer to conditions if that serves. A rule that says
     /// the verdict is asked whether it is yes, another one whether it is no; and one of another number nothing, which is most often so.
     #[inline(always)]
     pub(crate) fn weigh<'r>(
@@ -122,22 +123,23 @@ impl<S: State> Agreement<'_, S> {
         place: usize,
         rule: &'r Rule,
         number: Number,
-        last: Answered<'r>,
-    ) -> (Bearing, Answered<'r>)
+        last: &mut Answered<'r>,
+        likely: &mut Likely,
+    ) -> Bearing
         requires told { AreTold self.now.profile.now (known_of self.now) self.now.word self.now.told.now }
         requires place { place < 8192 }
         requires stands { slice_get self.now.profile.now.rules place ≡ Some rule.now }
         requires number { IsKnownNumber (known_of self.now) rule.now.nr number }
-        requires last { IsAnswered (known_of self.now) last }
-        ensures bearing { Bears (met_of self.now) (known_of self.now) self.now.word place rule.now result.0 }
-        ensures answer { IsAnswered (known_of self.now) result.1 }
+        requires last { IsAnswered (known_of self.now) last.old }
+        ensures bearing { Bears (met_of self.now) (known_of self.now) self.now.word place rule.now result }
+        ensures kept { IsAnswered (known_of self.now) last.new }
     {
         if !number.own && number.other {
-            return (Bearing::Agrees, last);
+            return Bearing::Agrees;
         }
         if rule.word == self.word {
-            return self.weigh_own(place, rule, number, last);
+            return self.weigh_own(place, rule, number, last, likely);
         }
-        self.weigh_other(place, rule, number, last)
+        self.weigh_other(place, rule, number, last, likely)
     }
 }

@@ -35,7 +35,7 @@ use crate::told::told_or_cut;
 use crate::unlike::{is_wrong_on, likely_record, tried};
 use bpf_insn::Insn;
 use call_record::{Record, Word, words_are_a_record};
-use cert_check::{is_settled, stated_is_settled};
+use cert_check::{Scratch, is_settled, stated_is_settled};
 use cert_form::Kind;
 use cert_state::dead;
 use kernel_check::Accepted;
@@ -105,6 +105,7 @@ fn at_return(
     program: &Accepted<'_>,
     from: Place,
     word: u32,
+    scratch: &mut Scratch,
 ) -> Result<Kind, PathsError>
     requires paths { ArePaths paths.old }
     requires from { IsPlace paths.old.entries.items from }
@@ -123,7 +124,7 @@ fn at_return(
         → length paths.old.places.items + nodes ≤ 16385 → IfErr result (λ e. e ≡ OutOfMemory) }
 {
     let known = paths.known(from);
-    if is_settled(profile, &known, Word(word)) {
+    if is_settled(profile, &known, Word(word), scratch) {
         return Ok(Kind::Return);
     }
     let likely = likely_record(&known);
@@ -222,6 +223,7 @@ fn at_end(
     program: &Accepted<'_>,
     from: Place,
     insn: Insn,
+    scratch: &mut Scratch,
 ) -> Result<Kind, PathsError>
     requires paths { ArePaths paths.old }
     requires from { IsPlace paths.old.entries.items from }
@@ -243,7 +245,7 @@ fn at_end(
         → length paths.old.places.items + nodes ≤ 16385 → IfErr result (λ e. e ≡ OutOfMemory) }
 {
     match verdict_at(from, &insn) {
-        Some(word) => at_return(paths, profile, program, from, word),
+        Some(word) => at_return(paths, profile, program, from, word, scratch),
         None => Err(at_unknown(paths, profile, program, from)),
     }
 }
@@ -255,6 +257,7 @@ fn at_insn(
     program: &Accepted<'_>,
     from: Place,
     insn: Insn,
+    scratch: &mut Scratch,
 ) -> Result<Kind, PathsError>
     requires paths { ArePaths paths.old }
     requires inside { AreInside (accepted_insns program.now) paths.old }
@@ -276,7 +279,7 @@ fn at_insn(
         → length paths.old.places.items + nodes ≤ 16385 → IfErr result (λ e. e ≡ OutOfMemory) }
 {
     match action_of(&insn) {
-        Action::Ends => at_end(paths, profile, program, from, insn),
+        Action::Ends => at_end(paths, profile, program, from, insn, scratch),
         Action::Forks => at_fork(paths, from, insn),
         Action::Goes(skip) => step(paths, from, insn, skip),
     }
@@ -288,6 +291,7 @@ fn follow(
     profile: &Profile,
     program: &Accepted<'_>,
     from: Place,
+    scratch: &mut Scratch,
 ) -> Result<Kind, PathsError>
     requires paths { ArePaths paths.old }
     requires inside { AreInside (accepted_insns program.now) paths.old }
@@ -310,7 +314,7 @@ fn follow(
     let Some(insn) = program.insn_at(from.pc) else {
         return Err(PathsError::Unsettled(u32::from(from.pc)));
     };
-    at_insn(paths, profile, program, from, insn)
+    at_insn(paths, profile, program, from, insn, scratch)
 }
 
 // Follows the first place that has no node yet. The result is false where each has one.
@@ -318,6 +322,7 @@ fn follow_next(
     paths: &mut Paths,
     profile: &Profile,
     program: &Accepted<'_>,
+    scratch: &mut Scratch,
 ) -> Result<bool, PathsError>
     requires sound { AreSound profile.now (accepted_insns program.now) paths.old }
     ensures sound { OnOk result (AreSound profile.now (accepted_insns program.now) paths.new) }
@@ -334,7 +339,7 @@ fn follow_next(
     let Some(from) = paths.next_place() else {
         return Ok(false);
     };
-    let kind = follow(paths, profile, program, from)?;
+    let kind = follow(paths, profile, program, from, scratch)?;
     paths.give(kind)?;
     Ok(true)
 }
@@ -344,6 +349,7 @@ fn follow_all(
     paths: &mut Paths,
     profile: &Profile,
     program: &Accepted<'_>,
+    scratch: &mut Scratch,
 ) -> Result<(), PathsError>
     requires sound { AreSound profile.now (accepted_insns program.now) paths.old }
     ensures sound { OnOk result (AreSound profile.now (accepted_insns program.now) paths.new) }
@@ -354,7 +360,7 @@ fn follow_all(
         → IfErr result (λ e. e ≡ OutOfMemory) }
 {
     loop {
-        if !follow_next(paths, profile, program)? {
+        if !follow_next(paths, profile, program, scratch)? {
             return Ok(());
         }
     }
@@ -387,6 +393,7 @@ pub fn by_paths(
 {
     profile.rules();
     let mut paths = Paths::new(alloc)?;
-    follow_all(&mut paths, profile, program)?;
+    let mut scratch = Scratch::new();
+    follow_all(&mut paths, profile, program, &mut scratch)?;
     paths.written(alloc)
 }

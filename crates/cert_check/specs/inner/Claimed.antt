@@ -1,5 +1,5 @@
 -- What a node claims of rules, where there is one.
-use Rattle.std.specs.Prelude.{ℕ, List, [], Option, Some, None}
+use Rattle.std.specs.Prelude.{ℕ, ◌<◌, List, [], Contains, Option, Some, None}
 use Rattle.cert_form.specs.declared.lent.NodeView.{NodeView}
 use Rattle.cert_form.specs.Views.{says}
 
@@ -12,3 +12,7 @@ outs_of (Some node) = (says node).out
 abbrev pub mets_of : Option NodeView → List (ℕ × ℕ)
 mets_of None = []
 mets_of (Some node) = (says node).met
+
+-- one of the six conditions of the rule at a place is said to be met
+abbrev pub HasOne : List (ℕ × ℕ) → ℕ → Type 0
+HasOne met place = (own : ℕ) × (own < 6) × Contains met (place, own)

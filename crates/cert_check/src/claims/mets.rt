@@ -82,7 +82,7 @@ fn says_met(node: &NodeView<'_>, rule: usize, own: usize) -> bool
 impl<'t, 'a> Mets<'t, 'a> {
     ghost use Rattle.std.specs.Prelude.{◌≡◌, ◌↔◌, ◌<◌, [], ℕ, Contains, IsTrue};
     ghost use Rattle.cert_form.specs.Views.{says};
-    ghost use Rattle.cert_check.specs.inner.Claimed.{mets_of};
+    ghost use Rattle.cert_check.specs.inner.Claimed.{HasOne, mets_of};
     ghost use Rattle.cert_check.specs.inner.Marked.{AreMetMarked};
 
     /// No condition is said to be met.
@@ -122,10 +122,10 @@ impl<'t, 'a> Mets<'t, 'a> {
         }
     }
 
-    /// Whether some condition of the rule at a place is.
-    pub(crate) fn has_some(&self, rule: usize) -> bool
+    // Whether one of the six conditions of the rule at a place is.
+    fn has_one(&self, rule: usize) -> bool
         requires { rule < 8192 }
-        ensures { IsTrue result ↔ ((own : ℕ) × (own < 6) × Contains (mets_of self.now.node) (rule, own)) }
+        ensures { IsTrue result ↔ HasOne (mets_of self.now.node) rule }
     {
         for own in 0..6_usize {
             if self.has(rule, own) {
@@ -133,6 +133,18 @@ impl<'t, 'a> Mets<'t, 'a> {
             }
         }
         false
+    }
+
+    /// Whether some condition of the rule at a place is. Most nodes say it of none.
+    #[inline(always)]
+    pub(crate) fn has_some(&self, rule: usize) -> bool
+        requires { rule < 8192 }
+        ensures { IsTrue result ↔ HasOne (mets_of self.now.node) rule }
+    {
+        match self.node {
+            Some(_) => self.has_one(rule),
+            None => false,
+        }
     }
 }
 

@@ -129,6 +129,17 @@ pub(crate) fn is_out<S: State>(
         return (true, likely);
     }
     let rule = &rules[place];
-    let (one_no, own) = ask_from(facts, &Mets::none(), 0, rule, Asked::OneNo, likely);
+    let (one_no, decides) = ask_from(
+        facts,
+        &Mets::none(),
+        0,
+        rule,
+        Asked::OneNo,
+        (likely, usize::MAX),
+    );
+    let own = match decides {
+        Some(own) => own,
+        None => likely,
+    };
     (refutes(facts, rule, one_no), own)
 }

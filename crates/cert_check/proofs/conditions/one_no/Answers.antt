@@ -10,23 +10,9 @@ use Rattle.cert_check.proofs.conditions.one_no.Goals as goal
 pub returns-then-is_no_nor_met : goal.returns-then-is_no_nor_met
 returns-then-is_no_nor_met g c =
     let conds = c.args.conds.now in
-    let n = c.args.likely in
-    let cond = c.index-conds-likely.result in
-    let no = c.if-is_no_nor_met.ensures.0 refl in
-    record {
-      own = n;
-      cond = cond;
-      stands = slice_get-get_or conds n cond (omega (arith, c.if-likely-conds.true)) ∙ ap Some (sym c.index-conds-likely.is);
-      not_met = no.0;
-      is_no = no.1;
-    }
-
-pub returns-then-is_no_nor_met-2 : goal.returns-then-is_no_nor_met-2
-returns-then-is_no_nor_met-2 g c =
-    let conds = c.args.conds.now in
     let n = c.loop-own.own in
     let cond = c.index-conds-own.result in
-    let no = c.if-is_no_nor_met-2.ensures.0 refl in
+    let no = c.if-is_no_nor_met.ensures.0 refl in
     record {
       own = n;
       cond = cond;
@@ -41,7 +27,7 @@ loop-own-preserved g c =
     let met = mets_of c.args.mets.now.node in
     one_more_placed (λ k x. IsNoNorMet c.args.narrow met known c.args.place k x → ⊥) c.args.conds.now c.loop-own.own c.index-conds-own.result
     c.loop-own-test.true (sym c.index-conds-own.is) c.loop-own.invariant
-    (λ no. let e : false ≡ true = c.if-is_no_nor_met-2.ensures.1 no in cc)
+    (λ no. let e : false ≡ true = c.if-is_no_nor_met.ensures.1 no in cc)
 
 pub returns : goal.returns
 returns g c =

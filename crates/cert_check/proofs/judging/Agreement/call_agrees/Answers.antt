@@ -1,4 +1,4 @@
-use Rattle.std.proofs.Common.{◌≡◌, ◌∙◌, true, false, length, refl, sym, subst, inl, arith}
+use Rattle.std.proofs.Common.{◌≡◌, ◌∙◌, true, false, length, refl, sym, subst, inl, inr, arith}
 use Rattle.std.proofs.lemmas.Bool.{eqb-true, eq-eqb}
 use Rattle.call_tables.specs.Arch.{token_of}
 use Rattle.profile.specs.Latest.{IsLatest}
@@ -9,7 +9,7 @@ use Rattle.cert_check.proofs.CallLaws.{HasCome, begins, comes_to, earlier_for, e
 use Rattle.cert_check.proofs.MetsLaws.{none_asked}
 use Rattle.cert_check.proofs.RulesLaws.{none_agree, default_agrees}
 use Rattle.cert_check.proofs.judging.Agreement.call_agrees.Goals as goal
-use Rattle.cert_check.proofs.judging.Agreement.call_agrees.Goals.{then-not-has+in-Agrees, then-not-has+in-Differs, else-not-has}
+use Rattle.cert_check.proofs.judging.Agreement.call_agrees.Goals.{then-is_open+in-Agrees, then-is_open+in-Differs, else-is_open}
 
 pub loop-next-init : goal.loop-next-init
 loop-next-init g c =
@@ -23,8 +23,8 @@ loop-next-init g c =
       last = none_asked (known_of a);
     }
 
-pub weigh-bearing-requires-clause-number : goal.weigh-bearing-requires-clause-number
-weigh-bearing-requires-clause-number g c =
+pub weigh-requires-clause-number : goal.weigh-requires-clause-number
+weigh-requires-clause-number g c =
     let a = c.args.self.now in
     let rules = a.profile.now.rules in
     let rule = c.index-rules-place.result in
@@ -48,10 +48,10 @@ returns-in-Settles g c =
     let its = is_for_call (out_of a) (met_of a) (known_of a) a.word c.args.arch rules c.args.nr c.loop-next.next c.loop-next.others place rule
     c.in-Some.is so.walk stands in
     let left : IsLeft (out_of a) c.args.arch place rule = record {
-      not_out = λ is. let e : false ≡ true = c.if-not-has.ensures.1 is in cc;
+      not_out = c.if-is_open.ensures.left refl;
       is_for = its.machine;
     } in
-    let settles = subst (Bears (met_of a) (known_of a) a.word place rule) c.in-Settles.is c.weigh-bearing.ensures.bearing in (
+    let settles = subst (Bears (met_of a) (known_of a) a.word place rule) c.in-Settles.is c.weigh.ensures.bearing in (
       λ _. inl (record { place = place; rule = rule; is_of = record { stands = stands; left = left }; is_yes = settles.0; word = settles.1 }),
       λ _. refl,
     )
@@ -84,38 +84,41 @@ loop-next-preserved g c =
     let latest = earlier_for rules (token_of arch) nr place found.0 more found.2 (c.earlier-next.ensures found.0 found.1) in
     record {
       inside = inside rules (token_of arch) nr place more latest;
-      walk = elim c.if-not-has.branch [
-        | then-not-has+in-Agrees w ↦
+      walk = elim c.if-is_open.branch [
+        | then-is_open+in-Agrees w ↦
             (let rule = w.index-rules-place.result in
             let stands = stands_there rules c.rules-rules.result.now next place rule c.rules-rules.ensures.rules w.index-rules-place.is
             c.in-Some.is so.inside in
-            let bears = subst (Bears met known v place rule) w.in-Agrees.is w.weigh-bearing.ensures.bearing in
+            let bears = subst (Bears met known v place rule) w.in-Agrees.is w.weigh.ensures.bearing in
             subst (HasCome out met known v arch rules nr more) (sym w.others-is)
             (passes out met known v arch rules nr c.requires.only next more others others place rule c.in-Some.is so.walk stands latest
             (λ e. e) (λ left. (bears.0, λ _. bears.1)) so.walk.another))
-        | then-not-has+in-Differs w ↦
+        | then-is_open+in-Differs w ↦
             (let rule = w.index-rules-place.result in
             let stands = stands_there rules c.rules-rules.result.now next place rule c.rules-rules.ensures.rules w.index-rules-place.is
             c.in-Some.is so.inside in
             let its = is_for_call out met known v arch rules nr next others place rule c.in-Some.is so.walk stands in
             let left : IsLeft out arch place rule = record {
-              not_out = λ is. let e : false ≡ true = w.if-not-has.ensures.1 is in cc;
+              not_out = w.if-is_open.ensures.left refl;
               is_for = its.machine;
             } in
-            let bears = subst (Bears met known v place rule) w.in-Differs.is w.weigh-bearing.ensures.bearing in
+            let bears = subst (Bears met known v place rule) w.in-Differs.is w.weigh.ensures.bearing in
             subst (HasCome out met known v arch rules nr more) (sym w.others-is)
             (passes out met known v arch rules nr c.requires.only next more others true place rule c.in-Some.is so.walk stands latest
             (λ _. refl) (λ _. (λ _. bears.1, λ e. absurd (let untrue : true ≡ false = e in cc)))
             (λ _. record { place = place; rule = rule; stands = stands; left = left; other = bears })))
-        | else-not-has w ↦
+        | else-is_open w ↦
             subst (HasCome out met known v arch rules nr more) (sym w.others-is)
             (passes out met known v arch rules nr c.requires.only next more others others place found.0 c.in-Some.is so.walk found.1 latest
-            (λ e. e) (λ left. absurd (left.not_out (w.if-not-has.ensures.0 refl))) so.walk.another)
+            (λ e. e) (λ left. elim (w.if-is_open.ensures.passed refl found.0 found.1) [
+              | inl is ↦ absurd (left.not_out is)
+              | inr agrees ↦ (agrees.0, λ _. agrees.1)
+            ]) so.walk.another)
       ];
-      last = elim c.if-not-has.branch [
-        | then-not-has+in-Agrees w ↦ subst (IsAnswered known) (sym w.last-is) w.weigh-bearing.ensures.answer
-        | then-not-has+in-Differs w ↦ subst (IsAnswered known) (sym w.last-is) w.weigh-bearing.ensures.answer
-        | else-not-has w ↦ subst (IsAnswered known) (sym w.last-is) so.last
+      last = elim c.if-is_open.branch [
+        | then-is_open+in-Agrees w ↦ subst (IsAnswered known) (sym w.last-is) w.weigh.ensures.kept
+        | then-is_open+in-Differs w ↦ subst (IsAnswered known) (sym w.last-is) w.weigh.ensures.kept
+        | else-is_open w ↦ subst (IsAnswered known) (sym w.last-is) so.last
       ];
     }
 

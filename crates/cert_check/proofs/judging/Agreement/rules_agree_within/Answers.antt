@@ -1,4 +1,4 @@
-use Rattle.std.proofs.Common.{◌≡◌, ◌+◌, ℕ, List, true, false, sym, subst, refl, ◌∙◌, inl, arith, length, ap}
+use Rattle.std.proofs.Common.{◌≡◌, ◌≢◌, ◌⊎◌, ◌+◌, ℕ, List, true, false, sym, subst, refl, ◌∙◌, inl, arith, length, ap}
 use Rattle.std.specs.Prelude.{IfSome, None, Option, Some, slice_get}
 use Rattle.std.proofs.lemmas.List.{get_or-replicate}
 use Rattle.std.proofs.lemmas.Bool.{eqb-true, eq-eqb}
@@ -10,6 +10,7 @@ use Rattle.cert_check.specs.inner.Asked.{known_of, met_of, out_of}
 use Rattle.cert_check.specs.Agree.{IsLeft}
 use Rattle.cert_check.specs.inner.Judged.{AreKnownNumbers, Bears, IsAnswered, IsKnownNumber, RulesSoFar}
 use Rattle.cert_check.specs.declared.judged.Number.{Number}
+use Rattle.cert_check.specs.declared.judged.Bearing.TheVariants.{Agrees}
 use Rattle.cert_check.proofs.SoFar.{rule_passed, rule_settled, rule_is_other}
 use Rattle.cert_check.proofs.MetsLaws.{none_asked}
 use Rattle.cert_check.proofs.RulesLaws.{none_agree, default_agrees}
@@ -36,8 +37,8 @@ loop-rule-init g c =
       last = none_asked known;
     }
 
-pub is_asked-requires : goal.is_asked-requires
-is_asked-requires g c =
+pub is_asked-requires-clause-place : goal.is_asked-requires-clause-place
+is_asked-requires-clause-place g c =
     omega (
       arith,
       c.loop-rule.invariant.place,
@@ -58,7 +59,7 @@ returns-in-Settles g c =
     slice_get-get_or c.rules-rule-items.result.now n rule c.loop-rule-test.true ∙ ap Some (sym c.rule-item.is) in
     let stands = subst (λ (rules : List Rule). slice_get rules n ≡ Some rule) c.rules-rule-items.ensures.rules here in
     let left = subst (λ k. IsLeft out c.args.arch k rule) c.loop-rule.invariant.place (c.if-is_asked.ensures.left refl) in
-    let bears = subst (λ k. Bears met known a.word k rule c.weigh-bearing.result.0) c.loop-rule.invariant.place c.weigh-bearing.ensures.bearing in
+    let bears = subst (λ k. Bears met known a.word k rule c.weigh.result) c.loop-rule.invariant.place c.weigh.ensures.bearing in
     let settles = subst (Bears met known a.word n rule) c.in-Settles.is bears in (
       λ _. inl (record { place = n; rule = rule; is_of = record { stands = stands; left = left }; is_yes = settles.0; word = settles.1 }),
       λ _. refl,
@@ -78,30 +79,31 @@ loop-rule-preserved g c =
     elim c.if-is_asked.branch [
       | then-is_asked+in-Agrees w ↦
           (let bears = subst (Bears met known a.word n rule) w.in-Agrees.is
-          (subst (λ k. Bears met known a.word k rule w.weigh-bearing.result.0) c.loop-rule.invariant.place w.weigh-bearing.ensures.bearing) in
+          (subst (λ k. Bears met known a.word k rule w.weigh.result) c.loop-rule.invariant.place w.weigh.ensures.bearing) in
           record {
             rules = subst (RulesSoFar out met known a.word c.args.arch rules (n + 1)) (sym w.others-is)
                 (rule_settled out met known a.word c.args.arch rules n c.loop-rule.others rule c.loop-rule-test.true (sym c.rule-item.is) so bears.0 bears.1);
             place = next;
             numbers = subst (AreKnownNumbers known) (sym w.numbers-is) w.number_of-number.ensures.kept;
-            last = subst (IsAnswered known) (sym w.last-is) w.weigh-bearing.ensures.answer;
+            last = subst (IsAnswered known) (sym w.last-is) w.weigh.ensures.kept;
           })
       | then-is_asked+in-Differs w ↦
           (let bears = subst (Bears met known a.word n rule) w.in-Differs.is
-          (subst (λ k. Bears met known a.word k rule w.weigh-bearing.result.0) c.loop-rule.invariant.place w.weigh-bearing.ensures.bearing) in
+          (subst (λ k. Bears met known a.word k rule w.weigh.result) c.loop-rule.invariant.place w.weigh.ensures.bearing) in
           let left = subst (λ k. IsLeft out c.args.arch k rule) c.loop-rule.invariant.place (w.if-is_asked.ensures.left refl) in
           record {
             rules = subst (RulesSoFar out met known a.word c.args.arch rules (n + 1)) (sym w.others-is)
                 (rule_is_other out met known a.word c.args.arch rules n c.loop-rule.others rule c.loop-rule-test.true (sym c.rule-item.is) so left bears);
             place = next;
             numbers = subst (AreKnownNumbers known) (sym w.numbers-is) w.number_of-number.ensures.kept;
-            last = subst (IsAnswered known) (sym w.last-is) w.weigh-bearing.ensures.answer;
+            last = subst (IsAnswered known) (sym w.last-is) w.weigh.ensures.kept;
           })
       | else-is_asked w ↦
           record {
             rules = subst (RulesSoFar out met known a.word c.args.arch rules (n + 1)) (sym w.others-is)
                 (rule_passed out met known a.word c.args.arch rules n c.loop-rule.others rule c.loop-rule-test.true (sym c.rule-item.is) so
-                (λ left. w.if-is_asked.ensures.passed refl (subst (λ k. IsLeft out c.args.arch k rule) (sym c.loop-rule.invariant.place) left)));
+                (subst (λ k. IsLeft out c.args.arch k rule → ((c.loop-rule.others ≡ true) × (rule.word ≢ a.word)) ⊎ Bears met known a.word k rule Agrees)
+                c.loop-rule.invariant.place (w.if-is_asked.ensures.passed refl)));
             place = next;
             numbers = subst (AreKnownNumbers known) (sym w.numbers-is) c.loop-rule.invariant.numbers;
             last = subst (IsAnswered known) (sym w.last-is) c.loop-rule.invariant.last;

@@ -36,9 +36,9 @@ loop-rule-preserved g c =
       | then-is_wanted w ↦
           record {
             told = subst (AreTold a.profile.now known a.word) (sym w.table-is)
-                (one_told a.profile.now known a.word c.loop-rule.table place rule w.tell-is_so.result.0
-                (omega (arith, small, size, so.place, c.loop-rule-test.true, c.if-is_wanted.array_long, ap length w.table-is, length-set c.loop-rule.table place (Some w.tell-is_so.result.0)))
-                stands so.told w.tell-is_so.ensures);
+                (one_told a.profile.now known a.word c.loop-rule.table place rule w.tell-bears.result
+                (omega (arith, small, size, so.place, c.loop-rule-test.true, c.if-is_wanted.array_long, ap length w.table-is, length-set c.loop-rule.table place (Some w.tell-bears.result)))
+                stands so.told w.tell-bears.ensures);
             place = next;
           }
       | else-is_wanted w ↦ record { told = subst (AreTold a.profile.now known a.word) (sym w.table-is) so.told; place = next }

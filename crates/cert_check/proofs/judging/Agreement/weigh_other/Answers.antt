@@ -1,9 +1,10 @@
-use Rattle.std.proofs.Common.{inl, inr}
+use Rattle.std.proofs.Common.{inl, refl}
+use Rattle.cert_check.specs.inner.Asked.{known_of, met_of}
+use Rattle.cert_check.proofs.MetsLaws.{no_rule}
 use Rattle.cert_check.proofs.judging.Agreement.weigh_other.Goals as goal
 
-pub returns-then-one_no-clause-bearing : goal.returns-then-one_no-clause-bearing
-returns-then-one_no-clause-bearing g c =
-    let one = c.answer_at-one_no.ensures.is_so.0 c.if-one_no.true in (
-      λ _. c.requires.word,
-      inl (inr one, λ yes. elim (yes.1 one.own one.cond one.stands) [ inl said ↦ one.not_met said | inr holds ↦ one.is_no.1 holds ]),
-    )
+pub returns-then-answer_at-clause-bearing : goal.returns-then-answer_at-clause-bearing
+returns-then-answer_at-clause-bearing g c =
+    let a = c.args.self.now in
+    let one = c.if-answer_at.ensures.is_so.0 refl in
+    (λ _. c.requires.word, inl (no_rule (met_of a) (known_of a) c.args.place c.args.rule.now one))

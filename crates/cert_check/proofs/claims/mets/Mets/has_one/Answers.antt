@@ -2,7 +2,7 @@ use Rattle.std.proofs.Common.{◌≡◌, true, false, subst, arith, inl, inr}
 use Rattle.std.proofs.lemmas.Bool.{cases_lt}
 use Rattle.std.specs.Prelude.{Contains}
 use Rattle.cert_check.specs.inner.Claimed.{mets_of}
-use Rattle.cert_check.proofs.claims.mets.Mets.has_some.Goals as goal
+use Rattle.cert_check.proofs.claims.mets.Mets.has_one.Goals as goal
 
 pub loop-own-preserved : goal.loop-own-preserved
 loop-own-preserved c = λ k lt has. elim (cases_lt k c.loop-own.own) [

@@ -3,7 +3,7 @@ use Rattle.std.specs.Prelude.{slice_index_or}
 use Rattle.profile.specs.declared.conditions.Cond.{Cond}
 use Rattle.cert_check.specs.inner.Claimed.{mets_of}
 use Rattle.cert_check.specs.inner.Judged.{IsYesOrMet}
-use Rattle.cert_check.proofs.conditions.all_are_yes.Given as goal
+use Rattle.cert_check.proofs.conditions.one_open.Given as goal
 
 abbrev pub invariant-loop-own : goal.invariant-loop-own
 invariant-loop-own g l =
