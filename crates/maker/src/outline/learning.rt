@@ -150,6 +150,13 @@ impl<'a> Maker<'a> {
         if !are_many(left.rules.len(), known.whole.len()) {
             return self.rules_left_by(&known.told(&whole), left, word);
         }
+        self.rules_left_of_many(known, left, word)
+    }
+
+    // The same of what is gathered. Room for it is made in a function of its own, so that few rules do without.
+    #[inline(never)]
+    fn rules_left_of_many(&self, known: &Words, left: &Left, word: u8) -> Result<Left, AllocError> {
+        let whole = listed(&known.whole);
         let mut room = Room::new();
         self.rules_left_by(&known.told(&Facts::of(&whole, &mut room)), left, word)
     }

@@ -58,9 +58,15 @@ impl<'a> Maker<'a> {
             let holding = self.simplest_of(&known.told(&whole), *own, later);
             return Left::holding(self.alloc, holding);
         }
+        Left::holding(self.alloc, self.simplest_of_many(known, *own, later))
+    }
+
+    // The same among many rules, by what is gathered. Room for it is made in a function of its own, so that few rules do without.
+    #[inline(never)]
+    fn simplest_of_many(&self, known: &Words, own: LeftRule, parts: &[Vec<u32>]) -> LeftRule {
+        let whole = listed(&known.whole);
         let mut room = Room::new();
-        let holding = self.simplest_of(&known.told(&Facts::of(&whole, &mut room)), *own, later);
-        Left::holding(self.alloc, holding)
+        self.simplest_of(&known.told(&Facts::of(&whole, &mut room)), own, parts)
     }
 
     // The same among the rules of some parts.
