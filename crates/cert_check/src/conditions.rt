@@ -21,6 +21,7 @@ const fn low_word(index: u8) -> u8
 }
 
 // Whether the high half of an argument is known to have these bits under a mask. That of a narrow one counts as 0.
+#[inline(always)]
 fn has_above<K: Knowledge>(known: &K, narrow: bool, index: u8, mask: u32, datum: u32) -> bool
     requires { index < 6 }
     ensures { IsTrue result ↔ HasAbove narrow (K.known known.now) index mask datum }
@@ -32,6 +33,7 @@ fn has_above<K: Knowledge>(known: &K, narrow: bool, index: u8, mask: u32, datum:
 }
 
 // Whether it is known to have others.
+#[inline(always)]
 fn lacks_above<K: Knowledge>(known: &K, narrow: bool, index: u8, mask: u32, datum: u32) -> bool
     requires { index < 6 }
     ensures { IsTrue result ↔ LacksAbove narrow (K.known known.now) index mask datum }
@@ -43,6 +45,7 @@ fn lacks_above<K: Knowledge>(known: &K, narrow: bool, index: u8, mask: u32, datu
 }
 
 // Whether an argument is known to have these bits under a mask.
+#[inline(always)]
 fn has_bits<K: Knowledge>(known: &K, narrow: bool, index: u8, mask: u64, datum: u64) -> bool
     requires { index < 6 }
     ensures { IsTrue result ↔ HasBits narrow (K.known known.now) index mask datum }
@@ -56,6 +59,7 @@ fn has_bits<K: Knowledge>(known: &K, narrow: bool, index: u8, mask: u64, datum: 
 }
 
 // Whether it is known to have others.
+#[inline(always)]
 fn lacks_bits<K: Knowledge>(known: &K, narrow: bool, index: u8, mask: u64, datum: u64) -> bool
     requires { index < 6 }
     ensures { IsTrue result ↔ LacksBits narrow (K.known known.now) index mask datum }
@@ -69,6 +73,7 @@ fn lacks_bits<K: Knowledge>(known: &K, narrow: bool, index: u8, mask: u64, datum
 }
 
 // Whether an argument is known to have these bits under a mask, and not to have others as well.
+#[inline(always)]
 fn only_has_bits<K: Knowledge>(known: &K, narrow: bool, index: u8, mask: u64, datum: u64) -> bool
     requires { index < 6 }
     ensures { let told = K.known known.now in IsTrue result
@@ -81,6 +86,7 @@ fn only_has_bits<K: Knowledge>(known: &K, narrow: bool, index: u8, mask: u64, da
 }
 
 // Whether it is known to have others, and not these as well.
+#[inline(always)]
 fn only_lacks_bits<K: Knowledge>(known: &K, narrow: bool, index: u8, mask: u64, datum: u64) -> bool
     requires { index < 6 }
     ensures { let told = K.known known.now in IsTrue result
@@ -173,6 +179,7 @@ fn is_order_no<K: Knowledge>(known: &K, narrow: bool, cond: &Cond) -> bool
 }
 
 /// Whether a condition is yes, of an argument that is narrow or is not, by what is known of the record.
+#[inline(always)]
 pub(crate) fn is_yes<K: Knowledge>(known: &K, narrow: bool, cond: &Cond) -> bool
     ensures { IsTrue result ↔ IsYes narrow (K.known known.now) cond.now }
 {
@@ -192,6 +199,7 @@ pub(crate) fn is_yes<K: Knowledge>(known: &K, narrow: bool, cond: &Cond) -> bool
 }
 
 /// Whether it is no.
+#[inline(always)]
 pub(crate) fn is_no<K: Knowledge>(known: &K, narrow: bool, cond: &Cond) -> bool
     ensures { IsTrue result ↔ IsNo narrow (K.known known.now) cond.now }
 {
@@ -224,6 +232,7 @@ pub fn judge_condition<K: Knowledge>(known: &K, narrow: bool, cond: &Cond) -> Ju
 }
 
 // Whether a condition of the rule at a place is yes, or is said to be met.
+#[inline(always)]
 fn is_yes_or_met<K: Knowledge>(
     known: &K,
     mets: &Mets<'_, '_>,
@@ -243,6 +252,7 @@ fn is_yes_or_met<K: Knowledge>(
 }
 
 // Whether it is no, and is not said to be met.
+#[inline(always)]
 fn is_no_nor_met<K: Knowledge>(
     known: &K,
     mets: &Mets<'_, '_>,
@@ -262,6 +272,7 @@ fn is_no_nor_met<K: Knowledge>(
 }
 
 // Whether one of the conditions of the rule at a place stands here that is neither yes nor said to be met.
+#[inline(always)]
 fn is_open_at<K: Knowledge>(
     known: &K,
     mets: &Mets<'_, '_>,
@@ -281,6 +292,7 @@ fn is_open_at<K: Knowledge>(
 }
 
 // Whether one stands here that is no.
+#[inline(always)]
 fn is_no_at<K: Knowledge>(
     known: &K,
     mets: &Mets<'_, '_>,

@@ -229,6 +229,7 @@ impl<'a, S: State> Facts<'a, S> {
 impl<S: State> Knowledge for Facts<'_, S> {
     ghost known = { λ f. S.known f.state.now };
 
+    #[inline(always)]
     fn entails(&self, literal: &Lit) -> bool {
         let word = literal.word();
         if !self.all || word > 15 {

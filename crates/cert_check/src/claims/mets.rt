@@ -107,6 +107,7 @@ impl<'t, 'a> Mets<'t, 'a> {
     }
 
     /// Whether a condition of the rule at a place is said to be met.
+    #[inline(always)]
     pub(crate) fn has(&self, rule: usize, own: usize) -> bool
         requires rule { rule < 8192 }
         requires own { own < 6 }
