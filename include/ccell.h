@@ -23,11 +23,12 @@
  *     A line is text of at most some hundred bytes, with a line feed at its end, and no null byte behind it.
  *
  *     Machines are told by the numbers that libseccomp has for them, SCMP_ARCH_X86_64 and so on: CCELL_X86_64 and so on below.
- *     They stand for all calls of Linux 6.18. The native machine is the one whose kernel the filter is for.
+ *     They stand for all calls of Linux 7.3. The native machine is the one whose kernel the filter is for.
  *
  * RETURN VALUE
- *     Each function returns one of `enum ccell_status`. CCELL_DONE is 0. On any other status there is no filter, and what
- *     stands in `out` is no filter: only CCELL_REFUSED writes a line there.
+ *     Each function returns one of `enum ccell_status`, and only those that are named with it. CCELL_DONE is 0. On any other
+ *     status there is no filter: CCELL_REFUSED writes a line into `out`, and all others leave `out` as it was. With
+ *     CCELL_NO_ROOM the count is exactly how many bytes that answer has.
  *
  * THREADS
  *     Nothing is kept between calls, so threads may call side by side. No thread, process or file is opened, nothing is read from
@@ -130,8 +131,8 @@ uint32_t ccell_filter_for_bundle(uint32_t native, const uint8_t *bundle, size_t 
 uint32_t ccell_verdict(const uint8_t *filter, size_t filter_length, const uint8_t *record, size_t record_length,
                        uint32_t *verdict);
 
-/* Whether a certificate shows that a filter answers on each call record what a bundle says: `ccell check`. 0 is a yes, and nothing
- * is written. 1: the line says what is wrong. Statuses: 0 to 4. */
+/* Whether a certificate shows that a filter answers on each call record what a bundle says: `ccell check`. 0 is a yes: nothing
+ * is written, and the count is 0. 1: the line says what is wrong. Statuses: 0 to 4. */
 uint32_t ccell_check(uint32_t native, const uint8_t *bundle, size_t bundle_length, const uint8_t *filter, size_t filter_length,
                      const uint8_t *certificate, size_t certificate_length, uint8_t *out, size_t room, size_t *count);
 

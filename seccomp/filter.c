@@ -1,49 +1,87 @@
 /* Contexts: what a program asks for, written down. */
 #include "filter.h"
 #include <errno.h>
+#include <pthread.h>
 #include <sched.h>
-#include <stdarg.h>
-#include <stdio.h>
 #include <stdlib.h>
-#include <string.h>
-#include <sys/stat.h>
 #include <sys/syscall.h>
 #include <linux/seccomp.h>
 #include <unistd.h>
 
-enum { MARK = 0x6c6c6563 };
-#ifndef SETTLES
-#define SETTLES "/etc/ccell/settles"
-#endif
-
-/* Whether rules settle each other as in libseccomp: of a call's rules the first one without conditions counts alone. It is switched
- * on by a file that root alone can write, which is looked for once, when this library is loaded. */
-bool settles;
-
-__attribute__((constructor)) static void look_for_switch(void) {
-    struct stat is;
-    settles = !stat(SETTLES, &is) && S_ISREG(is.st_mode) && is.st_uid == 0 && !(is.st_mode & (S_IWGRP | S_IWOTH));
+enum { MARK = 0x6c6c6563, LOWEST_FIRST = 0x40000000 /* in the token of a machine */ };
+/* What is taken holds the address of something that is the thread's own, and while that thread forks one more. A thread that waits
+ * yields; one that gives back makes no call of the system. */
+static uintptr_t this_thread(void) {
+    static _Thread_local int own;
+    return (uintptr_t)&own;
 }
 
-int refuse(int error, const char *form, ...) {
-    char line[512];
-    va_list rest;
-    va_start(rest, form);
-    vsnprintf(line, sizeof line, form, rest);
-    va_end(rest);
-    dprintf(STDERR_FILENO, "libseccomp of ccell: %s\n", line);
-    return error;
+static void hold(uintptr_t *taken, uintptr_t by) {
+    uintptr_t found = 0;
+    while (!__atomic_compare_exchange_n(taken, &found, by, false, __ATOMIC_ACQUIRE, __ATOMIC_RELAXED)) {
+        sched_yield();
+        found = 0;
+    }
 }
+
+static void leave(uintptr_t *taken) { __atomic_store_n(taken, 0, __ATOMIC_RELEASE); }
+
+/* All contexts. A fork takes each of them, so that it waits until no other thread is at work in one, and the child finds them whole and
+ * free. It may come in a handler of a signal while this thread is at work: what it has taken is left alone. */
+static struct filter *contexts;
+static uintptr_t contexts_taken;
+
+static bool is_taken_by(uintptr_t *taken, uintptr_t by) { return __atomic_load_n(taken, __ATOMIC_RELAXED) == by; }
+
+static void hold_for_fork(uintptr_t *taken) {
+    if (!is_taken_by(taken, this_thread())) hold(taken, this_thread() + 1);
+}
+
+static void leave_after_fork(uintptr_t *taken) {
+    if (is_taken_by(taken, this_thread() + 1)) leave(taken);
+}
+
+static void hold_all(void) {
+    hold_for_fork(&contexts_taken);
+    for (struct filter *each = contexts; each; each = each->next) hold_for_fork(&each->taken);
+}
+
+static void leave_all(void) {
+    for (struct filter *each = contexts; each; each = each->next) leave_after_fork(&each->taken);
+    leave_after_fork(&contexts_taken);
+}
+
+__attribute__((constructor)) static void watch_forks(void) { pthread_atfork(hold_all, leave_all, leave_all); }
+
+static void enlist(struct filter *filter) {
+    hold(&contexts_taken, this_thread());
+    filter->next = contexts;
+    if (contexts) contexts->previous = filter;
+    contexts = filter;
+    leave(&contexts_taken);
+}
+
+static void delist(struct filter *filter) {
+    hold(&contexts_taken, this_thread()); /* before the context itself, as a fork does */
+    hold(&filter->taken, this_thread());
+    if (filter->next) filter->next->previous = filter->previous;
+    if (filter->previous) filter->previous->next = filter->next;
+    else contexts = filter->next;
+    leave(&contexts_taken);
+}
+
+static bool is_context(const struct filter *filter) { return filter && filter->mark == MARK; }
 
 struct filter *begun(scmp_filter_ctx ctx) {
     struct filter *filter = ctx;
-    if (!filter || filter->mark != MARK) return NULL;
-    while (__atomic_exchange_n(&filter->taken, 1, __ATOMIC_ACQUIRE)) sched_yield();
+    forget_why();
+    if (!is_context(filter)) return NULL;
+    hold(&filter->taken, this_thread());
     return filter;
 }
 
 int done(struct filter *filter, int answer) {
-    __atomic_store_n(&filter->taken, 0, __ATOMIC_RELEASE);
+    leave(&filter->taken);
     return answer;
 }
 
@@ -55,6 +93,7 @@ struct filter *take(scmp_filter_ctx ctx) {
 }
 
 static void start(struct filter *filter, uint32_t action) {
+    drop_rules(filter, 0);
     filter->now = (struct state){.machines = 1u << NATIVE};
     filter->now.attributes[DEFAULT_ACTION] = action;
     filter->now.attributes[BAD_MACHINE_ACTION] = KILL_THREAD;
@@ -75,7 +114,7 @@ int judge_action(uint32_t action) {
     case KILL_PROCESS: case KILL_THREAD: case TRAP: case LOG: case ALLOW: return 0;
     case NOTIFY: return refuse(-EOPNOTSUPP, "SCMP_ACT_NOTIFY is no action of ccell");
     }
-    if ((action & 0xffff0000) == TRACE || ((action & 0xffff0000) == ERRNO && (action & 0xffff) < 4095)) return 0;
+    if ((action & ACTION) == TRACE || ((action & ACTION) == ERRNO && (action & ~ACTION) < 4095)) return 0;
     return -EINVAL;
 }
 
@@ -86,14 +125,14 @@ API const struct scmp_version *seccomp_version(void) {
     return &version;
 }
 
-static unsigned level;
+static _Atomic unsigned level;
 
 static bool kernel_has(unsigned flag) { return syscall(SYS_seccomp, SECCOMP_SET_MODE_FILTER, flag, NULL) < 0 && errno == EFAULT; }
 
 API unsigned seccomp_api_get(void) {
-    if (level) return level;
-    level = !kernel_has(SECCOMP_FILTER_FLAG_TSYNC) ? 1 : !kernel_has(SECCOMP_FILTER_FLAG_LOG) ? 2
-        : !kernel_has(SECCOMP_FILTER_FLAG_SPEC_ALLOW) ? 3 : 4; /* higher ones are of SCMP_ACT_NOTIFY */
+    if (!level)
+        level = !kernel_has(SECCOMP_FILTER_FLAG_TSYNC) ? 1 : !kernel_has(SECCOMP_FILTER_FLAG_LOG) ? 2
+            : !kernel_has(SECCOMP_FILTER_FLAG_SPEC_ALLOW) ? 3 : 4; /* higher ones are of SCMP_ACT_NOTIFY */
     return level;
 }
 
@@ -106,37 +145,45 @@ API int seccomp_api_set(unsigned wanted) {
 /* ---- contexts */
 
 API scmp_filter_ctx seccomp_init(uint32_t action) {
+    forget_why();
     if (judge_action(action)) return NULL;
     struct filter *filter = calloc(1, sizeof *filter);
     if (!filter) return NULL;
     filter->mark = MARK;
     start(filter, action);
+    enlist(filter);
     return filter;
 }
 
 API int seccomp_reset(scmp_filter_ctx ctx, uint32_t action) {
-    if (!ctx) return (level = 0);
-    if (judge_action(action)) return -EINVAL;
     struct filter *filter = begun(ctx);
-    if (!filter) return -EINVAL;
-    start(filter, action);
-    return done(filter, 0);
+    if (!ctx) level = 0;
+    if (!filter) return ctx ? -EINVAL : 0;
+    int error = judge_action(action) ? -EINVAL : 0;
+    if (!error) start(filter, action);
+    return done(filter, error);
 }
 
 API void seccomp_release(scmp_filter_ctx ctx) {
-    struct filter *filter = begun(ctx);
-    if (!filter) return;
+    struct filter *filter = ctx;
+    forget_why();
+    if (!is_context(filter)) return;
+    delist(filter);
     filter->mark = 0;
     free(filter->rules);
+    free(filter->latest);
     free(filter->bytes);
     free(filter);
 }
 
+/* Whether this is a context with a machine. No two are held at once: another thread may name them the other way round. */
+static bool is_filter(scmp_filter_ctx ctx) {
+    struct filter *filter = take(ctx);
+    return filter && !done(filter, 0);
+}
+
 API int seccomp_merge(scmp_filter_ctx into, scmp_filter_ctx from) {
-    struct filter *first = take(into), *second = into == from ? NULL : take(from);
-    if (first) done(first, 0);
-    if (second) done(second, 0);
-    if (!first || !second) return -EINVAL;
+    if (!is_filter(into) || !is_filter(from) || into == from) return -EINVAL;
     return refuse(-EOPNOTSUPP, "seccomp_merge: filters are not merged");
 }
 
@@ -144,17 +191,26 @@ API int seccomp_merge(scmp_filter_ctx into, scmp_filter_ctx from) {
 
 API int seccomp_arch_exist(const scmp_filter_ctx ctx, uint32_t token) {
     int machine = machine_with(token);
-    struct filter *filter = machine < 0 ? NULL : begun(ctx);
+    struct filter *filter = begun(ctx);
     if (!filter) return -EINVAL;
+    if (machine < 0) return done(filter, -EINVAL);
     return done(filter, filter->now.machines >> machine & 1 ? 0 : -EEXIST);
+}
+
+/* Whether the order of bytes is another than that of the context's machines. */
+static bool has_other_order(const struct filter *filter, int machine) {
+    for (int i = 0; i < MACHINES; i++)
+        if (filter->now.machines >> i & 1 && (MACHINE[i].token ^ MACHINE[machine].token) & LOWEST_FIRST) return true;
+    return false;
 }
 
 API int seccomp_arch_add(scmp_filter_ctx ctx, uint32_t token) {
     int machine = machine_with(token);
-    struct filter *filter = machine < 0 ? NULL : begun(ctx); /* it may have no machine yet */
+    struct filter *filter = begun(ctx); /* it may have no machine yet */
     if (!filter) return -EINVAL;
+    if (machine < 0) return done(filter, -EINVAL);
     if (filter->now.machines >> machine & 1) return done(filter, -EEXIST);
-    if (!(MACHINE[machine].token & 0x40000000)) return done(filter, -EDOM); /* big endian */
+    if (has_other_order(filter, machine)) return done(filter, -EDOM);
     filter->now.machines |= 1u << machine;
     filter->length = 0;
     return done(filter, 0);
@@ -162,8 +218,9 @@ API int seccomp_arch_add(scmp_filter_ctx ctx, uint32_t token) {
 
 API int seccomp_arch_remove(scmp_filter_ctx ctx, uint32_t token) {
     int machine = machine_with(token);
-    struct filter *filter = machine < 0 ? NULL : begun(ctx);
+    struct filter *filter = begun(ctx);
     if (!filter) return -EINVAL;
+    if (machine < 0) return done(filter, -EINVAL);
     if (!(filter->now.machines >> machine & 1)) return done(filter, -EEXIST);
     if (filter->nested) return done(filter, refuse(-EOPNOTSUPP, "seccomp_arch_remove: not within a transaction"));
     filter->now.machines &= ~(1u << machine);
@@ -175,9 +232,9 @@ API int seccomp_arch_remove(scmp_filter_ctx ctx, uint32_t token) {
 /* ---- attributes */
 
 API int seccomp_attr_get(const scmp_filter_ctx ctx, int attribute, uint32_t *value) {
-    if (attribute <= 0 || attribute >= ATTRIBUTES || !value) return -EINVAL;
     struct filter *filter = take(ctx);
     if (!filter) return -EINVAL;
+    if (attribute <= 0 || attribute >= ATTRIBUTES || !value) return done(filter, -EINVAL);
     *value = filter->now.attributes[attribute];
     return done(filter, 0);
 }
@@ -189,7 +246,7 @@ static int judge_attribute(int attribute, uint32_t value) {
     case BAD_MACHINE_ACTION:
         if (judge_action(value)) return -EINVAL;
         return value == KILL_THREAD ? 0
-            : refuse(-EOPNOTSUPP, "SCMP_FLTATR_ACT_BADARCH: calls of other machines get SCMP_ACT_KILL, and not %#x", value);
+            : refuse(-EOPNOTSUPP, "SCMP_FLTATR_ACT_BADARCH: calls of other machines get KILL_THREAD, and not %s", action_text(value).is);
     case ALL_THREADS: return seccomp_api_get() < 2 ? -EOPNOTSUPP : 0;
     case RULES_FOR_SKIPPED: return value ? refuse(-EOPNOTSUPP, "SCMP_FLTATR_API_TSKIP: there are no rules for call -1") : 0;
     case LOG_REFUSED: return seccomp_api_get() < 3 ? -EOPNOTSUPP : 0;
@@ -227,6 +284,7 @@ static int end(scmp_filter_ctx ctx, bool keeps) {
     if (!filter->nested) return done(filter, 0);
     filter->nested--;
     if (!keeps) {
+        drop_rules(filter, filter->before[filter->nested].count);
         filter->now = filter->before[filter->nested];
         filter->length = 0;
     }

@@ -37,18 +37,21 @@ struct rule {
     int call, number; /* number: where the call has no name */
     unsigned count;
     struct ccell_condition conditions[ARGUMENTS]; /* in the order of arguments */
-    uint64_t key; /* of the call and its conditions: that most rules differ is seen at once */
+    uint64_t key;  /* of the call and its conditions: most rules that differ have different ones */
+    size_t before; /* the place of the last rule before it that has its slot, counted from 1 */
 };
 
 struct state { uint32_t attributes[ATTRIBUTES], machines; size_t count; };
 
 struct filter {
     uint32_t mark;
-    int taken; /* by a thread */
+    uintptr_t taken; /* by a thread, or 0 */
+    struct filter *previous, *next;
     struct state now, before[MOST_NESTED];
     unsigned nested;
     struct rule *rules;
-    size_t room;
+    size_t *latest; /* of each slot the place of its last rule, counted from 1 */
+    size_t room;    /* of both: 0 or a power of two */
     uint8_t *bytes; /* CCELL_MOST_BYTES, once a filter was made */
     size_t length;  /* 0: none is made of what stands here now */
 };
@@ -58,10 +61,28 @@ struct filter *take(scmp_filter_ctx ctx);
 int done(struct filter *filter, int answer);
 struct filter *begun(scmp_filter_ctx ctx); /* the same for one that may have no machine yet */
 
-int refuse(int error, const char *form, ...) __attribute__((format(printf, 2, 3)));
 int judge_action(uint32_t action);
 bool has_more_rights(uint32_t action, uint32_t other);
+
+/* Drops the rules from this place on. */
+void drop_rules(struct filter *filter, size_t count);
+/* The first rule without conditions for a call on a machine, or NULL. */
+const struct rule *whole_rule(const struct filter *filter, int call, int number, int machine);
+/* The machines on which a rule counts beside the others. */
+uint32_t counting(const struct filter *filter, const struct rule *rule, size_t place);
+
+/* Whether rules settle each other as in libseccomp: of a call's rules on a machine the first one without conditions counts alone. */
 extern bool settles;
+/* Whether reasons are written to standard error. */
+extern bool writes_messages;
+
+/* Keeps a reason: of a refusal, which `error` is, or with 0 of what counts for less than was asked. Returns `error`. */
+int refuse(int error, const char *form, ...) __attribute__((format(printf, 2, 3)));
+void forget_why(void); /* at the begin of each call of the interface */
+
+struct text { char is[512]; };
+struct text action_text(uint32_t action);
+struct text rule_text(const struct rule *rule, size_t place);
 
 /* Makes the filter of what was asked for: 0, or an error of libseccomp. */
 int make(struct filter *filter);

@@ -23,6 +23,7 @@ struct scmp_arg_cmp { unsigned arg; int op; uint64_t datum_a, datum_b; };
 #define TRACE 0x7ff00000u
 #define LOG 0x7ffc0000u
 #define ALLOW 0x7fff0000u
+#define ACTION 0xffff0000u /* the bits of an action; those below are its data */
 
 enum { NO_SUCH_CALL = -1 }; /* __NR_SCMP_ERROR */
 enum { ARGUMENTS = 6 };

@@ -12,27 +12,37 @@
 
 static int failed(const struct filter *filter) { return filter->now.attributes[ERRORS_OF_SYSTEM] ? -errno : -ECANCELED; }
 
-static int write_all(const struct filter *filter, int fd, const void *bytes, size_t count) {
+static int write_all(bool tells_system, int fd, const void *bytes, size_t count) {
     for (size_t written = 0; written < count;) {
         ssize_t put = write(fd, (const char *)bytes + written, count - written);
         if (put > 0) written += (size_t)put;
-        else if (put == 0) return filter->now.attributes[ERRORS_OF_SYSTEM] ? -EIO : -ECANCELED;
-        else if (errno != EINTR) return failed(filter);
+        else if (put == 0 || errno != EINTR) return !tells_system ? -ECANCELED : put ? -errno : -EIO;
     }
     return 0;
+}
+
+/* Gives the context back and writes a copy of bytes: who reads them may keep this thread waiting, but no other. */
+static int write_copy(struct filter *filter, int fd, const void *bytes, size_t count) {
+    bool tells_system = filter->now.attributes[ERRORS_OF_SYSTEM];
+    void *copy = malloc(count);
+    if (copy) memcpy(copy, bytes, count);
+    done(filter, 0);
+    int error = copy ? write_all(tells_system, fd, copy, count) : -ENOMEM;
+    free(copy);
+    return error;
 }
 
 API int seccomp_export_bpf(const scmp_filter_ctx ctx, int fd) {
     struct filter *filter = take(ctx);
     if (!filter) return -EINVAL;
     int error = make(filter);
-    return done(filter, error ? error : write_all(filter, fd, filter->bytes, filter->length));
+    return error ? done(filter, error) : write_copy(filter, fd, filter->bytes, filter->length);
 }
 
 API int seccomp_export_bpf_mem(const scmp_filter_ctx ctx, void *buffer, size_t *length) {
-    struct filter *filter = length ? take(ctx) : NULL;
+    struct filter *filter = take(ctx);
     if (!filter) return -EINVAL;
-    int error = make(filter);
+    int error = length ? make(filter) : -EINVAL;
     if (error) return done(filter, error);
     if (buffer && *length < filter->length) error = -ERANGE;
     else if (buffer) memcpy(buffer, filter->bytes, filter->length);
@@ -46,13 +56,7 @@ API int seccomp_precompute(const scmp_filter_ctx ctx) {
 }
 
 /* What is read by people: a line for each machine and each rule, as it was added. */
-API int seccomp_export_pfc(const scmp_filter_ctx ctx, int fd) {
-    struct filter *filter = take(ctx);
-    char *text = NULL;
-    size_t length = 0;
-    if (!filter) return -EINVAL;
-    FILE *to = open_memstream(&text, &length);
-    if (!to) return done(filter, -ENOMEM);
+static void list_rules(const struct filter *filter, FILE *to) {
     fprintf(to, "# rules as they were added, for ccell\ndefault %#x\n", filter->now.attributes[DEFAULT_ACTION]);
     for (int i = 0; i < MACHINES; i++)
         if (filter->now.machines >> i & 1) fprintf(to, "machine %s\n", MACHINE[i].name);
@@ -64,14 +68,21 @@ API int seccomp_export_pfc(const scmp_filter_ctx ctx, int fd) {
                     (unsigned long long)rule->conditions[k].value, (unsigned long long)rule->conditions[k].datum);
         fputc('\n', to);
     }
+}
+
+API int seccomp_export_pfc(const scmp_filter_ctx ctx, int fd) {
+    struct filter *filter = take(ctx);
+    char *text = NULL;
+    size_t length = 0;
+    if (!filter) return -EINVAL;
+    FILE *to = open_memstream(&text, &length);
+    if (!to) return done(filter, -ENOMEM);
+    list_rules(filter, to);
     bool is_whole = !ferror(to);
-    if (fclose(to) || !is_whole) {
-        free(text);
-        return done(filter, -ENOMEM);
-    }
-    int error = write_all(filter, fd, text, length);
+    is_whole = !fclose(to) && is_whole;
+    int error = is_whole ? write_copy(filter, fd, text, length) : done(filter, -ENOMEM);
     free(text);
-    return done(filter, error);
+    return error;
 }
 
 /* Once the filter is in the kernel, this makes no further call of the system: the filter may refuse it. */

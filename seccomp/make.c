@@ -25,48 +25,44 @@ static int push(struct list *list, const struct ccell_rule *rule, size_t of) {
     return 0;
 }
 
-/* A rule that was added, as a line names it. */
-struct text { char is[96]; };
-
-static struct text told(const struct filter *filter, size_t place) {
-    const struct rule *rule = &filter->rules[place];
-    struct text text;
-    char number[16];
-    snprintf(number, sizeof number, "call %d", rule->number);
-    snprintf(text.is, sizeof text.is, "%s (rule %zu, action %#x, %u conditions)", rule->call < 0 ? number : call_name(rule->call), place,
-             rule->action, rule->count);
-    return text;
-}
+static struct text named(const struct filter *filter, size_t place) { return rule_text(&filter->rules[place], place); }
 
 /* ---- what libseccomp adds on x86 */
 
-/* The rule without conditions for a call on x86, if there is one. */
-static const struct rule *whole_rule(const struct filter *filter, int call) {
-    for (size_t i = 0; i < filter->now.count; i++)
-        if (filter->rules[i].call == call && !filter->rules[i].count && filter->rules[i].machines >> X86 & 1) return &filter->rules[i];
-    return NULL;
+/* How the first argument says which call is made. Of ipc's Linux reads 16 bits. A rule that is looser than the default is for the
+ * number alone, and any other for each that Linux takes for it. */
+static struct ccell_condition way_condition(const struct filter *filter, const struct rule *rule, int way, uint64_t first) {
+    bool is_looser = (int32_t)(rule->action & ACTION) > (int32_t)(filter->now.attributes[DEFAULT_ACTION] & ACTION);
+    if (is_looser || way != call_named("ipc")) return (struct ccell_condition){0, CCELL_EQ, first, 0};
+    return (struct ccell_condition){0, CCELL_MASKED_EQ, 0xffff, first};
 }
 
-/* Adds what the rule says of socketcall or ipc on x86. Where a rule says what becomes of all of these, it counts: an unlike action
- * is refused, or settled. Conditions speak of arguments that socketcall has behind a pointer, so such a rule is not added where it
- * would let calls through, which is told, and else refused. */
+/* 1 where the rule is to be added for socketcall or ipc, 0 where it is not, or an error. Where a rule says what becomes of all of these, it
+ * counts: an unlike action is refused, or settled. Conditions speak of arguments that socketcall has behind a pointer, so such a rule is
+ * not added where it would let calls through, and else refused. */
+static int judge_way(const struct filter *filter, size_t place, int way) {
+    const struct rule *rule = &filter->rules[place], *whole = whole_rule(filter, way, 0, X86);
+    const char *name = call_name(way);
+    if (whole && whole->action == rule->action) return 0;
+    if (whole)
+        return refuse(settles ? 0 : -EEXIST, settles ? "%s: on x86 it does not count for %s, of which all get %s"
+                      : "%s: on x86 it contradicts %s, of which all get %s", named(filter, place).is, name, action_text(whole->action).is);
+    if (!rule->count) return 1;
+    bool is_loosening = has_more_rights(rule->action, filter->now.attributes[DEFAULT_ACTION]);
+    return refuse(is_loosening ? 0 : -EINVAL, is_loosening ? "%s: on x86 it does not count for %s, whose arguments no filter sees"
+                  : "%s: on x86 %s makes this call, too, and no filter sees its arguments", named(filter, place).is, name);
+}
+
+/* Adds what the rule says of socketcall or ipc on x86. */
 static int add_other_way(const struct filter *filter, size_t place, struct list *list) {
     const struct rule *rule = &filter->rules[place];
     uint64_t first;
     uint32_t number;
     int way = rule->call < 0 ? -1 : other_way(rule->call, &first);
     if (way < 0 || !call_has(X86, way, &number)) return 0;
-    const struct rule *whole = whole_rule(filter, way);
-    if (whole && whole->action == rule->action) return 0;
-    if (whole && settles)
-        return refuse(0, "%s: on x86 it does not count for %s, of which all say %#x", told(filter, place).is, call_name(way), whole->action);
-    if (whole)
-        return refuse(-EEXIST, "%s: on x86 it contradicts %s, of which all say %#x", told(filter, place).is, call_name(way), whole->action);
-    if (rule->count && has_more_rights(rule->action, filter->now.attributes[DEFAULT_ACTION]))
-        return refuse(0, "%s: on x86 it does not count for %s, whose arguments no filter sees", told(filter, place).is, call_name(way));
-    if (rule->count)
-        return refuse(-EINVAL, "%s: on x86 %s makes this call, too, and no filter sees its arguments", told(filter, place).is, call_name(way));
-    struct ccell_rule other = {MACHINE[X86].token, number, rule->action, 1, {{0, CCELL_EQ, first, 0}}};
+    int answer = judge_way(filter, place, way);
+    if (answer <= 0) return answer;
+    struct ccell_rule other = {MACHINE[X86].token, number, rule->action, 1, {way_condition(filter, rule, way, first)}};
     return push(list, &other, place);
 }
 
@@ -76,30 +72,22 @@ static int add_other_way(const struct filter *filter, size_t place, struct list 
 static int judge_width(const struct filter *filter, size_t place, int machine) {
     const struct rule *rule = &filter->rules[place];
     if (machine != X86 && machine != ARM) return 0;
-    for (unsigned i = 0; i < rule->count; i++)
-        if (rule->conditions[i].value >> 32 || rule->conditions[i].datum >> 32)
-            return refuse(-EINVAL, "%s: argument %u of %s has 32 bits, and %#llx has more", told(filter, place).is,
-                          rule->conditions[i].argument, MACHINE[machine].name, (unsigned long long)rule->conditions[i].value);
-    return 0;
-}
-
-/* Whether another rule stands in the place of this one: of a call's rules the first without conditions counts alone. */
-static bool is_settled(const struct filter *filter, size_t place) {
-    const struct rule *rule = &filter->rules[place];
-    for (size_t i = 0; settles && i < filter->now.count; i++) {
-        const struct rule *first = &filter->rules[i];
-        if (first->count || first->call != rule->call || first->number != rule->number || !(first->machines & rule->machines)) continue;
-        if (first->action != rule->action) refuse(0, "%s: it counts for nothing beside rule %zu, action %#x", told(filter, place).is, i, first->action);
-        return first != rule;
+    for (unsigned i = 0; i < rule->count; i++) {
+        const struct ccell_condition *own = &rule->conditions[i];
+        uint64_t wide = own->value >> 32 ? own->value : own->datum >> 32 ? own->datum : 0;
+        if (wide)
+            return refuse(-EINVAL, "%s: argument %u of %s has 32 bits, and %#llx has more", named(filter, place).is, own->argument,
+                          MACHINE[machine].name, (unsigned long long)wide);
     }
-    return false;
+    return 0;
 }
 
 static int write_rule(const struct filter *filter, size_t place, struct list *list) {
     const struct rule *rule = &filter->rules[place];
+    uint32_t machines = counting(filter, rule, place) & FAMILY;
     for (int machine = 0; machine < OURS; machine++) {
         uint32_t number = (uint32_t)rule->number;
-        if (!(rule->machines & FAMILY & 1u << machine)) continue;
+        if (!(machines >> machine & 1)) continue;
         int error = machine == X86 ? add_other_way(filter, place, list) : 0;
         if (!error) error = judge_width(filter, place, machine);
         if (error) return error;
@@ -119,11 +107,11 @@ static int tell(const struct filter *filter, const struct list *list, uint32_t s
     case CCELL_NO_MEMORY: return -ENOMEM;
     case CCELL_NATIVE_MISSING: return refuse(-EOPNOTSUPP, "the machine itself is not among those of the filter");
     case CCELL_OVERLAP:
-        return refuse(-EEXIST, "%s contradicts %s on %s", told(filter, list->of[at->first]).is, told(filter, list->of[at->second]).is,
-                      list->rules[at->first].machine == MACHINE[NATIVE].token ? MACHINE[NATIVE].name : "another machine");
+        return refuse(-EEXIST, "%s contradicts %s on %s", named(filter, list->of[at->first]).is, named(filter, list->of[at->second]).is,
+                      MACHINE[machine_with(list->rules[at->first].machine)].name);
     case CCELL_TOO_MANY: return refuse(-EINVAL, "there are more than 8192 rules");
     case CCELL_NO_FILTER: return refuse(-EINVAL, "the filter would be longer than a kernel takes");
-    case CCELL_NO_RULE: return refuse(-EINVAL, "%s: no rule of ccell", told(filter, list->of[at->first]).is);
+    case CCELL_NO_RULE: return refuse(-EINVAL, "%s: no rule of ccell", named(filter, list->of[at->first]).is);
     }
     return refuse(-EFAULT, "status %u of ccell", status);
 }
@@ -174,7 +162,7 @@ int make(struct filter *filter) {
     if (filter->length) return 0;
     if (!filter->bytes && !(filter->bytes = malloc(CCELL_MOST_BYTES))) return -ENOMEM;
     for (size_t i = 0; !error && i < filter->now.count; i++)
-        if (!is_settled(filter, i)) error = write_rule(filter, i, &list);
+        error = write_rule(filter, i, &list);
     if (!error) error = ask(filter, &list);
     free(list.rules);
     free(list.of);

@@ -38,24 +38,92 @@ static bool is_same(const struct rule *a, const struct rule *b) {
            !memcmp(a->conditions, b->conditions, a->count * sizeof *a->conditions);
 }
 
-/* Puts a rule behind the others. The same rule with another action is refused at once, as in libseccomp. */
-static int append(struct filter *filter, const struct rule *rule) {
-    for (size_t i = 0; i < filter->now.count; i++) {
-        const struct rule *old = &filter->rules[i];
-        if (!is_same(old, rule) || !(old->machines & rule->machines)) continue;
-        if (old->action == rule->action && (old->machines & rule->machines) == rule->machines) return 0;
-        if (old->action != rule->action && (rule->count || !settles))
-            return refuse(-EEXIST, "%s: rule %zu says %#x, and this one %#x", rule->call < 0 ? "a number" : call_name(rule->call), i,
-                          old->action, rule->action);
+/* ---- the list of rules, and the slots in which those that are the same but for action and machines find each other */
+
+static size_t *slot_of(const struct filter *filter, uint64_t key) { return &filter->latest[key >> 32 & (filter->room - 1)]; }
+
+static void enter(struct filter *filter, size_t place) {
+    struct rule *rule = &filter->rules[place];
+    size_t *slot = slot_of(filter, rule->key);
+    rule->before = *slot;
+    *slot = place + 1;
+}
+
+/* The last rule before a place, counted from 1, that is the same; its own place counted from 1, or 0. The place 0 stands for the end. */
+static size_t same_before(const struct filter *filter, const struct rule *rule, size_t place) {
+    if (!filter->room) return 0;
+    size_t at = place ? filter->rules[place - 1].before : *slot_of(filter, rule->key);
+    while (at && !is_same(&filter->rules[at - 1], rule)) at = filter->rules[at - 1].before;
+    return at;
+}
+
+static int grow(struct filter *filter) {
+    size_t room = filter->room ? 2 * filter->room : 64;
+    size_t *latest = calloc(room, sizeof *latest);
+    struct rule *rules = latest ? reallocarray(filter->rules, room, sizeof *rules) : NULL;
+    if (!rules) {
+        free(latest);
+        return -ENOMEM;
     }
-    if (filter->now.count == filter->room) {
-        size_t room = filter->room ? 2 * filter->room : 64;
-        struct rule *grown = reallocarray(filter->rules, room, sizeof *grown);
-        if (!grown) return -ENOMEM;
-        filter->rules = grown;
-        filter->room = room;
+    free(filter->latest);
+    filter->rules = rules;
+    filter->latest = latest;
+    filter->room = room;
+    for (size_t place = 0; place < filter->now.count; place++) enter(filter, place);
+    return 0;
+}
+
+void drop_rules(struct filter *filter, size_t count) {
+    while (filter->now.count > count) {
+        const struct rule *last = &filter->rules[--filter->now.count];
+        *slot_of(filter, last->key) = last->before;
     }
-    filter->rules[filter->now.count++] = *rule;
+}
+
+const struct rule *whole_rule(const struct filter *filter, int call, int number, int machine) {
+    struct rule wanted = {.call = call, .number = number};
+    const struct rule *first = NULL;
+    wanted.key = key_of(&wanted);
+    for (size_t at = 0; (at = same_before(filter, &wanted, at));)
+        if (filter->rules[at - 1].machines >> machine & 1) first = &filter->rules[at - 1];
+    return first;
+}
+
+uint32_t counting(const struct filter *filter, const struct rule *rule, size_t place) {
+    uint32_t machines = rule->machines;
+    for (int machine = 0; settles && machine < MACHINES; machine++) {
+        const struct rule *whole = machines >> machine & 1 ? whole_rule(filter, rule->call, rule->number, machine) : NULL;
+        if (!whole || whole == rule) continue;
+        machines &= ~(1u << machine);
+        if (whole->action != rule->action)
+            refuse(0, "%s: on %s it counts for nothing beside rule %zu: %s", rule_text(rule, place).is, MACHINE[machine].name,
+                   (size_t)(whole - filter->rules), action_text(whole->action).is);
+    }
+    return machines;
+}
+
+/* Whether the rule is there already, 1, or contradicts one that is the same but for its action, which is refused at once, as in
+ * libseccomp. */
+static int find_same(const struct filter *filter, const struct rule *rule) {
+    int answer = 0;
+    for (size_t at = 0; (at = same_before(filter, rule, at));) {
+        const struct rule *old = &filter->rules[at - 1];
+        if (!(old->machines & rule->machines)) continue;
+        if (old->action != rule->action)
+            return refuse(-EEXIST, "%s contradicts %s", rule_text(rule, filter->now.count).is, rule_text(old, at - 1).is);
+        if ((old->machines & rule->machines) == rule->machines) answer = 1;
+    }
+    return answer;
+}
+
+static int append(struct filter *filter, struct rule *rule) {
+    rule->machines = counting(filter, rule, filter->now.count);
+    if (!rule->machines) return 0;
+    int found = find_same(filter, rule);
+    if (found) return found < 0 ? found : 0;
+    if (filter->now.count == filter->room && grow(filter)) return -ENOMEM;
+    filter->rules[filter->now.count] = *rule;
+    enter(filter, filter->now.count++);
     filter->length = 0;
     return 0;
 }
@@ -63,6 +131,7 @@ static int append(struct filter *filter, const struct rule *rule) {
 static bool one_has(uint32_t machines, int call) {
     uint32_t number;
     uint64_t told;
+    if (machines >> OURS) return true; /* of those no calls are known */
     if (machines >> X86 & 1 && other_way(call, &told) >= 0) return true;
     for (int i = 0; i < OURS; i++)
         if (machines >> i & 1 && call_has(i, call, &number)) return true;
@@ -91,9 +160,10 @@ static int add(struct filter *filter, bool exact, uint32_t action, int number, u
 }
 
 static int add_to(scmp_filter_ctx ctx, bool exact, uint32_t action, int number, unsigned count, const struct scmp_arg_cmp *args) {
-    if (count > ARGUMENTS || (count && !args)) return -EINVAL;
     struct filter *filter = take(ctx);
-    return filter ? done(filter, add(filter, exact, action, number, count, args)) : -EINVAL;
+    if (!filter) return -EINVAL;
+    bool is_bad = count > ARGUMENTS || (count && !args);
+    return done(filter, is_bad ? -EINVAL : add(filter, exact, action, number, count, args));
 }
 
 API int seccomp_rule_add_array(scmp_filter_ctx ctx, uint32_t action, int number, unsigned count, const struct scmp_arg_cmp *args) {
@@ -104,17 +174,27 @@ API int seccomp_rule_add_exact_array(scmp_filter_ctx ctx, uint32_t action, int n
     return add_to(ctx, true, action, number, count, args);
 }
 
-#define ADD_LISTED(exact)                                                                                                            \
-    struct scmp_arg_cmp args[ARGUMENTS];                                                                                             \
-    va_list rest;                                                                                                                    \
-    if (count > ARGUMENTS) return -EINVAL;                                                                                           \
-    va_start(rest, count);                                                                                                           \
-    for (unsigned i = 0; i < count; i++) args[i] = va_arg(rest, struct scmp_arg_cmp);                                                \
-    va_end(rest);                                                                                                                    \
-    return add_to(ctx, exact, action, number, count, args)
+static void read_listed(struct scmp_arg_cmp *args, unsigned count, va_list listed) {
+    for (unsigned i = 0; i < count && i < ARGUMENTS; i++) args[i] = va_arg(listed, struct scmp_arg_cmp);
+}
 
-API int seccomp_rule_add(scmp_filter_ctx ctx, uint32_t action, int number, unsigned count, ...) { ADD_LISTED(false); }
-API int seccomp_rule_add_exact(scmp_filter_ctx ctx, uint32_t action, int number, unsigned count, ...) { ADD_LISTED(true); }
+API int seccomp_rule_add(scmp_filter_ctx ctx, uint32_t action, int number, unsigned count, ...) {
+    struct scmp_arg_cmp args[ARGUMENTS];
+    va_list listed;
+    va_start(listed, count);
+    read_listed(args, count, listed);
+    va_end(listed);
+    return add_to(ctx, false, action, number, count, args);
+}
+
+API int seccomp_rule_add_exact(scmp_filter_ctx ctx, uint32_t action, int number, unsigned count, ...) {
+    struct scmp_arg_cmp args[ARGUMENTS];
+    va_list listed;
+    va_start(listed, count);
+    read_listed(args, count, listed);
+    va_end(listed);
+    return add_to(ctx, true, action, number, count, args);
+}
 
 API int seccomp_syscall_priority(scmp_filter_ctx ctx, int number, uint8_t priority) {
     (void)priority; /* where a call stands in the filter is ccell's to choose */

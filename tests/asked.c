@@ -1,13 +1,17 @@
-/* Makes calls of libseccomp's interface for tests/place, where the library is of another machine and runs under an emulator:
- * cc -o asked tests/asked.c FOLDER/libseccomp.so.2. A line of standard input is the call's name without `seccomp_`, and its arguments; a
- * condition is four numbers. The answer is a line: a number or a text, and of a call that gives out bytes these as digits, too. */
+/* Makes calls of libseccomp's interface for tests/place, where the library is of another machine and runs under an emulator, or has been
+ * compiled with a sanitizer: cc -o asked tests/asked.c FOLDER/libseccomp.so.2. A line of standard input is the call's name without
+ * `seccomp_`, and its arguments; a condition is four numbers. The answer is a line: a number or a text, and of a call that gives out
+ * bytes these as digits, too. `why` asks for the reason. */
 #define _GNU_SOURCE
+#include "../include/ccell_why.h"
 #include "../seccomp/interface.h"
 #include <stdio.h>
 #include <stdlib.h>
 #include <string.h>
 #include <sys/mman.h>
 #include <unistd.h>
+
+#define OF_2_6 __attribute__((weak)) /* libseccomp 2.5 lacks it */
 
 scmp_filter_ctx seccomp_init(uint32_t action);
 void seccomp_release(scmp_filter_ctx ctx);
@@ -24,13 +28,13 @@ int seccomp_syscall_resolve_name_arch(uint32_t token, const char *name);
 int seccomp_syscall_resolve_name_rewrite(uint32_t token, const char *name);
 char *seccomp_syscall_resolve_num_arch(uint32_t token, int number);
 int seccomp_syscall_priority(scmp_filter_ctx ctx, int number, uint8_t priority);
-int seccomp_precompute(scmp_filter_ctx ctx);
+int seccomp_precompute(scmp_filter_ctx ctx) OF_2_6;
 int seccomp_notify_fd(scmp_filter_ctx ctx);
-int seccomp_transaction_start(scmp_filter_ctx ctx);
-int seccomp_transaction_commit(scmp_filter_ctx ctx);
-void seccomp_transaction_reject(scmp_filter_ctx ctx);
+int seccomp_transaction_start(scmp_filter_ctx ctx) OF_2_6;
+int seccomp_transaction_commit(scmp_filter_ctx ctx) OF_2_6;
+void seccomp_transaction_reject(scmp_filter_ctx ctx) OF_2_6;
 int seccomp_export_bpf(scmp_filter_ctx ctx, int fd);
-int seccomp_export_bpf_mem(scmp_filter_ctx ctx, void *buffer, size_t *length);
+int seccomp_export_bpf_mem(scmp_filter_ctx ctx, void *buffer, size_t *length) OF_2_6;
 
 enum { MOST_BYTES = 32768 };
 static scmp_filter_ctx ctx;
@@ -100,6 +104,11 @@ static void name(uint32_t token, int call) {
     free(made);
 }
 
+/* The reason on one line. */
+static void give_why(void) {
+    for (const char *at = ccell_why(); *at; at++) putchar(*at == '\n' ? ';' : *at);
+}
+
 static int answer_call(const char *call) {
     if (!strcmp(call, "init")) return begin((uint32_t)number());
     if (!strcmp(call, "release")) return end();
@@ -131,6 +140,7 @@ int main(void) {
         const char *call = strtok(line, " \n");
         if (!call) continue;
         if (!strcmp(call, "export_bpf")) export();
+        else if (!strcmp(call, "why")) give_why();
         else if (!strcmp(call, "export_bpf_mem")) give((size_t)number());
         else if (!strcmp(call, "syscall_resolve_num_arch")) {
             uint32_t token = (uint32_t)number();

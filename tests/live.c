@@ -22,12 +22,20 @@ int seccomp_rule_add_array(scmp_filter_ctx ctx, uint32_t action, int number, uns
 int seccomp_export_bpf(const scmp_filter_ctx ctx, int fd);
 int seccomp_export_bpf_mem(const scmp_filter_ctx ctx, void *buffer, size_t *length);
 int seccomp_load(const scmp_filter_ctx ctx);
+int seccomp_merge(scmp_filter_ctx into, scmp_filter_ctx from);
 
 /* Machines beside the one that this runs on. */
 #ifdef __aarch64__
 enum { BESIDE = 0x40000028, FURTHER = BESIDE };
 #else
 enum { BESIDE = 0x40000003, FURTHER = 0x4000003e };
+#endif
+
+/* The malloc of this sanitizer may be taken in a child that was forked beside a thread. */
+#ifdef __SANITIZE_ADDRESS__
+enum { CHILDREN_HAVE_MALLOC = 0 };
+#else
+enum { CHILDREN_HAVE_MALLOC = 1 };
 #endif
 
 static int wrong;
@@ -95,6 +103,59 @@ static void threads(void) {
     tell(lengths[0] == lengths[1] && !memcmp(first, second, lengths[0]), 1, "four threads add what one does");
 }
 
+/* Two threads that name two contexts, each the other way round. */
+static scmp_filter_ctx merged[2];
+
+static void *merges(void *second) {
+    for (int i = 0; i < 20000; i++) seccomp_merge(merged[!second], merged[!!second]);
+    return NULL;
+}
+
+static void merge(void) {
+    pthread_t ids[2];
+    for (int i = 0; i < 2; i++) merged[i] = seccomp_init(ALLOW);
+    for (int i = 0; i < 2; i++) pthread_create(&ids[i], NULL, merges, i ? merged : NULL);
+    for (int i = 0; i < 2; i++) pthread_join(ids[i], NULL);
+    for (int i = 0; i < 2; i++) seccomp_release(merged[i]);
+}
+
+/* A thread is at work in a context and makes and gives back others, while this one forks: each child can use the context. */
+static int ends;
+
+static void *works(void *ctx) {
+    for (uint64_t value = 0; !__atomic_load_n(&ends, __ATOMIC_RELAXED); value++) {
+        struct scmp_arg_cmp is = {0, 4, value % 100, 0};
+        size_t length = sizeof second;
+        seccomp_rule_add_array(ctx, ALLOW, 1000, 1, &is);
+        if (value % 8 == 0) seccomp_export_bpf_mem(ctx, second, &length);
+        seccomp_release(seccomp_init(ALLOW));
+    }
+    return NULL;
+}
+
+static int uses(scmp_filter_ctx ctx) {
+    size_t length = sizeof first;
+    alarm(20);
+    return seccomp_rule_add_array(ctx, ALLOW, 1001, 0, NULL) || seccomp_export_bpf_mem(ctx, first, &length);
+}
+
+static void forks(void) {
+    scmp_filter_ctx ctx = seccomp_init(ERRNO | 1);
+    pthread_t id;
+    int status, bad = 0;
+    pthread_create(&id, NULL, works, ctx);
+    for (int i = 0; i < 100; i++) {
+        pid_t child = fork();
+        if (!child) _exit(uses(ctx));
+        waitpid(child, &status, 0);
+        bad += status != 0;
+    }
+    __atomic_store_n(&ends, 1, __ATOMIC_RELAXED);
+    pthread_join(id, NULL);
+    seccomp_release(ctx);
+    tell(bad, 0, "children of 100 forks beside a thread at work");
+}
+
 /* More rules than there may be are refused, and a context that is reset then has room again. */
 static void many(void) {
     scmp_filter_ctx ctx = seccomp_init(ERRNO | 1);
@@ -149,6 +210,8 @@ int main(int argc, char **argv) {
     if (argc == 1) loads(); /* ./live rules: all but this, which wants a kernel */
     descriptors();
     threads();
+    merge();
+    if (CHILDREN_HAVE_MALLOC) forks();
     many();
     tell(works_with(96 << 10), 1, "a stack of 96 KiB");
     return wrong != 0;

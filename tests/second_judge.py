@@ -77,8 +77,9 @@ def instructions(filter_bytes):
     return list(struct.iter_unpack("<HBBI", filter_bytes))
 
 
-def answer(filter_bytes, record):
-    """The verdict that a filter answers to a call record: seccomp(2), and the kernel's page on socket filters."""
+def answer(filter_bytes, record, loaded=None):
+    """The verdict that a filter answers to a call record: seccomp(2), and the kernel's page on socket filters. The words that it loads
+    on the way are added to a set, if one is given."""
     program, words = instructions(filter_bytes), struct.unpack("<16I", record)
     a = at = 0
     while True:
@@ -88,6 +89,8 @@ def answer(filter_bytes, record):
             return k
         if code == LD:
             a = words[k // 4]
+            if loaded is not None:
+                loaded.add(k // 4)
         elif code == AND:
             a &= k
         elif code == JA:

@@ -42,37 +42,6 @@ class Comparison(ctypes.Structure):
     _fields_ = [("arg", ctypes.c_uint), ("op", ctypes.c_int), ("a", ctypes.c_uint64), ("b", ctypes.c_uint64)]
 
 
-class Told:
-    """What this process writes on standard error while this is open."""
-
-    def __enter__(self):
-        self.file, self.kept = tempfile.TemporaryFile(), os.dup(2)
-        os.dup2(self.file.fileno(), 2)
-        return self
-
-    def __exit__(self, *_):
-        os.dup2(self.kept, 2)
-        os.close(self.kept)
-        self.file.seek(0)
-        self.text = self.file.read().decode(errors="replace")
-        self.file.close()
-
-
-class ToldFar:
-    """What another process writes into a file while this is open."""
-
-    def __init__(self, file):
-        self.file = file
-
-    def __enter__(self):
-        self.before = os.fstat(self.file.fileno()).st_size
-        return self
-
-    def __exit__(self, *_):
-        length = os.fstat(self.file.fileno()).st_size - self.before
-        self.text = os.pread(self.file.fileno(), length, self.before).decode(errors="replace")
-
-
 class Here:
     """A library in this process, and one context."""
 
@@ -80,11 +49,14 @@ class Here:
         self.calls = ctypes.CDLL(path)
         for name in ("seccomp_init", "seccomp_syscall_resolve_num_arch"):
             getattr(self.calls, name).restype = ctypes.c_void_p
+        self.has_why = hasattr(self.calls, "ccell_why")
+        if self.has_why:
+            self.calls.ccell_why.restype = ctypes.c_char_p
         self.context = None
 
-    def told(self):
-        """What is told from now on."""
-        return Told()
+    def why(self):
+        """Why the last call was refused, or what it left out; of libseccomp itself nothing."""
+        return self.calls.ccell_why().decode() if self.has_why else ""
 
     def bare(self, name, *arguments):
         """A call without a context."""
@@ -138,29 +110,45 @@ class Here:
         return error, held.raw[: min(room, length.value)], length.value
 
 
+class Ended(Exception):
+    """The other process ended instead of answering."""
+
+
 class Far:
-    """A library of another machine, and one context. tests/asked.c makes the calls there, by a command."""
+    """A library in another process, or of another machine, and one context. tests/asked.c makes the calls there, by a command."""
 
     def __init__(self, command):
-        self.lines = tempfile.TemporaryFile("ab+", buffering=0)
-        self.asked = subprocess.Popen(command, stdin=subprocess.PIPE, stdout=subprocess.PIPE, stderr=self.lines, text=True)
+        self.command = command
+        self.start()
+
+    def start(self):
+        """Starts the other process, also once more after it has ended."""
+        self.errors = tempfile.TemporaryFile("w+")
+        self.asked = subprocess.Popen(self.command, stdin=subprocess.PIPE, stdout=subprocess.PIPE, stderr=self.errors, text=True)
         self.context = False
 
-    def told(self):
-        """What is told from now on."""
-        return ToldFar(self.lines)
+    def why(self):
+        """Why the last call was refused, or what it left out."""
+        return " ".join(self.line("why")).strip()
+
+    def written(self):
+        """What the other process has written on standard error."""
+        self.errors.seek(0)
+        return self.errors.read()
 
     def close(self):
-        """Ends the other process."""
+        """Ends the other process: what is wrong, or nothing."""
         self.asked.stdin.close()
-        self.asked.wait()
+        self.asked.stdout.close()
+        status = self.asked.wait()
+        return f"status {status}\n{self.written()}" if status else None
 
     def line(self, *words):
         """The answer to a line."""
         print(*words, file=self.asked.stdin, flush=True)
         answer = self.asked.stdout.readline()
         if not answer:
-            raise RuntimeError(f"{words}: no answer, and status {self.asked.wait()}")
+            raise Ended(f"{' '.join(map(str, words))}: no answer, and status {self.asked.wait()}\n{self.written()}")
         return answer.split(" ")
 
     def bare(self, name, *arguments):
@@ -208,9 +196,9 @@ class Library:
     def __init__(self, path):
         self.at = path if isinstance(path, Far) else Here(path)
 
-    def told(self):
-        """What is told on standard error while this is open."""
-        return self.at.told()
+    def why(self):
+        """Why the last call was refused, or what it left out."""
+        return self.at.why()
 
     @property
     def context(self):
@@ -222,8 +210,8 @@ class Library:
         self.at.release()
 
     def close(self):
-        """Ends the process of a library that is far away."""
-        self.at.close()
+        """Ends the process of a library that is far away: what is wrong, or nothing."""
+        return self.at.close()
 
     def init(self, default):
         """A new context."""

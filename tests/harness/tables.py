@@ -185,7 +185,7 @@ def faults_of_calls(page, text):
 
 def faults_of_whole_tables(counts):
     """The list of all calls of Linux, and how many each machine has."""
-    whole = [line for line in read("docs/linux-6.18-calls.txt").splitlines() if not line.startswith("#")]
+    whole = [line for line in read("docs/linux-calls.txt").splitlines() if not line.startswith("#")]
     columns = zip(*(line.split()[1].split("/") for line in whole))
     faults = [] if counts == tuple(str(len(it) - it.count("-")) for it in columns) else ["the whole tables have other numbers of calls"]
     return faults + [f"not as the program has it: {line}" for line in sorted({*whole} ^ {*calls("linux-", "")})]

@@ -1,4 +1,4 @@
-//! All calls of Linux 6.18 on x86-64, x86, x32, AArch64 and ARM, as the kernel's tables of calls list them
+//! All calls of Linux 7.3 on x86-64, x86, x32, AArch64 and ARM, as the kernel's tables of calls list them
 //! (`arch/x86/entry/syscalls/syscall_64.tbl` and `syscall_32.tbl`, `scripts/syscall.tbl`, `arch/arm/tools/syscall.tbl`).
 
 /// Stands where a machine has no call of the name. No call has this number.
@@ -85,6 +85,7 @@ pub(crate) const FIRST_CALLS: &[(&str, [u32; 5])] = &[
     ("fchown", [93, 95, 0x4000_005d, 55, 95]),
     ("fchown32", [NONE, 207, NONE, NONE, 207]),
     ("fchownat", [260, 298, 0x4000_0104, 54, 325]),
+    ("fchroot", [472, 472, 0x4000_01d8, 472, 472]),
     ("fcntl", [72, 55, 0x4000_0048, 25, 55]),
     ("fcntl64", [NONE, 221, NONE, NONE, 221]),
     ("fdatasync", [75, 148, 0x4000_004b, 83, 148]),
@@ -200,6 +201,7 @@ pub(crate) const SECOND_CALLS: &[(&str, [u32; 5])] = &[
     ("linkat", [265, 303, 0x4000_0109, 37, 330]),
     ("listen", [50, 363, 0x4000_0032, 201, 284]),
     ("listmount", [458, 458, 0x4000_01ca, 458, 458]),
+    ("listns", [470, 470, 0x4000_01d6, 470, 470]),
     ("listxattr", [194, 232, 0x4000_00c2, 11, 232]),
     ("listxattrat", [465, 465, 0x4000_01d1, 465, 465]),
     ("llistxattr", [195, 233, 0x4000_00c3, 12, 233]),
@@ -214,7 +216,7 @@ pub(crate) const SECOND_CALLS: &[(&str, [u32; 5])] = &[
     ("lstat", [6, 107, 0x4000_0006, NONE, 107]),
     ("lstat64", [NONE, 196, NONE, NONE, 196]),
     ("madvise", [28, 219, 0x4000_001c, 233, 220]),
-    ("map_shadow_stack", [453, 453, NONE, 453, 453]),
+    ("map_shadow_stack", [453, 453, 0x4000_01c5, 453, 453]),
     ("mbind", [237, 274, 0x4000_00ed, 235, 319]),
     ("membarrier", [324, 375, 0x4000_0144, 283, 389]),
     ("memfd_create", [319, 356, 0x4000_013f, 279, 385]),
@@ -336,6 +338,7 @@ pub(crate) const THIRD_CALLS: &[(&str, [u32; 5])] = &[
     ("restart_syscall", [219, 0, 0x4000_00db, 128, 0]),
     ("rmdir", [84, 40, 0x4000_0054, NONE, 40]),
     ("rseq", [334, 386, 0x4000_014e, 293, 398]),
+    ("rseq_slice_yield", [471, 471, 0x4000_01d7, 471, 471]),
     ("rt_sigaction", [13, 174, 0x4000_0200, 134, 174]),
     ("rt_sigpending", [127, 176, 0x4000_020a, 136, 176]),
     ("rt_sigprocmask", [14, 175, 0x4000_000e, 135, 175]),
@@ -479,8 +482,8 @@ pub(crate) const FOURTH_CALLS: &[(&str, [u32; 5])] = &[
     ("unlink", [87, 10, 0x4000_0057, NONE, 10]),
     ("unlinkat", [263, 301, 0x4000_0107, 35, 328]),
     ("unshare", [272, 310, 0x4000_0110, 97, 337]),
-    ("uprobe", [336, NONE, NONE, NONE, NONE]),
-    ("uretprobe", [335, NONE, NONE, NONE, NONE]),
+    ("uprobe", [336, NONE, 0x4000_0150, NONE, NONE]),
+    ("uretprobe", [335, NONE, 0x4000_014f, NONE, NONE]),
     ("uselib", [134, 86, NONE, NONE, 86]),
     ("userfaultfd", [323, 374, 0x4000_0143, 282, 388]),
     ("usr26", [NONE, NONE, NONE, NONE, 0xf_0003]),

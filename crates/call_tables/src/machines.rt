@@ -74,23 +74,23 @@ pub struct X86_64;
 #[derive(Clone, Copy, Debug)]
 pub struct Aarch64;
 
-/// x86-64, with all calls of its 64-bit interface on Linux 6.18.
+/// x86-64, with all calls of its 64-bit interface on Linux 7.3.
 #[derive(Clone, Copy, Debug)]
 pub struct LinuxX86_64;
 
-/// x86, with all its calls on Linux 6.18.
+/// x86, with all its calls on Linux 7.3.
 #[derive(Clone, Copy, Debug)]
 pub struct LinuxX86;
 
-/// x32, the 32-bit interface of x86-64, with all its calls on Linux 6.18. They carry the token of x86-64.
+/// x32, the 32-bit interface of x86-64, with all its calls on Linux 7.3. They carry the token of x86-64.
 #[derive(Clone, Copy, Debug)]
 pub struct LinuxX32;
 
-/// AArch64, with all its calls on Linux 6.18.
+/// AArch64, with all its calls on Linux 7.3.
 #[derive(Clone, Copy, Debug)]
 pub struct LinuxAarch64;
 
-/// ARM by its embedded interface, with all its calls on Linux 6.18.
+/// ARM by its embedded interface, with all its calls on Linux 7.3.
 #[derive(Clone, Copy, Debug)]
 pub struct LinuxArm;
 

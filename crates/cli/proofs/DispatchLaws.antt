@@ -16,25 +16,20 @@ use Rattle.compare.specs.Convictions.{TellsAll}
 use Rattle.maker.specs.Certified.{Certifies}
 use Rattle.maker.specs.Exported.{Exports}
 use Rattle.maker.specs.Finding.{WritesFinding}
-use Rattle.cli.specs.Arguments.{Given, Reads}
-use Rattle.cli.specs.Arguments.Given.{Verdict, Check, Certify, CertifyBehind, CertifyAll, Export, Run, Explain, Read as ReadOut, Record, Assemble, Annotate, Draw, Lint, Compare, CompareFilters, Adapt, Learn, Replay, Manual, Version}
-use Rattle.cli.specs.declared.command_line.Misuse.{Misuse}
-use Rattle.cli.specs.declared.command_line.Misuse.TheVariants as kind
 use Rattle.cli.specs.declared.stops.Stop.{Stop}
-use Rattle.cli.specs.declared.stops.Stop.TheVariants.{Usage, CannotRead, Read, Write, OutOfMemory}
+use Rattle.cli.specs.declared.stops.Stop.TheVariants.{Usage}
 use Rattle.cli.specs.Dispatch.{AnswersAdapt, AnswersAll, AnswersBehind, AnswersCertify, AnswersCheck, AnswersExport, AnswersManual, AnswersReplay}
-use Rattle.cli.specs.Dispatch.{AnswersTold, AnswersVerdict, Does, StopsAtWords}
-use Rattle.cli.specs.Adapted.{IsMadeAs}
+use Rattle.cli.specs.Dispatch.{AnswersTold, AnswersVerdict, StopsAtWords}
+use Rattle.cli.specs.Adapted.{AskNothing, IsMadeAs}
+use Rattle.cli.specs.Written.{WritesMade}
 use Rattle.cli.specs.Told.{IsManual, IsReplayed, OfArguments, of_none, of_one, of_two}
 use Rattle.cli.specs.declared.adapting.Both.{Both}
-use Rattle.cli.specs.Dispatch.{any_call, explained_as, ExplainsBehind, ExplainsWhy, FirstUnread, HaveBytes, IsMisuse, StopsAt, StopsAtFile}
-use Rattle.cli.specs.Dispatch.{TellsMisuse}
-use Rattle.cli.specs.inner.Telling.{IsAdaptedOf, IsManualOf, IsReplayOf, IsToldOf, TellsOn, TellsText, told_in}
-use Rattle.cli.specs.Stop.{Reports, line_of, status_of, stop_at_misuse}
+use Rattle.cli.specs.Dispatch.{any_call, explained_as, ExplainsBehind, FirstUnread, HaveBytes, StopsAt}
+use Rattle.cli.specs.inner.Telling.{IsAdaptedOf, IsBundleOf, IsInForm, IsManualOf, IsReplayOf, IsToldOf, TellsOn, TellsText, told_in}
 use Rattle.cli.specs.Explained.{TellsBehind}
-use Rattle.cli.specs.Files.{Folder, HasBytes, HasEnough}
+use Rattle.cli.specs.Files.{Folder, HasBundle, HasBytes, HasEnough}
 use Rattle.cli.specs.Running.{told_line}
-use Rattle.cli.proofs.NamedLaws.{named_of}
+use Rattle.cli.proofs.FormLaws.{stopped_in, told_in_form}
 use Rattle.cli.proofs.TurnLaws.{cut_at}
 use Rattle.cli.proofs.FileLaws.{behind_of_file, certified_of_file, check_of_file, tells_all_of_file, tells_of_file, verdict_of_files}
 
@@ -84,7 +79,7 @@ module _ {O : Type 0} (held : O → Option (List ℕ)) (failures : O → Failure
     export_first form stop result h e = inl (record { stop = stop; at = inl h; told = e; unwritten = refl })
 
     pub export_done : (form : Form) (new : O) (b : List ℕ) (answer : Result Bool WriteFault) (result : Result Bool Stop)
-        → HasBytes folder bundle b → Exports held failures old new native b form answer → result ≡ told_line answer
+        → HasBundle native folder bundle b → Exports held failures old new native b form answer → result ≡ told_line answer
         → AnswersExport held failures folder old new native bundle form result
     export_done form new b answer result of_bundle h e = inr (b, of_bundle, record { answer = answer; written = h; told = e })
 
@@ -105,11 +100,11 @@ module _ {O : Type 0} (held : O → Option (List ℕ)) (failures : O → Failure
           → AnswersCheck held failures folder old old native bundle filter cert result
       check_first cert stop result h e = inl (record { stop = stop; at = inl h; told = e; unwritten = refl })
 
-      module _ (b : List ℕ) (of_bundle : HasBytes folder bundle b) (later : Option Folder) (same : later ≡ folder) where
+      module _ (b : List ℕ) (of_bundle : HasBundle native folder bundle b) (later : Option Folder) (same : later ≡ folder) where
         second : (names : List (List ℕ)) (stop : Stop) → StopsAt later filter stop
             → FirstUnread folder (bundle ∷ filter ∷ names) stop
         second names stop h =
-            behind folder bundle b (filter ∷ names) stop of_bundle (inl (subst (λ d. StopsAt d filter stop) same h))
+            behind folder bundle of_bundle.file (filter ∷ names) stop of_bundle.is (inl (subst (λ d. StopsAt d filter stop) same h))
 
         pub certify_second : (stop : Stop) (result : Result Bool Stop) → StopsAt later filter stop → result ≡ Err stop
             → AnswersCertify held failures folder old old native bundle filter result
@@ -195,7 +190,7 @@ module _ {O : Type 0} (held : O → Option (List ℕ)) (failures : O → Failure
                 → AnswersCheck held failures folder old old native bundle filter cert result
             check_third stop result h e = inl (record {
               stop = stop;
-              at = behind folder bundle b (filter ∷ cert ∷ []) stop of_bundle (behind folder filter of_filter.file (cert ∷ []) stop has_filter
+              at = behind folder bundle of_bundle.file (filter ∷ cert ∷ []) stop of_bundle.is (behind folder filter of_filter.file (cert ∷ []) stop has_filter
                   (inl (subst (λ d. StopsAt d cert stop) same (subst (λ d. StopsAt d cert stop) still h))));
               told = e;
               unwritten = refl;
@@ -242,10 +237,18 @@ module _ {O : Type 0} (held : O → Option (List ℕ)) (failures : O → Failure
   pub answers_adapted : (native : Arch) (config : List ℕ) (words : List (List ℕ)) (result : Result Bool Stop) (both : Result Both Stop)
       → IsAdaptedOf folder native config words (told_in both) → TellsOn held failures old new (told_in both) result
       → AnswersAdapt held failures folder old new native config words result
-  answers_adapted native config words result both (inl is) h = inl (is.0, stopped_at result (told_in both) is.1 h)
-  answers_adapted native config words result both (inr is) h =
-      inr (answers_told held failures folder (config ∷ []) (of_one (λ text. OfArguments (IsMadeAs native) words)) old new result
-      (told_in both) is h)
+  answers_adapted native config words result both is h = (is.others, is.as_bundle, is.named, by (told_in both) is.made is.is_made is.written h) where
+    Writes : List ℕ → Told → Type 0
+    Writes text = WritesMade native is.as_bundle (OfArguments (IsMadeAs native text) is.others)
+
+    by : (told made : Result Told Stop) → IsBundleOf folder native config is.others made → IsInForm native is.as_bundle made told
+        → TellsOn held failures old new told result
+        → (AskNothing is.others × StopsAtWords held failures folder old new result)
+        ⊎ AnswersTold held failures folder old new (config ∷ []) (of_one Writes) result
+    by told made (inl none) written h = inl (none.0, stopped_at result told (stopped_in native is.as_bundle made told Usage none.1 written) h)
+    by told made (inr read) written h =
+        inr (answers_told held failures folder (config ∷ []) (of_one Writes) old new result told
+        (told_in_form native is.as_bundle folder (config ∷ []) (λ text. OfArguments (IsMadeAs native text) is.others) made told read written) h)
 
   pub answers_replayed : (native : Arch) (bundle : List ℕ) (words : List (List ℕ)) (result : Result Bool Stop) (told : Result Told Stop)
       → IsReplayOf folder native bundle words told → TellsOn held failures old new told result
@@ -288,87 +291,6 @@ module _ {E : Type 0} (native : Arch) (bundle : List ℕ) (call : List (Bor (Lis
   pub explained_any : (what : List ℕ) → any_call (map now_of call) ≡ Some what → IfOk told (IsExplainedAny native bundle what)
       → IfOk told (explained_as native (map now_of call) (any_call (map now_of call)) bundle)
   explained_any what some h = subst (λ o. IfOk told (explained_as native (map now_of call) o bundle)) (sym some) h
-
--- ---- arguments that were not read
-
--- memory is refused before any file is read
-pub unread_memory : (folder : Option Folder) (names : List (List ℕ)) → FirstUnread folder names OutOfMemory
-unread_memory folder [] = tt
-unread_memory folder (name ∷ names) = inl tt
-
-stops_early : {O : Type 0} (folder : Option Folder) (out : O) (names : List (List ℕ)) → StopsAtFile folder out out names (Err OutOfMemory)
-stops_early folder out names = record { stop = OutOfMemory; at = unread_memory folder names; told = refl; unwritten = refl }
-
-module _ {I O : Type 0} (left : I → Option (List ℕ)) (given : I → Failures) (held : O → Option (List ℕ)) (taken : O → Failures)
-    (folder : Option Folder) (input : I) (out : O) where
-  -- a command for which there is no memory is not begun
-  not_begun : (command : Given) → Does left given held taken folder input input out out command (Err OutOfMemory)
-  not_begun (Verdict filter rec) = (refl, inl (stops_early folder out (filter ∷ rec ∷ [])))
-  not_begun (Check native bundle filter cert) = (refl, inl (stops_early folder out (bundle ∷ filter ∷ cert ∷ [])))
-  not_begun (Certify native bundle filter) = (refl, inl (stops_early folder out (bundle ∷ filter ∷ [])))
-  not_begun (CertifyBehind native bundle filter) = (refl, inl (stops_early folder out (bundle ∷ filter ∷ [])))
-  not_begun (CertifyAll native bundle filter) = (refl, inl (stops_early folder out (bundle ∷ filter ∷ [])))
-  not_begun (Export native bundle form) = (refl, inl (stops_early folder out (bundle ∷ [])))
-  not_begun (Run native bundles) = inl (refl, stops_early folder out bundles)
-  not_begun (Explain native bundle call) = inr (refl, inl (stops_early folder out (bundle ∷ [])))
-  not_begun (ReadOut native bundle) = (refl, inl (stops_early folder out (bundle ∷ [])))
-  not_begun (Record native call) = (refl, inl (stops_early folder out []))
-  not_begun (Assemble listing) = (refl, inl (stops_early folder out (listing ∷ [])))
-  not_begun (Annotate native filter) = (refl, inl (stops_early folder out (filter ∷ [])))
-  not_begun (Draw native filter) = (refl, inl (stops_early folder out (filter ∷ [])))
-  not_begun (Lint native bundle) = (refl, inl (stops_early folder out (bundle ∷ [])))
-  not_begun (Compare native old new at_most) = (refl, inl (stops_early folder out (old ∷ new ∷ [])))
-  not_begun (CompareFilters native old new) = (refl, inl (stops_early folder out (old ∷ new ∷ [])))
-  not_begun (Adapt native config words) = (refl, inr (inl (stops_early folder out (config ∷ []))))
-  not_begun (Learn native words) = (refl, inr (inl (refl, refl)))
-  not_begun (Replay native bundle words) =
-      let is = named_of words in (refl, (is.logs, is.unused, is.named, inl (stops_early folder out (bundle ∷ is.logs))))
-  not_begun (Manual name) = (refl, inr (inl (stops_early folder out [])))
-  not_begun Version = (refl, inl (stops_early folder out []))
-
-  pub unread_arguments : (command : Given) (misuse : Misuse) (result : Result Bool Stop) → Reads command (Err misuse)
-      → result ≡ Err (stop_at_misuse misuse) → Does left given held taken folder input input out out command result
-  unread_arguments command kind.OutOfMemory result memory e =
-      subst (λ r. Does left given held taken folder input input out out command r) (sym e) (not_begun command)
-  unread_arguments command kind.Usage result memory e = absurd memory
-
--- where the program stops no record is told
-module _ {O E : Type 0} (held : O → Option (List ℕ)) (taken : O → Failures) (shown : E → Option (List ℕ)) (dropped : E → Failures)
-    (folder : Option Folder) (out out' : O) (err err' : E) where
-  pub explained_stop : (command : Given) (stop : Stop) → ExplainsWhy held taken shown dropped folder out out' err err' command (Err stop)
-  explained_stop (Verdict filter rec) stop = tt
-  explained_stop (Check native bundle filter cert) stop = tt
-  explained_stop (Certify native bundle filter) stop = tt
-  explained_stop (CertifyBehind native bundle filter) stop = tt
-  explained_stop (CertifyAll native bundle filter) stop = tt
-  explained_stop (Export native bundle form) stop = tt
-  explained_stop (Run native bundles) stop = tt
-  explained_stop (Explain native bundle call) stop = tt
-  explained_stop (ReadOut native bundle) stop = tt
-  explained_stop (Record native call) stop = tt
-  explained_stop (Assemble listing) stop = tt
-  explained_stop (Annotate native filter) stop = tt
-  explained_stop (Draw native filter) stop = tt
-  explained_stop (Lint native bundle) stop = tt
-  explained_stop (Compare native old new at_most) stop = tt
-  explained_stop (CompareFilters native old new) stop = tt
-  explained_stop (Adapt native config words) stop = tt
-  explained_stop (Learn native words) stop = tt
-  explained_stop (Replay native bundle words) stop = tt
-  explained_stop (Manual name) stop = tt
-  explained_stop Version stop = tt
-
-pub is_misuse : (misuse : Misuse) (result : Result Bool Stop) → result ≡ Err (stop_at_misuse misuse) → IsMisuse result
-is_misuse kind.Usage result e = subst IsMisuse (sym e) tt
-is_misuse kind.OutOfMemory result e = subst IsMisuse (sym e) tt
-
-pub tells_misuse : {E : Type 0} (held : E → Option (List ℕ)) (failures : E → Failures) (old new : E) (stop : Stop) (status : ℕ)
-    → IsMisuse (Err stop) → status ≡ status_of stop → Reports held failures old new (line_of stop) → TellsMisuse held failures old new status
-tells_misuse held failures old new Usage status is e h = inl (e, h)
-tells_misuse held failures old new OutOfMemory status is e h = inr (e, h)
-tells_misuse held failures old new (CannotRead name) status is e h = absurd is
-tells_misuse held failures old new (Read line) status is e h = absurd is
-tells_misuse held failures old new (Write out) status is e h = absurd is
 
 -- ---- files in turn
 

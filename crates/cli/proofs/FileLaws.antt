@@ -1,6 +1,6 @@
 -- What is written of the bytes that are read of files is so of the files' own.
-use Rattle.std.proofs.Common.{◌≡◌, ◌⊎◌, ℕ, ◌-◌, inl, inr, List, [], ap, length, refl, subst, sym, ◌∙◌, arith}
-use Rattle.std.specs.Prelude.{◌≢◌, Bool, Option, None, Result, Ok, Err, slice_index_or}
+use Rattle.std.proofs.Common.{◌≡◌, ℕ, ◌-◌, inl, inr, List, [], ap, length, refl, subst, sym, ◌∙◌, arith}
+use Rattle.std.specs.Prelude.{◌≢◌, Bool, true, false, Option, None, Result, Ok, Err, slice_index_or}
 use Rattle.bpf_insn.specs.Bytes.{view_fault}
 use Rattle.bpf_insn.specs.declared.fault.ViewError.TheVariants.{NotMultipleOf8}
 use Rattle.call_tables.specs.declared.arch.Arch.{Arch}
@@ -27,7 +27,7 @@ use Rattle.explain.specs.declared.told.Told.{Told}
 use Rattle.compare.specs.declared.behind_runc.stub.calls.Calls.{Calls}
 use Rattle.maker.specs.declared.evidence.evidence.Conviction.{Conviction}
 use Rattle.compare.specs.Convictions.{AllConvict, Convicts, TellsAll}
-use Rattle.cli.specs.Explained.{MayTellStub, TellsBehind, WritesSome}
+use Rattle.cli.specs.Explained.{TellsBehind, TellsStub, WritesSome}
 use Rattle.cli.specs.Files.{IsEnough}
 use Rattle.cli.proofs.EnoughLaws.{all_read, all_read_of, first_of_file, same_fault, whole_filter}
 
@@ -121,36 +121,39 @@ module _ (native : Arch) (bundle filter f : List ℕ) (enough : IsEnough 32768 f
     tells_all_of_file result (inr lacks) = inr lacks
 
     -- what is written where no stub was found in the bytes that were read
-    whole_behind : (result : Result Bool WriteFault) → WritesBehind held failures old new native bundle f f result
+    whole_behind : (answered : List Calls) (whole : Bool) (result : Result Bool WriteFault)
+        → WritesBehind held failures old new native bundle f f answered whole result
         → Certifies held failures old new native bundle filter result
-    whole_behind result (inl h) = certified_of_file result h
-    whole_behind result (inr (inl h)) = certified_of_file result (inl h)
-    whole_behind result (inr (inr (inl h))) = certified_of_file result (inr (inr (inl h)))
-    whole_behind result (inr (inr (inr h))) = certified_of_file result (inr (inr (inr h)))
+    whole_behind answered true result h = certified_of_file result h
+    whole_behind answered false result (inl h) = certified_of_file result (inr (inl h))
+    whole_behind answered false result (inr (inl h)) = certified_of_file result (inl h.0)
+    whole_behind answered false result (inr (inr (inl h))) = certified_of_file result (inr (inr (inl h.0)))
+    whole_behind answered false result (inr (inr (inr h))) = certified_of_file result (inr (inr (inr h)))
 
     module _ (result : Result Bool WriteFault) where
-      behind_by : (rest : List ℕ) (answered : List Calls) → IsBehind f rest answered
-          → WritesBehind held failures old new native bundle f rest result
+      behind_by : (rest : List ℕ) (answered : List Calls) (whole : Bool) → IsBehind f rest answered
+          → WritesBehind held failures old new native bundle f rest answered whole result
           → CertifiesBehind held failures old new native bundle filter result
-      behind_by rest answered (inl has) h =
+      behind_by rest answered whole (inl has) h =
           subst (λ x. CertifiesBehind held failures old new native bundle x result) (whole_filter filter f enough has.filter_is.program)
-          (inl (rest, answered, inl has, h))
-      behind_by rest answered (inr same) h =
-          let written = subst (λ x. WritesBehind held failures old new native bundle f x result) same.0 h in
-          inl (filter, [], inr (refl, refl), inl (whole_behind result written))
+          (inl (rest, answered, whole, inl has, h))
+      behind_by rest answered whole (inr same) h =
+          let written = subst (λ x. WritesBehind held failures old new native bundle f x answered whole result) same.0 h in
+          inl (filter, [], true, inr (refl, refl), whole_behind answered whole result written)
 
       pub behind_of_file : CertifiesBehind held failures old new native bundle f result
           → CertifiesBehind held failures old new native bundle filter result
-      behind_of_file (inl h) = behind_by h.0 h.1 h.2 h.3
+      behind_of_file (inl h) = behind_by h.0 h.1 h.2 h.3 h.4
       behind_of_file (inr lacks) = inr lacks
 
       module _ {E : Type 0} (shown : E → Option (List ℕ)) (dropped : E → Failures) (err err' : E) where
         -- where no stub was found nothing depends on the bytes
-        no_stub : (between : E) (rest : List ℕ) (answered : List Calls) → answered ≡ []
-            → MayTellStub shown dropped err between native f rest answered → MayTellStub shown dropped err between native filter filter []
-        no_stub between rest answered none h =
+        no_stub : (between : E) (rest : List ℕ) (answered : List Calls) (whole : Bool) → answered ≡ []
+            → TellsStub shown dropped err between native f rest answered whole
+            → TellsStub shown dropped err between native filter filter [] true
+        no_stub between rest answered whole none h =
             let Told : List Calls → Type 0 =
-            λ calls. (between ≡ err) ⊎ WritesSome shown dropped err between (stub_text (family_of native) (length f - length rest) calls) in
+            λ calls. WritesSome shown dropped err between (stub_text (family_of native) (length f - length rest) calls whole) in
             subst Told none h
 
         tells_by : (h : TellsBehind held failures old new shown dropped err err' native bundle f result) → IsBehind f h.rest h.answered
@@ -161,10 +164,12 @@ module _ (native : Arch) (bundle filter f : List ℕ) (enough : IsEnough 32768 f
         tells_by h (inr same) = record {
           rest = filter;
           answered = [];
+          whole = true;
           behind = inr (refl, refl);
-          written = inl (whole_behind result (subst (λ x. WritesBehind held failures old new native bundle f x result) same.0 h.written));
+          written = whole_behind h.answered h.whole result
+              (subst (λ x. WritesBehind held failures old new native bundle f x h.answered h.whole result) same.0 h.written);
           between = h.between;
-          calls = no_stub h.between h.rest h.answered same.1 h.calls;
+          calls = no_stub h.between h.rest h.answered h.whole same.1 h.calls;
           why = h.why;
         }
 

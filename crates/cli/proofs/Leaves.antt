@@ -16,7 +16,7 @@ use Rattle.clap.specs.declared.builder.ValueParser.TheVariants as parser
 use Rattle.export.specs.declared.form.Form.{Form}
 use Rattle.cli.specs.Arguments as given
 use Rattle.cli.specs.Arguments.{Given, form_called}
-use Rattle.cli.specs.Arguments.Given.{Run, Explain, Record, Certify, CertifyBehind, CertifyAll, Export, Compare, CompareFilters, Adapt, Learn, Replay, Manual, Version}
+use Rattle.cli.specs.Arguments.Given.{Run, Explain, Read, ReadRules, Record, Certify, CertifyBehind, CertifyAll, Export, Compare, CompareFilters, Adapt, Learn, Replay, Manual, Version}
 use Rattle.cli.specs.inner.Found as found
 use Rattle.cli.specs.inner.Found.{last_of}
 use Rattle.cli.specs.inner.Grammar.{Entry, leaf, table, top}
@@ -91,13 +91,6 @@ export_reading (a ∷ b ∷ []) = inr (tt, refl)
 export_reading (a ∷ b ∷ c ∷ []) = inl (refl, export_made a b (form_called c))
 export_reading (a ∷ b ∷ c ∷ d ∷ more) = inr (tt, refl)
 
-pub read_reading : (parts : List Text) → Reading (shape_called (codes "read")) parts found.read_in (given.read parts)
-unfolding values_fault defaults_fault
-read_reading [] = inr (tt, refl)
-read_reading (a ∷ []) = inr (tt, refl)
-read_reading (a ∷ b ∷ []) = inl (refl, refl)
-read_reading (a ∷ b ∷ c ∷ more) = inr (tt, refl)
-
 pub assemble_reading : (parts : List Text) → Reading (shape_called (codes "assemble")) parts found.assemble_in (given.assemble parts)
 unfolding values_fault defaults_fault
 assemble_reading [] = inr (tt, refl)
@@ -149,6 +142,21 @@ certify_reading (a ∷ b ∷ []) = inr (tt, refl)
 certify_reading (a ∷ b ∷ c ∷ []) = inl (refl, plain_made (native_called a) (λ n. Certify n b c))
 certify_reading (a ∷ b ∷ c ∷ d ∷ []) = inl (refl, certify_made (native_called a) b c (bytes_eq d (codes "runc")) (bytes_eq d (codes "all")))
 certify_reading (a ∷ b ∷ c ∷ d ∷ e ∷ more) = inr (tt, refl)
+
+read_made : (native : Option Arch) (bundle : Text) (rules : Bool)
+    → option_and_then (λ n. cond rules (Some (ReadRules n bundle)) None) native ≡ cond rules (option_map (λ n. ReadRules n bundle) native) None
+read_made None bundle true = refl
+read_made None bundle false = refl
+read_made (Some n) bundle true = refl
+read_made (Some n) bundle false = refl
+
+pub read_reading : (parts : List Text) → Reading (shape_called (codes "read")) parts found.read_in (given.read parts)
+unfolding values_fault defaults_fault
+read_reading [] = inr (tt, refl)
+read_reading (a ∷ []) = inr (tt, refl)
+read_reading (a ∷ b ∷ []) = inl (refl, plain_made (native_called a) (λ n. Read n b))
+read_reading (a ∷ b ∷ c ∷ []) = inl (refl, read_made (native_called a) b (bytes_eq c (codes "rules")))
+read_reading (a ∷ b ∷ c ∷ d ∷ more) = inr (tt, refl)
 
 compare_made : (native : Option Arch) (old new : Text) (at_most filters : Bool)
     → option_and_then (λ n. cond at_most (Some (Compare n old new true)) (cond filters (Some (CompareFilters n old new)) None)) native

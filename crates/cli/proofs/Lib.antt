@@ -7,7 +7,10 @@ mod FileLaws
 mod FoundLaws
 mod NamedLaws
 mod WantedLaws
+mod FormLaws
+mod BundleLaws
 mod DispatchLaws
+mod UnbegunLaws
 mod ExplainedLaws
 mod StatusLaws
 mod LogLaws

@@ -13,16 +13,18 @@ use Rattle.explain.specs.learn.Given.{GivesAll}
 use Rattle.explain.specs.learn.Logged.{parts_of}
 use Rattle.explain.specs.learn.Replayed.{TellsReplayed}
 use Rattle.explain.specs.declared.learn.logs.Log.{Log}
+use Rattle.explain.specs.declared.learn.lists.Otherwise.{Otherwise}
 use Rattle.explain.specs.declared.learn.lists.Runtime.{Runtime}
 use Rattle.explain.specs.declared.learn.reading.Shown.{Shown}
 use Rattle.explain.specs.learn.Taken.{HaveShown}
 use Rattle.cli.specs.declared.stops.Stop.{Stop}
 use Rattle.cli.specs.declared.stops.Stop.TheVariants.{Usage, CannotRead, Read, Write, OutOfMemory}
-use Rattle.cli.specs.Dispatch.{AnswersLearn, AnswersLogs, FirstUnread, HaveBytes, StopsAtLog}
-use Rattle.cli.specs.Files.{Folder, HasBytes, IsOpened}
+use Rattle.cli.specs.Dispatch.{AnswersLearn, AnswersLogs, AnswersNamed, FirstUnread, HaveBytes, StopsAtLog}
+use Rattle.cli.specs.Files.{Folder, HasBundle, HasBytes, IsOpened}
 use Rattle.cli.specs.Told.{IsReplayed}
-use Rattle.cli.specs.inner.Telling.{IsLearnedFrom, IsLearnedOf, IsToldOf, ShowEach, ShowsMore, StopsAtName, TellsOn, told_in}
+use Rattle.cli.specs.inner.Telling.{IsInForm, IsLearnedBundleOf, IsLearnedFrom, IsLearnedOf, IsToldOf, ShowEach, ShowsMore, StopsAtName, TellsOn, told_in}
 use Rattle.cli.proofs.DispatchLaws.{behind, now_of, read_on}
+use Rattle.cli.proofs.FormLaws.{stopped_in}
 use Rattle.cli.proofs.TurnLaws.{cut_at}
 
 abbrev pub bytes_of : Vec ℕ Global → List ℕ
@@ -82,13 +84,13 @@ as_many_read folder names texts h =
 
 -- what is told of logs behind a bundle
 pub told_behind : (folder later : Option Folder) → later ≡ folder → (native : Arch) (unused : Bool) (bundle text : List ℕ)
-    (names : List (List ℕ)) → HasBytes folder bundle text → (told : Result Told Stop)
+    (names : List (List ℕ)) → HasBundle native folder bundle text → (told : Result Told Stop)
     → IsToldOf later names (λ texts. TellsReplayed native unused text (zip names texts)) told
     → IsToldOf folder (bundle ∷ names) (IsReplayed native unused names) told
 told_behind folder later same native unused bundle text names has (Ok told) (texts, have, is) =
-    (text ∷ texts, (has, subst (λ d. HaveBytes d names texts) same have), is)
+    (has.file ∷ texts, (has.is, subst (λ d. HaveBytes d names texts) same have), record { bundle = text; taken = has.taken; is = is })
 told_behind folder later same native unused bundle text names has (Err stop) h =
-    behind folder bundle text names stop has (subst (λ d. FirstUnread d names stop) same h)
+    behind folder bundle has.file names stop has.is (subst (λ d. FirstUnread d names stop) same h)
 
 -- ---- logs that are learned from
 
@@ -154,14 +156,31 @@ stops_at_log folder native ns i d lt shown each (Write out) at = absurd at
 -- what is told of them is written
 module _ {O : Type 0} (held : O → Option (List ℕ)) (failures : O → Failures) (folder : Option Folder) (old new : O) (native : Arch)
     (result : Result Bool Stop) where
-  answers_logs : (logs : List (List ℕ)) (runtime : Option Runtime) (told : Result Told Stop) → IsLearnedFrom folder native logs runtime told
-      → TellsOn held failures old new told result → AnswersLogs held failures folder old new native logs runtime result
-  answers_logs logs runtime (Ok told) is h = inr (is.0, told, is.1, is.2, h)
-  answers_logs logs runtime (Err stop) at h = inl (stop, at, h.0, h.1)
+  answers_logs : (as_bundle : Bool) (logs : List (List ℕ)) (runtime : Option Runtime) (otherwise : Otherwise) (made told : Result Told Stop)
+      → IsLearnedFrom folder native logs runtime otherwise made → IsInForm native as_bundle made told
+      → TellsOn held failures old new told result → AnswersLogs held failures folder old new native as_bundle logs runtime otherwise result
+  answers_logs as_bundle logs runtime otherwise (Ok made) (Ok told) is form h =
+      inr (is.0, told, is.1, record { made = made; is = is.2; written = form }, h)
+  answers_logs as_bundle logs runtime otherwise (Ok made) (Err stop) is form h =
+      inl (stop, subst (λ s. StopsAtLog folder logs s) (sym form) tt, h.0, h.1)
+  answers_logs as_bundle logs runtime otherwise (Err stop) told at form h =
+      let stopped = subst (λ t. TellsOn held failures old new t result) form h in inl (stop, at, stopped.0, stopped.1)
+
+  answers_named : (as_bundle : Bool) (words : List (List ℕ)) (made told : Result Told Stop) → IsLearnedBundleOf folder native words made
+      → IsInForm native as_bundle made told → TellsOn held failures old new told result
+      → AnswersNamed held failures folder old new native as_bundle words result
+  answers_named as_bundle words made told (inl is) form h =
+      inl (subst (λ t. TellsOn held failures old new t result) (stopped_in native as_bundle made told Usage is form) h)
+  answers_named as_bundle words made told (inr (inl is)) form h =
+      inr (inl (subst (λ t. TellsOn held failures old new t result) (stopped_in native as_bundle made told OutOfMemory is form) h))
+  answers_named as_bundle words made told (inr (inr (logs, runtime, otherwise, asks, is))) form h =
+      inr (inr (logs, runtime, otherwise, asks, answers_logs as_bundle logs runtime otherwise made told is form h))
 
   pub answers_learned : (words : List (List ℕ)) (both : Result Both Stop) → IsLearnedOf folder native words (told_in both)
       → TellsOn held failures old new (told_in both) result → AnswersLearn held failures folder old new native words result
-  answers_learned words both (inl is) h = inl (subst (λ t. TellsOn held failures old new t result) is h)
-  answers_learned words both (inr (inl is)) h = inr (inl (subst (λ t. TellsOn held failures old new t result) is h))
-  answers_learned words both (inr (inr (logs, runtime, otherwise, asks, is))) h =
-      inr (inr (logs, runtime, otherwise, asks, answers_logs logs runtime (told_in both) is h))
+  answers_learned words both is h = (
+    is.others,
+    is.as_bundle,
+    is.named,
+    answers_named is.as_bundle is.others is.made (told_in both) is.is_made is.written h,
+  )

@@ -1,8 +1,10 @@
 -- The bundle that `adapt` makes of an engine's configuration.
-use Rattle.std.specs.Prelude.{ℕ, ◌≡◌, ◌≤◌, ◌⊎◌, Bool, true, false, List, Option, codes, filter, length, map, not}
+use Rattle.std.specs.Prelude.{ℕ, ◌≡◌, ◌≤◌, ◌⊎◌, Bool, true, false, List, [], Option, codes, filter, length, map, not}
 use Rattle.std.specs.List.{Any}
 use Rattle.std.specs.Str.{bytes_eq}
 use denote.Ref.{Bor}
+use Rattle.section.specs.Sections.{KeepsMeaning}
+use Rattle.section.specs.Texts.{IsBundleText}
 use Rattle.explain.specs.Adapted.{IsMade}
 use Rattle.explain.specs.Words.{AskFor}
 use Rattle.explain.specs.declared.adapt.words.Wanted.{Wanted}
@@ -42,8 +44,15 @@ abbrev pub IsMadeBy : Arch → Option Choice → List (Bor (List ℕ)) → Told 
 IsMadeBy native choice words told =
     (AsksNarrow words × IsNarrowedOne native choice told) ⊎ (¬ AsksNarrow words × IsMadeOfDraft native choice told)
 
--- such a bundle, by the choice that the words name, if they name one
-pub record IsMadeAs (native : Arch) (words : List (Bor (List ℕ))) (told : Told) : Type 0 where
+-- where a text is taken as a bundle that means a profile, what was made means this very profile
+pub record KeepsText (native : Arch) (text made : List ℕ) : Type 0 where
+  pub bundle : List ℕ
+  pub taken : IsBundleText native text bundle
+  pub keeps : KeepsMeaning native bundle made
+
+-- Such a bundle of a text, by the choice that the words name, if they name one. With no word nothing else is asked than what the text says.
+pub record IsMadeAs (native : Arch) (text : List ℕ) (words : List (Bor (List ℕ))) (told : Told) : Type 0 where
   pub wanted : Wanted
   pub asked : AskToAdapt (map (λ w. w.now) words) wanted
   pub made : IsMadeBy native wanted.choice words told
+  pub kept : words ≡ [] → told.done ≡ true → KeepsText native text told.bytes.items

@@ -39,6 +39,7 @@ pub data Given : Type 0 where
   Run : (native : Arch) → (bundles : List (List ℕ)) → Given
   Explain : (native : Arch) → (bundle : List ℕ) → (call : List (List ℕ)) → Given
   Read : (native : Arch) → (bundle : List ℕ) → Given
+  ReadRules : (native : Arch) → (bundle : List ℕ) → Given
   Record : (native : Arch) → (call : List (List ℕ)) → Given
   Assemble : (listing : List ℕ) → Given
   Annotate : (native : Arch) → (filter : List ℕ) → Given
@@ -62,6 +63,7 @@ given (command.Export native bundle form) = Export native bundle.now form
 given (command.Run native bundles) = Run native (map (λ b. b.now) bundles.now)
 given (command.Explain native bundle call) = Explain native bundle.now (map (λ c. c.now) call.now)
 given (command.Read native bundle) = Read native bundle.now
+given (command.ReadRules native bundle) = ReadRules native bundle.now
 given (command.Record native call) = Record native (map (λ c. c.now) call.now)
 given (command.Assemble listing) = Assemble listing.now
 given (command.Annotate native filter) = Annotate native filter.now
@@ -116,8 +118,11 @@ abbrev pub explain : List (List ℕ) → Option Given
 explain (machine ∷ bundle ∷ call ∷ more) = option_map (λ native. Explain native bundle (call ∷ more)) (native_called machine)
 explain _ = None
 
+-- the argument `rules` may stand behind the file
 abbrev pub read : List (List ℕ) → Option Given
 read (machine ∷ bundle ∷ []) = option_map (λ native. Read native bundle) (native_called machine)
+read (machine ∷ bundle ∷ last ∷ []) =
+    if bytes_eq last (codes "rules") then option_map (λ native. ReadRules native bundle) (native_called machine) else None
 read _ = None
 
 -- one argument at least for the call

@@ -5,7 +5,7 @@ use Rattle.std.specs.Str.{bytes_eq}
 use Rattle.call_tables.specs.declared.arch.Arch.{Arch}
 use Rattle.cli.specs.Arguments.{Given}
 use Rattle.cli.specs.Arguments.Given.{Verdict, Check, Certify, CertifyBehind, CertifyAll, Export, Run, Explain, Record, Assemble}
-use Rattle.cli.specs.Arguments.Given.{Read, Annotate, Draw, Lint, Compare, CompareFilters, Adapt, Learn, Replay, Manual, Version}
+use Rattle.cli.specs.Arguments.Given.{Read, ReadRules, Annotate, Draw, Lint, Compare, CompareFilters, Adapt, Learn, Replay, Manual, Version}
 use Rattle.texts.specs.Failures.{Failures}
 use Rattle.texts.specs.Sink.{StopsAt as StopsWriting, Wrote}
 use Rattle.texts.specs.declared.streams.fault.WriteFault.{WriteFault}
@@ -31,9 +31,10 @@ use Rattle.cli.specs.declared.stops.Stop.{Stop}
 use Rattle.cli.specs.declared.stops.Stop.TheVariants.{CannotRead, OutOfMemory, Usage, Write}
 use Rattle.cli.specs.Explained.{TellsBehind, TellsRecord}
 use Rattle.cli.specs.Adapted.{AskNothing, IsMadeAs}
-use Rattle.cli.specs.Read.{TellsRead}
-use Rattle.cli.specs.Told.{IsManual, IsNoCommand, IsReplayed, NamesLogs, of_none, of_one, of_two, OfArguments}
-use Rattle.cli.specs.Files.{CannotBeRead, Folder, HasBytes, HasEnough}
+use Rattle.cli.specs.Read.{TellsRead, TellsRules}
+use Rattle.cli.specs.Told.{IsManual, IsNoCommand, IsReplayed, NamesLogs, of_none, of_one, of_two, OfArguments, OfBundle, OfBundles}
+use Rattle.cli.specs.Written.{NamesForm, WritesMade}
+use Rattle.cli.specs.Files.{CannotBeRead, Folder, HasBundle, HasBytes, HasEnough}
 use Rattle.cli.specs.Running.{RunsBundles, told_line}
 use Rattle.cli.specs.Stop.{Reports, line_of, status_of}
 
@@ -55,6 +56,13 @@ abbrev pub HaveBytes : Option Folder → List (List ℕ) → List (List ℕ) →
 HaveBytes folder [] [] = Unit {0}
 HaveBytes folder (name ∷ names) (bytes ∷ texts) = HasBytes folder name bytes × HaveBytes folder names texts
 HaveBytes folder names texts = ⊥
+
+-- the files of these names have bytes that are taken as these bundles, in order
+abbrev pub HaveBundles : Arch → Option Folder → List (List ℕ) → List (List ℕ) → Type 0
+HaveBundles native folder [] [] = Unit {0}
+HaveBundles native folder (name ∷ names) (bundle ∷ bundles) =
+    HasBundle native folder name bundle × HaveBundles native folder names bundles
+HaveBundles native folder names bundles = ⊥
 
 -- the program stops at one of the files, and those before it have bytes
 pub record BreaksAt (folder : Option Folder) (names : List (List ℕ)) (name : List ℕ) : Type 0 where
@@ -84,10 +92,17 @@ TellsChanges (Adapt native config words) = Unit {0}
 TellsChanges (Learn native words) = Unit {0}
 TellsChanges other = ⊥
 
--- what is on standard error: nothing but changes where the answer is yes, and the line that says why where the program stopped
+-- `certify` also explains there the record by which its answer is no; no other command tells more of a no than of a yes
+abbrev pub TellsRefusal : Given → Type 0
+TellsRefusal (Certify native bundle filter) = Unit {0}
+TellsRefusal (CertifyAll native bundle filter) = Unit {0}
+TellsRefusal other = TellsChanges other
+
+-- What is on standard error: nothing but changes where the answer is yes, nothing but these and an explanation where it is no, and the line
+-- that says why where the program stopped.
 abbrev pub Tells : {E : Type 0} → (E → Option (List ℕ)) → (E → Failures) → E → E → Given → Result Bool Stop → Type 0
 Tells held failures old new command (Ok true) = TellsChanges command ⊎ (new ≡ old)
-Tells held failures old new command (Ok false) = Unit {0}
+Tells held failures old new command (Ok false) = TellsRefusal command ⊎ (new ≡ old)
 Tells held failures old new command (Err stop) = Reports held failures old new (line_of stop)
 
 -- a file is not read: the program stops there, and nothing is written
@@ -122,32 +137,32 @@ module _ {O : Type 0} (held : O → Option (List ℕ)) (failures : O → Failure
   abbrev pub AnswersCheck : Arch → List ℕ → List ℕ → List ℕ → Result Bool Stop → Type 0
   AnswersCheck native bundle filter cert result =
       StopsAtFile folder old new (bundle ∷ filter ∷ cert ∷ []) result
-      ⊎ ((b : List ℕ) × (f : List ℕ) × (c : List ℕ) × HasBytes folder bundle b × HasBytes folder filter f
+      ⊎ ((b : List ℕ) × (f : List ℕ) × (c : List ℕ) × HasBundle native folder bundle b × HasBytes folder filter f
       × HasEnough 4194304 folder cert c × AnswersBy (WritesFinding held failures old new native b f c) result)
 
   abbrev pub AnswersCertify : Arch → List ℕ → List ℕ → Result Bool Stop → Type 0
   AnswersCertify native bundle filter result =
       StopsAtFile folder old new (bundle ∷ filter ∷ []) result
-      ⊎ ((b : List ℕ) × (f : List ℕ) × HasBytes folder bundle b × HasBytes folder filter f
+      ⊎ ((b : List ℕ) × (f : List ℕ) × HasBundle native folder bundle b × HasBytes folder filter f
       × AnswersBy (Certifies held failures old new native b f) result)
 
   abbrev pub AnswersBehind : Arch → List ℕ → List ℕ → Result Bool Stop → Type 0
   AnswersBehind native bundle filter result =
       StopsAtFile folder old new (bundle ∷ filter ∷ []) result
-      ⊎ ((b : List ℕ) × (f : List ℕ) × HasBytes folder bundle b × HasBytes folder filter f
+      ⊎ ((b : List ℕ) × (f : List ℕ) × HasBundle native folder bundle b × HasBytes folder filter f
       × AnswersBy (CertifiesBehind held failures old new native b f) result)
 
   -- with `all` what it writes without, or the lines of records that convict the filter
   abbrev pub AnswersAll : Arch → List ℕ → List ℕ → Result Bool Stop → Type 0
   AnswersAll native bundle filter result =
       StopsAtFile folder old new (bundle ∷ filter ∷ []) result
-      ⊎ ((b : List ℕ) × (f : List ℕ) × HasBytes folder bundle b × HasBytes folder filter f
+      ⊎ ((b : List ℕ) × (f : List ℕ) × HasBundle native folder bundle b × HasBytes folder filter f
       × AnswersBy (λ answer. Certifies held failures old new native b f answer ⊎ TellsAll held failures old new native b f answer) result)
 
   abbrev pub AnswersExport : Arch → List ℕ → Form → Result Bool Stop → Type 0
   AnswersExport native bundle form result =
       StopsAtFile folder old new (bundle ∷ []) result
-      ⊎ ((b : List ℕ) × HasBytes folder bundle b × AnswersBy (Exports held failures old new native b form) result)
+      ⊎ ((b : List ℕ) × HasBundle native folder bundle b × AnswersBy (Exports held failures old new native b form) result)
 
   -- A command that tells: its files are read, and what is so of their bytes is told and written.
   abbrev pub AnswersTold : List (List ℕ) → (List (List ℕ) → Told → Type 0) → Result Bool Stop → Type 0
@@ -160,11 +175,12 @@ module _ {O : Type 0} (held : O → Option (List ℕ)) (failures : O → Failure
   abbrev pub StopsAtWords : Result Bool Stop → Type 0
   StopsAtWords result = (result ≡ Err Usage) × (new ≡ old)
 
-  -- the bundle that is made of a configuration, unless the words ask for nothing
+  -- the profile that is made of a configuration, in the form that the words ask for, unless the others ask for nothing
   abbrev pub AnswersAdapt : Arch → List ℕ → List (List ℕ) → Result Bool Stop → Type 0
   AnswersAdapt native config words result =
-      (AskNothing words × StopsAtWords result)
-      ⊎ AnswersTold (config ∷ []) (of_one (λ text. OfArguments (IsMadeAs native) words)) result
+      (others : List (List ℕ)) × (as_bundle : Bool) × NamesForm words others as_bundle
+      × ((AskNothing others × StopsAtWords result)
+      ⊎ AnswersTold (config ∷ []) (of_one (λ text. WritesMade native as_bundle (OfArguments (IsMadeAs native text) others))) result)
 
   -- what a bundle says of the calls of logs
   abbrev pub AnswersReplay : Arch → List ℕ → List (List ℕ) → Result Bool Stop → Type 0
@@ -172,24 +188,29 @@ module _ {O : Type 0} (held : O → Option (List ℕ)) (failures : O → Failure
       (logs : List (List ℕ)) × (unused : Bool) × NamesLogs words logs unused
       × AnswersTold (bundle ∷ logs) (IsReplayed native unused logs) result
 
-  -- What `learn` writes of logs: nothing where it stops at one; or what is told of their bytes, which is the bundle if it was done.
-  abbrev pub AnswersLogs : Arch → List (List ℕ) → Option Runtime → Result Bool Stop → Type 0
-  AnswersLogs native logs runtime result =
+  -- What `learn` writes of logs: nothing where it stops at one; or what is told of their bytes, which is the profile if it was done.
+  abbrev pub AnswersLogs : Arch → Bool → List (List ℕ) → Option Runtime → Otherwise → Result Bool Stop → Type 0
+  AnswersLogs native as_bundle logs runtime otherwise result =
       ((stop : Stop) × StopsAtLog folder logs stop × (result ≡ Err stop) × (new ≡ old))
-      ⊎ ((texts : List (List ℕ)) × (told : Told) × HaveBytes folder logs texts × TellsLearned native texts runtime told
-      × WritesTold held failures old new told result)
+      ⊎ ((texts : List (List ℕ)) × (told : Told) × HaveBytes folder logs texts
+      × WritesMade native as_bundle (TellsLearned native texts runtime otherwise) told × WritesTold held failures old new told result)
 
   -- memory is refused before the words are read
   abbrev pub StopsForMemory : Result Bool Stop → Type 0
   StopsForMemory result = (result ≡ Err OutOfMemory) × (new ≡ old)
 
-  -- what is learned from the logs that the words name, for the runtime that they name
-  abbrev pub AnswersLearn : Arch → List (List ℕ) → Result Bool Stop → Type 0
-  AnswersLearn native words result =
+  -- what is learned from the logs that the words name, for the runtime and with the default that they name
+  abbrev pub AnswersNamed : Arch → Bool → List (List ℕ) → Result Bool Stop → Type 0
+  AnswersNamed native as_bundle words result =
       StopsAtWords result
       ⊎ (StopsForMemory result
       ⊎ ((logs : List (List ℕ)) × (runtime : Option Runtime) × (otherwise : Otherwise) × AskFor words logs runtime otherwise
-      × AnswersLogs native logs runtime result))
+      × AnswersLogs native as_bundle logs runtime otherwise result))
+
+  -- the same in the form that the words ask for
+  abbrev pub AnswersLearn : Arch → List (List ℕ) → Result Bool Stop → Type 0
+  AnswersLearn native words result =
+      (others : List (List ℕ)) × (as_bundle : Bool) × NamesForm words others as_bundle × AnswersNamed native as_bundle others result
 
   -- the commands, or the page of one
   abbrev pub AnswersManual : Option (List ℕ) → Result Bool Stop → Type 0
@@ -217,7 +238,7 @@ module _ {I O : Type 0} (left : I → Option (List ℕ)) (given : I → Failures
   abbrev pub AnswersRun : Arch → List (List ℕ) → Result Bool Stop → Type 0
   AnswersRun native bundles result =
       ((input' ≡ input) × StopsAtFile folder out out' bundles result)
-      ⊎ ((texts : List (List ℕ)) × HaveBytes folder bundles texts
+      ⊎ ((texts : List (List ℕ)) × HaveBundles native folder bundles texts
       × RunsBundles left given held taken input input' out out' native texts result)
 
   abbrev pub Does : Given → Result Bool Stop → Type 0
@@ -232,19 +253,21 @@ module _ {I O : Type 0} (left : I → Option (List ℕ)) (given : I → Failures
   Does (Run native bundles) result = AnswersRun native bundles result
   Does (Explain native bundle call) result =
       (asks_audit call ≡ true)
-      ⊎ ((input' ≡ input) × AnswersTold held taken folder out out' (bundle ∷ []) (of_one (explained_as native call (any_call call))) result)
+      ⊎ ((input' ≡ input) × AnswersTold held taken folder out out' (bundle ∷ []) (of_one (OfBundle native (explained_as native call (any_call call)))) result)
   Does (Record native call) result =
       (input' ≡ input) × AnswersTold held taken folder out out' [] (of_none (OfArguments (IsRecorded native) call)) result
   Does (Assemble text) result = (input' ≡ input) × AnswersTold held taken folder out out' (text ∷ []) (of_one IsAssembled) result
   Does (Read native bundle) result =
-      (input' ≡ input) × AnswersTold held taken folder out out' (bundle ∷ []) (of_one (TellsRead native)) result
+      (input' ≡ input) × AnswersTold held taken folder out out' (bundle ∷ []) (of_one (OfBundle native (TellsRead native))) result
+  Does (ReadRules native bundle) result =
+      (input' ≡ input) × AnswersTold held taken folder out out' (bundle ∷ []) (of_one (OfBundle native (TellsRules native))) result
   Does (Annotate native filter) result =
       (input' ≡ input) × AnswersTold held taken folder out out' (filter ∷ []) (of_one IsAnnotated) result
   Does (Draw native filter) result = (input' ≡ input) × AnswersTold held taken folder out out' (filter ∷ []) (of_one IsDrawn) result
   Does (Lint native bundle) result =
-      (input' ≡ input) × AnswersTold held taken folder out out' (bundle ∷ []) (of_one (IsLinted native)) result
+      (input' ≡ input) × AnswersTold held taken folder out out' (bundle ∷ []) (of_one (OfBundle native (IsLinted native))) result
   Does (Compare native old new at_most) result =
-      (input' ≡ input) × AnswersTold held taken folder out out' (old ∷ new ∷ []) (of_two (IsCompared at_most native)) result
+      (input' ≡ input) × AnswersTold held taken folder out out' (old ∷ new ∷ []) (of_two (OfBundles native (IsCompared at_most native))) result
   Does (CompareFilters native old new) result =
       (input' ≡ input) × AnswersTold held taken folder out out' (old ∷ new ∷ []) (of_two IsTold) result
   Does (Adapt native config words) result = (input' ≡ input) × AnswersAdapt held taken folder out out' native config words result
@@ -260,13 +283,13 @@ module _ {O E : Type 0} (held : O → Option (List ℕ)) (taken : O → Failures
   abbrev pub ExplainsRecord : Arch → List ℕ → Result Bool Stop → Type 0
   ExplainsRecord native bundle (Ok false) =
       (err' ≡ err)
-      ⊎ ((b : List ℕ) × HasBytes folder bundle b × TellsRecord held taken out out' shown dropped err err' native b)
+      ⊎ ((b : List ℕ) × HasBundle native folder bundle b × TellsRecord held taken out out' shown dropped err err' native b)
   ExplainsRecord native bundle other = Unit {0}
 
   -- what `certify` with `runc` tells, whatever its answer is
   abbrev pub ExplainsBehind : Arch → List ℕ → List ℕ → Result Bool Stop → Type 0
   ExplainsBehind native bundle filter (Ok done) =
-      (b : List ℕ) × (f : List ℕ) × HasBytes folder bundle b × HasBytes folder filter f
+      (b : List ℕ) × (f : List ℕ) × HasBundle native folder bundle b × HasBytes folder filter f
       × TellsBehind held taken out out' shown dropped err err' native b f (Ok done)
   ExplainsBehind native bundle filter (Err stop) = Unit {0}
 

@@ -48,20 +48,22 @@ pub record TellsRecord {O E : Type 0} (held : O → Option (List ℕ)) (failures
   pub written : Wrote held failures out out' line
   pub why : MayTellWhy shown dropped err err' native bundle call
 
--- the calls were told that a stub of the filter answers, as far as the sink took them; or nothing was
-abbrev pub MayTellStub : {E : Type 0} → (E → Option (List ℕ)) → (E → Failures) → E → E → Arch → List ℕ → List ℕ → List Calls → Type 0
-MayTellStub shown dropped err err' native filter rest answered =
-    (err' ≡ err) ⊎ WritesSome shown dropped err err' (stub_text (family_of native) (length filter - length rest) answered)
+-- the calls that a stub of the filter answers were reported, and whether the whole filter was judged, as far as the sink took the text
+abbrev pub TellsStub : {E : Type 0} → (E → Option (List ℕ)) → (E → Failures) → E → E → Arch → List ℕ → List ℕ → List Calls → Bool
+    → Type 0
+TellsStub shown dropped err err' native filter rest answered whole =
+    WritesSome shown dropped err err' (stub_text (family_of native) (length filter - length rest) answered whole)
 
--- What was written of a filter behind a stub. On standard error are the calls that this very stub answers, and behind them nothing, or an
--- explanation of the very record whose line was written.
+-- What was written of a filter behind a stub. On standard error are the calls that this very stub answers, and whether what was written
+-- is of the whole filter; behind them nothing, or an explanation of the very record whose line was written.
 pub record TellsBehind {O E : Type 0} (held : O → Option (List ℕ)) (failures : O → Failures) (out out' : O)
     (shown : E → Option (List ℕ)) (dropped : E → Failures) (err err' : E) (native : Arch) (bundle filter : List ℕ)
     (result : Result Bool WriteFault) : Type 0 where
   pub rest : List ℕ
   pub answered : List Calls
+  pub whole : Bool
   pub behind : IsBehind filter rest answered
-  pub written : WritesBehind held failures out out' native bundle filter rest result
+  pub written : WritesBehind held failures out out' native bundle filter rest answered whole result
   pub between : E
-  pub calls : MayTellStub shown dropped err between native filter rest answered
+  pub calls : TellsStub shown dropped err between native filter rest answered whole
   pub why : (err' ≡ between) ⊎ TellsRecord held failures out out' shown dropped between err' native bundle

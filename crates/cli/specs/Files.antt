@@ -1,5 +1,7 @@
 -- Files by their names, and what is read of them.
 use Rattle.std.specs.Prelude.{ℕ, ◌≡◌, ◌≤◌, ◌%◌, List, [], ◌++◌, length, Option, Some, None}
+use Rattle.call_tables.specs.declared.arch.Arch.{Arch}
+use Rattle.section.specs.Texts.{IsBundleText}
 use Rattle.cli.specs.declared.fault.FileFault.{FileFault}
 use Rattle.cli.specs.declared.fault.FileFault.TheVariants.{CannotRead, OutOfMemory}
 
@@ -11,6 +13,12 @@ Folder = List ℕ → Option (List ℕ)
 abbrev pub HasBytes : Option Folder → List ℕ → List ℕ → Type 0
 HasBytes (Some folder) name bytes = folder name ≡ Some bytes
 HasBytes None name bytes = Unit {0}
+
+-- The file of that name has bytes that are taken as this bundle: they are it, or the section in it.
+pub record HasBundle (native : Arch) (folder : Option Folder) (name bundle : List ℕ) : Type 0 where
+  pub file : List ℕ
+  pub is : HasBytes folder name file
+  pub taken : IsBundleText native file bundle
 
 -- the file of that name cannot be read
 abbrev pub CannotBeRead : Option Folder → List ℕ → Type 0

@@ -5,6 +5,7 @@ pub mod Running
 pub mod Explained
 pub mod Adapted
 pub mod Told
+pub mod Written
 pub mod Dispatch
 pub mod Headline
 pub mod Statuses

@@ -2,7 +2,9 @@
 use Rattle.std.specs.Prelude.{ℕ, ◌≡◌, ◌⊎◌, true, List, ◌++◌, codes}
 use Rattle.call_tables.specs.declared.arch.Arch.{Arch}
 use Rattle.explain.specs.Read.{IsReadOut}
+use Rattle.explain.specs.Told.{RefusesBundle, TellsText}
 use Rattle.explain.specs.declared.told.Told.{Told}
+use Rattle.rules_text.specs.Text.{IsTextOf}
 
 -- the line that may stand behind what a bundle means
 abbrev pub hint : List ℕ
@@ -19,3 +21,13 @@ pub record TellsRead (native : Arch) (bundle : List ℕ) (told : Told) : Type 0 
   pub inner : Told
   pub is_read : IsReadOut native bundle inner
   pub same : (told ≡ inner) ⊎ HasHint inner told
+
+-- it was done: the text of the profile that the bundle means
+pub record TellsProfile (native : Arch) (bundle : List ℕ) (told : Told) : Type 0 where
+  pub text : List ℕ
+  pub is : IsTextOf native bundle text
+  pub tells : TellsText text told
+
+-- the text of the profile, or why the bundle is refused
+abbrev pub TellsRules : Arch → List ℕ → Told → Type 0
+TellsRules native bundle told = RefusesBundle native bundle told ⊎ TellsProfile native bundle told

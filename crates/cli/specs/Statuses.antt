@@ -3,23 +3,23 @@ use Rattle.std.specs.Prelude.{ℕ, ◌≡◌, ◌++◌, List, Option, Some}
 use Rattle.call_tables.specs.declared.arch.Arch.{Arch}
 use Rattle.bpf_insn.specs.Bytes.{insns_of}
 use Rattle.profile.specs.Policy.{Policy}
-use Rattle.cli.specs.Dispatch.{HaveBytes}
-use Rattle.cli.specs.Files.{Folder, HasBytes}
+use Rattle.cli.specs.Dispatch.{HaveBundles}
+use Rattle.cli.specs.Files.{Folder, HasBundle, HasBytes}
 use Rattle.cli.specs.Headline.{IsAnswerTo, IsRightFor}
 
--- the bytes of one file are a bundle, and those of the other a filter that is right for it
+-- the bytes of one file are taken as a bundle, and those of the other are a filter that is right for it
 pub record AreRight (folder : Option Folder) (native : Arch) (bundle filter : List ℕ) : Type 0 where
   pub b : List ℕ
   pub f : List ℕ
-  pub bundle_has : HasBytes folder bundle b
+  pub bundle_has : HasBundle native folder bundle b
   pub filter_has : HasBytes folder filter f
   pub policy : Policy
   pub right : IsRightFor native b policy (insns_of f)
 
--- The files are bundles; and where it is known what the input had and the output has, the script that the input had was answered by the
+-- The files are taken as bundles; and where it is known what the input had and the output has, the script that the input had was answered by the
 -- machine whose first judge for each container is its bundle's profile.
 pub record HasRun (folder : Option Folder) (native : Arch) (bundles : List (List ℕ)) (input out out' : Option (List ℕ)) : Type 0 where
   pub texts : List (List ℕ)
-  pub have : HaveBytes folder bundles texts
+  pub have : HaveBundles native folder bundles texts
   pub answered : (script before after : List ℕ) → input ≡ Some script → out ≡ Some before → out' ≡ Some after
       → (answer : List ℕ) × (after ≡ before ++ answer) × IsAnswerTo native texts script answer

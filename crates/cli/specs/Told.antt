@@ -3,6 +3,7 @@ use Rattle.std.specs.Prelude.{ℕ, ◌≡◌, ◌≢◌, Bool, true, false, List
 use Rattle.std.specs.List.{zip}
 use denote.Ref.{Bor}
 use Rattle.call_tables.specs.declared.arch.Arch.{Arch}
+use Rattle.section.specs.Texts.{IsBundleText}
 use Rattle.cli.specs.Manual.{IsPage, list_of, row_called, rows}
 use Rattle.explain.specs.Told.{TellsText}
 use Rattle.explain.specs.declared.told.Told.{Told}
@@ -16,6 +17,15 @@ of_one Is texts told = ⊥
 abbrev pub of_two : (List ℕ → List ℕ → Told → Type 0) → List (List ℕ) → Told → Type 0
 of_two Is (first ∷ second ∷ []) told = Is first second told
 of_two Is texts told = ⊥
+
+-- so of the bundle as which the text of a file is taken, and of those of two files
+pub record OfBundle (native : Arch) (Is : List ℕ → Told → Type 0) (text : List ℕ) (told : Told) : Type 0 where
+  pub bundle : List ℕ
+  pub taken : IsBundleText native text bundle
+  pub is : Is bundle told
+
+abbrev pub OfBundles : Arch → (List ℕ → List ℕ → Told → Type 0) → List ℕ → List ℕ → Told → Type 0
+OfBundles native Is first second told = OfBundle native (λ old. OfBundle native (Is old) second) first told
 
 abbrev pub of_none : (Told → Type 0) → List (List ℕ) → Told → Type 0
 of_none Is [] told = Is told
@@ -47,7 +57,8 @@ abbrev pub NamesLogs : List (List ℕ) → List (List ℕ) → Bool → Type 0
 NamesLogs words logs true = AskUnused words logs
 NamesLogs words logs false = (words ≡ logs) × ((others : List (List ℕ)) → ¬ AskUnused words others)
 
--- what is told of the logs of these names, played through a bundle, whose text is the first one
+-- what is told of the logs of these names, played through the bundle as which the first text is taken
 abbrev pub IsReplayed : Arch → Bool → List (List ℕ) → List (List ℕ) → Told → Type 0
-IsReplayed native unused names (bundle ∷ texts) told = TellsReplayed native unused bundle (zip names texts) told
+IsReplayed native unused names (text ∷ texts) told =
+    OfBundle native (λ bundle. TellsReplayed native unused bundle (zip names texts)) text told
 IsReplayed native unused names [] told = ⊥

@@ -1,17 +1,20 @@
 //! What `ccell adapt` does.
-ghost use Rattle.std.specs.Prelude.{◌≡◌, ◌↔◌, [], ◌∷◌, IfOk, IsTrue, Option, Some, filter, map, not};
+ghost use Rattle.std.specs.Prelude.{◌≡◌, ◌↔◌, ℕ, [], ◌∷◌, IfOk, IsTrue, List, Option, Some, false, filter, map, not, true};
+ghost use denote.Ref.{Bor};
 ghost use Rattle.explain.specs.declared.adapt.words.Wanted.{Wanted as TheWanted};
 ghost use Rattle.explain.specs.declared.adapt.settling.choice.Choice.{Choice as TheChoice};
-ghost use Rattle.cli.specs.Adapted.{AskToAdapt, AsksNarrow, IsMadeAs, IsMadeBy, IsMadeOfDraft, IsNarrowedOne, is_narrow};
+ghost use Rattle.cli.specs.Adapted.{AskToAdapt, AsksNarrow, IsMadeAs, IsMadeBy, IsMadeOfDraft, IsNarrowedOne, KeepsText, is_narrow};
 ghost use Rattle.cli.specs.Told.{OfArguments, of_one};
-ghost use Rattle.cli.specs.inner.Telling.{IsAdaptedOf, IsToldOf, told_in};
+ghost use Rattle.cli.specs.inner.Telling.{IsAdaptedOf, IsBundleOf, IsToldOf, told_in};
 
 use crate::files::{Files, read};
+use crate::forms::{form_in, in_form};
 use crate::stops::Stop;
 use call_tables::Arch;
 use explain::Told;
 use explain::adapt::{Adapted, Wanted, adapt, wanted_of};
 use explain::narrow::{Narrowing, narrow};
+use section::{bundle_text, keeps_meaning};
 use std::alloc::{AllocError, Global};
 
 /// What a command tells: on standard output, and on standard error.
@@ -114,6 +117,57 @@ fn made_of(
     hinted(alloc, native, made)
 }
 
+// In place of what was made, if it does not mean what its text does.
+const UNLIKE: &str = "ccell: nothing is written: it would not mean what this file means\n";
+
+// What was made, or nothing.
+fn unless_unlike(alloc: Global, is_like: bool, both: Both) -> Result<Both, AllocError>
+    ensures like { is_like ≡ true → IfOk result (λ new. new.told ≡ both.told) }
+    ensures unlike { is_like ≡ false → IfOk result (λ new. new.told.done ≡ false) }
+{
+    if is_like {
+        return Ok(both);
+    }
+    let told = Told {
+        bytes: Vec::new(alloc),
+        done: false,
+    };
+    let changes = String::from_str(alloc, UNLIKE)?;
+    Ok(Both { told, changes })
+}
+
+// What was made of a text, if it means the profile that the text means, should it mean one.
+fn kept(alloc: Global, native: Arch, text: Vec<u8>, both: Both) -> Result<Both, AllocError>
+    ensures made { (choice : Option TheChoice) (words : List (Bor (List ℕ))) → IsMadeBy native choice words both.told
+        → IfOk result (λ new. IsMadeBy native choice words new.told) }
+    ensures kept { IfOk result (λ new. new.told.done ≡ true → KeepsText native text.items new.told.bytes.items) }
+{
+    if !both.told.done {
+        return Ok(both);
+    }
+    let bundle = bundle_text(alloc, native, text)?;
+    let is_like = keeps_meaning(alloc, native, &bundle, &both.told.bytes)?;
+    unless_unlike(alloc, is_like, both)
+}
+
+// What is made of the text of a configuration. Where no word asks for anything, it means what the text does.
+fn made_as(
+    alloc: Global,
+    native: Arch,
+    text: Vec<u8>,
+    wanted: &Wanted,
+    words: &[&str],
+) -> Result<Both, AllocError>
+    ensures made { IfOk result (λ both. IsMadeBy native wanted.now.choice words.now both.told) }
+    ensures kept { words.now ≡ [] → IfOk result (λ both. both.told.done ≡ true → KeepsText native text.items both.told.bytes.items) }
+{
+    let both = made_of(alloc, native, &text, wanted, words)?;
+    if words.is_empty() {
+        return kept(alloc, native, text, both);
+    }
+    Ok(both)
+}
+
 // The same of a configuration by its name.
 fn made_of_file<'a, F: Files>(
     alloc: Global,
@@ -124,10 +178,10 @@ fn made_of_file<'a, F: Files>(
     files: &mut F,
 ) -> Result<Both, Stop<'a>>
     requires { AskToAdapt (map (λ w. w.now) words.now) wanted.now }
-    ensures { IsToldOf (F.folder files.old) (config.entry.now ∷ []) (of_one (λ text. OfArguments (IsMadeAs native) (map (λ w. w.now) words.now))) (told_in result) }
+    ensures { IsToldOf (F.folder files.old) (config.entry.now ∷ []) (of_one (λ text. OfArguments (IsMadeAs native text) (map (λ w. w.now) words.now))) (told_in result) }
 {
     match read(alloc, files, config) {
-        Ok(text) => match made_of(alloc, native, &text, wanted, words) {
+        Ok(text) => match made_as(alloc, native, text, wanted, words) {
             Ok(both) => Ok(both),
             Err(_no_memory) => Err(Stop::OutOfMemory),
         },
@@ -135,7 +189,24 @@ fn made_of_file<'a, F: Files>(
     }
 }
 
-/// Makes a bundle of an engine's configuration, as words ask for it.
+// Makes a bundle of an engine's configuration, as words ask for it.
+fn bundle_of<'a, F: Files>(
+    alloc: Global,
+    native: Arch,
+    config: &'a str,
+    words: &[&str],
+    files: &mut F,
+) -> Result<Both, Stop<'a>>
+    ensures { IsBundleOf (F.folder files.old) native config.entry.now (map (λ w. w.now) words.now) (told_in result) }
+{
+    match wanted(alloc, words) {
+        Ok(Some(wanted)) => made_of_file(alloc, native, config, &wanted, words, files),
+        Ok(None) => Err(Stop::Usage),
+        Err(_no_memory) => Err(Stop::OutOfMemory),
+    }
+}
+
+/// Makes a profile of an engine's configuration, as words ask for it, and in the form that they ask for.
 pub fn adapted<'a, F: Files>(
     alloc: Global,
     native: Arch,
@@ -145,9 +216,7 @@ pub fn adapted<'a, F: Files>(
 ) -> Result<Both, Stop<'a>>
     ensures { IsAdaptedOf (F.folder files.old) native config.entry.now (map (λ w. w.now) words.now) (told_in result) }
 {
-    match wanted(alloc, words) {
-        Ok(Some(wanted)) => made_of_file(alloc, native, config, &wanted, words, files),
-        Ok(None) => Err(Stop::Usage),
-        Err(_no_memory) => Err(Stop::OutOfMemory),
-    }
+    let (others, as_bundle) = form_in(words);
+    let made = bundle_of(alloc, native, config, others, files);
+    in_form(alloc, native, as_bundle, made)
 }

@@ -5,7 +5,7 @@ ghost use Rattle.maker.specs.Certified.{Certifies};
 ghost use Rattle.cli.specs.Dispatch.{AnswersAll};
 
 use crate::comparing::put_text;
-use crate::files::{Files, read, read_filter};
+use crate::files::{Files, read_bundle, read_filter};
 use crate::stops::Stop;
 use call_tables::Arch;
 use compare::{convictions_of, write_convictions};
@@ -90,7 +90,7 @@ pub(crate) fn certify_all<'a, F: Files, O: Sink, E: Sink>(
     ensures stopped { OnErr result (err.new ≡ err.old) }
     ensures quiet { result ≡ Ok true → err.new ≡ err.old }
 {
-    let bundle = read(alloc, files, bundle)?;
+    let bundle = read_bundle(alloc, native, files, bundle)?;
     let filter = read_filter(alloc, files, filter)?;
     Ok(judge(alloc, native, &bundle, &filter, out, err)?)
 }

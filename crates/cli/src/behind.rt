@@ -1,30 +1,36 @@
 //! What `ccell certify` does of a filter behind the stub that runc puts in front of it.
-ghost use Rattle.std.specs.Prelude.{◌≡◌, IfOk, Ok, OnErr};
+ghost use Rattle.std.specs.Prelude.{◌-◌, ◌≡◌, IfOk, Ok, OnErr, length, string_bytes};
+ghost use Rattle.call_tables.specs.Arch.{family_of};
 ghost use Rattle.compare.specs.Behind.{CertifiesBehind};
+ghost use Rattle.compare.specs.StubTold as told;
 ghost use Rattle.cli.specs.Dispatch.{AnswersBehind, ExplainsBehind};
-ghost use Rattle.cli.specs.Explained.{MayTellStub, TellsBehind};
+ghost use Rattle.cli.specs.Explained.{TellsBehind};
 
 use crate::comparing::{put_text, tell_found};
-use crate::files::{Files, read, read_filter};
+use crate::files::{Files, read_bundle, read_filter};
 use crate::stops::Stop;
 use call_tables::Arch;
 use compare::{Behind, behind_stub, judge_behind, stub_text, write_behind};
-use std::alloc::Global;
+use std::alloc::{AllocError, Global};
 use texts::{Sink, WriteFault};
 
-// Tells the calls that the stub of a filter answers, if there is memory. Nothing depends on whether they can be written.
-fn tell_stub<E: Sink>(alloc: Global, native: Arch, filter: &[u8], behind: &Behind<'_>, err: &mut E)
-    ensures { MayTellStub E.held E.failures err.old err.new native filter.now behind.now.rest.now behind.now.answered.items }
+// The lines on the calls that the stub of a filter answers, and on whether the whole filter was judged.
+fn lines_of(
+    alloc: Global,
+    native: Arch,
+    filter: &[u8],
+    behind: &Behind<'_>,
+    whole: bool,
+) -> Result<String, AllocError>
+    ensures { IfOk result (λ text. string_bytes text
+        ≡ told.stub_text (family_of native) (length filter.now - length behind.now.rest.now) behind.now.answered.items whole) }
 {
     let size = filter.len().saturating_sub(behind.rest.len());
-    match stub_text(alloc, native.family(), size, &behind.answered) {
-        Ok(text) => put_text(text, err),
-        Err(_no_memory) => {}
-    }
+    stub_text(alloc, native.family(), size, &behind.answered, whole)
 }
 
-// Writes what is judged of a filter behind a stub. It tells on standard error which calls the stub answers, and what the bundle says of
-// the record that was told, if one was.
+// Writes what is judged of a filter behind a stub. It reports on standard error which calls the stub answers, and what the bundle says of
+// the record that was told, if one was. If there is no memory for these lines, nothing is written at all.
 fn judge<O: Sink, E: Sink>(
     alloc: Global,
     native: Arch,
@@ -43,12 +49,16 @@ fn judge<O: Sink, E: Sink>(
         Err(_no_memory) => return Err(WriteFault::OutOfMemory),
     };
     let judged = judge_behind(alloc, native, bundle, filter, &behind);
+    let lines = match lines_of(alloc, native, filter, &behind, judged.whole) {
+        Ok(lines) => lines,
+        Err(_no_memory) => return Err(WriteFault::OutOfMemory),
+    };
     let done = match write_behind(alloc, &judged, out) {
         Ok(done) => done,
         Err(fault) => return Err(fault),
     };
-    tell_stub(alloc, native, filter, &behind, err);
-    tell_found(alloc, native, bundle, &judged, err);
+    put_text(lines, err);
+    tell_found(alloc, native, bundle, &judged.evidence, err);
     Ok(done)
 }
 
@@ -68,7 +78,7 @@ pub(crate) fn certify_behind<'a, F: Files, O: Sink, E: Sink>(
     ensures explained { ExplainsBehind O.held O.failures E.held E.failures (F.folder files.old) out.old out.new err.old err.new
         native bundle.entry.now filter.entry.now result }
 {
-    let bundle = read(alloc, files, bundle)?;
+    let bundle = read_bundle(alloc, native, files, bundle)?;
     let filter = read_filter(alloc, files, filter)?;
     Ok(judge(alloc, native, &bundle, &filter, out, err)?)
 }

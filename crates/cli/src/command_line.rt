@@ -82,6 +82,11 @@ pub enum Command<'a> {
         native: Arch,
         bundle: &'a str,
     },
+    /// The text of the profile that a bundle, read for a native machine, means. It is given as the name of a file.
+    ReadRules {
+        native: Arch,
+        bundle: &'a str,
+    },
     /// The bytes of the call record that one argument at least asks for: a call of a native machine, and its arguments.
     Record {
         native: Arch,

@@ -2,10 +2,10 @@
 ghost use Rattle.std.specs.Prelude.{◌≡◌, ◌⊎◌, ◌∷◌, [], IfOk, true, map};
 ghost use Rattle.std.specs.Option.{option_map};
 ghost use Rattle.cli.specs.Dispatch as spec;
-ghost use Rattle.cli.specs.Told.{of_one};
+ghost use Rattle.cli.specs.Told.{OfBundle, of_one};
 ghost use Rattle.cli.specs.inner.Telling.{IsToldOf, TellsText};
 
-use crate::files::{Files, read};
+use crate::files::{Files, read_bundle};
 use crate::stops::Stop;
 use call_tables::Arch;
 use explain::{Told, audit, explain_any};
@@ -106,9 +106,9 @@ pub fn explain<'a, F: Files, I: Source>(
 ) -> Result<Told, Stop<'a>>
     ensures { (spec.asks_audit (map (λ c. c.now) call.now) ≡ true)
         ⊎ ((input.new ≡ input.old) × IsToldOf (F.folder files.old) (bundle.entry.now ∷ [])
-        (of_one (spec.explained_as native (map (λ c. c.now) call.now) (spec.any_call (map (λ c. c.now) call.now)))) result) }
+        (of_one (OfBundle native (spec.explained_as native (map (λ c. c.now) call.now) (spec.any_call (map (λ c. c.now) call.now))))) result) }
 {
-    match read(alloc, files, bundle) {
+    match read_bundle(alloc, native, files, bundle) {
         Ok(text) => {
             if asks_audit(call) {
                 return audited(alloc, native, &text, input);

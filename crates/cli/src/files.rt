@@ -1,12 +1,14 @@
 //! Files by their names, and what the commands read of them.
 ghost use Rattle.std.specs.Prelude.{◌≡◌, IfErr, IfOk, map};
-ghost use Rattle.cli.specs.Dispatch.{FirstUnread, HaveBytes, StopsAt};
-ghost use Rattle.cli.specs.Files.{HasBytes, HasEnough};
+ghost use Rattle.cli.specs.Dispatch.{FirstUnread, HaveBundles, HaveBytes, StopsAt};
+ghost use Rattle.cli.specs.Files.{HasBundle, HasBytes, HasEnough};
 
 use crate::fault::FileFault;
 use crate::stops::Stop;
 use bpf_insn::MAX_INSNS;
+use call_tables::Arch;
 use cert_form::MAX_BYTES;
+use section::bundle_text;
 use std::alloc::Global;
 use texts::Source;
 
@@ -78,6 +80,26 @@ pub fn read<'a, F: Files>(alloc: Global, files: &mut F, name: &'a str) -> Result
     }
 }
 
+/// The bundle of a file, which is read for a native machine.
+pub fn read_bundle<'a, F: Files>(
+    alloc: Global,
+    native: Arch,
+    files: &mut F,
+    name: &'a str,
+) -> Result<Vec<u8>, Stop<'a>>
+    ensures same { F.folder files.new ≡ F.folder files.old }
+    ensures ok { IfOk result (λ bytes. HasBundle native (F.folder files.old) name.entry.now bytes.items) }
+    ensures err { IfErr result (λ stop. StopsAt (F.folder files.old) name.entry.now stop) }
+{
+    match read(alloc, files, name) {
+        Ok(bytes) => match bundle_text(alloc, native, bytes) {
+            Ok(bundle) => Ok(bundle),
+            Err(_no_memory) => Err(Stop::OutOfMemory),
+        },
+        Err(stop) => Err(stop),
+    }
+}
+
 /// The bytes of a file that is judged as a call record.
 pub fn read_record<'a, F: Files>(
     alloc: Global,
@@ -132,6 +154,32 @@ pub fn read_each<'a, F: Files>(
     let mut texts = Vec::new(alloc);
     for name in names {
         match read(alloc, files, name) {
+            Ok(text) => {
+                if texts.push(text).is_err() {
+                    return Err(Stop::OutOfMemory);
+                }
+            }
+            Err(stop) => return Err(stop),
+        }
+    }
+    Ok(texts)
+}
+
+/// The bundles of files, in the order of their names.
+pub fn read_bundles<'a, F: Files>(
+    alloc: Global,
+    native: Arch,
+    files: &mut F,
+    names: &'a [&'a str],
+) -> Result<Vec<Vec<u8>>, Stop<'a>>
+    ensures ok { IfOk result (λ texts. HaveBundles native (F.folder files.old) (map (λ n. n.now) names.entry.now)
+        (map (λ t. t.items) texts.items)) }
+    ensures err { IfErr result
+        (λ stop. FirstUnread (F.folder files.old) (map (λ n. n.now) names.entry.now) stop) }
+{
+    let mut texts = Vec::new(alloc);
+    for name in names {
+        match read_bundle(alloc, native, files, name) {
             Ok(text) => {
                 if texts.push(text).is_err() {
                     return Err(Stop::OutOfMemory);

@@ -10,6 +10,7 @@ mod comparing;
 mod explaining;
 mod fault;
 mod files;
+mod forms;
 mod law;
 mod logs;
 mod manual;

@@ -7,11 +7,12 @@ ghost use Rattle.explain.specs.learn.Taken.{HaveShown};
 ghost use Rattle.cli.specs.Dispatch.{StopsAtLog};
 ghost use Rattle.cli.specs.Files.{IsOpened};
 ghost use Rattle.cli.specs.Told.{IsReplayed, NamesLogs};
-ghost use Rattle.cli.specs.inner.Telling.{IsLearnedFrom, IsLearnedOf, IsReplayOf, IsToldOf, ShowEach, ShowsMore, StopsAtName, told_in};
+ghost use Rattle.cli.specs.inner.Telling.{IsLearnedBundleOf, IsLearnedFrom, IsLearnedOf, IsReplayOf, IsToldOf, ShowEach, ShowsMore, StopsAtName, told_in};
 
 use crate::adapting::Both;
 use crate::fault::FileFault;
-use crate::files::{Files, read, read_each};
+use crate::files::{Files, read_bundle, read_each};
+use crate::forms::{form_in, in_form};
 use crate::stops::Stop;
 use call_tables::Arch;
 use explain::Told;
@@ -102,7 +103,8 @@ fn learned_of<'a, F: Files>(
     wish: &Wish<'a>,
     files: &mut F,
 ) -> Result<Both, Stop<'a>>
-    ensures { IsLearnedFrom (F.folder files.old) native (map (λ log. log.now) wish.now.logs.items) wish.now.runtime (told_in result) }
+    ensures { IsLearnedFrom (F.folder files.old) native (map (λ log. log.now) wish.now.logs.items) wish.now.runtime wish.now.otherwise
+        (told_in result) }
 {
     match show_each(alloc, native, &wish.keeps, &wish.logs, files) {
         Ok(shown) => match learn(alloc, native, &shown, wish) {
@@ -116,7 +118,23 @@ fn learned_of<'a, F: Files>(
     }
 }
 
-/// Makes a bundle that allows what logs show, as words ask for it.
+// Makes a bundle that allows what logs show, as words ask for it.
+fn bundle_of<'a, F: Files>(
+    alloc: Global,
+    native: Arch,
+    words: &'a [&'a str],
+    files: &mut F,
+) -> Result<Both, Stop<'a>>
+    ensures { IsLearnedBundleOf (F.folder files.old) native (map (λ w. w.now) words.entry.now) (told_in result) }
+{
+    match wish_of(alloc, native, words) {
+        Ok(Some(wish)) => learned_of(alloc, native, &wish, files),
+        Ok(None) => Err(Stop::Usage),
+        Err(_no_memory) => Err(Stop::OutOfMemory),
+    }
+}
+
+/// Makes a profile that allows what logs show, as words ask for it, and in the form that they ask for.
 pub fn learned<'a, F: Files>(
     alloc: Global,
     native: Arch,
@@ -125,11 +143,9 @@ pub fn learned<'a, F: Files>(
 ) -> Result<Both, Stop<'a>>
     ensures { IsLearnedOf (F.folder files.old) native (map (λ w. w.now) words.entry.now) (told_in result) }
 {
-    match wish_of(alloc, native, words) {
-        Ok(Some(wish)) => learned_of(alloc, native, &wish, files),
-        Ok(None) => Err(Stop::Usage),
-        Err(_no_memory) => Err(Stop::OutOfMemory),
-    }
+    let (others, as_bundle) = form_in(words);
+    let made = bundle_of(alloc, native, others, files);
+    in_form(alloc, native, as_bundle, made)
 }
 
 // Whether the last word is `unused` and stands behind others.
@@ -206,7 +222,7 @@ fn played_bundle<'a, F: Files>(
     ensures { IsToldOf (F.folder files.old) (bundle.entry.now ∷ map (λ n. n.now) names.entry.now)
         (IsReplayed native tells_unused (map (λ n. n.now) names.entry.now)) result }
 {
-    match read(alloc, files, bundle) {
+    match read_bundle(alloc, native, files, bundle) {
         Ok(text) => played_each(alloc, native, &text, names, tells_unused, files),
         Err(stop) => Err(stop),
     }

@@ -1,10 +1,10 @@
 //! The whole program, from the arguments after its name to its exit status.
-ghost use Rattle.std.specs.Prelude.{◌≡◌, ◌⊎◌, ◌≤◌, ℕ, List, Err, Ok, OnErr, true, map};
+ghost use Rattle.std.specs.Prelude.{◌≡◌, ◌⊎◌, ◌≤◌, ℕ, List, Err, Ok, OnErr, false, true, map};
 ghost use Rattle.call_tables.specs.declared.arch.Arch.{Arch as TheArch};
 ghost use Rattle.cli.specs.Arguments.Given.{Check, Run};
 ghost use Rattle.cli.specs.Arguments.{Given, IsCommandLine, NoCommandLine, given};
 ghost use Rattle.cli.specs.Dispatch.{Answers, AnswersCertify, AnswersCheck, AnswersExport, AnswersRun, AnswersVerdict, Does, ExplainsRecord, ExplainsWhy, IsMisuse};
-ghost use Rattle.cli.specs.Dispatch.{TellsChanges, TellsMisuse};
+ghost use Rattle.cli.specs.Dispatch.{TellsChanges, TellsMisuse, TellsRefusal};
 ghost use Rattle.cli.specs.Statuses.{AreRight, HasRun};
 ghost use Rattle.cli.specs.inner.Telling.{TellsOn, told_in};
 
@@ -14,11 +14,11 @@ use crate::behind::certify_behind;
 use crate::command_line::{Command, Form, read_arguments};
 use crate::comparing;
 use crate::explaining::explain;
-use crate::files::{Files, read, read_certificate, read_each, read_filter, read_record};
+use crate::files::{Files, read_bundle, read_bundles, read_certificate, read_filter, read_record};
 use crate::logs::{learned, replayed};
 use crate::manual::{manual, version};
 use crate::run::run_bundles;
-use crate::showing::{annotated, drawn, read_out};
+use crate::showing::{annotated, drawn, read_out, rules};
 use crate::stops::{Stop, report};
 use crate::telling::{assembled, compared, filters_compared, linted, record, tell};
 use call_tables::Arch;
@@ -53,7 +53,7 @@ fn check<'a, F: Files, O: Sink>(
 ) -> Result<bool, Stop<'a>>
     ensures { AnswersCheck O.held O.failures (F.folder files.old) out.old out.new native bundle.entry.now filter.entry.now certificate.entry.now result }
 {
-    let bundle = read(alloc, files, bundle)?;
+    let bundle = read_bundle(alloc, native, files, bundle)?;
     let filter = read_filter(alloc, files, filter)?;
     let certificate = read_certificate(alloc, files, certificate)?;
     Ok(check_line(alloc, native, &bundle, &filter, &certificate, out)?)
@@ -77,7 +77,7 @@ fn certify<'a, F: Files, O: Sink, E: Sink>(
     ensures explained { ExplainsRecord O.held O.failures E.held E.failures (F.folder files.old) out.old out.new err.old err.new
         native bundle.entry.now result }
 {
-    let bundle = read(alloc, files, bundle)?;
+    let bundle = read_bundle(alloc, native, files, bundle)?;
     let filter = read_filter(alloc, files, filter)?;
     Ok(comparing::certify(alloc, native, &bundle, &filter, out, err)?)
 }
@@ -93,7 +93,7 @@ fn export<'a, F: Files, O: Sink>(
 ) -> Result<bool, Stop<'a>>
     ensures { AnswersExport O.held O.failures (F.folder files.old) out.old out.new native bundle.entry.now form result }
 {
-    let bundle = read(alloc, files, bundle)?;
+    let bundle = read_bundle(alloc, native, files, bundle)?;
     Ok(export_bundle(alloc, native, &bundle, form, out)?)
 }
 
@@ -109,7 +109,7 @@ fn run<'a, F: Files, I: Source, O: Sink>(
     ensures { AnswersRun I.left I.failures O.held O.failures (F.folder files.old) input.old input.new out.old out.new
         native (map (λ b. b.now) bundles.entry.now) result }
 {
-    let texts = read_each(alloc, files, bundles)?;
+    let texts = read_bundles(alloc, native, files, bundles)?;
     run_bundles(alloc, native, &texts, input, out)
 }
 
@@ -149,6 +149,7 @@ fn obey<'a, F: Files, I: Source, O: Sink, E: Sink>(
     // Nothing is told on standard error but of a filter that is convicted, of a stub, and of what was changed.
     ensures stopped { OnErr result (err.new ≡ err.old) }
     ensures quiet { result ≡ Ok true → TellsChanges (given command.entry) ⊎ (err.new ≡ err.old) }
+    ensures refused { result ≡ Ok false → TellsRefusal (given command.entry) ⊎ (err.new ≡ err.old) }
     // Of a filter that is convicted the record is explained that was told.
     ensures explained { ExplainsWhy O.held O.failures E.held E.failures (F.folder files.old) out.old out.new err.old err.new
         (given command.entry) result }
@@ -188,6 +189,7 @@ fn obey<'a, F: Files, I: Source, O: Sink, E: Sink>(
             call,
         } => tell(explain(alloc, native, bundle, call, files, input), out),
         Command::Read { native, bundle } => tell(read_out(alloc, native, bundle, files), out),
+        Command::ReadRules { native, bundle } => tell(rules(alloc, native, bundle, files), out),
         Command::Record { native, call } => tell(record(alloc, native, call), out),
         Command::Assemble { listing } => tell(assembled(alloc, listing, files), out),
         Command::Annotate { native, filter } => tell(annotated(alloc, native, filter, files), out),
@@ -233,6 +235,8 @@ fn carry_out<'a, F: Files, I: Source, O: Sink, E: Sink>(
         → Does I.left I.failures O.held O.failures (F.folder files.old) input.old input.new out.old out.new command result }
     ensures stopped { OnErr result (err.new ≡ err.old) }
     ensures quiet { (command : Given) → IsCommandLine arguments.entry.now command → result ≡ Ok true → TellsChanges command ⊎ (err.new ≡ err.old) }
+    ensures refused { (command : Given) → IsCommandLine arguments.entry.now command → result ≡ Ok false
+        → TellsRefusal command ⊎ (err.new ≡ err.old) }
     ensures explained { (command : Given) → IsCommandLine arguments.entry.now command
         → ExplainsWhy O.held O.failures E.held E.failures (F.folder files.old) out.old out.new err.old err.new command result }
     ensures misuse { NoCommandLine arguments.entry.now → IsMisuse result }

@@ -1,15 +1,18 @@
 //! What `ccell read`, `ccell annotate` and `ccell draw` tell.
-ghost use Rattle.std.specs.Prelude.{◌≡◌, [], ◌∷◌, IfOk, true};
+ghost use Rattle.std.specs.Prelude.{◌≡◌, [], ◌∷◌, ℕ, List, IfOk, string_bytes, true};
+ghost use Rattle.call_tables.specs.declared.arch.Arch.{Arch as TheArch};
 ghost use Rattle.explain.specs.Read.{IsReadOut};
 ghost use Rattle.explain.specs.Shown.{IsAnnotated, IsDrawn};
-ghost use Rattle.cli.specs.Read.{HasHint, TellsRead};
-ghost use Rattle.cli.specs.Told.{of_one};
+ghost use Rattle.rules_text.specs.Text.{IsTextOf};
+ghost use Rattle.cli.specs.Read.{HasHint, TellsRead, TellsRules};
+ghost use Rattle.cli.specs.Told.{OfBundle, of_one};
 ghost use Rattle.cli.specs.inner.Telling.{IsToldOf};
 
-use crate::files::{Files, read, read_filter};
+use crate::files::{Files, read_bundle, read_filter};
 use crate::stops::Stop;
 use call_tables::Arch;
-use explain::Told;
+use explain::{Told, refused_profile};
+use rules_text::bundle_text;
 use std::alloc::{AllocError, Global};
 
 /// The lines of a filter's listing, with what they mean.
@@ -89,10 +92,48 @@ pub(crate) fn read_out<'a, F: Files>(
     bundle: &'a str,
     files: &mut F,
 ) -> Result<Told, Stop<'a>>
-    ensures { IsToldOf (F.folder files.old) (bundle.entry.now ∷ []) (of_one (TellsRead native)) result }
+    ensures { IsToldOf (F.folder files.old) (bundle.entry.now ∷ []) (of_one (OfBundle native (TellsRead native))) result }
 {
-    match read(alloc, files, bundle) {
+    match read_bundle(alloc, native, files, bundle) {
         Ok(text) => match described(alloc, native, &text) {
+            Ok(told) => Ok(told),
+            Err(_no_memory) => Err(Stop::OutOfMemory),
+        },
+        Err(stop) => Err(stop),
+    }
+}
+
+// A text that is told.
+fn told_text(text: String) -> Told
+    ensures { (native : TheArch) (bundle : List ℕ) → IsTextOf native bundle (string_bytes text) → TellsRules native bundle result }
+{
+    Told {
+        bytes: text.into_bytes(),
+        done: true,
+    }
+}
+
+// The text of the profile that a bundle means, or why it is refused.
+fn rules_of(alloc: Global, native: Arch, bundle: &[u8]) -> Result<Told, AllocError>
+    ensures { IfOk result (TellsRules native bundle.now) }
+{
+    match bundle_text(alloc, native, bundle) {
+        Ok(text) => Ok(told_text(text)),
+        Err(error) => refused_profile(alloc, error),
+    }
+}
+
+/// The text of the profile that a bundle means, for another program, or why it is refused.
+pub(crate) fn rules<'a, F: Files>(
+    alloc: Global,
+    native: Arch,
+    bundle: &'a str,
+    files: &mut F,
+) -> Result<Told, Stop<'a>>
+    ensures { IsToldOf (F.folder files.old) (bundle.entry.now ∷ []) (of_one (OfBundle native (TellsRules native))) result }
+{
+    match read_bundle(alloc, native, files, bundle) {
+        Ok(text) => match rules_of(alloc, native, &text) {
             Ok(told) => Ok(told),
             Err(_no_memory) => Err(Stop::OutOfMemory),
         },

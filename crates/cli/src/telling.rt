@@ -5,10 +5,10 @@ ghost use Rattle.compare.specs.FiltersTold.{IsTold};
 ghost use Rattle.explain.specs.Told.{IsAssembled, IsRecorded};
 ghost use Rattle.compare.specs.Linted.{IsLinted};
 ghost use Rattle.cli.specs.Files.{Folder};
-ghost use Rattle.cli.specs.Told.{OfArguments, of_none, of_one, of_two};
+ghost use Rattle.cli.specs.Told.{OfArguments, OfBundle, OfBundles, of_none, of_one, of_two};
 ghost use Rattle.cli.specs.inner.Telling.{IsToldOf, TellsOn};
 
-use crate::files::{Files, read};
+use crate::files::{Files, read, read_bundle};
 use crate::stops::Stop;
 use call_tables::Arch;
 use explain::Told;
@@ -62,9 +62,9 @@ pub(crate) fn linted<'a, F: Files>(
     bundle: &'a str,
     files: &mut F,
 ) -> Result<Told, Stop<'a>>
-    ensures { IsToldOf (F.folder files.old) (bundle.entry.now ∷ []) (of_one (IsLinted native)) result }
+    ensures { IsToldOf (F.folder files.old) (bundle.entry.now ∷ []) (of_one (OfBundle native (IsLinted native))) result }
 {
-    match read(alloc, files, bundle) {
+    match read_bundle(alloc, native, files, bundle) {
         Ok(text) => match compare::lint::lint(alloc, native, &text) {
             Ok(told) => Ok(told),
             Err(_no_memory) => Err(Stop::OutOfMemory),
@@ -82,9 +82,9 @@ fn compared_with<'a, F: Files>(
     at_most: bool,
     files: &mut F,
 ) -> Result<Told, Stop<'a>>
-    ensures { IsToldOf (F.folder files.old) (new.entry.now ∷ []) (of_one (IsCompared at_most native first.now)) result }
+    ensures { IsToldOf (F.folder files.old) (new.entry.now ∷ []) (of_one (OfBundle native (IsCompared at_most native first.now))) result }
 {
-    match read(alloc, files, new) {
+    match read_bundle(alloc, native, files, new) {
         Ok(second) => match compare::compare(alloc, native, first, &second, at_most) {
             Ok(told) => Ok(told),
             Err(_no_memory) => Err(Stop::OutOfMemory),
@@ -102,9 +102,9 @@ pub(crate) fn compared<'a, F: Files>(
     at_most: bool,
     files: &mut F,
 ) -> Result<Told, Stop<'a>>
-    ensures { IsToldOf (F.folder files.old) (old.entry.now ∷ new.entry.now ∷ []) (of_two (IsCompared at_most native)) result }
+    ensures { IsToldOf (F.folder files.old) (old.entry.now ∷ new.entry.now ∷ []) (of_two (OfBundles native (IsCompared at_most native))) result }
 {
-    match read(alloc, files, old) {
+    match read_bundle(alloc, native, files, old) {
         Ok(first) => compared_with(alloc, native, &first, new, at_most, files),
         Err(stop) => Err(stop),
     }

@@ -20,3 +20,6 @@ pub mod AnyLaws
 pub mod StubRunLaws
 pub mod SplitLaws
 pub mod PartLaws
+pub mod SparedLaws
+pub mod RightLaws
+pub mod EachCallLaws

@@ -20,10 +20,10 @@ module _ {E : Type 0} (atmost : Bool) (native : Arch) (first second : List ℕ) 
   first_refused e (Ok told) stands h = inl (record { fault = e; stands = stands; tells = h })
   first_refused e (Err x) stands h = h
 
-  pub second_refused : (e : ProfileError) (r : Result Told E) → IfSome (fault_of e) (Breaks second native) → IfOk r (TellsRefusal 2 e)
-      → IfOk r (IsCompared atmost native first second)
-  second_refused e (Ok told) stands h = inr (inl (record { fault = e; stands = stands; tells = h }))
-  second_refused e (Err x) stands h = h
+  pub second_refused : (one : Policy) (e : ProfileError) (r : Result Told E) → IsBundle native first one
+      → IfSome (fault_of e) (Breaks second native) → IfOk r (TellsRefusal 2 e) → IfOk r (IsCompared atmost native first second)
+  second_refused one e (Ok told) means stands h = inr (inl ((one, means), record { fault = e; stands = stands; tells = h }))
+  second_refused one e (Err x) means stands h = h
 
   -- both mean profiles, which are compared
   pub both_compared : (one other : Policy) (r : Result Told E) → IsBundle native first one → IsBundle native second other

@@ -1,16 +1,19 @@
 -- A filter behind the stub that runc puts in front of it, and what is judged of the two.
-use Rattle.std.specs.Prelude.{ℕ, ◌≡◌, ◌⊎◌, ⊤, Bool, List, [], Option, None, Result, Ok, Err}
+use Rattle.std.specs.Prelude.{ℕ, ◌≡◌, ◌≢◌, ◌⊎◌, ⊤, Bool, true, false, List, [], Option, None, Result, Ok, Err}
 use Rattle.call_tables.specs.declared.arch.Arch.{Arch}
 use Rattle.bpf_insn.specs.Bytes.{insns_of, view_fault}
 use Rattle.kernel_check.specs.Accepted.{IsAccepted}
 use Rattle.maker.specs.evidence.Conviction.{IsCertificate}
 use Rattle.maker.specs.declared.evidence.evidence.Evidence.{Evidence}
-use Rattle.maker.specs.Certified.{Certifies, IsJudgement, WritesCertificate, WritesOpen}
+use Rattle.maker.specs.Certified.{Certifies, IsJudgement, WritesCertificate, WritesConviction, WritesOpen}
 use Rattle.maker.specs.Exported.{LacksMemory}
+use Rattle.maker.specs.Finding.{IsBundle}
 use Rattle.maker.specs.declared.unready.Unready.{Unready}
 use Rattle.texts.specs.Failures.{Failures}
 use Rattle.texts.specs.declared.streams.fault.WriteFault.{WriteFault}
+use Rattle.profile.specs.Policy.{Policy}
 use Rattle.compare.specs.declared.behind_runc.stub.calls.Calls.{Calls}
+use Rattle.compare.specs.Spared.{IsRightBehind, Spares}
 use Rattle.compare.specs.Stub.{IsStub}
 
 -- the bytes are a program that the kernel accepts
@@ -18,39 +21,60 @@ pub record AreAccepted (filter : List ℕ) : Type 0 where
   pub program : view_fault filter ≡ None
   pub accepted : IsAccepted (insns_of filter)
 
--- the filter begins with a stub that answers these calls, and the rest is what stands behind it
+-- the filter begins with a stub that answers these calls, one at least, and the rest is what stands behind it
 pub record HasStub (filter rest : List ℕ) (answered : List Calls) : Type 0 where
   pub filter_is : AreAccepted filter
   pub rest_is : AreAccepted rest
   pub stub : IsStub (insns_of filter) (insns_of rest) answered
+  pub some : answered ≢ []
 
 -- the same, or the rest is the whole filter, and no call is answered in front
 abbrev pub IsBehind : List ℕ → List ℕ → List Calls → Type 0
 IsBehind filter rest answered = HasStub filter rest answered ⊎ ((rest ≡ filter) × (answered ≡ []))
 
--- it is no record that convicts
+-- it is a record that convicts
+abbrev pub IsFound : Result Evidence Unready → Type 0
+IsFound (Ok evidence) = IsCertificate evidence → ⊥
+IsFound (Err e) = ⊥
+
+-- it is none
 abbrev pub IsNoConviction : Result Evidence Unready → Type 0
 IsNoConviction (Ok evidence) = IsCertificate evidence
 IsNoConviction (Err e) = ⊤
 
--- What is judged is so of the whole filter; or of the rest, and then it is no record that convicts.
-abbrev pub IsJudgedBehind : Arch → List ℕ → List ℕ → List ℕ → Result Evidence Unready → Type 0
-IsJudgedBehind native bundle filter rest judged =
-    IsJudgement native bundle filter judged ⊎ (IsJudgement native bundle rest judged × IsNoConviction judged)
+-- the bundle means a profile that spares the calls
+abbrev pub MeansSparing : Arch → List ℕ → List Calls → Type 0
+MeansSparing native bundle answered = (policy : Policy) × IsBundle native bundle policy × Spares policy answered
 
--- What is written: of the whole filter what `ccell certify` writes; or of the rest a certificate with which the checker says yes, or
--- the line that says why it is not decided. So each record that is told convicts the whole filter.
+-- the bundle means a profile for which the filter is right but for these calls
+abbrev pub MeansRight : Arch → List ℕ → List ℕ → List Calls → Type 0
+MeansRight native bundle filter answered =
+    (policy : Policy) × IsBundle native bundle policy × IsRightBehind policy (insns_of filter) answered
+
+-- What is judged, and whether it is asked of the whole filter. Where the rest is asked about, it is a record that convicts the whole
+-- filter; or so of the rest and no such record, and then the bundle spares the calls that the stub answers.
+abbrev pub IsJudgedBehind : Arch → List ℕ → List ℕ → List ℕ → List Calls → Bool → Result Evidence Unready → Type 0
+IsJudgedBehind native bundle filter rest answered true judged = IsJudgement native bundle filter judged
+IsJudgedBehind native bundle filter rest answered false judged =
+    (IsJudgement native bundle filter judged × IsFound judged)
+    ⊎ (IsJudgement native bundle rest judged × IsNoConviction judged × MeansSparing native bundle answered)
+
+-- What is written. If the whole filter is asked about: what `ccell certify` writes of it. If the rest is: a record that convicts the
+-- whole filter; a certificate with which the checker says yes of the rest, and then the whole filter is right but for the stub's calls;
+-- or the line that says why the rest is not decided, and then the bundle spares these calls.
 abbrev pub WritesBehind : {S : Type 0} → (S → Option (List ℕ)) → (S → Failures) → S → S → Arch → List ℕ → List ℕ → List ℕ
-    → Result Bool WriteFault → Type 0
-WritesBehind held failures old new native bundle filter rest result =
+    → List Calls → Bool → Result Bool WriteFault → Type 0
+WritesBehind held failures old new native bundle filter rest answered true result =
     Certifies held failures old new native bundle filter result
-    ⊎ (WritesCertificate held failures old new native bundle rest result
-    ⊎ (WritesOpen held failures old new native bundle rest result ⊎ LacksMemory old new result))
+WritesBehind held failures old new native bundle filter rest answered false result =
+    WritesConviction held failures old new native bundle filter result
+    ⊎ ((WritesCertificate held failures old new native bundle rest result × MeansRight native bundle filter answered)
+    ⊎ ((WritesOpen held failures old new native bundle rest result × MeansSparing native bundle answered) ⊎ LacksMemory old new result))
 
 -- what `ccell certify` with `runc` behind the filter writes: this, of a rest behind a stub
 abbrev pub CertifiesBehind : {S : Type 0} → (S → Option (List ℕ)) → (S → Failures) → S → S → Arch → List ℕ → List ℕ
     → Result Bool WriteFault → Type 0
 CertifiesBehind held failures old new native bundle filter result =
-    ((rest : List ℕ) × (answered : List Calls) × IsBehind filter rest answered
-    × WritesBehind held failures old new native bundle filter rest result)
+    ((rest : List ℕ) × (answered : List Calls) × (whole : Bool) × IsBehind filter rest answered
+    × WritesBehind held failures old new native bundle filter rest answered whole result)
     ⊎ LacksMemory old new result

@@ -15,3 +15,4 @@ pub mod Linted
 pub mod Behind
 pub mod StubTold
 pub mod Stub
+pub mod Spared

@@ -1,5 +1,5 @@
 -- How the calls are told that a stub answers.
-use Rattle.std.specs.Prelude.{ℕ, ◌==◌, if◌then◌else◌, List, [], ◌∷◌, ◌++◌, Option, Some, None, length, codes}
+use Rattle.std.specs.Prelude.{ℕ, ◌==◌, if◌then◌else◌, Bool, List, [], ◌∷◌, ◌++◌, Option, Some, None, length, codes}
 use Rattle.std.specs.Fmt.{decimal}
 use Rattle.std.specs.List.{flat_map}
 use Rattle.texts.specs.Lines.{line_feed}
@@ -27,8 +27,14 @@ calls_line family calls = numbers_line calls.numbers (machine_text (machine_with
 abbrev pub size_line : ℕ → List ℕ
 size_line size = codes "runc's stub, the first " ++ decimal size ++ codes " bytes, answers these calls ENOSYS:\n"
 
--- a stub of so many bytes that answers these calls
-abbrev pub stub_text : Family → ℕ → List Calls → List ℕ
-stub_text family size answered =
-    if length answered == 0 then codes "the filter does not begin with a stub as runc puts it in front\n"
-    else size_line size ++ flat_map (calls_line family) answered
+abbrev pub none_line : List ℕ
+none_line = codes "the filter does not begin with a stub as runc puts it in front\n"
+
+-- behind the calls, if the whole filter is asked about
+abbrev pub whole_line : Bool → List ℕ
+whole_line whole = if whole then codes "so the whole filter is judged, not the filter behind the stub\n" else []
+
+-- a stub of so many bytes that answers these calls, and whether the whole filter is asked about
+abbrev pub stub_text : Family → ℕ → List Calls → Bool → List ℕ
+stub_text family size answered whole =
+    if length answered == 0 then none_line else size_line size ++ flat_map (calls_line family) answered ++ whole_line whole

@@ -20,6 +20,10 @@ use Rattle.compare.specs.declared.outcome.Comparison.TheVariants.{Same}
 abbrev pub IsBundle : Arch → List ℕ → Policy → Type 0
 IsBundle native bundle policy = (t : Data) × IsText bundle t × Means t native policy
 
+-- the same of some profile
+abbrev pub MeansProfile : Arch → List ℕ → Type 0
+MeansProfile native bundle = (policy : Policy) × IsBundle native bundle policy
+
 -- the line of a refusal, with the bundle's place
 abbrev pub refusal_line : ℕ → ProfileError → List ℕ
 refusal_line place e = codes "refused profile " ++ refusal_text e ++ codes ", bundle " ++ decimal place ++ line_feed ∷ []
@@ -54,6 +58,8 @@ pub record AreCompared (atmost : Bool) (native : Arch) (first second : List ℕ)
   pub means_other : IsBundle native second other
   pub compared : AreTold atmost one other told
 
+-- the first bundle is refused; or it means a profile, and the second one is refused; or both mean profiles
 abbrev pub IsCompared : Bool → Arch → List ℕ → List ℕ → Told → Type 0
 IsCompared atmost native first second told =
-    IsRefused native first 1 told ⊎ (IsRefused native second 2 told ⊎ AreCompared atmost native first second told)
+    IsRefused native first 1 told
+    ⊎ ((MeansProfile native first × IsRefused native second 2 told) ⊎ AreCompared atmost native first second told)

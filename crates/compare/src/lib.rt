@@ -23,7 +23,7 @@ mod text;
 mod told;
 mod tried;
 
-pub use behind_runc::{Behind, behind_stub, judge_behind, stub_text, write_behind};
+pub use behind_runc::{Behind, Judged, behind_stub, judge_behind, stub_text, write_behind};
 pub use change::Change;
 pub use convicting::explain_found;
 pub use convictions::{convictions_of, write_convictions};

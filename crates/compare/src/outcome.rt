@@ -21,7 +21,7 @@ ghost use Rattle.compare.specs.Sameness.{AreUnlikeOn};
 use crate::change::{Change, changes_of};
 use crate::difference::{Difference, difference_on};
 use crate::equal::are_equal;
-use crate::order::{AtMost, Excess, Size};
+use crate::order::{AtMost, Excess, Size, are_clear};
 use crate::parts::{first_allows_no_more, parts, second_allows_no_more};
 use crate::records::{asked_by, conditions_on};
 use crate::same::{Sameness, compare_sameness};
@@ -30,6 +30,7 @@ use crate::sides::Sides;
 use bpf_insn::Program;
 use call_record::Record;
 use call_tables::Family;
+use differ::{Direction, Found, Settled, differ};
 use explain::machine_with;
 use kernel_check::{Accepted, accept};
 use maker::{Conviction, compiled_is_right};
@@ -293,8 +294,8 @@ fn by_bytes(
     }
 }
 
-// Two profiles of which no difference was found.
-fn without_difference(
+// The same by a filter of the first one.
+fn by_compiled(
     alloc: Global,
     family: Family,
     first: &Profile,
@@ -306,6 +307,41 @@ fn without_difference(
         Ok(filter) => by_bytes(alloc, family, first, second, &filter),
         Err(CompileError::OutOfMemory) => Err(AllocError),
         Err(CompileError::TooLong) => Ok(unknown(alloc, Size::TooLong)),
+    }
+}
+
+// A record that was found.
+fn conviction_of(found: &Found) -> Conviction
+    ensures call { result.call ≡ found.now.call }
+    ensures given { result.given ≡ found.now.first }
+    ensures said { result.said ≡ found.now.second }
+{
+    Conviction {
+        call: found.call,
+        given: found.first,
+        said: found.second,
+    }
+}
+
+// Two profiles of which the search found no difference. They are asked about each call; only where one has too many combinations, the
+// checker is.
+fn without_difference(
+    alloc: Global,
+    family: Family,
+    first: &Profile,
+    second: &Profile,
+) -> Result<Comparison, AllocError>
+    ensures { IfOk result (IsComparison first.now second.now) }
+{
+    are_clear(first, second);
+    let settled = differ(alloc, first, second, Direction::Any)?;
+    match &settled {
+        Settled::Alike => Ok(Comparison::Same),
+        Settled::Unlike(found) => {
+            let found = conviction_of(found);
+            with_conviction(alloc, family, first, second, &found)
+        }
+        Settled::Crowded(_) => by_compiled(alloc, family, first, second),
     }
 }
 

@@ -26,6 +26,9 @@ pub mod BuildLaws
 pub mod SuitLaws
 pub mod LowerLaws
 pub mod OwnerLaws
+mod MoreLaws
+mod WhatLaws
+mod InLaws
 mod Lines
 mod Taken
 mod Come

@@ -16,7 +16,7 @@ use Rattle.profile.specs.declared.rules.Rule.{Rule}
 use Rattle.profile.specs.Policy.{IsClear, Policy, Says}
 use Rattle.profile.specs.Said.{said}
 use Rattle.profile.proofs.SaidLaws.{each_record_is_said_one_verdict}
-use Rattle.explain.specs.learn.Line.{CallParts, call_on, words_of_call}
+use Rattle.explain.specs.learn.Line.{CallParts, call_in, words_of_call}
 use Rattle.explain.specs.learn.Lines.{lines_of}
 use Rattle.explain.specs.declared.learn.logged.LogCall.{LogCall}
 use Rattle.explain.specs.declared.learn.refusals.RefusedCall.{RefusedCall}
@@ -110,9 +110,9 @@ lines_through : (native : Arch) (p : Policy) (log : List ℕ) (n : ℕ) (lines :
     → All (Lets p) (calls_from native log n lines) ↔ All (LineIsThrough native p) lines
 lines_through native p log n [] = (λ _. All-nil (LineIsThrough native p), λ _. All-nil (Lets p))
 lines_through native p log n (line ∷ lines) =
-    let here = told_on (call_on native line) log n line in
+    let here = told_on (call_in native line) log n line in
     let more = calls_from native log (n + 1) lines in
-    let told = told_through p (call_on native line) log n line in
+    let told = told_through p (call_in native line) log n line in
     let later = lines_through native p log (n + 1) lines in (
       λ all. All-cons (LineIsThrough native p) line lines (told.0 (all_left (Lets p) here more all)) (later.0 (all_right (Lets p) here more all)),
       λ all. All-append (Lets p) here more (told.1 (All-head (LineIsThrough native p) line lines all))

@@ -12,7 +12,7 @@ use Rattle.std.proofs.Math.Nat.{mod-eq_of_lt}
 use Rattle.call_record.specs.Words.{IsRecord, word, argument}
 use Rattle.call_tables.specs.Arch.{token_of}
 use Rattle.call_tables.specs.Width.{is_narrow}
-use Rattle.explain.specs.Reads.{read_bits}
+use Rattle.explain.specs.Reads.{read_bits, is_all_read}
 use Rattle.profile.specs.declared.conditions.Cond.{Cond}
 use Rattle.profile.specs.declared.conditions.Op.{Op}
 use Rattle.profile.specs.declared.conditions.Op.TheVariants.{MaskedEq}
@@ -28,7 +28,7 @@ use Rattle.explain.specs.Cutting.{Hold, HoldCut, IsPartOf, IsPart, AreCombined, 
 use Rattle.explain.specs.Cutting.SuitsAt.{read, narrow, masked}
 use Rattle.explain.proofs.HasLaws.{Has-left, Has-right, Has-cases, Has-nil, Has-one, one-Has, Has-map, map-Has}
 use Rattle.explain.proofs.CutLaws.{all_from}
-use Rattle.explain.proofs.WidthLaws.{width, narrow_is, compared_read, compared_cleared, compared_fits, compared_below, low_bits}
+use Rattle.explain.proofs.WidthLaws.{width, all_narrow, all_is, compared_read, compared_cleared, compared_fits, compared_below, low_bits}
 
 -- ---- one condition
 
@@ -76,9 +76,10 @@ module _ (token nr p : ℕ) (c : Cond) (x y : ℕ) (fits : x < 2 ^ 64) (below : 
             cut_wide p x (omega (arith, e, whole)) ∙ sym (below_64 x fits) ∙ ap (λ b. x % 2 ^ b) (sym whole) ∙ sym is
       ]
 
-  narrow_same : is_narrow token ≡ true → 32 < p → cut p x ≡ y
+  narrow_same : is_all_read token nr c.index ≡ true → 32 < p → cut p x ≡ y
   narrow_same n lt =
-      cut_wide p x lt ∙ sym (below_32 x (below n)) ∙ ap (λ b. x % 2 ^ b) (sym (narrow_is token nr c.index n)) ∙ sym is
+      cut_wide p x lt ∙ sym (below_32 x (below (all_narrow token nr c.index n)))
+      ∙ ap (λ b. x % 2 ^ b) (sym (all_is token nr c.index n)) ∙ sym is
 
   alike_y : x % 2 ^ read_bits token nr c.index ≡ y % 2 ^ read_bits token nr c.index
   alike_y = sym (mod_again x (read_bits token nr c.index)) ∙ ap (λ u. u % 2 ^ read_bits token nr c.index) (sym is)
@@ -104,10 +105,11 @@ module _ (token nr p : ℕ) (c d : Cond) (x y : ℕ) (fits-x : x < 2 ^ 64) (fits
   whole_same : read_bits token nr c.index ≡ 64 → x ≡ y
   whole_same e = sym (below_64 x fits-x) ∙ ap (λ b. x % 2 ^ b) (sym e) ∙ same ∙ ap (λ b. y % 2 ^ b) e ∙ below_64 y fits-y
 
-  narrow_one : is_narrow token ≡ true → x ≡ y
+  narrow_one : is_all_read token nr c.index ≡ true → x ≡ y
   narrow_one n =
-      let e = narrow_is token nr c.index n in
-      sym (below_32 x (below-x n)) ∙ ap (λ b. x % 2 ^ b) (sym e) ∙ same ∙ ap (λ b. y % 2 ^ b) e ∙ below_32 y (below-y n)
+      let e = all_is token nr c.index n in
+      let is = all_narrow token nr c.index n in
+      sym (below_32 x (below-x is)) ∙ ap (λ b. x % 2 ^ b) (sym e) ∙ same ∙ ap (λ b. y % 2 ^ b) e ∙ below_32 y (below-y is)
 
   pub part_alike : SuitsAt token nr p c → Meets d x → Meets d y
   part_alike (read e) m =

@@ -1,10 +1,12 @@
 -- The lines of a text, one after the other.
-use Rattle.std.proofs.Common.{◌≡◌, ℕ, Bool, true, false, cond, List, [], ◌∷◌, refl, ap, sym, subst, lit<, ◌∙◌}
+use Rattle.std.proofs.Common.{◌≡◌, ℕ, ◌+◌, ◌<◌, add-one, Bool, true, false, cond, List, [], ◌∷◌, ◌++◌, length, get_or, take, drop, refl, ap, sym, subst, lit<, ◌∙◌}
+use Rattle.std.proofs.Math.Seq.{drop-cons}
+use Rattle.std.proofs.lemmas.List.{take-append-drop}
 use Rattle.std.specs.Prelude.{◌==◌, Option, Some, None, MatchOption}
 use Rattle.std.specs.Option.{option_map}
-use Rattle.std.specs.List.{onto_first, slice_split}
+use Rattle.std.specs.List.{All, onto_first, slice_split}
 use denote.Ref.{Bor}
-use Rattle.std.proofs.lemmas.List.Splits.{slice_split-cons_no, slice_split-cons_yes}
+use Rattle.std.proofs.lemmas.List.Splits.{slice_split-cons_no, slice_split-cons_yes, slice_split_at}
 use Rattle.std.proofs.lemmas.Str.Pattern.{IsSplitOnceResult}
 use Rattle.texts.specs.Lines.{line_feed}
 use Rattle.texts.specs.Splits.{split_at}
@@ -39,3 +41,12 @@ lines-split text r h = by_case r (split_is line_feed text r h (lit< tt)) where
   by_case (Some x) e =
       subst (λ (o : Option (List ℕ × List ℕ)). MatchOption o (lines_of text ≡ text ∷ []) (λ p. lines_of text ≡ p.0 ∷ lines_of p.1)) (sym e)
       (cuts line_feed text)
+
+-- the first line feed of a text stands here
+pub splits_here : (text : List ℕ) (i : ℕ) → i < length text → get_or text i 0 ≡ line_feed
+    → All (λ b. (b == line_feed) ≡ false) (take i text) → lines_of text ≡ take i text ∷ lines_of (drop (i + 1) text)
+splits_here text i inside is before =
+    let parts : drop i text ≡ get_or text i 0 ∷ drop (i + 1) text = rw (add-one, drop-cons text i 0) refl in
+    let whole : text ≡ take i text ++ line_feed ∷ drop (i + 1) text =
+    sym (take-append-drop i text) ∙ ap (λ (l : List ℕ). take i text ++ l) (parts ∙ ap (λ (b : ℕ). b ∷ drop (i + 1) text) is) in
+    ap lines_of whole ∙ slice_split_at (λ b. b == line_feed) (take i text) line_feed (drop (i + 1) text) before refl

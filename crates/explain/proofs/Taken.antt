@@ -7,7 +7,7 @@ use Rattle.std.proofs.lemmas.List.Elements.{Contains-push, Contains-append_left,
 use Rattle.call_record.specs.Verdict.{allow}
 use Rattle.call_tables.specs.declared.arch.Arch.{Arch}
 use Rattle.profile.specs.Policy.{Policy, Says}
-use Rattle.explain.specs.learn.Line.{CallParts, call_on, words_of_call}
+use Rattle.explain.specs.learn.Line.{CallParts, call_in, words_of_call}
 use Rattle.explain.specs.learn.Lines.{lines_of}
 use Rattle.explain.specs.declared.learn.calls.Seen.{Seen}
 use Rattle.explain.specs.learn.Learned.{AllowsLine, AllowsText, IsSeen}
@@ -31,7 +31,7 @@ covered_more : (native : Arch) (old new : List Seen) → ((s : Seen) → Contain
     → LineIsCovered native old line → LineIsCovered native new line
 covered_more native old new kept line =
     if_some_weaker (IsCovered old) (IsCovered new)
-    (λ call c. record { by = c.by; among = kept c.by c.among; covers = c.covers; is_record = c.is_record }) (call_on native line)
+    (λ call c. record { by = c.by; among = kept c.by c.among; covers = c.covers; is_record = c.is_record }) (call_in native line)
 
 all_shown_more : (native : Arch) (lines more : List (List ℕ)) (seen : List Seen) → All (λ (s : Seen). IsShown native lines s.arch s.nr) seen
     → All (λ (s : Seen). IsShown native (lines ++ more) s.arch s.nr) seen
@@ -42,7 +42,7 @@ all_shown_more native lines more seen shown =
 -- ---- one line more
 
 -- a line that tells no call
-pub taken_none : (native : Arch) (lines : List (List ℕ)) (line : List ℕ) (seen : List Seen) → call_on native line ≡ None
+pub taken_none : (native : Arch) (lines : List (List ℕ)) (line : List ℕ) (seen : List Seen) → call_in native line ≡ None
     → AreTaken native lines seen → AreTaken native (lines ++ line ∷ []) seen
 taken_none native lines line seen e t = record {
   shown = all_shown_more native lines (line ∷ []) seen t.shown;
@@ -55,7 +55,7 @@ grown_keeps old new arch nr (inr (x, e, _, _)) s among =
     subst (λ (l : List Seen). Contains l s) (sym e) (Contains-append_left old (x ∷ []) s among)
 
 grown_shown : (native : Arch) (lines : List (List ℕ)) (line : List ℕ) (old new : List Seen) (arch : Arch) (nr : ℕ) (args : List ℕ)
-    → call_on native line ≡ Some (arch, nr, args) → Grows old new arch nr → All (λ (s : Seen). IsShown native lines s.arch s.nr) old
+    → call_in native line ≡ Some (arch, nr, args) → Grows old new arch nr → All (λ (s : Seen). IsShown native lines s.arch s.nr) old
     → All (λ (s : Seen). IsShown native (lines ++ line ∷ []) s.arch s.nr) new
 grown_shown native lines line old new arch nr args told (inl e) shown =
     subst (λ (l : List Seen). All (λ (s : Seen). IsShown native (lines ++ line ∷ []) s.arch s.nr) l) (sym e)
@@ -70,7 +70,7 @@ grown_shown native lines line old new arch nr args told (inr (x, e, a, n)) shown
 
 -- a line that tells a call, which was gathered
 pub taken_more : (native : Arch) (lines : List (List ℕ)) (line : List ℕ) (old new : List Seen) (arch : Arch) (nr : ℕ) (args : List ℕ)
-    → call_on native line ≡ Some (arch, nr, args) → Grows old new arch nr → IsCovered new (arch, nr, args)
+    → call_in native line ≡ Some (arch, nr, args) → Grows old new arch nr → IsCovered new (arch, nr, args)
     → AreTaken native lines old → AreTaken native (lines ++ line ∷ []) new
 taken_more native lines line old new arch nr args told grows covered t = record {
   shown = grown_shown native lines line old new arch nr args told grows t.shown;
@@ -123,5 +123,5 @@ texts_allowed native p texts seen t all =
     all_in_texts (AllowsLine native p) texts
     (All-weaker (LineIsCovered native seen) (AllowsLine native p)
     (λ line. if_some_weaker (IsCovered seen) (λ (call : CallParts). Says p (words_of_call call) allow)
-    (λ call c. All-contains (AllowsEach p) seen c.by all c.among call c.covers c.is_record) (call_on native line))
+    (λ call c. All-contains (AllowsEach p) seen c.by all c.among call c.covers c.is_record) (call_in native line))
     (lines_in texts) t.covered)

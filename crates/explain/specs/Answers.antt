@@ -8,7 +8,7 @@ use Rattle.profile.specs.declared.rules.Rule.{Rule}
 use Rattle.profile.specs.Policy.{Policy, Says}
 use Rattle.explain.specs.Any.{is_of}
 
--- the rule is for this call, and gives this action
+-- the rule is for this call, and gives this action: a kernel tells actions without their data
 abbrev pub gives : ℕ → ℕ → ℕ → Rule → Bool
 gives token nr a rule = is_of rule token nr && action rule.word == a
 

@@ -1,5 +1,6 @@
 -- The text that tells what a bundle says of a call whatever its arguments.
-use Rattle.std.specs.Prelude.{ℕ, ◌≡◌, ◌+◌, ◌==◌, ◌&&◌, Bool, true, if◌then◌else◌, List, [], ◌∷◌, ◌++◌, None, Some, codes}
+use Rattle.std.specs.Prelude.{ℕ, ◌≡◌, ◌⊎◌, ◌+◌, ◌==◌, ◌&&◌, not, Bool, true, false, if◌then◌else◌, List, [], ◌∷◌, ◌++◌}
+use Rattle.std.specs.Prelude.{Option, None, Some, codes}
 use Rattle.std.specs.Fmt.{decimal}
 use Rattle.std.specs.List.{list_any}
 use Rattle.texts.specs.Lines.{line_feed}
@@ -15,6 +16,7 @@ use Rattle.explain.specs.script.Commands.{Call}
 use Rattle.explain.specs.declared.told.Told.{Told}
 use Rattle.explain.specs.Phrases.{action_text, call_on, condition_text, machine_with}
 use Rattle.explain.specs.Reason.{entry_at}
+use Rattle.explain.specs.Told.{RefusesBundle, TellsLine}
 use Rattle.explain.specs.Understood.{IsReadAs}
 
 -- conditions, the first behind `if` and the others behind `and`
@@ -32,11 +34,19 @@ rule_line entry rule =
 abbrev pub is_of : Rule → ℕ → ℕ → Bool
 is_of rule token nr = token_of rule.arch == token && rule.nr == nr
 
--- the lines of those rules that are for a call, in order; the first rule has this place
-abbrev pub lines_from : ℕ → List Rule → List ℕ → ℕ → ℕ → List ℕ
-lines_from place [] ends token nr = []
-lines_from place (rule ∷ rules) ends token nr =
-    (if is_of rule token nr then rule_line (entry_at ends place) rule else []) ++ lines_from (place + 1) rules ends token nr
+-- the entry is the one that was told last
+abbrev pub is_last : Option ℕ → ℕ → Bool
+is_last None entry = false
+is_last (Some last) entry = last == entry
+
+-- The lines of the entries that have a rule for a call, in order, of which the first rule has this place. An entry that names the
+-- call twice has the same rule twice, and one line.
+abbrev pub lines_from : Option ℕ → ℕ → List Rule → List ℕ → ℕ → ℕ → List ℕ
+lines_from last place [] ends token nr = []
+lines_from last place (rule ∷ rules) ends token nr =
+    if is_of rule token nr && not (is_last last (entry_at ends place))
+    then rule_line (entry_at ends place) rule ++ lines_from (Some (entry_at ends place)) (place + 1) rules ends token nr
+    else lines_from last (place + 1) rules ends token nr
 
 -- what is said where no rule matches
 abbrev pub default_line : Policy → List ℕ
@@ -49,7 +59,7 @@ foreign_line = codes "foreign KILL_THREAD" ++ line_feed ∷ []
 -- the rules for a call and the default, or that it is no call of the profile's machines
 abbrev pub said_lines : Policy → List Rule → List ℕ → ℕ → ℕ → List ℕ
 said_lines p rules ends token nr =
-    if list_any (has_call token nr) p.machines then lines_from 0 rules ends token nr ++ default_line p else foreign_line
+    if list_any (has_call token nr) p.machines then lines_from None 0 rules ends token nr ++ default_line p else foreign_line
 
 -- the line of a call, and what is said of it
 abbrev pub any_text : Family → Policy → List Rule → List ℕ → ℕ → ℕ → List ℕ
@@ -70,7 +80,19 @@ pub record IsWhat (native : Arch) (word : List ℕ) (arch : Arch) (nr : ℕ) : T
   pub args : List ℕ
   pub is_line : LineIs native (codes "call c 1 " ++ word) (Some (Call id task arch nr args None))
 
--- where it was done: a text that tells it of the call that the word asks for
+-- the word asks for no call, and the line that says so is told
+pub record RefusesWord (native : Arch) (word : List ℕ) (told : Told) : Type 0 where
+  pub none : (arch : Arch) (nr : ℕ) → IsWhat native word arch nr → ⊥
+  pub tells : TellsLine (codes "refused call") told
+
+-- it was done: a text tells it of the call that the word asks for
+pub record TellsAny (native : Arch) (bundle word : List ℕ) (told : Told) : Type 0 where
+  pub arch : Arch
+  pub nr : ℕ
+  pub is_what : IsWhat native word arch nr
+  pub explains : ExplainsAny native bundle (token_of arch) nr told.bytes.items
+  pub done : told.done ≡ true
+
 abbrev pub IsExplained : Arch → List ℕ → List ℕ → Told → Type 0
-IsExplained native bundle word told = told.done ≡ true
-    → (arch : Arch) × (nr : ℕ) × IsWhat native word arch nr × ExplainsAny native bundle (token_of arch) nr told.bytes.items
+IsExplained native bundle word told =
+    RefusesWord native word told ⊎ (RefusesBundle native bundle told ⊎ TellsAny native bundle word told)

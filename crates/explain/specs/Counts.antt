@@ -1,13 +1,12 @@
 -- How many rules narrowing makes at most, and when they are too many.
 use Rattle.std.specs.Prelude.{ℕ, ◌*◌, ◌<◌, max, nat_le, List, [], ◌∷◌, if◌then◌else◌, slice_index, sum_by}
-use Rattle.explain.specs.Reads.{read_bits}
+use Rattle.explain.specs.Reads.{cut_bits}
 use Rattle.call_tables.specs.Arch.{token_of}
 use Rattle.profile.specs.declared.conditions.Cond.{Cond}
 use Rattle.profile.specs.declared.conditions.Op.{Op}
 use Rattle.profile.specs.declared.conditions.Op.TheVariants.{Eq, MaskedEq}
 use Rattle.profile.specs.declared.rules.Rule.{Rule}
 use Rattle.profile.specs.Policy.{most_rules}
-use Rattle.profile.specs.Rule.{is_narrow_rule}
 use Rattle.explain.specs.declared.narrow.narrowing.fault.CutError.{CutError}
 use Rattle.explain.specs.declared.narrow.narrowing.fault.CutError.TheVariants.{TooMany, OutOfMemory}
 
@@ -26,15 +25,15 @@ abbrev pub most_lists : List ℕ → List Cond → ℕ
 most_lists plan [] = 1
 most_lists plan (c ∷ cs) = most_parts (slice_index plan c.index) c * most_lists plan cs
 
--- how many bits are read of each argument
-abbrev pub read_plan : ℕ → ℕ → List ℕ
-read_plan token nr =
-    read_bits token nr 0 ∷ read_bits token nr 1 ∷ read_bits token nr 2
-    ∷ read_bits token nr 3 ∷ read_bits token nr 4 ∷ read_bits token nr 5 ∷ []
+-- to how many bits each argument of a call is cut
+abbrev pub cut_plan : ℕ → ℕ → List ℕ
+cut_plan token nr =
+    cut_bits token nr 0 ∷ cut_bits token nr 1 ∷ cut_bits token nr 2
+    ∷ cut_bits token nr 3 ∷ cut_bits token nr 4 ∷ cut_bits token nr 5 ∷ []
 
--- to how many bits the arguments of a rule are cut: to what is read; or not at all, where its machine has narrow arguments
+-- the same of a rule's call
 abbrev pub own_plan : Rule → List ℕ
-own_plan rule = if is_narrow_rule rule then 64 ∷ 64 ∷ 64 ∷ 64 ∷ 64 ∷ 64 ∷ [] else read_plan (token_of rule.arch) rule.nr
+own_plan rule = cut_plan (token_of rule.arch) rule.nr
 
 -- how many narrowed rules a rule has at most, and some rules together
 abbrev pub most_of : Rule → ℕ

@@ -1,9 +1,8 @@
 -- Lists of conditions, each of one part of each condition.
 use Rattle.std.specs.Prelude.{◌≡◌, true, ◌↔◌, ℕ, ◌<◌, ◌≤◌, List, [], ◌∷◌, ◌++◌, length, map, slice_index}
 use Rattle.std.specs.List.{All, Contains, flat_map}
-use Rattle.explain.specs.Reads.{read_bits}
+use Rattle.explain.specs.Reads.{read_bits, is_all_read, cut_bits}
 use Rattle.call_tables.specs.Arch.{token_of}
-use Rattle.call_tables.specs.Width.{is_narrow}
 use Rattle.profile.specs.declared.conditions.Cond.{Cond}
 use Rattle.profile.specs.declared.rules.Rule.{Rule}
 use Rattle.profile.specs.Condition.{Meets}
@@ -53,16 +52,16 @@ pub record AreCut (plan : List ℕ) (rule : Rule) (parts : List Rule) : Type 0 w
   pub like : All (IsLike rule) parts
   pub combined : AreCombined plan rule.conds.items (map (λ q. q.conds.items) parts)
 
--- what is cut of the argument of a condition is what is read of it; or it is left, since the machine's arguments are narrow, or since
--- the condition looks at bits alone that are read
+-- what is cut of the argument of a condition is what is read of it; or it is left, since all that is compared is read on a machine of
+-- narrow arguments, or since the condition looks at bits alone that are read
 pub data SuitsAt (token nr bits : ℕ) (c : Cond) : Type 0 where
   read : bits ≡ read_bits token nr c.index → SuitsAt token nr bits c
-  narrow : is_narrow token ≡ true → 32 < bits → SuitsAt token nr bits c
+  narrow : is_all_read token nr c.index ≡ true → 32 < bits → SuitsAt token nr bits c
   masked : 32 < bits → IsLow (read_bits token nr c.index) c → SuitsAt token nr bits c
 
 abbrev pub Suits : List ℕ → Rule → Type 0
 Suits plan rule = All (λ c. SuitsAt (token_of rule.arch) rule.nr (slice_index plan c.index) c) rule.conds.items
 
--- what is read of each argument
-abbrev pub IsReadPlan : ℕ → ℕ → List ℕ → Type 0
-IsReadPlan token nr plan = (j : ℕ) → j < 6 → slice_index plan j ≡ read_bits token nr j
+-- to how many bits each argument of a call is cut
+abbrev pub IsCutPlan : ℕ → ℕ → List ℕ → Type 0
+IsCutPlan token nr plan = (j : ℕ) → j < 6 → slice_index plan j ≡ cut_bits token nr j

@@ -1,9 +1,8 @@
 -- What stands in conditions for numbers that their arguments cannot have.
 use Rattle.std.specs.Prelude.{◌≡◌, true, false, ℕ, ◌%◌, ◌^◌, ◌<◌, Bool, List}
 use Rattle.std.specs.List.{All, AllZip}
-use Rattle.explain.specs.Reads.{read_bits}
+use Rattle.explain.specs.Reads.{read_bits, is_all_read}
 use Rattle.call_tables.specs.Arch.{token_of}
-use Rattle.call_tables.specs.Width.{is_narrow}
 use Rattle.profile.specs.declared.conditions.Cond.{Cond}
 use Rattle.profile.specs.declared.conditions.Op.{Op}
 use Rattle.profile.specs.declared.conditions.Op.TheVariants.{Ne, Lt, Le, Eq, Ge, Gt, MaskedEq}
@@ -55,11 +54,11 @@ IsUnfitOrder token nr c = (is_order c.op ≡ true) × (¬ Fits token nr c)
 abbrev pub HasUnfitOrder : Rule → Type 0
 HasUnfitOrder rule = Has (IsUnfitOrder (token_of rule.arch) rule.nr) rule.conds.items
 
--- d stands for the condition c of a call: it is c if the argument can have its number, and else c with the bits that are read. On a
--- machine of narrow arguments, where no more is compared than is read, c may stand for itself.
+-- d stands for the condition c of a call: it is c if the argument can have its number, and else c with the bits that are read. Where
+-- all that is compared is read, on a machine of narrow arguments, c may stand for itself.
 pub data StandsFor (token nr : ℕ) (d c : Cond) : Type 0 where
   stays : Fits token nr c → d ≡ c → StandsFor token nr d c
-  left : is_narrow token ≡ true → d ≡ c → StandsFor token nr d c
+  left : is_all_read token nr c.index ≡ true → d ≡ c → StandsFor token nr d c
   cut : ¬ Fits token nr c → IsCutTo (read_bits token nr c.index) c d → StandsFor token nr d c
 
 -- the machine, the call and the verdict of a rule, and for each condition the one that stands for it

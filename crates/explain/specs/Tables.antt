@@ -4,7 +4,7 @@ use Rattle.std.specs.Prelude.{List, [], ◌∷◌, map}
 use Rattle.call_tables.specs.declared.arch.Arch.{Arch}
 use Rattle.call_tables.specs.declared.arch.Arch.TheVariants.{X86_64, Aarch64, LinuxX86_64, LinuxX86, LinuxX32, LinuxAarch64, LinuxArm}
 use Rattle.explain.specs.declared.linux_arguments.TheConstants.{FIRST_CALLS, SECOND_CALLS, THIRD_CALLS, FOURTH_CALLS}
-use Rattle.explain.specs.declared.linux_arguments.TheConstants.{X32_CALLS, AARCH64_CALLS}
+use Rattle.explain.specs.declared.linux_arguments.TheConstants.{X32_CALLS, X86_CALLS, AARCH64_CALLS}
 use Rattle.explain.specs.Rows.{Rows}
 
 unfoldable pub first_rows : Rows
@@ -21,6 +21,9 @@ fourth_rows = map (λ e. (e.0.now, e.1)) FOURTH_CALLS.now
 
 unfoldable pub x32_rows : Rows
 x32_rows = map (λ e. (e.0.now, e.1)) X32_CALLS.now
+
+unfoldable pub x86_rows : Rows
+x86_rows = map (λ e. (e.0.now, e.1)) X86_CALLS.now
 
 unfoldable pub aarch64_rows : Rows
 aarch64_rows = map (λ e. (e.0.now, e.1)) AARCH64_CALLS.now
@@ -40,12 +43,12 @@ on_x32 = x32_rows ∷ shared
 abbrev pub on_aarch64 : List Rows
 on_aarch64 = aarch64_rows ∷ shared
 
--- the tables in which a machine's calls are looked up. Of x86 and ARM none is needed: all arguments have 32 bits.
+-- the tables in which a machine's calls are looked up. ARM needs none, and x86 that of one call: all their arguments have 32 bits.
 abbrev pub tables_of : Arch → List Rows
 tables_of X86_64 = shared
 tables_of Aarch64 = on_aarch64
 tables_of LinuxX86_64 = shared
 tables_of LinuxX32 = on_x32
-tables_of LinuxX86 = []
+tables_of LinuxX86 = x86_rows ∷ []
 tables_of LinuxAarch64 = on_aarch64
 tables_of LinuxArm = []

@@ -90,5 +90,5 @@ pub record TellsText (text : List ℕ) (told : Told) : Type 0 where
 abbrev pub IsVersion : Told → Type 0
 IsVersion told =
     TellsText (codes "ccell 0.1.0\nreads OCI Runtime Specification 1.0.2 and 1.1.0; "
-    ++ codes "calls of Linux 6.18 on x86-64, x86, x32, AArch64 and ARM\n"
+    ++ codes "calls of Linux 7.3 on x86-64, x86, x32, AArch64 and ARM\n"
     ++ codes "proved and built with rattle-kit-13f logic dac8208d650f15bf; docs/PROMISES.md says what is proved\n") told

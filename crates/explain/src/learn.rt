@@ -22,6 +22,7 @@ mod wish;
 pub use keeps::Keep;
 pub use learning::{Learned, learn};
 pub use lists::{Otherwise, Runtime};
+pub(crate) use logged::split_line;
 pub use logs::Log;
 pub use reading::{LogFault, Shown};
 pub use replaying::replay;

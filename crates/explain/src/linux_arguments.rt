@@ -1,4 +1,4 @@
-//! How kernels of 64 bits read the arguments of calls, as Linux 6.18 declares them (`SYSCALL_DEFINE` and, of x32's own entries,
+//! How kernels read the arguments of calls, as Linux 6.18 declares them (`SYSCALL_DEFINE` and, of x32's own entries,
 //! `COMPAT_SYSCALL_DEFINE`): an `int` and the like are 32 bits, `umode_t` is 16. It is an upper bound, since a call may take a
 //! `long` and look at less.
 use crate::narrow::Reading;
@@ -412,6 +412,9 @@ pub(crate) const X32_CALLS: &[(&str, [Reading; 6])] = &[
     ("rt_sigtimedwait", [P, P, P, I, N, N]),
     ("set_robust_list", [P, I, N, N, N, N]),
 ];
+
+/// Calls of x86 of which less is read than the lower half of each argument: of the number of `ipc` the lower 16 bits.
+pub(crate) const X86_CALLS: &[(&str, [Reading; 6])] = &[("ipc", [M, I, I, I, P, I])];
 
 /// Calls that are read otherwise on AArch64: the order of arguments is another.
 pub(crate) const AARCH64_CALLS: &[(&str, [Reading; 6])] = &[("clone", [W, W, P, W, P, N])];

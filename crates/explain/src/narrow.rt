@@ -9,6 +9,7 @@ mod text;
 mod told;
 mod written;
 
+pub(crate) use arguments::cut_bits;
 pub use arguments::{Reading, read_bits, readings};
 pub use narrowing::{
     CutError, WHOLE, add_narrowed, cleared, cleared_is_alike, is_narrowed, narrowed, sees_low,

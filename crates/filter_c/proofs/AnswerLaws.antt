@@ -10,7 +10,7 @@ use Rattle.maker.specs.Exported.{Exports}
 use Rattle.maker.specs.Finding.{IsFinding, WritesFinding, is_yes}
 use Rattle.maker.specs.declared.check.Finding.{Finding}
 use Rattle.maker.specs.declared.check.Finding.TheVariants.{Yes, No, NoProfile}
-use Rattle.filter_c.specs.Answer.{IsFilterOf, IsNoCertificateOf, IsNoOf, IsRefusalOf}
+use Rattle.filter_c.specs.Answer.{IsCertifiedAs, IsExportOf, IsFilterOf, IsNoCertificateOf, IsNoOf, IsRefusalOf}
 
 module _ {S : Type 0} (held : S → Option (List ℕ)) (failures : S → Failures) (old new : S) (native : Arch) (bundle filter cert items : List ℕ) where
   appended : (bytes : List ℕ) → held old ≡ Some [] → held new ≡ Some items → Appends (held old) (held new) bytes → items ≡ bytes
@@ -36,6 +36,11 @@ module _ {S : Type 0} (held : S → Option (List ℕ)) (failures : S → Failure
   pub is_refusal : (result : Result Bool WriteFault) → Exports held failures old new native bundle Raw result → result ≡ Ok false
       → held old ≡ Some [] → held new ≡ Some items → IsRefusalOf native bundle items
   is_refusal result h e = refused (subst (λ (r : Result Bool WriteFault). Exports held failures old new native bundle Raw r) e h)
+
+  pub is_export : (done : Bool) (result : Result Bool WriteFault) → Exports held failures old new native bundle Raw result → result ≡ Ok done
+      → held old ≡ Some [] → held new ≡ Some items → IsExportOf native bundle items
+  is_export true result h e before after = inl (is_filter result h e before after)
+  is_export false result h e before after = inr (is_refusal result h e before after)
 
   -- ---- check
 
@@ -86,3 +91,8 @@ module _ {S : Type 0} (held : S → Option (List ℕ)) (failures : S → Failure
   pub is_none : (result : Result Bool WriteFault) → Certifies held failures old new native bundle filter result → result ≡ Ok false
       → held old ≡ Some [] → held new ≡ Some items → IsNoCertificateOf native bundle filter items
   is_none result h e = no_certificate (subst (λ (r : Result Bool WriteFault). Certifies held failures old new native bundle filter r) e h)
+
+  pub is_certified : (done : Bool) (result : Result Bool WriteFault) → Certifies held failures old new native bundle filter result
+      → result ≡ Ok done → held old ≡ Some [] → held new ≡ Some items → IsCertifiedAs native bundle filter items
+  is_certified true result h e before after = inl (is_certificate result h e before after)
+  is_certified false result h e before after = inr (is_none result h e before after)

@@ -1,16 +1,14 @@
 -- Why no profile is built, told of what was added.
-use Rattle.std.proofs.Common.{◌≡◌, ◌≢◌, ℕ, ◌<◌, ◌≤◌, suc, ◌+◌, List, [], ◌∷◌, ◌++◌, length, map, refl, sym, subst, ap, ◌∙◌, arith, Option, Some, None}
+use Rattle.std.proofs.Common.{◌≡◌, ◌≢◌, ℕ, ◌≤◌, List, [], ◌∷◌, length, map, sym, subst, ap, ◌∙◌, arith, Some, None}
 use Rattle.std.proofs.Common.{length-append, Bool, true, false, ◌==◌}
 use Rattle.std.specs.Prelude.{if◌then◌else◌}
-use Rattle.std.specs.List.{All, Contains, slice_get}
-use Rattle.std.proofs.lemmas.Bool.{cases_Bool}
+use Rattle.std.specs.List.{Contains, slice_get}
 use Rattle.std.proofs.lemmas.List.{length-map}
 use Rattle.std.proofs.lemmas.Option.{same_Some}
 use Rattle.call_tables.specs.declared.arch.Arch.{Arch}
 use Rattle.call_tables.specs.declared.arch.Arch.TheVariants.{LinuxX86_64, LinuxX86, LinuxX32, LinuxAarch64, LinuxArm}
 use Rattle.call_tables.specs.declared.arch.Family.TheVariants.{Whole}
 use Rattle.call_tables.specs.Arch.{AreOfFamily, family_of}
-use Rattle.profile.specs.declared.fault.BuildError.{BuildError}
 use Rattle.profile.specs.declared.fault.BuildError.TheVariants as build
 use Rattle.profile.specs.declared.rules.Rule.{Rule}
 use Rattle.profile.specs.Build.{IsFirstCause, KeepsOnce}

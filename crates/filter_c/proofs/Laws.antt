@@ -1,6 +1,6 @@
 -- A profile that was built of rules of the same parts says what the rules say that were added.
-use Rattle.std.proofs.Common.{◌≡◌, ℕ, List, map, refl, sym, subst, ap, ◌∙◌, Some}
-use Rattle.std.specs.List.{All, Any, Contains}
+use Rattle.std.proofs.Common.{◌≡◌, ℕ, List, map, sym, subst, ◌∙◌, Some}
+use Rattle.std.specs.List.{Any, Contains}
 use Rattle.std.proofs.lemmas.Option.{same_Some}
 use Rattle.std.proofs.lemmas.List.Elements.{All-contains}
 use Rattle.call_record.specs.Words.{word}
@@ -13,7 +13,7 @@ use Rattle.profile.specs.Rule.{Matches}
 use Rattle.profile.proofs.KeptLaws.{in_kept, kept_in}
 use Rattle.filter_c.specs.declared.added.given.AddedRule.{AddedRule}
 use Rattle.filter_c.specs.Machine.{machine_with}
-use Rattle.filter_c.specs.Parts.{RuleParts, added_rule, kept_rule}
+use Rattle.filter_c.specs.Parts.{added_rule, kept_rule}
 use Rattle.filter_c.specs.Saying.{AddedSay, IsOfMachine, IsOfMachines, MatchesAdded, SaysWhatWasAdded}
 use Rattle.filter_c.proofs.Lists.{all_by, contains_map, contains_map_back}
 use Rattle.filter_c.proofs.Same.{is_added, is_kept, same_action}

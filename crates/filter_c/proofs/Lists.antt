@@ -1,7 +1,7 @@
 -- Lists, and what functions make of them.
 use Rattle.std.proofs.Common.{◌≡◌, ℕ, zero, suc, ◌<◌, List, [], ◌∷◌, length, map, get_or, Some, None}
-use Rattle.std.proofs.Common.{◌⊎◌, inl, inr, refl, sym, ◌∙◌, ap, subst, arith}
-use Rattle.std.specs.List.{All, Any, Contains, slice_get}
+use Rattle.std.proofs.Common.{◌⊎◌, inl, inr, refl, ap, subst, arith}
+use Rattle.std.specs.List.{All, Contains, slice_get}
 use Rattle.std.proofs.lemmas.Option.{same_Some}
 use Rattle.std.proofs.lemmas.List.Elements.{All-cons, All-contains_itself, All-head, All-nil, All-tail, All-weaker, Contains-append_right}
 

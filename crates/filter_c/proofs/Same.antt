@@ -1,5 +1,5 @@
 -- A rule of a profile and one that was added, of the same parts, match the same call records.
-use Rattle.std.proofs.Common.{◌≡◌, ℕ, List, map, refl, sym, subst, ap, ◌∙◌, Some}
+use Rattle.std.proofs.Common.{◌≡◌, ℕ, List, refl, sym, subst, ap, ◌∙◌, Some}
 use Rattle.std.specs.List.{All}
 use Rattle.std.proofs.lemmas.Option.{same_Some}
 use Rattle.std.proofs.lemmas.List.Elements.{All-map, All-weaker}
@@ -12,7 +12,6 @@ use Rattle.profile.specs.declared.rules.Rule.{Rule}
 use Rattle.profile.specs.Condition.{Meets}
 use Rattle.profile.specs.Operator.{Compares}
 use Rattle.profile.specs.Rule.{Matches, argument_of}
-use Rattle.filter_c.specs.declared.added.given.AddedCondition.{AddedCondition}
 use Rattle.filter_c.specs.declared.added.given.AddedRule.{AddedRule}
 use Rattle.filter_c.specs.Parts.{ConditionParts, RuleParts, added_condition, added_rule, conditions_of, kept_condition, kept_rule}
 use Rattle.filter_c.specs.Saying.{MatchesAdded, MeetsAdded}

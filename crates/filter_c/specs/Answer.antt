@@ -24,6 +24,10 @@ pub record IsRefusalOf (native : Arch) (bundle bytes : List ℕ) : Type 0 where
   pub is : IsUnready native bundle unready
   pub written : bytes ≡ line_of unready
 
+-- what is written of a bundle: the filter, or why it has none
+abbrev pub IsExportOf : Arch → List ℕ → List ℕ → Type 0
+IsExportOf native bundle bytes = IsFilterOf native bundle bytes ⊎ IsRefusalOf native bundle bytes
+
 -- the bytes are the line of what is found of a bundle, a filter and a certificate, which is no yes
 pub record IsNoOf (native : Arch) (bundle filter cert bytes : List ℕ) : Type 0 where
   pub found : Finding
@@ -48,3 +52,7 @@ pub record IsOpenOf (native : Arch) (bundle filter bytes : List ℕ) : Type 0 wh
 -- the bytes are the line of a call record that convicts the filter, or that says why there is neither
 abbrev pub IsNoCertificateOf : Arch → List ℕ → List ℕ → List ℕ → Type 0
 IsNoCertificateOf native bundle filter bytes = IsConvictionOf native bundle filter bytes ⊎ IsOpenOf native bundle filter bytes
+
+-- what is written of a bundle and a filter: a certificate to which the checker says yes, or why there is none
+abbrev pub IsCertifiedAs : Arch → List ℕ → List ℕ → List ℕ → Type 0
+IsCertifiedAs native bundle filter bytes = IsFinding native bundle filter bytes Yes ⊎ IsNoCertificateOf native bundle filter bytes

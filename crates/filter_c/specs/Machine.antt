@@ -1,5 +1,5 @@
 -- Machines by the numbers of seccomp_arch_add(3): the token of <linux/audit.h>, and for x32 one of its own.
-use Rattle.std.specs.Prelude.{ℕ, ◌==◌, Option, Some, None, if◌then◌else◌}
+use Rattle.std.specs.Prelude.{ℕ, ◌≡◌, ◌==◌, Option, Some, None, if◌then◌else◌}
 use Rattle.call_tables.specs.declared.arch.Arch.{Arch}
 use Rattle.call_tables.specs.declared.arch.Arch.TheVariants.{LinuxX86_64, LinuxX86, LinuxX32, LinuxAarch64, LinuxArm}
 
@@ -11,3 +11,7 @@ machine_with n =
     else if n == 0xc00000b7 then Some LinuxAarch64
     else if n == 0x40000028 then Some LinuxArm
     else None
+
+-- the number is a machine's, and this holds of the machine
+abbrev pub OfMachine : ℕ → (Arch → Type 0) → Type 0
+OfMachine n Holds = (arch : Arch) × (machine_with n ≡ Some arch) × Holds arch

@@ -5,6 +5,7 @@ ghost use Rattle.std.specs.Prelude.{◌≡◌, ◌<◌, IsTrue, false, take, len
 pub(crate) fn put(bytes: &[u8], out: &mut [u8]) -> bool
     ensures put { IsTrue result → take (length bytes.now) out.new ≡ bytes.now }
     ensures room { result ≡ false → length out.old < length bytes.now }
+    ensures unwritten { result ≡ false → out.new ≡ out.old }
 {
     if bytes.len() > out.len() {
         return false;
@@ -14,10 +15,12 @@ pub(crate) fn put(bytes: &[u8], out: &mut [u8]) -> bool
     true
 }
 
-/// Copies bytes to the front of others, if they have room, and tells how many there are.
+/// Copies bytes to the front of others, if they have room, and counts them.
 pub(crate) fn written(bytes: &[u8], out: &mut [u8], count: &mut usize) -> bool
     ensures put { IsTrue result → take count.new out.new ≡ bytes.now }
+    ensures counted { count.new ≡ length bytes.now }
     ensures room { result ≡ false → length out.old < count.new }
+    ensures unwritten { result ≡ false → out.new ≡ out.old }
 {
     *count = bytes.len();
     put(bytes, out)

@@ -1,10 +1,11 @@
 //! Bundles: their filters, and certificates of filters.
-ghost use Rattle.std.specs.Prelude.{◌≡◌, ◌≢◌, ◌<◌, ◌⊎◌, Some, take, length};
-ghost use Rattle.call_tables.specs.declared.arch.Arch.{Arch as TheArch};
+ghost use Rattle.std.specs.Prelude.{◌≡◌, ◌≢◌, ◌≤◌, ◌↔◌, None, take, length};
 ghost use Rattle.filter_c.specs.Machine as spec;
+ghost use Rattle.filter_c.specs.Machine.{OfMachine};
+ghost use Rattle.filter_c.specs.Room.{LacksRoom};
 ghost use Rattle.maker.specs.Finding.{IsFinding};
 ghost use Rattle.maker.specs.declared.check.Finding.TheVariants.{Yes};
-ghost use Rattle.filter_c.specs.Answer.{IsFilterOf, IsNoCertificateOf, IsNoOf, IsRefusalOf};
+ghost use Rattle.filter_c.specs.Answer.{IsCertifiedAs, IsExportOf, IsFilterOf, IsNoCertificateOf, IsNoOf, IsRefusalOf};
 
 use crate::added::machine_with;
 use crate::answers::written;
@@ -19,7 +20,9 @@ use texts::ToWrite;
 fn filter_for(alloc: Global, native: Arch, bundle: &[u8], out: &mut [u8], count: &mut usize) -> u32
     ensures made { result ≡ 0 → IsFilterOf native bundle.now (take count.new out.new) }
     ensures refused { result ≡ 1 → IsRefusalOf native bundle.now (take count.new out.new) }
-    ensures room { result ≡ 2 → length out.old < count.new }
+    ensures room { result ≡ 2 → LacksRoom (IsExportOf native bundle.now) (length out.old) count.new }
+    ensures unwritten { 2 ≤ result → out.new ≡ out.old }
+    ensures statuses { result ≤ 3 }
 {
     let mut sink = ToWrite::new(Vec::new(alloc));
     let Ok(is_made) = export_bundle(alloc, native, bundle, Form::Raw, &mut sink) else {
@@ -31,7 +34,7 @@ fn filter_for(alloc: Global, native: Arch, bundle: &[u8], out: &mut [u8], count:
     if is_made { DONE } else { REFUSED }
 }
 
-// What is found of a bundle, a filter and a certificate.
+// What is found of a bundle, a filter and a certificate. Of a yes nothing is written.
 fn found(
     alloc: Global,
     native: Arch,
@@ -42,17 +45,24 @@ fn found(
     count: &mut usize,
 ) -> u32
     ensures yes { result ≡ 0 → IsFinding native bundle.now filter.now cert.now Yes }
-    ensures other { result ≡ 1 → IsNoOf native bundle.now filter.now cert.now (take count.new out.new) }
-    ensures room { result ≡ 2 → length out.old < count.new }
+    ensures no { result ≡ 1 → IsNoOf native bundle.now filter.now cert.now (take count.new out.new) }
+    ensures room { result ≡ 2 → LacksRoom (IsNoOf native bundle.now filter.now cert.now) (length out.old) count.new }
+    ensures none { result ≡ 0 → count.new ≡ 0 }
+    ensures unwritten { result ≢ 1 → out.new ≡ out.old }
+    ensures statuses { result ≤ 3 }
 {
     let mut sink = ToWrite::new(Vec::new(alloc));
     let Ok(is_yes) = check_line(alloc, native, bundle, filter, cert, &mut sink) else {
         return NO_MEMORY;
     };
+    if is_yes {
+        *count = 0;
+        return DONE;
+    }
     if !written(&sink.writer, out, count) {
         return NO_ROOM;
     }
-    if is_yes { DONE } else { REFUSED }
+    REFUSED
 }
 
 // A certificate of a filter, or a line that says why there is none.
@@ -66,7 +76,9 @@ fn certified(
 ) -> u32
     ensures made { result ≡ 0 → IsFinding native bundle.now filter.now (take count.new out.new) Yes }
     ensures other { result ≡ 1 → IsNoCertificateOf native bundle.now filter.now (take count.new out.new) }
-    ensures room { result ≡ 2 → length out.old < count.new }
+    ensures room { result ≡ 2 → LacksRoom (IsCertifiedAs native bundle.now filter.now) (length out.old) count.new }
+    ensures unwritten { 2 ≤ result → out.new ≡ out.old }
+    ensures statuses { result ≤ 3 }
 {
     let mut sink = ToWrite::new(Vec::new(alloc));
     let Ok(is_made) = certify_bundle(alloc, native, bundle, filter, &mut sink) else {
@@ -79,7 +91,8 @@ fn certified(
 }
 
 /// Writes a filter for a bundle into `out`, and its length into `count`: 0, and the checker said yes to it. 1: the line is
-/// written that says why there is none. 2: there is no room. 3: there is no memory. 4: there is no such machine.
+/// written that says why there is none. 2: there is no room, and `count` is how much is wanted. 3: there is no memory. 4: there
+/// is no such machine.
 #[unsafe(no_mangle)]
 pub extern "C" fn ccell_filter_for_bundle(
     alloc: Global,
@@ -88,11 +101,12 @@ pub extern "C" fn ccell_filter_for_bundle(
     out: &mut [u8],
     count: &mut usize,
 ) -> u32
-    ensures made { (arch : TheArch) → spec.machine_with native ≡ Some arch → result ≡ 0
-        → IsFilterOf arch bundle.now (take count.new out.new) }
-    ensures refused { (arch : TheArch) → spec.machine_with native ≡ Some arch → result ≡ 1
-        → IsRefusalOf arch bundle.now (take count.new out.new) }
-    ensures room { result ≡ 2 → length out.old < count.new }
+    ensures made { result ≡ 0 → OfMachine native (λ arch. IsFilterOf arch bundle.now (take count.new out.new)) }
+    ensures refused { result ≡ 1 → OfMachine native (λ arch. IsRefusalOf arch bundle.now (take count.new out.new)) }
+    ensures room { result ≡ 2 → OfMachine native (λ arch. LacksRoom (IsExportOf arch bundle.now) (length out.old) count.new) }
+    ensures machine { (result ≡ 4) ↔ (spec.machine_with native ≡ None) }
+    ensures unwritten { 2 ≤ result → out.new ≡ out.old }
+    ensures statuses { result ≤ 4 }
 {
     match machine_with(native) {
         Some(arch) => filter_for(alloc, arch, bundle, out, count),
@@ -100,8 +114,9 @@ pub extern "C" fn ccell_filter_for_bundle(
     }
 }
 
-/// Whether the checker says yes to a filter and a certificate for a bundle: 0. 1: the line is written that says what is wrong.
-/// 2: there is no room. 3: there is no memory. 4: there is no such machine.
+/// Whether the checker says yes to a filter and a certificate for a bundle: 0, and nothing is written. 1: the line is written
+/// that says what is wrong. 2: there is no room for it, and `count` is how much is wanted. 3: there is no memory. 4: there is no
+/// such machine.
 #[unsafe(no_mangle)]
 pub extern "C" fn ccell_check(
     alloc: Global,
@@ -112,11 +127,14 @@ pub extern "C" fn ccell_check(
     out: &mut [u8],
     count: &mut usize,
 ) -> u32
-    ensures yes { (arch : TheArch) → spec.machine_with native ≡ Some arch → result ≡ 0
-        → IsFinding arch bundle.now filter.now cert.now Yes }
-    ensures other { (arch : TheArch) → spec.machine_with native ≡ Some arch → result ≡ 1
-        → IsNoOf arch bundle.now filter.now cert.now (take count.new out.new) }
-    ensures room { result ≡ 2 → length out.old < count.new }
+    ensures yes { result ≡ 0 → OfMachine native (λ arch. IsFinding arch bundle.now filter.now cert.now Yes) }
+    ensures no { result ≡ 1 → OfMachine native (λ arch. IsNoOf arch bundle.now filter.now cert.now (take count.new out.new)) }
+    ensures room { result ≡ 2
+        → OfMachine native (λ arch. LacksRoom (IsNoOf arch bundle.now filter.now cert.now) (length out.old) count.new) }
+    ensures machine { (result ≡ 4) ↔ (spec.machine_with native ≡ None) }
+    ensures none { result ≡ 0 → count.new ≡ 0 }
+    ensures unwritten { result ≢ 1 → out.new ≡ out.old }
+    ensures statuses { result ≤ 4 }
 {
     match machine_with(native) {
         Some(arch) => found(alloc, arch, bundle, filter, cert, out, count),
@@ -125,7 +143,8 @@ pub extern "C" fn ccell_check(
 }
 
 /// Writes a certificate that a filter answers what a bundle says: 0. 1: the line is written of a call record on which it does
-/// not, or that says why neither is found. 2: there is no room. 3: there is no memory. 4: there is no such machine.
+/// not, or that says why neither is found. 2: there is no room, and `count` is how much is wanted. 3: there is no memory. 4:
+/// there is no such machine.
 #[unsafe(no_mangle)]
 pub extern "C" fn ccell_certify(
     alloc: Global,
@@ -135,11 +154,13 @@ pub extern "C" fn ccell_certify(
     out: &mut [u8],
     count: &mut usize,
 ) -> u32
-    ensures made { (arch : TheArch) → spec.machine_with native ≡ Some arch → result ≡ 0
-        → IsFinding arch bundle.now filter.now (take count.new out.new) Yes }
-    ensures other { (arch : TheArch) → spec.machine_with native ≡ Some arch → result ≡ 1
-        → IsNoCertificateOf arch bundle.now filter.now (take count.new out.new) }
-    ensures room { result ≡ 2 → length out.old < count.new }
+    ensures made { result ≡ 0 → OfMachine native (λ arch. IsFinding arch bundle.now filter.now (take count.new out.new) Yes) }
+    ensures other { result ≡ 1 → OfMachine native (λ arch. IsNoCertificateOf arch bundle.now filter.now (take count.new out.new)) }
+    ensures room { result ≡ 2
+        → OfMachine native (λ arch. LacksRoom (IsCertifiedAs arch bundle.now filter.now) (length out.old) count.new) }
+    ensures machine { (result ≡ 4) ↔ (spec.machine_with native ≡ None) }
+    ensures unwritten { 2 ≤ result → out.new ≡ out.old }
+    ensures statuses { result ≤ 4 }
 {
     match machine_with(native) {
         Some(arch) => certified(alloc, arch, bundle, filter, out, count),

@@ -1,7 +1,8 @@
 //! Names and numbers of calls.
-ghost use Rattle.std.specs.Prelude.{◌≡◌, Some, None, take, length};
+ghost use Rattle.std.specs.Prelude.{◌≡◌, ◌≤◌, ◌↔◌, ◌⊎◌, None, take, length};
 ghost use Rattle.std.specs.Str.{IsUtf8};
 ghost use Rattle.filter_c.specs.Machine as spec;
+ghost use Rattle.filter_c.specs.Room.{LacksRoom};
 ghost use Rattle.filter_c.specs.Calls.{HasNumber, HasNoNumber, HasName, HasNoName};
 
 use crate::added::machine_with;
@@ -14,8 +15,9 @@ use crate::status::{DONE, NO_CALL, NO_NATIVE, NO_ROOM, NO_TEXT};
 pub extern "C" fn ccell_call_number(machine: u32, name: &[u8], number: &mut u32) -> u32
     ensures done { result ≡ 0 → HasNumber machine name.now number.new }
     ensures none { result ≡ 15 → HasNoNumber machine name.now }
-    ensures machine { result ≡ 4 → spec.machine_with machine ≡ None }
+    ensures machine { (result ≡ 4) ↔ (spec.machine_with machine ≡ None) }
     ensures text { result ≡ 16 → ¬ IsUtf8 name.now }
+    ensures statuses { (result ≡ 0) ⊎ ((result ≡ 4) ⊎ ((result ≡ 15) ⊎ (result ≡ 16))) }
 {
     let Some(arch) = machine_with(machine) else {
         return NO_NATIVE;
@@ -33,7 +35,7 @@ pub extern "C" fn ccell_call_number(machine: u32, name: &[u8], number: &mut u32)
 }
 
 /// Writes the name of a machine's call into `out`, and its length into `count`: 0. 15: the machine has no such call. 4: there
-/// is no such machine. 2: there is no room.
+/// is no such machine. 2: there is no room, and `count` is how much is wanted.
 #[unsafe(no_mangle)]
 pub extern "C" fn ccell_call_name(
     machine: u32,
@@ -43,6 +45,10 @@ pub extern "C" fn ccell_call_name(
 ) -> u32
     ensures done { result ≡ 0 → HasName machine number (take count.new out.new) }
     ensures none { result ≡ 15 → HasNoName machine number }
+    ensures machine { (result ≡ 4) ↔ (spec.machine_with machine ≡ None) }
+    ensures room { result ≡ 2 → LacksRoom (HasName machine number) (length out.old) count.new }
+    ensures unwritten { 2 ≤ result → out.new ≡ out.old }
+    ensures statuses { (result ≡ 0) ⊎ ((result ≡ 2) ⊎ ((result ≡ 4) ⊎ (result ≡ 15))) }
 {
     let Some(arch) = machine_with(machine) else {
         return NO_NATIVE;

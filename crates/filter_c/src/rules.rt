@@ -1,13 +1,12 @@
 //! A filter for rules that were added one by one.
-ghost use Rattle.std.specs.Prelude.{◌≡◌, ◌≢◌, ◌⊎◌, ◌<◌, take, length};
-ghost use Rattle.bpf_insn.specs.Bytes.{insns_of};
-ghost use Rattle.kernel_check.specs.Accepted.{IsAccepted};
-ghost use Rattle.cert_check.specs.Right.{IsRight};
+ghost use Rattle.std.specs.Prelude.{◌≡◌, ◌≢◌, ◌⊎◌, ◌≤◌, ◌↔◌, None, take, length};
 ghost use Rattle.rule_compile.specs.Shape.{IsPlain};
 ghost use Rattle.cert_check.specs.Checked.{profile_of};
 ghost use Rattle.filter_c.specs.Refusal.{IsCause};
 ghost use Rattle.filter_c.specs.declared.added.fault.AddedError.TheVariants as error;
-ghost use Rattle.filter_c.specs.Rules.{AnswersWhatWasAdded, AreNotPlain};
+ghost use Rattle.filter_c.specs.Machine as spec;
+ghost use Rattle.filter_c.specs.Room.{LacksRoom};
+ghost use Rattle.filter_c.specs.Rules.{AnswersWhatWasAdded, AreNotPlain, IsRightProgram};
 
 use crate::added::{AddedError, AddedRule, profile_of};
 use crate::answers::written;
@@ -22,9 +21,9 @@ use std::alloc::Global;
 
 // Writes a checked filter.
 fn put_checked(checked: &Checked<'_>, out: &mut [u8], told: &mut Told) -> u32
-    ensures accepted { result ≡ 0 → IsAccepted (insns_of (take told.new.count out.new)) }
-    ensures right { result ≡ 0 → IsRight (profile_of checked.now) (insns_of (take told.new.count out.new)) }
-    ensures room { result ≡ 2 → length out.old < told.new.count }
+    ensures made { result ≡ 0 → IsRightProgram (profile_of checked.now) (take told.new.count out.new) }
+    ensures room { result ≡ 2 → LacksRoom (IsRightProgram (profile_of checked.now)) (length out.old) told.new.count }
+    ensures unwritten { 2 ≤ result → out.new ≡ out.old }
     ensures statuses { (result ≡ 0) ⊎ (result ≡ 2) }
 {
     let program = checked.program().program();
@@ -37,9 +36,9 @@ fn put_checked(checked: &Checked<'_>, out: &mut [u8], told: &mut Told) -> u32
 
 // Writes the filter of a profile.
 fn put_filter(alloc: Global, profile: Profile, out: &mut [u8], told: &mut Told) -> u32
-    ensures accepted { result ≡ 0 → IsAccepted (insns_of (take told.new.count out.new)) }
-    ensures right { result ≡ 0 → IsRight profile (insns_of (take told.new.count out.new)) }
-    ensures room { result ≡ 2 → length out.old < told.new.count }
+    ensures made { result ≡ 0 → IsRightProgram profile (take told.new.count out.new) }
+    ensures room { result ≡ 2 → LacksRoom (IsRightProgram profile) (length out.old) told.new.count }
+    ensures unwritten { 2 ≤ result → out.new ≡ out.old }
     ensures size { result ≡ 11 → IsPlain profile → ⊥ }
     ensures statuses { (result ≡ 0) ⊎ ((result ≡ 2) ⊎ ((result ≡ 3) ⊎ (result ≡ 11))) }
 {
@@ -53,14 +52,15 @@ fn put_filter(alloc: Global, profile: Profile, out: &mut [u8], told: &mut Told) 
 
 // The status of a cause, with its places.
 fn tell(cause: AddedError, told: &mut Told) -> u32
-    ensures native { result ≡ 4 → cause ≡ error.NoNative }
+    ensures native { (result ≡ 4) ↔ (cause ≡ error.NoNative) }
     ensures machine { result ≡ 5 → cause ≡ error.NoMachine told.new.first }
     ensures rule { result ≡ 6 → cause ≡ error.NoRule told.new.first }
     ensures missing { result ≡ 7 → cause ≡ error.NativeMissing }
     ensures foreign { result ≡ 8 → cause ≡ error.ForeignRule told.new.first }
     ensures many { result ≡ 9 → cause ≡ error.TooMany }
     ensures overlap { result ≡ 10 → cause ≡ error.Overlap told.new.first told.new.second }
-    ensures others { (result ≢ 0) × ((result ≢ 2) × (result ≢ 11)) }
+    ensures refused { 3 ≤ result }
+    ensures last { result ≤ 10 }
 {
     match cause {
         AddedError::NoNative => NO_NATIVE,
@@ -100,15 +100,18 @@ pub extern "C" fn ccell_filter_for_rules(
     told: &mut Told,
 ) -> u32
     ensures made { result ≡ 0 → AnswersWhatWasAdded machines.now default_action rules.now (take told.new.count out.new) }
-    ensures room { result ≡ 2 → length out.old < told.new.count }
-    ensures native { result ≡ 4 → IsCause native machines.now rules.now error.NoNative }
+    ensures room { result ≡ 2 → LacksRoom (AnswersWhatWasAdded machines.now default_action rules.now) (length out.old) told.new.count }
+    ensures native { (result ≡ 4) ↔ (spec.machine_with native ≡ None) }
     ensures machine { result ≡ 5 → IsCause native machines.now rules.now (error.NoMachine told.new.first) }
     ensures rule { result ≡ 6 → IsCause native machines.now rules.now (error.NoRule told.new.first) }
     ensures missing { result ≡ 7 → IsCause native machines.now rules.now error.NativeMissing }
     ensures foreign { result ≡ 8 → IsCause native machines.now rules.now (error.ForeignRule told.new.first) }
     ensures many { result ≡ 9 → IsCause native machines.now rules.now error.TooMany }
     ensures overlap { result ≡ 10 → IsCause native machines.now rules.now (error.Overlap told.new.first told.new.second) }
-    ensures size { result ≡ 11 → AreNotPlain machines.now default_action rules.now }
+    ensures size { result ≡ 11 → AreNotPlain native machines.now default_action rules.now }
+    ensures unwritten { 2 ≤ result → out.new ≡ out.old }
+    ensures status { result ≢ 1 }
+    ensures statuses { result ≤ 11 }
 {
     match profile_of(alloc, native, machines, default_action, rules) {
         Ok(profile) => put_filter(alloc, profile, out, told),

@@ -8,6 +8,7 @@
 //! `search` looks for a record.
 mod asked;
 mod evidence;
+mod hand;
 mod law;
 mod maker;
 mod own;

@@ -8,7 +8,7 @@ use Rattle.call_tables.specs.Arch.{native_called}
 use Rattle.clap.specs.Words.{Row, Text, all_of, first_of}
 use Rattle.export.specs.declared.form.Form.{Form}
 use Rattle.cli.specs.Arguments.{Given, form_called}
-use Rattle.cli.specs.Arguments.Given.{Verdict, Check, Certify, CertifyBehind, CertifyAll, Export, Run, Explain, Read, Record}
+use Rattle.cli.specs.Arguments.Given.{Verdict, Check, Certify, CertifyBehind, CertifyAll, Export, Run, Explain, Read, ReadRules, Record}
 use Rattle.cli.specs.Arguments.Given.{Assemble, Annotate, Draw, Lint, Compare, CompareFilters, Adapt, Learn, Replay}
 use Rattle.cli.specs.Arguments.Given.{Manual, Version}
 
@@ -71,8 +71,14 @@ abbrev pub explain_in : List Row → List Text → Option Given
 explain_in rows arguments = with_part (codes "BUNDLE") rows (λ bundle.
     with_native rows (λ native. Explain native bundle (list_in (codes "CALL") rows arguments)))
 
+-- the command of reading that the part that may stand last asks for
+abbrev pub read_as : Option Text → Arch → Text → Option Given
+read_as None native bundle = Some (Read native bundle)
+read_as (Some last) native bundle = if bytes_eq last (codes "rules") then Some (ReadRules native bundle) else None
+
 abbrev pub read_in : List Row → Option Given
-read_in rows = with_part (codes "BUNDLE") rows (λ bundle. with_native rows (λ native. Read native bundle))
+read_in rows = with_part (codes "BUNDLE") rows (λ bundle.
+    option_and_then (λ native. read_as (first_of (codes "WORD") rows) native bundle) (native_in rows))
 
 abbrev pub record_in : List Row → List Text → Option Given
 record_in rows arguments = with_native rows (λ native. Record native (list_in (codes "CALL") rows arguments))

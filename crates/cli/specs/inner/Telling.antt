@@ -16,6 +16,7 @@ use Rattle.cli.specs.Dispatch.{FirstUnread, HaveBytes, StopsAtLog, WritesTold}
 use Rattle.cli.specs.Files.{Folder, HasBytes}
 use Rattle.cli.specs.Adapted.{AskNothing, IsMadeAs}
 use Rattle.cli.specs.Told.{IsManual, IsNoCommand, IsReplayed, NamesLogs, OfArguments, of_none, of_one}
+use Rattle.cli.specs.Written.{IsWritten, NamesForm}
 
 -- the files are read, and what is so of their bytes is told; or the program stops there
 abbrev pub IsToldOf : Option Folder → List (List ℕ) → (List (List ℕ) → Told → Type 0) → Result Told Stop → Type 0
@@ -41,11 +42,27 @@ told_in (Err stop) = Err stop
 abbrev pub IsManualOf : Option Folder → Option (List ℕ) → Result Told Stop → Type 0
 IsManualOf folder name told = (IsNoCommand name × (told ≡ Err Usage)) ⊎ IsToldOf folder [] (of_none (IsManual name)) told
 
+-- what was made is told in a form, unless the program stopped
+abbrev pub IsInForm : Arch → Bool → Result Told Stop → Result Told Stop → Type 0
+IsInForm native as_bundle (Ok made) (Ok told) = IsWritten native as_bundle made told
+IsInForm native as_bundle (Ok made) (Err stop) = stop ≡ OutOfMemory
+IsInForm native as_bundle (Err stop) told = told ≡ Err stop
+
 -- the bundle that is made of a configuration, unless the words ask for nothing
-abbrev pub IsAdaptedOf : Option Folder → Arch → List ℕ → List (List ℕ) → Result Told Stop → Type 0
-IsAdaptedOf folder native config words told =
+abbrev pub IsBundleOf : Option Folder → Arch → List ℕ → List (List ℕ) → Result Told Stop → Type 0
+IsBundleOf folder native config words told =
     (AskNothing words × (told ≡ Err Usage))
-    ⊎ IsToldOf folder (config ∷ []) (of_one (λ text. OfArguments (IsMadeAs native) words)) told
+    ⊎ IsToldOf folder (config ∷ []) (of_one (λ text. OfArguments (IsMadeAs native text) words)) told
+
+-- the same in the form that the words ask for
+pub record IsAdaptedOf (folder : Option Folder) (native : Arch) (config : List ℕ) (words : List (List ℕ)) (told : Result Told Stop)
+    : Type 0 where
+  pub others : List (List ℕ)
+  pub as_bundle : Bool
+  pub named : NamesForm words others as_bundle
+  pub made : Result Told Stop
+  pub is_made : IsBundleOf folder native config others made
+  pub written : IsInForm native as_bundle made told
 
 -- what a bundle says of the calls of the logs that the words name
 pub record IsReplayOf (folder : Option Folder) (native : Arch) (bundle : List ℕ) (words : List (List ℕ)) (told : Result Told Stop)
@@ -70,15 +87,24 @@ abbrev pub ShowEach : Option Folder → Arch → List (List ℕ) → Shown → T
 ShowEach folder native logs shown = (texts : List (List ℕ)) × HaveBytes folder logs texts × HaveShown native texts shown
 
 -- what is learned from logs, unless the program stops at one
-abbrev pub IsLearnedFrom : Option Folder → Arch → List (List ℕ) → Option Runtime → Result Told Stop → Type 0
-IsLearnedFrom folder native logs runtime (Ok told) =
-    (texts : List (List ℕ)) × HaveBytes folder logs texts × TellsLearned native texts runtime told
-IsLearnedFrom folder native logs runtime (Err stop) = StopsAtLog folder logs stop
+abbrev pub IsLearnedFrom : Option Folder → Arch → List (List ℕ) → Option Runtime → Otherwise → Result Told Stop → Type 0
+IsLearnedFrom folder native logs runtime otherwise (Ok told) =
+    (texts : List (List ℕ)) × HaveBytes folder logs texts × TellsLearned native texts runtime otherwise told
+IsLearnedFrom folder native logs runtime otherwise (Err stop) = StopsAtLog folder logs stop
 
 -- the same of the logs that the words name, unless it stops before
-abbrev pub IsLearnedOf : Option Folder → Arch → List (List ℕ) → Result Told Stop → Type 0
-IsLearnedOf folder native words told =
+abbrev pub IsLearnedBundleOf : Option Folder → Arch → List (List ℕ) → Result Told Stop → Type 0
+IsLearnedBundleOf folder native words told =
     (told ≡ Err Usage)
     ⊎ ((told ≡ Err OutOfMemory)
     ⊎ ((logs : List (List ℕ)) × (runtime : Option Runtime) × (otherwise : Otherwise) × AskFor words logs runtime otherwise
-    × IsLearnedFrom folder native logs runtime told))
+    × IsLearnedFrom folder native logs runtime otherwise told))
+
+-- the same in the form that the words ask for
+pub record IsLearnedOf (folder : Option Folder) (native : Arch) (words : List (List ℕ)) (told : Result Told Stop) : Type 0 where
+  pub others : List (List ℕ)
+  pub as_bundle : Bool
+  pub named : NamesForm words others as_bundle
+  pub made : Result Told Stop
+  pub is_made : IsLearnedBundleOf folder native others made
+  pub written : IsInForm native as_bundle made told

@@ -9,6 +9,7 @@ pub enum Meaning {
     Old,
     New,
     Compared,
+    ReadAs,
     Filter,
     Certified,
     Record,
@@ -29,7 +30,7 @@ impl Meaning {
     pub(crate) fn text(self) -> &'static str {
         match self {
             Meaning::Machine => {
-                "the machine: linux-.. has all calls of Linux 6.18, the others about a hundred\n[possible values: linux-x86-64, linux-aarch64, x86-64, aarch64]"
+                "the machine: linux-.. has all calls of Linux 7.3, the others about a hundred\n[possible values: linux-x86-64, linux-aarch64, x86-64, aarch64]"
             }
             Meaning::Bundle => { "a file with linux.seccomp of the OCI Runtime Specification" }
             Meaning::Bundles => { "files with linux.seccomp of the OCI Runtime Specification" }
@@ -37,6 +38,9 @@ impl Meaning {
             Meaning::New => { "a file with the new bundle" }
             Meaning::Compared => {
                 "all that is asked is that the new bundle allows no more; or both files are filters\n[possible values: atmost, filters]"
+            }
+            Meaning::ReadAs => {
+                "the profile is written as a line for each rule, for another program\n[possible values: rules]"
             }
             Meaning::Filter => { "a file with instructions of eight bytes" }
             Meaning::Certified => {

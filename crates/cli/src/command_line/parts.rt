@@ -140,12 +140,25 @@ pub(crate) fn explain<'a>(found: &ArgMatches<'a>, arguments: &'a [&'a str]) -> O
     })
 }
 
+// The command of reading that the part that may stand last asks for.
+fn read_as<'a>(last: Option<&str>, native: Arch, bundle: &'a str) -> Option<Command<'a>>
+    ensures { option_map given result ≡ spec.read_as (option_map (λ s. s.now) last.entry) native bundle.entry.now }
+{
+    let Some(last) = last else {
+        return Some(Command::Read { native, bundle });
+    };
+    if last == "rules" {
+        return Some(Command::ReadRules { native, bundle });
+    }
+    None
+}
+
 pub(crate) fn read<'a>(found: &ArgMatches<'a>) -> Option<Command<'a>>
     ensures { option_map given result ≡ spec.read_in (rows_of (found_of found.now)) }
 {
     let bundle = part(found, "BUNDLE")?;
     let native = native(found)?;
-    Some(Command::Read { native, bundle })
+    read_as(part(found, "WORD"), native, bundle)
 }
 
 pub(crate) fn record_for<'a>(

@@ -44,8 +44,9 @@ Example: ccell check x86-64 web.json web.bpf web.cert
 const CERTIFY: &str =
     "Writes a certificate that the filter answers what the bundle says, or tells a call record of which
 it does not, and explains it on standard error.
-With runc, the stub that runc puts in front of a filter is taken for what it is: on standard error
-stand the calls that it answers ENOSYS, and the certificate is of the filter behind it.
+With runc, the stub that runc puts in front of a filter is told apart: on standard error stand the
+calls that it answers ENOSYS. If the bundle refuses them by its default, without a kill, and names none
+of them, the certificate is of the filter behind the stub. Otherwise the whole filter is judged.
 With all, a filter without a certificate gets a record of each call that is found on which it differs.
 Status 0, or 1 and a line that begins with 'no' or 'refused'.
 
@@ -83,6 +84,8 @@ Example: ccell explain x86-64 web.json write 1 0 0x100000000
 const READ: &str =
     "Tells a bundle's machines, what is said of calls that no entry matches, and each entry in a line. Of
 a bundle that is refused it tells why and, in a second line, the place.
+With rules, it writes the profile as a program reads it: the machines, the default verdict, and a
+line for each rule, with numbers in place of names.
 Status 0, or 1 and a line that begins with 'refused'.
 
 Example: ccell read linux-x86-64 web.json
@@ -108,8 +111,8 @@ Example: ccell compare linux-x86-64 old.json new.json atmost
 ";
 
 const ADAPT: &str =
-    "Makes a bundle, as the other commands read it, and reports each change on standard error, with its
-place. Each word stands once at most.
+    "Writes the section that engines take and the other commands read, and reports each change on
+standard error, with its place. Each word stands once at most.
 widen: write it though it lets more through.
 first, looser, stricter or like-libseccomp: which of two entries counts that say unlike things of
 one call.
@@ -117,17 +120,19 @@ narrow: compare only the bits that the kernel reads.
 log: log what would be refused.
 for docker|podman|containerd: work out an engine's own profile.
 cap CAP.. or cap all, and kernel 6.12: the capabilities and the kernel that it is worked out for.
+bundle, as the last word: write a bundle, a config.json with the section in it.
 Status 0, or 1 and the reason on standard error, or a line that begins with 'refused'.
 
 Example: ccell adapt linux-x86-64 config.json first > web.json
 ";
 
 const LEARN: &str =
-    "Writes a bundle that allows each call of the logs. Standard error reports what was read, and what
-was added and why. Beside the logs may stand:
+    "Writes a section, which engines take, that allows each call of the logs. Standard error reports
+what was read, and what was added and why. Beside the logs may stand:
 keep CALL:ARG[,ARG]: compare these arguments with the values seen; once for each call.
 for crun|runc|bwrap: add the calls that a runtime makes behind the load.
 else errno|enosys|log|kill: the answer to all other calls.
+bundle, as the last word: write a bundle, a config.json with the section in it.
 Status 0, or 1 and a line that begins with 'refused'.
 
 Example: ccell learn linux-x86-64 web.log for crun > web.json

@@ -24,6 +24,8 @@ const NEW: Part = ("NEW", 1, 1, Meaning::New);
 
 const COMPARED: Part = ("WORD", 0, 1, Meaning::Compared);
 
+const READ_AS: Part = ("WORD", 0, 1, Meaning::ReadAs);
+
 const FILTER: Part = ("FILTER", 1, 1, Meaning::Filter);
 
 const CERTIFIED: Part = ("WORD", 0, 1, Meaning::Certified);
@@ -90,7 +92,7 @@ pub const COMMANDS: &[Entry] = &[
     ),
     (
         "read",
-        &[MACHINE, BUNDLE],
+        &[MACHINE, BUNDLE, READ_AS],
         "what a bundle means, or where it is wrong",
         Page::Read,
     ),
@@ -109,13 +111,13 @@ pub const COMMANDS: &[Entry] = &[
     (
         "adapt",
         &[MACHINE, CONFIG, WORD],
-        "a bundle of what an engine hands to its runtime",
+        "a profile of what an engine hands to its runtime",
         Page::Adapt,
     ),
     (
         "learn",
         &[MACHINE, LEARNED_LOG],
-        "a bundle that allows what logs of strace show",
+        "a profile that allows what logs of strace show",
         Page::Learn,
     ),
     (

@@ -57,11 +57,15 @@ pub fn behind_stub<'a>(alloc: Global, filter: &'a [u8]) -> Result<Behind<'a>, Al
         Some(program) => program,
         None => return Ok(whole(alloc, filter)),
     };
-    match split(alloc, &program)? {
-        None => Ok(whole(alloc, filter)),
-        Some(stub) => Ok(Behind {
-            answered: stub.answered,
-            rest: bytes_of(&stub.rest),
-        }),
+    let stub = match split(alloc, &program)? {
+        Some(stub) => stub,
+        None => return Ok(whole(alloc, filter)),
+    };
+    if stub.answered.is_empty() {
+        return Ok(whole(alloc, filter));
     }
+    Ok(Behind {
+        answered: stub.answered,
+        rest: bytes_of(&stub.rest),
+    })
 }

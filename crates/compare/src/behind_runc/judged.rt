@@ -1,23 +1,33 @@
 //! What is judged of a filter behind a stub.
-ghost use Rattle.std.specs.Prelude.{◌≡◌, IfSome, ℕ, List, Ok};
+ghost use Rattle.std.specs.Prelude.{◌≡◌, IfSome, IsTrue, ℕ, List, Ok};
 ghost use Rattle.call_record.specs.Record.{words};
 ghost use Rattle.call_tables.specs.declared.arch.Arch.{Arch as TheArch};
 ghost use Rattle.maker.specs.declared.evidence.evidence.Conviction.{Conviction as TheConviction};
 ghost use Rattle.maker.specs.declared.evidence.evidence.Evidence.TheVariants.{Convicting};
 ghost use Rattle.maker.specs.Certified.{IsJudgement};
 ghost use Rattle.maker.specs.Told.{Tells};
-ghost use Rattle.compare.specs.Behind.{IsBehind, IsJudgedBehind, WritesBehind};
+ghost use Rattle.compare.specs.declared.behind_runc.stub.calls.Calls.{Calls as TheCalls};
+ghost use Rattle.compare.specs.Behind.{IsBehind, IsJudgedBehind, MeansSparing, WritesBehind};
 
 use crate::behind_runc::behind::Behind;
-use crate::behind_runc::stub::is_answered;
+use crate::behind_runc::spared::spares;
+use crate::behind_runc::stub::{Calls, is_answered};
 use call_record::{Word, words_are_a_record};
 use call_tables::Arch;
 use maker::{Conviction, Evidence, Unready, judge_bundle, refuse, write_judged};
+use profile_json::read_bundle;
 use std::alloc::Global;
 use texts::{Sink, WriteFault};
 
 // The verdict ERRNO with ENOSYS, by which a stub answers.
 const ENOSYS: Word = Word(0x0005_0026);
+
+/// What is judged, and whether it was asked of the whole filter.
+#[derive(Drop)]
+pub struct Judged {
+    pub whole: bool,
+    pub evidence: Result<Evidence, Unready>,
+}
 
 // What convicts the whole filter, of a record that convicts the rest: the same, where the stub does not answer the record, and else
 // that the stub answers it, where the bundle says another verdict.
@@ -40,61 +50,110 @@ fn of_whole(behind: &Behind<'_>, found: &Conviction) -> Option<Conviction>
     })
 }
 
-// What is judged of the whole filter, where a record was found that convicts the rest.
-fn judge_whole(
+// Whether a bundle means a profile that spares the calls that a stub answers.
+fn is_spared(alloc: Global, native: Arch, bundle: &[u8], answered: &[Calls]) -> bool
+    ensures { IsTrue result → MeansSparing native bundle.now answered.now }
+{
+    match read_bundle(alloc, bundle, native) {
+        Ok(read) => spares(&read.profile, answered),
+        Err(_) => false,
+    }
+}
+
+// What is judged of the whole filter.
+fn judge_whole(alloc: Global, native: Arch, bundle: &[u8], filter: &[u8]) -> Judged
+    ensures { (rest : List ℕ) (answered : List TheCalls)
+        → IsJudgedBehind native bundle.now filter.now rest answered result.whole result.evidence }
+{
+    Judged {
+        whole: true,
+        evidence: judge_bundle(alloc, native, bundle, filter),
+    }
+}
+
+// What is judged where a record was found that convicts the rest.
+fn judge_found(
     alloc: Global,
     native: Arch,
     bundle: &[u8],
     filter: &[u8],
     behind: &Behind<'_>,
     found: &Conviction,
-) -> Result<Evidence, Unready>
+) -> Judged
     requires behind { IsBehind filter.now behind.now.rest.now behind.now.answered.items }
     requires found { IsJudgement native bundle.now behind.now.rest.now (Ok (Convicting found.now)) }
-    ensures { IsJudgement native bundle.now filter.now result }
+    ensures { IsJudgedBehind native bundle.now filter.now behind.now.rest.now behind.now.answered.items result.whole result.evidence }
 {
     match of_whole(behind, found) {
-        Some(whole) => Ok(Evidence::Convicting(whole)),
-        None => judge_bundle(alloc, native, bundle, filter),
+        Some(whole) => Judged {
+            whole: false,
+            evidence: Ok(Evidence::Convicting(whole)),
+        },
+        None => judge_whole(alloc, native, bundle, filter),
     }
 }
 
-/// What is judged of a filter behind a stub, beside a bundle that is read for a native machine. Where the rest is certified, or it is
-/// told why it is not decided, this is told of the rest. A record on which the two differ is one on which the whole filter gives another
-/// verdict than the bundle says.
+// What is judged where the bundle spares the calls that the stub answers.
+fn judge_rest(
+    alloc: Global,
+    native: Arch,
+    bundle: &[u8],
+    filter: &[u8],
+    behind: &Behind<'_>,
+) -> Judged
+    requires behind { IsBehind filter.now behind.now.rest.now behind.now.answered.items }
+    requires spared { MeansSparing native bundle.now behind.now.answered.items }
+    ensures { IsJudgedBehind native bundle.now filter.now behind.now.rest.now behind.now.answered.items result.whole result.evidence }
+{
+    match judge_bundle(alloc, native, bundle, behind.rest) {
+        Ok(Evidence::Convicting(found)) => {
+            judge_found(alloc, native, bundle, filter, behind, &found)
+        }
+        Ok(Evidence::Certificate(certificate)) => Judged {
+            whole: false,
+            evidence: Ok(Evidence::Certificate(certificate)),
+        },
+        Err(unready) => Judged {
+            whole: false,
+            evidence: Err(unready),
+        },
+    }
+}
+
+/// What is judged of a filter behind a stub, beside a bundle that is read for a native machine. The rest is asked about where the bundle
+/// spares the calls that the stub answers, and else the whole filter. A record that is told is one on which the whole filter gives
+/// another verdict than the bundle says.
 pub fn judge_behind(
     alloc: Global,
     native: Arch,
     bundle: &[u8],
     filter: &[u8],
     behind: &Behind<'_>,
-) -> Result<Evidence, Unready>
+) -> Judged
     requires { IsBehind filter.now behind.now.rest.now behind.now.answered.items }
-    ensures { IsJudgedBehind native bundle.now filter.now behind.now.rest.now result }
+    ensures { IsJudgedBehind native bundle.now filter.now behind.now.rest.now behind.now.answered.items result.whole result.evidence }
 {
-    match judge_bundle(alloc, native, bundle, behind.rest) {
-        Ok(Evidence::Convicting(found)) => {
-            judge_whole(alloc, native, bundle, filter, behind, &found)
-        }
-        Ok(Evidence::Certificate(certificate)) => Ok(Evidence::Certificate(certificate)),
-        Err(unready) => Err(unready),
+    if !is_spared(alloc, native, bundle, &behind.answered) {
+        return judge_whole(alloc, native, bundle, filter);
     }
+    judge_rest(alloc, native, bundle, filter, behind)
 }
 
 /// Writes what is judged of a filter behind a stub.
 pub fn write_behind<S: Sink>(
     alloc: Global,
-    judged: &Result<Evidence, Unready>,
+    judged: &Judged,
     sink: &mut S,
 ) -> Result<bool, WriteFault>
-    ensures found { (native : TheArch) (bundle filter rest : List ℕ) → IsJudgedBehind native bundle filter rest judged.now
-        → WritesBehind S.held S.failures sink.old sink.new native bundle filter rest result }
+    ensures found { (native : TheArch) (bundle filter rest : List ℕ) (answered : List TheCalls) → IsBehind filter rest answered
+        → IsJudgedBehind native bundle filter rest answered judged.now.whole judged.now.evidence
+        → WritesBehind S.held S.failures sink.old sink.new native bundle filter rest answered judged.now.whole result }
     // The record that is told is the one that was found.
-    ensures told { (found : TheConviction) → judged.now ≡ Ok (Convicting found)
+    ensures told { (found : TheConviction) → judged.now.evidence ≡ Ok (Convicting found)
         → Tells S.held S.failures sink.old sink.new (words found.call) found.given found.said result }
 {
-    match judged {
+    match &judged.evidence {
         Err(unready) => refuse(alloc, unready, sink),
-        Ok(_) => write_judged(alloc, judged, sink),
+        Ok(_) => write_judged(alloc, &judged.evidence, sink),
     }
 }

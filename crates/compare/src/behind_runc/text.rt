@@ -56,14 +56,26 @@ fn size_line(alloc: Global, size: usize) -> Result<String, AllocError>
     format!(in alloc; "runc's stub, the first {size} bytes, answers these calls ENOSYS:\n")
 }
 
-/// Tells which calls a stub of so many bytes answers, a line for each range of numbers, by the names that a family's machines have.
+// Adds the line that the whole filter is asked about, if it is.
+fn put_whole(text: &mut String, whole: bool) -> Result<(), AllocError>
+    ensures { IfOk result (λ _. string_bytes text.new ≡ string_bytes text.old ++ spec.whole_line whole) }
+{
+    if whole {
+        text.push_str("so the whole filter is judged, not the filter behind the stub\n")?;
+    }
+    Ok(())
+}
+
+/// Tells which calls a stub of so many bytes answers, a line for each range of numbers, by the names that a family's machines have, and
+/// whether the whole filter is asked about.
 pub fn stub_text(
     alloc: Global,
     family: Family,
     size: usize,
     answered: &[Calls],
+    whole: bool,
 ) -> Result<String, AllocError>
-    ensures { IfOk result (λ text. string_bytes text ≡ spec.stub_text family size answered.now) }
+    ensures { IfOk result (λ text. string_bytes text ≡ spec.stub_text family size answered.now whole) }
 {
     if answered.is_empty() {
         return String::from_str(
@@ -73,5 +85,6 @@ pub fn stub_text(
     }
     let mut text = size_line(alloc, size)?;
     put_each(&mut text, family, answered)?;
+    put_whole(&mut text, whole)?;
     Ok(text)
 }

@@ -17,6 +17,7 @@ use bpf_insn::{Insn, MAX_INSNS, Program, encode_into};
 use call_record::{Record, Word, words_are_a_record};
 use cert_check::valid_is_right;
 use certify::CertifyError;
+use differ::{Direction, Found, Settled, differ};
 use kernel_check::{Accepted, accept};
 use maker::{certified, convict};
 use profile::Profile;
@@ -51,8 +52,8 @@ pub enum AtMost {
     Undecided(Size),
 }
 
-// Two profiles say one verdict of each record.
-fn are_clear(new: &Profile, old: &Profile)
+/// Two profiles say one verdict of each record.
+pub(crate) fn are_clear(new: &Profile, old: &Profile)
     ensures new { IsClear new.now.rules }
     ensures old { IsClear old.now.rules }
 {
@@ -200,14 +201,40 @@ fn by_plans(
     by_bytes(alloc, new, old, &bytes)
 }
 
-/// Whether a new profile allows no more than an old one: whether each call record that it lets through the old one lets through.
-///
-/// The checker decides it, of the filter that allows what the new profile lets through and the old one refuses. A machine that
-/// the old one does not list is refused by it whole.
-pub fn allows_no_more(alloc: Global, new: &Profile, old: &Profile) -> Result<AtMost, AllocError>
-    ensures decided { IfOk result (IsDecided new.now old.now) }
+// The same by the programs of both profiles.
+fn by_programs(alloc: Global, new: &Profile, old: &Profile) -> Result<AtMost, AllocError>
+    ensures { IfOk result (IsDecided new.now old.now) }
 {
     let first = plan(alloc, new)?;
     let second = plan(alloc, old)?;
     by_plans(alloc, new, old, &first.insns, &second.insns)
+}
+
+// A record that was found.
+fn excess_of(found: &Found) -> Excess
+    ensures call { result.call ≡ found.now.call }
+    ensures new { result.new ≡ found.now.second }
+    ensures old { result.old ≡ found.now.first }
+{
+    Excess {
+        call: found.call,
+        new: found.second,
+        old: found.first,
+    }
+}
+
+/// Whether a new profile allows no more than an old one: whether each call record that it lets through the old one lets through.
+///
+/// It is decided call by call. Where a call has too many combinations for that, the checker decides it, of the filter that allows
+/// what the new profile lets through and the old one refuses. A machine that the old one does not list is refused by it whole.
+pub fn allows_no_more(alloc: Global, new: &Profile, old: &Profile) -> Result<AtMost, AllocError>
+    ensures decided { IfOk result (IsDecided new.now old.now) }
+{
+    are_clear(new, old);
+    let settled = differ(alloc, old, new, Direction::More)?;
+    match &settled {
+        Settled::Alike => Ok(AtMost::Yes),
+        Settled::Unlike(found) => Ok(AtMost::No(excess_of(found))),
+        Settled::Crowded(_) => by_programs(alloc, new, old),
+    }
 }

@@ -3,6 +3,7 @@
 -- process made a line before the call was over, ` <unfinished ...>` stands in the place of `)`.
 use Rattle.std.specs.Prelude.{ℕ, ◌==◌, ◌^◌, nat_lt, Bool, false, if◌then◌else◌, List, [], ◌∷◌, Option, Some, None, codes, find}
 use Rattle.std.specs.Prelude.{option_and_then}
+use Rattle.std.specs.Str.{is_utf8}
 use Rattle.texts.specs.Lines.{space}
 use Rattle.texts.specs.Numbers.{decimal_at, hexadecimal_at}
 use Rattle.texts.specs.Splits.{behind, split_at}
@@ -129,6 +130,10 @@ call_on native line = do
   parts ← split_at 93 front.1
   nr ← number_at parts.0
   numbered native nr parts.1
+
+-- the call that a line tells of which nothing is known: one that is no UTF-8 tells none
+unfoldable pub call_in : Arch → List ℕ → Option CallParts
+call_in native line = if is_utf8 line then call_on native line else None
 
 -- the words of such a call as a filter sees them, made at address 0
 abbrev pub words_of_call : CallParts → List ℕ

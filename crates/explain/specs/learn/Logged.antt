@@ -1,9 +1,8 @@
 -- The calls that logs show.
-use Rattle.std.specs.Prelude.{ℕ, ◌+◌, ◌&&◌, Bool, nat_lt, if◌then◌else◌, List, [], ◌∷◌, ◌++◌, Option, Some, None, length, map}
+use Rattle.std.specs.Prelude.{ℕ, ◌+◌, Bool, nat_lt, if◌then◌else◌, List, [], ◌∷◌, ◌++◌, Option, Some, None, length, map}
 use Rattle.std.specs.List.{flat_map}
-use Rattle.std.specs.Str.{is_utf8}
 use Rattle.call_tables.specs.declared.arch.Arch.{Arch}
-use Rattle.explain.specs.learn.Line.{CallParts, call_on, words_of_call}
+use Rattle.explain.specs.learn.Line.{CallParts, call_in, words_of_call}
 use Rattle.explain.specs.learn.Lines.{lines_of}
 use Rattle.explain.specs.declared.learn.logs.Log.{Log}
 
@@ -22,15 +21,15 @@ told_on (Some call) log n line = record { arch = call.0; words = words_of_call c
 -- the calls that lines tell, of which the first has this number
 abbrev pub calls_from : Arch → List ℕ → ℕ → List (List ℕ) → List Logged
 calls_from native log n [] = []
-calls_from native log n (line ∷ lines) = told_on (call_on native line) log n line ++ calls_from native log (n + 1) lines
+calls_from native log n (line ∷ lines) = told_on (call_in native line) log n line ++ calls_from native log (n + 1) lines
 
 -- a log is its name and its text; lines are counted from 1
 abbrev pub calls_of : Arch → List ℕ × List ℕ → List Logged
 calls_of native log = calls_from native log.0 1 (lines_of log.1)
 
--- it is one if it is text, of which a line tells a call
+-- it is one if a line tells a call
 abbrev pub is_log : Arch → List ℕ × List ℕ → Bool
-is_log native log = is_utf8 log.1 && nat_lt 0 (length (calls_of native log))
+is_log native log = nat_lt 0 (length (calls_of native log))
 
 -- the name of the first that is none
 abbrev pub first_none : Arch → List (List ℕ × List ℕ) → Option (List ℕ)

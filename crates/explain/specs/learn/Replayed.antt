@@ -18,7 +18,7 @@ use Rattle.explain.specs.declared.told.Told.{Told}
 use Rattle.explain.specs.Phrases.{action_text}
 use Rattle.explain.specs.Reason.{reason_of}
 use Rattle.explain.specs.Told.{RefusesBundle, TellsLine}
-use Rattle.explain.specs.learn.Line.{call_on, words_of_call}
+use Rattle.explain.specs.learn.Line.{call_in, words_of_call}
 use Rattle.explain.specs.learn.Lines.{lines_of}
 use Rattle.explain.specs.learn.Logged.{Logged, calls_in, first_none}
 use Rattle.explain.specs.learn.Unused.{unused_text}
@@ -111,7 +111,7 @@ LetsThrough p r = (v : ℕ) × Says p r v × Through v
 
 -- the call that the line tells, if it tells one, is carried out
 abbrev pub LineIsThrough : Arch → Policy → List ℕ → Type 0
-LineIsThrough native p line = IfSome (call_on native line) (λ call. LetsThrough p (words_of_call call))
+LineIsThrough native p line = IfSome (call_in native line) (λ call. LetsThrough p (words_of_call call))
 
 abbrev pub TextIsThrough : Arch → Policy → List ℕ → Type 0
 TextIsThrough native p text = All (LineIsThrough native p) (lines_of text)

@@ -9,7 +9,7 @@ use Rattle.profile.specs.declared.conditions.Op.TheVariants.{MaskedEq}
 use Rattle.profile.specs.declared.rules.Rule.{Rule}
 use Rattle.profile.specs.Policy.{Policy, Says}
 use Rattle.profile.specs.Rule.{Matches}
-use Rattle.explain.specs.learn.Line.{CallParts, call_on, words_of_call}
+use Rattle.explain.specs.learn.Line.{CallParts, call_in, words_of_call}
 use Rattle.explain.specs.learn.Lines.{lines_of}
 use Rattle.explain.specs.declared.learn.calls.Seen.{Seen}
 use Rattle.explain.specs.declared.learn.reading.Shown.{Shown}
@@ -49,11 +49,11 @@ pub record IsShown (native : Arch) (lines : List (List ℕ)) (arch : Arch) (nr :
   pub line : List ℕ
   pub among : Contains lines line
   pub args : List ℕ
-  pub told : call_on native line ≡ Some (arch, nr, args)
+  pub told : call_in native line ≡ Some (arch, nr, args)
 
 -- the call that the line tells, if it tells one, was gathered
 abbrev pub LineIsCovered : Arch → List Seen → List ℕ → Type 0
-LineIsCovered native seen line = IfSome (call_on native line) (IsCovered seen)
+LineIsCovered native seen line = IfSome (call_in native line) (IsCovered seen)
 
 -- the calls are of these lines, and each call of these lines is among them
 pub record AreTaken (native : Arch) (lines : List (List ℕ)) (seen : List Seen) : Type 0 where

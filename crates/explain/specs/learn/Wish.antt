@@ -1,7 +1,8 @@
 -- What the words of `learn` ask for.
-use Rattle.std.specs.Prelude.{ℕ, ◌≡◌, ◌≢◌, ◌||◌, Bool, false, codes, List, [], ◌∷◌, Option, Some, None, unwrap_or}
+use Rattle.std.specs.Prelude.{ℕ, ◌≡◌, ◌≢◌, ◌+◌, ◌||◌, Bool, false, codes, List, [], ◌∷◌, Option, Some, None, unwrap_or}
 use Rattle.std.specs.List.{All, filter_map, flat_map, last_or}
 use Rattle.std.specs.Str.{bytes_eq}
+use Rattle.call_record.specs.Verdict.{errno, kill_process, log}
 use Rattle.explain.specs.declared.learn.lists.Otherwise.{Otherwise}
 use Rattle.explain.specs.declared.learn.lists.Otherwise.TheVariants.{Errno, Enosys, Log, Kill}
 use Rattle.explain.specs.declared.learn.lists.Runtime.{Runtime}
@@ -19,6 +20,13 @@ otherwise_word Errno = codes "errno"
 otherwise_word Enosys = codes "enosys"
 otherwise_word Log = codes "log"
 otherwise_word Kill = codes "kill"
+
+-- the verdict that it is of them: EPERM is 1, and ENOSYS 38 (errno(3))
+abbrev pub rest_word : Otherwise → ℕ
+rest_word Errno = errno + 1
+rest_word Enosys = errno + 38
+rest_word Log = log
+rest_word Kill = kill_process
 
 -- One thing that words ask for: a log by its name, a call of which values are kept, a runtime, what becomes of the other calls.
 pub data Item : Type 0 where

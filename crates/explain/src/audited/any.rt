@@ -1,7 +1,10 @@
 //! What a bundle says of a call whatever its arguments.
-ghost use Rattle.std.specs.Prelude.{◌≡◌, IfOk, false, string_bytes};
+ghost use Rattle.std.specs.Prelude.{◌≡◌, IfErr, IfOk, IfSome, codes, string_bytes};
 ghost use Rattle.call_tables.specs.Arch.{family_of};
 ghost use Rattle.explain.specs.Any as spec;
+ghost use Rattle.explain.specs.Told.{TellsLine};
+ghost use Rattle.profile_json.specs.Breaks.{Breaks};
+ghost use Rattle.profile_json.specs.Fault.{fault_of};
 
 use crate::audited::lines::{put_number, put_said};
 use crate::audited::what::what_call;
@@ -36,7 +39,9 @@ fn explanation(
     token: u32,
     nr: u32,
 ) -> Result<String, ProfileError>
-    ensures { IfOk result (λ text. spec.ExplainsAny native bundle.now token nr (string_bytes text)) }
+    ensures explains { IfOk result (λ text. spec.ExplainsAny native bundle.now token nr (string_bytes text)) }
+    // Unless memory ran out, the fault stands in the bundle.
+    ensures fault { IfErr result (λ e. IfSome (fault_of e) (Breaks bundle.now native)) }
 {
     let read = read_bundle(alloc, bundle, native)?;
     let all = rules_by_entry(alloc, bundle, native)?;
@@ -46,7 +51,7 @@ fn explanation(
 
 // The line that tells that a word asks for no call.
 fn no_call(alloc: Global) -> Result<Told, AllocError>
-    ensures { IfOk result (λ told. told.done ≡ false) }
+    ensures { IfOk result (TellsLine (codes "refused call")) }
 {
     Ok(Told {
         bytes: Vec::from_slice(alloc, b"refused call\n")?,
@@ -64,14 +69,14 @@ pub fn explain_any(
 ) -> Result<Told, AllocError>
     ensures { IfOk result (spec.IsExplained native bundle.now word.now) }
 {
-    let Some((arch, nr)) = what_call(alloc, native, word)? else {
-        return no_call(alloc);
-    };
-    match explanation(alloc, native, bundle, arch.token(), nr) {
-        Ok(text) => Ok(Told {
-            bytes: text.into_bytes(),
-            done: true,
-        }),
-        Err(error) => refused_profile(alloc, error),
+    match what_call(alloc, native, word)? {
+        Some((arch, nr)) => match explanation(alloc, native, bundle, arch.token(), nr) {
+            Ok(text) => Ok(Told {
+                bytes: text.into_bytes(),
+                done: true,
+            }),
+            Err(error) => refused_profile(alloc, error),
+        },
+        None => no_call(alloc),
     }
 }

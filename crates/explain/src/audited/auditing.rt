@@ -1,7 +1,11 @@
 //! What a bundle says of the lines of a kernel's audit.
+ghost use Rattle.std.specs.Prelude.{◌≡◌};
+ghost use Rattle.explain.specs.Answers as spec;
+
 use crate::audited::answers::may_answer;
 use crate::audited::fields::{Event, event_on};
 use crate::audited::lines::{put_number, put_said};
+use crate::learn::split_line;
 use crate::phrases::ActionText;
 use crate::told::{Told, refused_profile};
 use call_record::Word;
@@ -21,11 +25,12 @@ struct Counted {
     count: u64,
 }
 
-// The first different events of lines, and how many lines tell others.
+// The first different events of lines, how many lines tell others, and whether a bundle may answer so in each.
 #[derive(Drop)]
 struct Events {
     list: Vec<Counted>,
     others: u64,
+    may_be: bool,
 }
 
 // Counts an event.
@@ -48,17 +53,40 @@ fn count(events: &mut Events, event: Event) -> Result<(), AllocError> {
     Ok(())
 }
 
+// Whether a bundle may answer as an event tells.
+fn may_be(profile: &Profile, event: Event) -> bool
+    ensures { result ≡ spec.may_answer profile.now event.token event.nr event.code }
+{
+    may_answer(profile, event.token, event.nr, Word(event.code))
+}
+
+// Adds the event that a line tells, if it is text and tells one.
+fn put_line(profile: &Profile, line: &[u8], events: &mut Events) -> Result<(), AllocError> {
+    let Ok(text) = str::from_utf8(line) else {
+        return Ok(());
+    };
+    if let Some(event) = event_on(text) {
+        if !may_be(profile, event) {
+            events.may_be = false;
+        }
+        count(events, event)?;
+    }
+    Ok(())
+}
+
 // The events that lines tell, each once.
-fn events_in(alloc: Global, text: &str) -> Result<Events, AllocError> {
+fn events_in(alloc: Global, profile: &Profile, lines: &[u8]) -> Result<Events, AllocError> {
     let mut events = Events {
         list: Vec::new(alloc),
         others: 0,
+        may_be: true,
     };
-    for line in text.split('\n') {
-        if let Some(event) = event_on(line) {
-            count(&mut events, event)?;
-        }
+    let mut rest = lines;
+    'line: while let Some((line, more)) = split_line(rest) {
+        put_line(profile, line, &mut events)?;
+        rest = more;
     }
+    put_line(profile, rest, &mut events)?;
     Ok(events)
 }
 
@@ -74,7 +102,7 @@ fn put_event(text: &mut String, profile: &Profile, counted: &Counted) -> Result<
     let action = Word(code);
     let name = ActionText(action);
     writeln!(text, "told {count} times, code 0x{code:x} {name}")?;
-    if may_answer(profile, token, nr, action) {
+    if may_be(profile, counted.event) {
         text.push_str("the bundle may answer so\n")
     } else {
         text.push_str("the bundle never answers so: another filter did\n")
@@ -119,15 +147,15 @@ fn no_event(alloc: Global) -> Result<Told, AllocError> {
     })
 }
 
-// What a profile says of the events of a text.
+// What a profile says of the events of lines.
 fn audited(
     alloc: Global,
     native: Arch,
     profile: &Profile,
     all: &EntryRules,
-    text: &str,
+    lines: &[u8],
 ) -> Result<Told, AllocError> {
-    let events = events_in(alloc, text)?;
+    let events = events_in(alloc, profile, lines)?;
     if events.list.is_empty() {
         return no_event(alloc);
     }
@@ -136,12 +164,13 @@ fn audited(
     put_others(&mut told, events.others)?;
     Ok(Told {
         bytes: told.into_bytes(),
-        done: true,
+        done: events.may_be,
     })
 }
 
 /// Tells of each call that lines of a kernel's audit show, as dmesg, journald and auditd write them, what it was, whether a
-/// bundle, which is read for a native machine, may answer so, and what the bundle says of it.
+/// bundle, which is read for a native machine, may answer so, and what the bundle says of it. It is done where the bundle may answer
+/// so in each line.
 pub fn audit(alloc: Global, native: Arch, bundle: &[u8], lines: &[u8]) -> Result<Told, AllocError> {
     let read = match read_bundle(alloc, bundle, native) {
         Ok(read) => read,
@@ -151,8 +180,5 @@ pub fn audit(alloc: Global, native: Arch, bundle: &[u8], lines: &[u8]) -> Result
         Ok(all) => all,
         Err(error) => return refused_profile(alloc, error),
     };
-    match str::from_utf8(lines) {
-        Ok(text) => audited(alloc, native, &read.profile, &all, text),
-        Err(_) => no_event(alloc),
-    }
+    audited(alloc, native, &read.profile, &all, lines)
 }

@@ -1,9 +1,9 @@
 //! The rules of a bundle for a call, told whatever the arguments.
-ghost use Rattle.std.specs.Prelude.{◌≡◌, ◌++◌, [], codes, if◌then◌else◌, IfOk, Some, None, string_bytes};
+ghost use Rattle.std.specs.Prelude.{◌≡◌, ◌+◌, ◌++◌, ◌∷◌, List, codes, IfOk, Some, None, string_bytes};
 ghost use Rattle.std.specs.List.{list_any};
 ghost use Rattle.call_tables.specs.Numbers.{has_call};
 ghost use Rattle.explain.specs.Phrases as phrases;
-ghost use Rattle.explain.specs.Reason.{entry_at};
+ghost use Rattle.profile.specs.declared.rules.Rule.{Rule as TheRule};
 ghost use Rattle.explain.specs.Any as spec;
 
 use crate::calls::machine_with;
@@ -108,31 +108,37 @@ pub(crate) fn is_of(rule: &Rule, token: u32, nr: u32) -> bool
     rule.nr == nr
 }
 
-// Adds the line of the rule at a place, if it is for a call.
+// Adds the line of the rule at a place, if it is for a call and its entry is not the one that was told last; and gives the entry
+// that is the last one then.
 fn put_if_of(
     text: &mut String,
     all: &EntryRules,
+    last: Option<usize>,
     place: usize,
     rule: &Rule,
     token: u32,
     nr: u32,
-) -> Result<(), AllocError>
-    ensures { IfOk result (λ _. string_bytes text.new ≡ string_bytes text.old
-        ++ (if spec.is_of rule.now token nr then spec.rule_line (entry_at all.now.ends.items place) rule.now else [])) }
+) -> Result<Option<usize>, AllocError>
+    ensures { (more : List TheRule) → IfOk result (λ now. string_bytes text.new
+        ++ spec.lines_from now (place + 1) more all.now.ends.items token nr
+        ≡ string_bytes text.old ++ spec.lines_from last place (rule.now ∷ more) all.now.ends.items token nr) }
 {
-    if is_of(rule, token, nr) {
-        return put_rule(text, entry_at(all, place), rule);
+    let entry = entry_at(all, place);
+    if is_of(rule, token, nr) && last != Some(entry) {
+        put_rule(text, entry, rule)?;
+        return Ok(Some(entry));
     }
-    Ok(())
+    Ok(last)
 }
 
-// Adds the lines of the rules for a call.
+// Adds the lines of the entries that have a rule for a call.
 fn put_rules(text: &mut String, all: &EntryRules, token: u32, nr: u32) -> Result<(), AllocError>
     ensures { IfOk result (λ _. string_bytes text.new ≡ string_bytes text.old
-        ++ spec.lines_from 0 all.now.rules.items all.now.ends.items token nr) }
+        ++ spec.lines_from None 0 all.now.rules.items all.now.ends.items token nr) }
 {
+    let mut last = None;
     for (place, rule) in all.rules.as_slice().iter().enumerate() {
-        put_if_of(text, all, place, rule, token, nr)?;
+        last = put_if_of(text, all, last, place, rule, token, nr)?;
     }
     Ok(())
 }

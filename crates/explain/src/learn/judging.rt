@@ -8,10 +8,11 @@ ghost use Rattle.call_tables.specs.declared.arch.Arch.{Arch};
 ghost use Rattle.explain.specs.learn.inner.Seen.{AreSeen};
 ghost use Rattle.explain.specs.learn.Taken.{AllowsEach, IsForEach, IsLow, IsWithin, OneAllows};
 ghost use Rattle.explain.specs.learn.Learned.{IsNamed, IsOfRecord};
+ghost use Rattle.explain.specs.learn.Wish.{rest_word};
 
 use crate::learn::calls::Seen;
 use crate::learn::keeps::WHOLE;
-use crate::learn::lists::{Runtime, is_listed};
+use crate::learn::lists::{Otherwise, Runtime, is_listed};
 use call_record::{Word, words_are_a_record};
 use profile::{Cond, Op, Profile, Rule, are_for};
 
@@ -152,4 +153,11 @@ pub(crate) fn are_named(calls: &[Seen], runtime: Option<Runtime>, rules: &[Rule]
         }
     }
     true
+}
+
+/// Whether the default of a profile is the verdict that was asked for.
+pub(crate) fn is_rest(profile: &Profile, otherwise: Otherwise) -> bool
+    ensures { IsTrue result → profile.now.default_word ≡ rest_word otherwise }
+{
+    profile.default_word() == otherwise.word()
 }

@@ -4,8 +4,8 @@ ghost use Rattle.call_tables.specs.Arch.{token_of};
 ghost use Rattle.explain.specs.learn.Kept as spec;
 
 use crate::learn::strace::{Call, machines_run};
-use crate::narrow::read_bits;
-use call_tables::{Arch, is_narrow};
+use crate::narrow::cut_bits;
+use call_tables::Arch;
 
 /// A call of which the values of these arguments are kept.
 #[derive(Clone, Copy)]
@@ -72,24 +72,14 @@ pub(crate) fn is_kept(keeps: &[Keep<'_>], name: &str) -> bool {
 /// An argument of which all bits are kept.
 pub(crate) const WHOLE: u32 = 64;
 
-// How many of the lowest bits of an argument are kept: what a kernel reads of it. Of a machine of 32 bits no more is compared.
-fn width(token: u32, nr: u32, place: usize) -> u32
-    requires { place < 6 }
-    ensures { result ≡ spec.width token nr place }
-{
-    if is_narrow(token) {
-        return WHOLE;
-    }
-    read_bits(token, nr, place)
-}
-
-// The same, and 0 of an argument that is not asked for.
+// How many of the lowest bits of an argument are kept: those that are read, or all (64) where no more is compared; and 0 of an
+// argument that is not asked for.
 fn bits_at(places: &[bool; 6], token: u32, nr: u32, place: usize) -> u32
     requires { place < 6 }
     ensures { result ≡ spec.bits_at places.now token nr place }
 {
     if places[place] {
-        return width(token, nr, place);
+        return cut_bits(token, nr, place);
     }
     0
 }

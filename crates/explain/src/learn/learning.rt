@@ -7,8 +7,8 @@ ghost use Rattle.explain.specs.learn.Learned.{TellsLearned};
 
 use crate::learn::bundle::{bundle_of, machines_of};
 use crate::learn::calls::{Calls, MOST_KEPT, Seen};
-use crate::learn::judging::{allows_seen, are_named};
-use crate::learn::lists::Runtime;
+use crate::learn::judging::{allows_seen, are_named, is_rest};
+use crate::learn::lists::{Otherwise, Runtime};
 use crate::learn::names::names_of;
 use crate::learn::reading::Shown;
 use crate::learn::telling::put_learned;
@@ -37,22 +37,28 @@ fn refused(alloc: Global, what: &str, name: &str, why: &str) -> Result<Told, All
     })
 }
 
-// The bundle whose text means a profile, if the profile allows each call that was gathered, and names no other calls than it may.
+// The bundle whose text means a profile, if the profile allows each call that was gathered, names no other calls than it may, and
+// has the default that was asked for.
 fn weighed(
     alloc: Global,
     profile: &Profile,
     seen: &[Seen],
     runtime: Option<Runtime>,
+    otherwise: Otherwise,
     text: String,
 ) -> Result<Told, AllocError>
     ensures { (native : Arch) (texts : List (List ℕ)) → AreTaken native (lines_in texts) seen.now
-        → IfOk result (λ told. told.done ≡ true → IsWeighed native profile.now texts runtime (string_bytes text) told.bytes.items) }
+        → IfOk result (λ told. told.done ≡ true
+        → IsWeighed native profile.now texts runtime otherwise (string_bytes text) told.bytes.items) }
 {
     if !allows_seen(profile, seen) {
         return refused(alloc, "bundle", "", "it does not allow each record");
     }
     if !are_named(seen, runtime, profile.rules()) {
         return refused(alloc, "bundle", "", "it names a call that no log shows");
+    }
+    if !is_rest(profile, otherwise) {
+        return refused(alloc, "bundle", "", "it has another default");
     }
     Ok(Told {
         bytes: text.into_bytes(),
@@ -66,14 +72,15 @@ fn judged(
     native: Arch,
     seen: &[Seen],
     runtime: Option<Runtime>,
+    otherwise: Otherwise,
     text: String,
 ) -> Result<Told, AllocError>
     ensures { (texts : List (List ℕ)) → AreTaken native (lines_in texts) seen.now
-        → IfOk result (TellsLearned native texts runtime) }
+        → IfOk result (TellsLearned native texts runtime otherwise) }
 {
     match read_bundle(alloc, text.as_bytes(), native) {
         Ok(read) => {
-            let told = weighed(alloc, &read.profile, seen, runtime, text)?;
+            let told = weighed(alloc, &read.profile, seen, runtime, otherwise, text)?;
             Ok(told)
         }
         Err(error) => refused_profile(alloc, error),
@@ -97,7 +104,7 @@ fn learn_calls(
     lines: &mut String,
 ) -> Result<Told, AllocError>
     ensures { (texts : List (List ℕ)) → AreTaken native (lines_in texts) calls.now.seen.items
-        → IfOk result (TellsLearned native texts wish.now.runtime) }
+        → IfOk result (TellsLearned native texts wish.now.runtime wish.now.otherwise) }
 {
     if calls.kept.len() >= MOST_KEPT {
         return refused_profile(alloc, ProfileError::TooMany);
@@ -108,7 +115,7 @@ fn learn_calls(
     let names = names_of(alloc, &machines, &wish.keeps, calls, runtime, otherwise)?;
     put_learned(lines, &machines, &wish.keeps, calls, &names, runtime)?;
     let text = bundle_of(alloc, &machines, &wish.keeps, calls, &names, otherwise)?;
-    judged(alloc, native, &calls.seen, runtime, text)
+    judged(alloc, native, &calls.seen, runtime, otherwise, text)
 }
 
 // The same, unless a log has no record.
@@ -119,7 +126,8 @@ fn learn_shown(
     wish: &Wish<'_>,
     lines: &mut String,
 ) -> Result<Told, AllocError>
-    ensures { (texts : List (List ℕ)) → HaveShown native texts shown.now → IfOk result (TellsLearned native texts wish.now.runtime) }
+    ensures { (texts : List (List ℕ)) → HaveShown native texts shown.now
+        → IfOk result (TellsLearned native texts wish.now.runtime wish.now.otherwise) }
 {
     if shown.is_lacking {
         return no_record(alloc, &shown.lacking);
@@ -135,7 +143,7 @@ pub fn learn(
     wish: &Wish<'_>,
 ) -> Result<Learned, AllocError>
     ensures { (texts : List (List ℕ)) → HaveShown native texts shown.now
-        → IfOk result (λ learned. TellsLearned native texts wish.now.runtime learned.told) }
+        → IfOk result (λ learned. TellsLearned native texts wish.now.runtime wish.now.otherwise learned.told) }
 {
     let mut lines = String::new(alloc);
     shown.unread.put(&mut lines)?;

@@ -3,7 +3,9 @@ ghost use Rattle.std.specs.Prelude.{◌≡◌, IfSome};
 ghost use Rattle.std.specs.List.{list_any};
 ghost use Rattle.std.specs.Str.{bytes_eq};
 ghost use Rattle.explain.specs.learn.Lists as spec;
-ghost use Rattle.explain.specs.learn.Wish.{otherwise_word, runtime_word};
+ghost use Rattle.explain.specs.learn.Wish.{otherwise_word, rest_word, runtime_word};
+
+use call_record::Word;
 
 /// What loads a filter and then starts the program.
 #[derive(Clone, Copy)]
@@ -59,13 +61,16 @@ pub(crate) const FALLBACKS: &[&str] = &[
     "statx",
 ];
 
-/// What crun calls between the load of a filter and the program; without `no_new_privs` it loads before it gives up rights.
+/// What crun calls between the load of a filter and the program; without `no_new_privs` it loads before it gives up rights, and
+/// before it waits for `start`.
 pub(crate) const OF_CRUN: &[&str] = &[
     "capset",
     "close",
     "close_range",
     "execve",
     "prctl",
+    "pselect6",
+    "read",
     "rt_sigaction",
     "rt_sigprocmask",
     "setresgid",
@@ -227,6 +232,18 @@ impl Otherwise {
             "log" => Some(Otherwise::Log),
             "kill" => Some(Otherwise::Kill),
             _ => None,
+        }
+    }
+
+    /// The verdict that it is of these calls.
+    pub(crate) fn word(self) -> Word
+        ensures { result ≡ rest_word self }
+    {
+        match self {
+            Otherwise::Errno => Word(0x0005_0001),
+            Otherwise::Enosys => Word(0x0005_0026),
+            Otherwise::Log => Word::LOG,
+            Otherwise::Kill => Word::KILL_PROCESS,
         }
     }
 

@@ -1,7 +1,7 @@
 //! The calls that logs show, one after the other.
-ghost use Rattle.std.specs.Prelude.{◌≡◌, ◌+◌, ◌++◌, ◌∷◌, [], IfOk, None, Some, true};
+ghost use Rattle.std.specs.Prelude.{◌≡◌, ◌<◌, ◌+◌, ◌++◌, ◌∷◌, [], IfOk, IfSome, MatchOption, None, Some, length, true};
 ghost use Rattle.std.specs.Option.{option_map};
-ghost use Rattle.explain.specs.learn.Line.{call_on as call_told};
+ghost use Rattle.explain.specs.learn.Line.{call_in, call_on as call_told};
 ghost use Rattle.explain.specs.learn.Lines.{lines_of};
 ghost use Rattle.explain.specs.learn.Logged as spec;
 ghost use Rattle.explain.specs.learn.inner.Views.{all_logged, logged};
@@ -11,6 +11,8 @@ use crate::learn::strace::{Call, call_on};
 use call_record::Record;
 use call_tables::Arch;
 use std::alloc::AllocError;
+
+const LINE_FEED: u8 = 10;
 
 /// A call that a line of a log tells: its machine, its record, the name of the log, the number of the line, from 1, and the line.
 #[derive(Clone, Copy)]
@@ -35,8 +37,8 @@ fn log_call<'a>(call: &Call<'_>, log: &'a str, number: usize, line: &'a str) -> 
     }
 }
 
-// Adds the call that a line tells, if it tells one.
-fn put_line<'a>(
+// Adds the call that a line of text tells, if it tells one.
+fn put_text_line<'a>(
     native: Arch,
     log: &'a str,
     number: usize,
@@ -55,19 +57,48 @@ fn put_line<'a>(
     }
 }
 
+// Adds the call that a line tells, if it is text and tells one.
+fn put_line<'a>(
+    native: Arch,
+    log: &'a str,
+    number: usize,
+    line: &'a [u8],
+    calls: &mut Vec<LogCall<'a>>,
+) -> Result<(), AllocError>
+    ensures { IfOk result (λ _. all_logged calls.new.items
+        ≡ all_logged calls.old.items ++ spec.told_on (call_in native line.now) log.now number line.now) }
+{
+    match str::from_utf8(line) {
+        Ok(text) => put_text_line(native, log, number, text, calls),
+        Err(_) => Ok(()),
+    }
+}
+
+/// A text at its first line feed, if it has one.
+pub(crate) fn split_line(text: &[u8]) -> Option<(&[u8], &[u8])>
+    ensures lines { MatchOption result (lines_of text.now ≡ text.now ∷ []) (λ parts. lines_of text.now ≡ parts.0.now ∷ lines_of parts.1.now) }
+    ensures shorter { IfSome result (λ parts. length parts.1.now < length text.now) }
+{
+    for (at, byte) in text.iter().enumerate() {
+        if *byte == LINE_FEED {
+            return Some((&text[..at], &text[at + 1..]));
+        }
+    }
+    None
+}
+
 // Adds the calls that the lines of a text tell.
 fn put_text<'a>(
     native: Arch,
     log: &'a str,
-    text: &'a str,
+    text: &'a [u8],
     calls: &mut Vec<LogCall<'a>>,
 ) -> Result<(), AllocError>
     ensures { IfOk result (λ _. all_logged calls.new.items ≡ all_logged calls.old.items ++ spec.calls_of native (log.now, text.now)) }
 {
-    let _length = text.as_bytes().len();
     let mut number = 1usize;
     let mut rest = text;
-    'line: while let Some((line, more)) = rest.split_once('\n') {
+    'line: while let Some((line, more)) = split_line(rest) {
         put_line(native, log, number, line, calls)?;
         number += 1;
         rest = more;
@@ -85,11 +116,8 @@ fn put_log<'a>(
     ensures calls { IfOk result (λ is. is ≡ true → all_logged calls.new.items
         ≡ all_logged calls.old.items ++ spec.calls_of native (log.now.name.now, log.now.text.now)) }
 {
-    let Ok(text) = str::from_utf8(log.text) else {
-        return Ok(false);
-    };
     let before = calls.len();
-    put_text(native, log.name, text, calls)?;
+    put_text(native, log.name, log.text, calls)?;
     Ok(before < calls.len())
 }
 

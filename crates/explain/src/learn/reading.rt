@@ -1,12 +1,12 @@
 //! Logs, read from sources.
-ghost use Rattle.std.specs.Prelude.{◌≡◌, ◌++◌, ℕ, List, [], ◌∷◌, true, false, IfOk, IsTrue};
+ghost use Rattle.std.specs.Prelude.{◌≡◌, ◌++◌, ℕ, List, [], ◌∷◌, true, false, IfOk};
 ghost use Rattle.explain.specs.learn.Lines.{lines_of};
 ghost use Rattle.explain.specs.learn.Given.{GivesAll};
 ghost use Rattle.explain.specs.learn.Taken.{AreTaken, HasCome, HaveShown};
 
 use crate::learn::calls::{Calls, see};
 use crate::learn::keeps::Keep;
-use crate::learn::strace::call_on;
+use crate::learn::strace::call_in;
 use crate::learn::unread::Unread;
 use call_tables::Arch;
 use std::alloc::{AllocError, Global};
@@ -43,102 +43,96 @@ fn take_line(
     native: Arch,
     keeps: &[Keep<'_>],
     place: (&str, u64),
-    line: &str,
+    line: &[u8],
     unread: &mut Unread,
     calls: &mut Calls,
 ) -> Result<(), AllocError>
     ensures { (lines : List (List ℕ)) → AreTaken native lines calls.old.seen.items
         → IfOk result (λ _. AreTaken native (lines ++ line.now ∷ []) calls.new.seen.items) }
 {
-    match call_on(native, line) {
+    match call_in(native, line) {
         Some(call) => see(keeps, &call, calls),
         None => unread.pass_over(place, line),
     }
 }
 
-// Takes the line that has come whole. False says that it is no text.
+// Takes the line that has come whole.
 fn end_line(
     native: Arch,
     keeps: &[Keep<'_>],
     progress: &mut Progress<'_>,
     calls: &mut Calls,
-) -> Result<bool, AllocError>
+) -> Result<(), AllocError>
     ensures taken { (lines : List (List ℕ)) → AreTaken native lines calls.old.seen.items
-        → IfOk result (λ is_text. IsTrue is_text → AreTaken native (lines ++ progress.old.part.items ∷ []) calls.new.seen.items) }
-    ensures part { IfOk result (λ is_text. IsTrue is_text → progress.new.part.items ≡ []) }
+        → IfOk result (λ _. AreTaken native (lines ++ progress.old.part.items ∷ []) calls.new.seen.items) }
+    ensures part { IfOk result (λ _. progress.new.part.items ≡ []) }
 {
-    let Ok(line) = str::from_utf8(&progress.part) else {
-        return Ok(false);
-    };
     let place = (progress.name, progress.number);
-    take_line(native, keeps, place, line, &mut progress.unread, calls)?;
+    take_line(
+        native,
+        keeps,
+        place,
+        &progress.part,
+        &mut progress.unread,
+        calls,
+    )?;
     progress.part.clear();
     progress.number = progress.number.saturating_add(1);
-    Ok(true)
+    Ok(())
 }
 
-// Takes one more byte of a log. False says that it is no text.
+// Takes one more byte of a log.
 fn take_byte(
     native: Arch,
     keeps: &[Keep<'_>],
     byte: u8,
     progress: &mut Progress<'_>,
     calls: &mut Calls,
-) -> Result<bool, AllocError>
+) -> Result<(), AllocError>
     ensures { (before : List (List ℕ)) (text : List ℕ) → HasCome native before text progress.old.part.items calls.old.seen.items
-        → IfOk result (λ is_text. IsTrue is_text
-        → HasCome native before (text ++ byte ∷ []) progress.new.part.items calls.new.seen.items) }
+        → IfOk result (λ _. HasCome native before (text ++ byte ∷ []) progress.new.part.items calls.new.seen.items) }
 {
     if byte == LINE_FEED {
         return end_line(native, keeps, progress, calls);
     }
     progress.part.push(byte)?;
-    Ok(true)
+    Ok(())
 }
 
-// Takes more bytes of a log. False says that it is no text.
+// Takes more bytes of a log.
 fn take_bytes(
     native: Arch,
     keeps: &[Keep<'_>],
     bytes: &[u8],
     progress: &mut Progress<'_>,
     calls: &mut Calls,
-) -> Result<bool, AllocError>
+) -> Result<(), AllocError>
     ensures { (before : List (List ℕ)) (text : List ℕ) → HasCome native before text progress.old.part.items calls.old.seen.items
-        → IfOk result (λ is_text. IsTrue is_text
-        → HasCome native before (text ++ bytes.now) progress.new.part.items calls.new.seen.items) }
+        → IfOk result (λ _. HasCome native before (text ++ bytes.now) progress.new.part.items calls.new.seen.items) }
 {
     for byte in bytes {
-        let is_text = take_byte(native, keeps, *byte, progress, calls)?;
-        if !is_text {
-            return Ok(false);
-        }
+        take_byte(native, keeps, *byte, progress, calls)?;
     }
-    Ok(true)
+    Ok(())
 }
 
-// Takes all that a source has. False says that it is no text.
+// Takes all that a source has.
 fn take_all<I: Source>(
     native: Arch,
     keeps: &[Keep<'_>],
     source: &mut I,
     progress: &mut Progress<'_>,
     calls: &mut Calls,
-) -> Result<bool, LogFault>
+) -> Result<(), LogFault>
     ensures { (before : List (List ℕ)) → progress.old.part.items ≡ [] → AreTaken native before calls.old.seen.items
-        → IfOk result (λ is_text. IsTrue is_text → (text : List ℕ) × GivesAll (I.left source.old) (I.left source.new) text
+        → IfOk result (λ _. (text : List ℕ) × GivesAll (I.left source.old) (I.left source.new) text
         × AreTaken native (before ++ lines_of text) calls.new.seen.items) }
 {
     let mut buffer = [0u8; 4096];
     'part: loop {
         match source.read(&mut buffer) {
             Ok(0) => return Ok(end_line(native, keeps, progress, calls)?),
-            Ok(count) => {
-                let is_text = take_bytes(native, keeps, &buffer[..count], progress, calls)?;
-                if !is_text {
-                    return Ok(false);
-                }
-            }
+            Ok(count) => take_bytes(native, keeps, &buffer[..count], progress, calls)?,
             Err(_) => return Err(LogFault::CannotRead),
         }
     }
@@ -178,8 +172,8 @@ impl Shown {
         Ok(())
     }
 
-    /// Reads a log to its end, a part at a time: what it shows is added to what those before it show. A log that is no text, or
-    /// has no record, is kept in mind; such logs give no bundle.
+    /// Reads a log to its end, a part at a time: what it shows is added to what those before it show. A log that has no record is
+    /// kept in mind; such logs give no bundle.
     pub fn read_log<I: Source>(
         &mut self,
         alloc: Global,
@@ -198,10 +192,7 @@ impl Shown {
             number: 1,
             unread: self.unread.behind(alloc),
         };
-        let is_text = take_all(native, keeps, source, &mut progress, &mut self.calls)?;
-        if !is_text {
-            return Ok(self.lack(alloc, name)?);
-        }
+        take_all(native, keeps, source, &mut progress, &mut self.calls)?;
         self.unread.add(&progress.unread)?;
         if self.calls.records == before {
             return Ok(self.lack(alloc, name)?);

@@ -73,6 +73,16 @@ fn put_keeps(text: &mut String, keeps: &[Keep<'_>], calls: &Calls) -> Result<(),
     Ok(())
 }
 
+// Adds the names that are added for what a runtime calls itself, if there are some.
+fn put_runtime(text: &mut String, runtime: Runtime, names: &Names) -> Result<(), AllocError> {
+    if names.of_runtime.is_empty() {
+        return Ok(());
+    }
+    let name = runtime.name();
+    write!(text, "{name} itself calls behind the load:")?;
+    put_names(text, "", &names.of_runtime)
+}
+
 /// Adds what is in a bundle that was made of logs, and why.
 pub(crate) fn put_learned(
     text: &mut String,
@@ -85,9 +95,7 @@ pub(crate) fn put_learned(
     put_count(text, machines, calls)?;
     put_keeps(text, keeps, calls)?;
     if let Some(runtime) = runtime {
-        let name = runtime.name();
-        write!(text, "{name} itself calls behind the load:")?;
-        put_names(text, "", &names.of_runtime)?;
+        put_runtime(text, runtime, names)?;
     }
     put_names(
         text,

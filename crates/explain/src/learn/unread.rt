@@ -43,20 +43,26 @@ impl Unread {
     }
 
     /// Keeps in mind that a line is not read, if it tells more than the end of a call, a signal or an exit.
-    pub(crate) fn pass_over(
-        &mut self,
-        (name, number): (&str, u64),
-        line: &str,
-    ) -> Result<(), AllocError> {
-        if is_remark(line) {
-            return Ok(());
+    pub(crate) fn pass_over(&mut self, place: (&str, u64), line: &[u8]) -> Result<(), AllocError> {
+        match str::from_utf8(line) {
+            Ok(text) => {
+                if is_remark(text) {
+                    return Ok(());
+                }
+                self.note(place, text)
+            }
+            Err(_) => self.note(place, "it is no UTF-8"),
         }
+    }
+
+    // Keeps in mind that a line is not read, and what is told of it.
+    fn note(&mut self, (name, number): (&str, u64), told: &str) -> Result<(), AllocError> {
         self.count = self.count.saturating_add(1);
         if self.told >= MOST_TOLD {
             return Ok(());
         }
         self.told = self.told.saturating_add(1);
-        writeln!(self.lines, "{name}:{number}: not read: {line}")
+        writeln!(self.lines, "{name}:{number}: not read: {told}")
     }
 
     /// Adds the lines that were not read.

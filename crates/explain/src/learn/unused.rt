@@ -6,7 +6,7 @@ ghost use Rattle.std.specs.Option.{option_map};
 ghost use Rattle.call_tables.specs.Arch.{table_of};
 ghost use Rattle.call_tables.specs.Table.{name_in};
 ghost use Rattle.explain.specs.learn.Unused as spec;
-ghost use Rattle.explain.specs.learn.inner.Views.{all_logged, names_now};
+ghost use Rattle.explain.specs.learn.inner.Views.{all_logged, names_now, use_now, uses_now};
 
 use crate::learn::logged::LogCall;
 use crate::reason::is_match;
@@ -37,27 +37,62 @@ fn name_of(rule: &Rule) -> &'static str
     }
 }
 
-// The name of a rule's call, if it matches no call of the logs.
-fn unused_name(calls: &[LogCall<'_>], rule: &Rule) -> Option<&'static str>
-    ensures { option_map (λ name. name.now) result ≡ spec.unused_name (all_logged calls.now) rule.now }
-{
-    if is_used(calls, rule) {
-        return None;
-    }
-    Some(name_of(rule))
+// The name of a rule's call, and whether the rule matches a call of the logs.
+#[derive(Clone, Copy)]
+pub(crate) struct Use {
+    pub(crate) name: &'static str,
+    pub(crate) is_used: bool,
 }
 
-// These names of rules.
-fn unused_names(
-    alloc: Global,
-    calls: &[LogCall<'_>],
-    rules: &[Rule],
-) -> Result<Vec<Option<&'static str>>, AllocError>
-    ensures { IfOk result (λ names. names_now names.items ≡ map (spec.unused_name (all_logged calls.now)) rules.now) }
+fn use_of(calls: &[LogCall<'_>], rule: &Rule) -> Use
+    ensures { use_now result ≡ spec.use_of (all_logged calls.now) rule.now }
+{
+    Use {
+        name: name_of(rule),
+        is_used: is_used(calls, rule),
+    }
+}
+
+// The same of each rule.
+fn uses_of(alloc: Global, calls: &[LogCall<'_>], rules: &[Rule]) -> Result<Vec<Use>, AllocError>
+    ensures { IfOk result (λ uses. uses_now uses.items ≡ map (spec.use_of (all_logged calls.now)) rules.now) }
+{
+    let mut uses = Vec::new(alloc);
+    for rule in rules {
+        uses.push(use_of(calls, rule))?;
+    }
+    Ok(uses)
+}
+
+// Whether a rule of this name is used, of whatever machine.
+fn is_name_used(uses: &[Use], name: &str) -> bool
+    ensures { result ≡ spec.is_name_used (uses_now uses.now) name.now }
+{
+    for one in uses {
+        if one.is_used && one.name == name {
+            return true;
+        }
+    }
+    false
+}
+
+// The name of a rule of an entry, if none of the entry's rules of that name is used.
+fn unused_name(uses: &[Use], one: &Use) -> Option<&'static str>
+    ensures { option_map (λ name. name.now) result ≡ spec.unused_name (uses_now uses.now) (use_now one.now) }
+{
+    if is_name_used(uses, one.name) {
+        return None;
+    }
+    Some(one.name)
+}
+
+// The names of an entry's rules that are not used.
+fn unused_names(alloc: Global, uses: &[Use]) -> Result<Vec<Option<&'static str>>, AllocError>
+    ensures { IfOk result (λ names. names_now names.items ≡ spec.unused_names (uses_now uses.now)) }
 {
     let mut names = Vec::new(alloc);
-    for rule in rules {
-        names.push(unused_name(calls, rule))?;
+    for one in uses {
+        names.push(unused_name(uses, one))?;
     }
     Ok(names)
 }
@@ -155,52 +190,51 @@ fn put_entry(
     text.push_str("\n")
 }
 
-// The names from a place up to another.
-fn part_of<'a>(
-    names: &'a [Option<&'static str>],
-    start: usize,
-    end: usize,
-) -> &'a [Option<&'static str>]
-    ensures { result.now ≡ take (end - start) (drop start names.now) }
+// The uses from a place up to another.
+fn part_of(uses: &[Use], start: usize, end: usize) -> &[Use]
+    ensures { result.now ≡ take (end - start) (drop start uses.now) }
 {
-    let from = start.min(names.len());
-    let rest = &names[from..];
+    let from = start.min(uses.len());
+    let rest = &uses[from..];
     let count = end.saturating_sub(start).min(rest.len());
     &rest[..count]
 }
 
-// Adds the line of an entry that has the names between two places.
+// Adds the line of an entry that has the rules between two places.
 fn put_part(
+    alloc: Global,
     text: &mut String,
     entry: usize,
-    names: &[Option<&'static str>],
+    uses: &[Use],
     start: usize,
     end: usize,
 ) -> Result<(), AllocError>
     ensures { IfOk result (λ _. string_bytes text.new
-        ≡ string_bytes text.old ++ spec.entry_text entry (take (end - start) (drop start (names_now names.now)))) }
+        ≡ string_bytes text.old ++ spec.entry_text entry (spec.unused_names (take (end - start) (drop start (uses_now uses.now))))) }
 {
-    put_entry(text, entry, part_of(names, start, end))
+    let names = unused_names(alloc, part_of(uses, start, end))?;
+    put_entry(text, entry, &names)
 }
 
-// Adds the lines of entries, by where the names of each end.
+// Adds the lines of entries, by where the rules of each end.
 fn put_entries(
+    alloc: Global,
     text: &mut String,
-    names: &[Option<&'static str>],
+    uses: &[Use],
     ends: &[usize],
 ) -> Result<(), AllocError>
-    ensures { IfOk result (λ _. string_bytes text.new ≡ string_bytes text.old ++ spec.entries_text (names_now names.now) 0 0 ends.now) }
+    ensures { IfOk result (λ _. string_bytes text.new ≡ string_bytes text.old ++ spec.entries_text (uses_now uses.now) 0 0 ends.now) }
 {
     let mut start = 0;
     for (entry, end) in ends.iter().enumerate() {
-        put_part(text, entry, names, start, *end)?;
+        put_part(alloc, text, entry, uses, start, *end)?;
         start = *end;
     }
     Ok(())
 }
 
-/// Adds a line for each entry that has rules which match no call of the logs: `unused entry` where none of them does, else
-/// `partly used entry`; and the names of their calls.
+/// Adds a line for each entry that names calls of which no rule, on any machine, matches a call of the logs: `unused entry` where
+/// none of its rules does, else `partly used entry`; and these names.
 pub(crate) fn put_unused(
     alloc: Global,
     text: &mut String,
@@ -210,6 +244,6 @@ pub(crate) fn put_unused(
     ensures { IfOk result (λ _. string_bytes text.new ≡ string_bytes text.old
         ++ spec.unused_text all.now.rules.items all.now.ends.items (all_logged calls.now)) }
 {
-    let names = unused_names(alloc, calls, &all.rules)?;
-    put_entries(text, &names, all.ends.as_slice())
+    let uses = uses_of(alloc, calls, &all.rules)?;
+    put_entries(alloc, text, &uses, all.ends.as_slice())
 }

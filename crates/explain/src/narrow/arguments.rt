@@ -7,5 +7,6 @@ mod owner;
 mod reading;
 mod rows;
 
+pub(crate) use owner::{cut_bits, is_all_read};
 pub use owner::{read_bits, readings};
 pub use reading::Reading;

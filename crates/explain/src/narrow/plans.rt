@@ -1,20 +1,16 @@
 //! To how many bits the arguments of a call are cut, by its name: an entry of a bundle is for all machines that have the call.
-use crate::narrow::arguments::read_bits;
+use crate::narrow::arguments::cut_bits;
 use crate::narrow::narrowing::{Plan, WHOLE, WIDEST, cut_to, fits_in, sees_low, suit_call};
-use call_tables::{Arch, is_narrow};
+use call_tables::Arch;
 use profile::Cond;
 use std::alloc::{AllocError, Global};
 
 // To how many bits a machine's call cuts the argument of a condition.
 fn bits_on(arch: Arch, name: &str, cond: &Cond) -> u32 {
-    let token = arch.token();
-    if is_narrow(token) {
-        return WHOLE;
-    }
     let Some(nr) = arch.number(name) else {
         return WHOLE;
     };
-    let bits = read_bits(token, nr, cond.index as usize);
+    let bits = cut_bits(arch.token(), nr, cond.index as usize);
     if bits > WIDEST || sees_low(cond, bits) {
         return WHOLE;
     }

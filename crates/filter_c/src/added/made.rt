@@ -1,10 +1,12 @@
 //! The profile of the rules that were added.
-ghost use Rattle.std.specs.Prelude.{◌≡◌, ℕ, List, Some, None, IfOk, IfErr, map, slice_get};
+ghost use Rattle.std.specs.Prelude.{◌≡◌, ℕ, List, Some, None, IfOk, IfErr, IsErrOf, map, slice_get};
 ghost use Rattle.filter_c.specs.declared.added.given.AddedRule.{AddedRule as TheRule};
 ghost use Rattle.profile.specs.Policy.{IsClear, IsProfile};
+ghost use Rattle.filter_c.specs.declared.added.fault.AddedError.TheVariants as error;
 ghost use Rattle.filter_c.specs.Machine as spec;
 ghost use Rattle.filter_c.specs.Parts.{added_rule, kept_rule};
 ghost use Rattle.filter_c.specs.Refusal.{IsCause};
+ghost use Rattle.filter_c.specs.Rules.{IsBuiltOfAdded};
 ghost use Rattle.filter_c.specs.Saying.{SaysWhatWasAdded};
 
 use crate::added::condition::rule_of;
@@ -58,7 +60,9 @@ pub fn profile_of(
 ) -> Result<Profile, AddedError>
     ensures ok { IfOk result (SaysWhatWasAdded machines.now default_action rules.now) }
     ensures clear { IfOk result (λ profile. IsClear profile.rules) }
+    ensures built { IfOk result (IsBuiltOfAdded native machines.now default_action rules.now) }
     ensures err { IfErr result (IsCause native machines.now rules.now) }
+    ensures native { spec.machine_with native ≡ None → IsErrOf result error.NoNative }
 {
     let Some(arch) = machine_with(native) else {
         return Err(AddedError::NoNative);

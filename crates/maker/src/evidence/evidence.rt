@@ -11,6 +11,7 @@ ghost use Rattle.maker.specs.evidence.Conviction.{CertifiesShape, FindsConvictio
 ghost use Rattle.maker.specs.evidence.Conviction.{JudgesTelling, NoneIsRight, ShapeLacksMemory};
 ghost use Rattle.certify.specs.Error.{IsOfSize};
 
+use crate::evidence::hand::Hand;
 use crate::evidence::maker::{at_hand, broken};
 use crate::evidence::own::by_compilers_outline;
 use crate::search::{find_beside_rules, find_record};
@@ -168,7 +169,7 @@ fn by_checked_outline(
     ensures valid { IfOk result (λ found. IfSome found (λ bytes. IsValidCertificate profile.now (accepted_insns program.now) bytes.items)) }
     ensures memory { IfErr result (λ e. e ≡ CertifyError.OutOfMemory) }
 {
-    let Some(bytes) = by_compilers_outline(alloc, profile, *program)? else {
+    let Hand::Certificate(bytes) = by_compilers_outline(alloc, profile, *program)? else {
         return Ok(None);
     };
     match broken(alloc, profile, program, &bytes) {
@@ -236,7 +237,7 @@ fn from_hand(
     alloc: Global,
     profile: &Profile,
     program: &Accepted<'_>,
-    hand: Option<Vec<u8>>,
+    hand: Hand,
 ) -> Result<Evidence, CertifyError>
     ensures evidence { IfOk result (IsEvidence profile.now (accepted_insns program.now)) }
     ensures telling { JudgesTelling (accepted_insns program.now) result }
@@ -244,8 +245,9 @@ fn from_hand(
     ensures memory { IsValidOne profile.now (accepted_insns program.now) hand → IfErr result (λ e. e ≡ CertifyError.OutOfMemory) }
 {
     match hand {
-        Some(bytes) => once_checked(alloc, profile, program, bytes),
-        None => on_its_paths(alloc, profile, program),
+        Hand::Certificate(bytes) => once_checked(alloc, profile, program, bytes),
+        Hand::TooLarge => on_its_paths(alloc, profile, program),
+        Hand::Nothing => on_its_paths(alloc, profile, program),
     }
 }
 

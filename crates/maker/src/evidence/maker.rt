@@ -6,14 +6,14 @@ ghost use Rattle.certify.specs.declared.error.CertifyError.TheVariants.{OutOfMem
 ghost use Rattle.certify.specs.Certificates.{MakesValid, OwnLacksMemory, RightLacksRoom, TellingLacksRoom};
 ghost use Rattle.maker.specs.evidence.AtHand.{HasOwnValid, IsValidOne, MakesOwnValid};
 
-use crate::evidence::asked::has_too_many;
+use crate::evidence::hand::Hand;
 use crate::evidence::own::by_outline;
 use cert_check::{CheckError, check_accepted};
 use certify::{CertifyError, PathsError, by_paths, certify_accepted};
 use kernel_check::Accepted;
 use profile::{Profile, Rule};
 use rule_compile::Outline;
-use std::alloc::{AllocError, Global};
+use std::alloc::Global;
 
 // Whether no rule has a condition.
 fn are_plain(rules: &[Rule]) -> bool
@@ -23,13 +23,13 @@ fn are_plain(rules: &[Rule]) -> bool
 }
 
 // A certificate that is at hand: of a profile without conditions it follows each path, if each is right; else it is written by the
-// outline of a filter that the compiler made, of which the checker was not asked. None, where there is no such one.
+// outline of a filter that the compiler made, of which the checker was not asked.
 pub(crate) fn at_hand(
     alloc: Global,
     profile: &Profile,
     program: &Accepted<'_>,
     outline: Option<&Outline>,
-) -> Result<Option<Vec<u8>>, CertifyError>
+) -> Result<Hand, CertifyError>
     ensures own { HasOwnValid profile.now (accepted_insns program.now) result }
     ensures memory { IfErr result (λ e. e ≡ OutOfMemory) }
 {
@@ -37,7 +37,7 @@ pub(crate) fn at_hand(
         return by_outline(alloc, profile, *program, outline);
     }
     match by_paths(alloc, profile, program) {
-        Ok(bytes) => Ok(Some(bytes)),
+        Ok(bytes) => Ok(Hand::Certificate(bytes)),
         Err(PathsError::OutOfMemory) => Err(CertifyError::OutOfMemory),
         // A filter of another shape.
         Err(_) => by_outline(alloc, profile, *program, outline),
@@ -76,34 +76,28 @@ fn once_checked(
     }
 }
 
-// Whether the certificate that is written from an outline came out too large, where there is none: the one that follows each path would be
-// larger. Of a call with too many rules none is written.
-fn came_out_too_large(alloc: Global, outline: Option<&Outline>) -> Result<bool, AllocError> {
-    match outline {
-        Some(outline) => Ok(!has_too_many(alloc, outline)?),
-        None => Ok(false),
-    }
-}
-
-// What is at hand, or else what follows each path.
+// What is at hand, or else what follows each path. Where the certificate came out too large that is written from the outline of the very
+// filter, the one that follows each path would be larger.
 fn or_followed(
     alloc: Global,
     profile: &Profile,
     program: &Accepted<'_>,
-    outline: Option<&Outline>,
-    hand: Option<Vec<u8>>,
+    is_outlined: bool,
+    hand: Hand,
 ) -> Result<Vec<u8>, CertifyError>
     ensures own { IsValidOne profile.now (accepted_insns program.now) hand → MakesValid profile.now (accepted_insns program.now) result }
     ensures telling { TellingLacksRoom profile.now (accepted_insns program.now) result }
     ensures never { IsValidOne profile.now (accepted_insns program.now) hand → IfErr result (λ e. e ≡ OutOfMemory) }
 {
-    if let Some(bytes) = hand {
-        return Ok(bytes);
-    }
-    match came_out_too_large(alloc, outline) {
-        Ok(true) => Err(CertifyError::TooLarge),
-        Ok(false) => certify_accepted(alloc, profile, program),
-        Err(_) => Err(CertifyError::OutOfMemory),
+    match hand {
+        Hand::Certificate(bytes) => Ok(bytes),
+        Hand::TooLarge => {
+            if is_outlined {
+                return Err(CertifyError::TooLarge);
+            }
+            certify_accepted(alloc, profile, program)
+        }
+        Hand::Nothing => certify_accepted(alloc, profile, program),
     }
 }
 
@@ -119,7 +113,7 @@ fn proposed(
     ensures never { OwnLacksMemory profile.now (accepted_insns program.now) result }
 {
     match at_hand(alloc, profile, program, outline) {
-        Ok(hand) => or_followed(alloc, profile, program, outline, hand),
+        Ok(hand) => or_followed(alloc, profile, program, outline.is_some(), hand),
         Err(error) => Err(error),
     }
 }
@@ -172,8 +166,8 @@ pub(crate) fn propose_shared(
     outline: &Outline,
 ) -> Result<Vec<u8>, CertifyError> {
     match by_outline(alloc, profile, *program, Some(outline)) {
-        Ok(Some(bytes)) => Ok(bytes),
-        Ok(None) => Err(CertifyError::TooLarge),
+        Ok(Hand::Certificate(bytes)) => Ok(bytes),
+        Ok(_) => Err(CertifyError::TooLarge),
         Err(error) => Err(error),
     }
 }

@@ -3,7 +3,8 @@ ghost use Rattle.std.specs.Prelude.{◌≡◌, IfErr};
 ghost use Rattle.certify.specs.declared.error.CertifyError.TheVariants.{OutOfMemory};
 
 use crate::evidence::asked::asked_calls;
-use crate::outline::{OutlineError, outlined};
+use crate::evidence::hand::Hand;
+use crate::outline::{OutlineError, are_too_many, outlined};
 use bpf_insn::MAX_INSNS;
 use certify::CertifyError;
 use kernel_check::Accepted;
@@ -11,22 +12,26 @@ use profile::Profile;
 use rule_compile::{CompileError, Known, Outline, Planned, Shorter, plan, shorten};
 use std::alloc::{AllocError, Global};
 
-// The certificate of a filter that is written from its outline, unless it comes out too large.
+// The certificate of a filter that is written from its outline. Of a call with too many rules none is written.
 fn written(
     alloc: Global,
     profile: &Profile,
     program: Accepted<'_>,
     outline: &Outline,
-) -> Result<Option<Vec<u8>>, CertifyError>
+) -> Result<Hand, CertifyError>
     ensures { IfErr result (λ e. e ≡ OutOfMemory) }
 {
     let Ok(calls) = asked_calls(alloc, outline) else {
         return Err(CertifyError::OutOfMemory);
     };
+    if are_too_many(&calls) {
+        return Ok(Hand::Nothing);
+    }
     match outlined(alloc, profile, &program.program(), &calls) {
-        Ok(bytes) => Ok(Some(bytes)),
+        Ok(bytes) => Ok(Hand::Certificate(bytes)),
         Err(OutlineError::OutOfMemory) => Err(CertifyError::OutOfMemory),
-        Err(_) => Ok(None),
+        Err(OutlineError::TooLarge) => Ok(Hand::TooLarge),
+        Err(OutlineError::Unlike) => Ok(Hand::Nothing),
     }
 }
 
@@ -48,16 +53,16 @@ fn of_shorter(
     profile: &Profile,
     program: Accepted<'_>,
     own: &Planned,
-) -> Result<Option<Vec<u8>>, CertifyError>
+) -> Result<Hand, CertifyError>
     ensures { IfErr result (λ e. e ≡ OutOfMemory) }
 {
     match shortened(alloc, profile, own) {
         Ok(Some(made)) if made.bytes.as_slice() == program.program().bytes() => match &made.known {
             Known::AsOwn => written(alloc, profile, program, &own.outline),
             Known::Outline(outline) => written(alloc, profile, program, outline),
-            Known::Nothing => Ok(None),
+            Known::Nothing => Ok(Hand::Nothing),
         },
-        Ok(_) => Ok(None),
+        Ok(_) => Ok(Hand::Nothing),
         Err(_) => Err(CertifyError::OutOfMemory),
     }
 }
@@ -68,7 +73,7 @@ fn of_own(
     profile: &Profile,
     program: Accepted<'_>,
     own: Planned,
-) -> Result<Option<Vec<u8>>, CertifyError>
+) -> Result<Hand, CertifyError>
     ensures { IfErr result (λ e. e ≡ OutOfMemory) }
 {
     match own.into_filter(alloc) {
@@ -76,19 +81,15 @@ fn of_own(
             if made.bytes.as_slice() == program.program().bytes() {
                 return written(alloc, profile, program, &made.outline);
             }
-            Ok(None)
+            Ok(Hand::Nothing)
         }
         Err(CompileError::OutOfMemory) => Err(CertifyError::OutOfMemory),
-        Err(CompileError::TooLong) => Ok(None),
+        Err(CompileError::TooLong) => Ok(Hand::Nothing),
     }
 }
 
 // The same of a filter that anyone made, if the compiler makes it too.
-fn of_anyone(
-    alloc: Global,
-    profile: &Profile,
-    program: Accepted<'_>,
-) -> Result<Option<Vec<u8>>, CertifyError>
+fn of_anyone(alloc: Global, profile: &Profile, program: Accepted<'_>) -> Result<Hand, CertifyError>
     ensures { IfErr result (λ e. e ≡ OutOfMemory) }
 {
     let Ok(own) = plan(alloc, profile) else {
@@ -101,12 +102,12 @@ fn of_anyone(
 }
 
 /// The certificate of a filter that anyone made, written from the outline of the compiler's: a filter that asks for the same in another
-/// order may have one. None, if there is no such one, or it comes out too large.
+/// order may have one.
 pub(crate) fn by_compilers_outline(
     alloc: Global,
     profile: &Profile,
     program: Accepted<'_>,
-) -> Result<Option<Vec<u8>>, CertifyError>
+) -> Result<Hand, CertifyError>
     ensures { IfErr result (λ e. e ≡ OutOfMemory) }
 {
     match plan(alloc, profile) {
@@ -116,13 +117,13 @@ pub(crate) fn by_compilers_outline(
 }
 
 /// The certificate that is written from a filter's outline, which is given where the compiler made it: of any other filter there is
-/// one where the compiler makes the same. None, where there is no outline, or the certificate comes out too large.
+/// one where the compiler makes the same.
 pub(crate) fn by_outline(
     alloc: Global,
     profile: &Profile,
     program: Accepted<'_>,
     outline: Option<&Outline>,
-) -> Result<Option<Vec<u8>>, CertifyError>
+) -> Result<Hand, CertifyError>
     ensures { IfErr result (λ e. e ≡ OutOfMemory) }
 {
     match outline {

@@ -1,15 +1,16 @@
 use Rattle.std.proofs.Common.{ℕ, List, inr, map, refl, subst, sym}
 use Rattle.cli.specs.Dispatch.{any_call, explained_as}
-use Rattle.cli.specs.Files.{HasBytes}
-use Rattle.cli.proofs.DispatchLaws.{now_of, told_text}
+use Rattle.cli.specs.Files.{HasBundle}
+use Rattle.cli.proofs.BundleLaws.{told_bundle}
+use Rattle.cli.proofs.DispatchLaws.{now_of}
 use Rattle.cli.proofs.explaining.explain.Goals as goal
 
 pub returns-else-asks_audit : goal.returns-else-asks_audit
 returns-else-asks_audit g c =
     inr (
       refl,
-      told_text (g.F.Files.folder c.args.files.now) c.args.bundle.now c.deref-in-Ok.result.now
+      told_bundle c.args.native (g.F.Files.folder c.args.files.now) c.args.bundle.now c.deref-in-Ok.result.now
           (explained_as c.args.native (map now_of c.args.call.now) (any_call (map now_of c.args.call.now)))
-          (subst (λ (b : List ℕ). HasBytes (g.F.Files.folder c.args.files.now) c.args.bundle.now b) (sym c.deref-in-Ok.ensures.value) c.in-Ok.ensures.ok)
+          (subst (λ (b : List ℕ). HasBundle c.args.native (g.F.Files.folder c.args.files.now) c.args.bundle.now b) (sym c.deref-in-Ok.ensures.value) c.in-Ok.ensures.ok)
           c.told.result c.told.ensures,
     )

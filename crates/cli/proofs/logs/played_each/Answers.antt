@@ -1,6 +1,7 @@
 use Rattle.std.proofs.Common.{List, Vec, Global, ℕ, map, subst, sym}
 use Rattle.cli.specs.Dispatch.{HaveBytes}
-use Rattle.cli.proofs.DispatchLaws.{now_of, unread_memory}
+use Rattle.cli.proofs.DispatchLaws.{now_of}
+use Rattle.cli.proofs.FormLaws.{unread_memory}
 use Rattle.cli.proofs.LogLaws.{as_many_read, bytes_of}
 use Rattle.cli.proofs.logs.played_each.Goals as goal
 

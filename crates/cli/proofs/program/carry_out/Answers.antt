@@ -1,14 +1,25 @@
 use Rattle.std.proofs.Common.{◌≡◌, ◌⊎◌, ap, subst}
 use Rattle.std.specs.Prelude.{Err}
 use Rattle.cli.specs.Arguments.{given}
-use Rattle.cli.specs.Dispatch.{ExplainsWhy, TellsChanges}
-use Rattle.cli.proofs.DispatchLaws.{explained_stop, is_misuse, unread_arguments}
+use Rattle.cli.specs.Dispatch.{Does, ExplainsWhy, TellsChanges, TellsRefusal}
+use Rattle.cli.proofs.UnbegunLaws.{explained_stop, is_misuse, unread_arguments}
 use Rattle.cli.proofs.program.carry_out.Goals as goal
+
+pub returns-in-Ok-clause-does : goal.returns-in-Ok-clause-does
+returns-in-Ok-clause-does g c command is =
+    subst (λ k. Does g.I.Source.left g.I.Source.failures g.O.Sink.held g.O.Sink.failures (g.F.Files.folder c.args.files.now)
+    c.args.input.now c.obey.new.input c.args.out.now c.obey.new.out k c.obey.result)
+    (c.in-Ok.ensures.command command is) c.obey.ensures.does
 
 pub returns-in-Ok-clause-quiet : goal.returns-in-Ok-clause-quiet
 returns-in-Ok-clause-quiet g c command is done =
     let same : given c.in-Ok.command ≡ command = c.in-Ok.ensures.command command is in
     subst (λ k. TellsChanges k ⊎ (c.obey.new.err ≡ c.args.err.now)) same (c.obey.ensures.quiet done)
+
+pub returns-in-Ok-clause-refused : goal.returns-in-Ok-clause-refused
+returns-in-Ok-clause-refused g c command is done =
+    let same : given c.in-Ok.command ≡ command = c.in-Ok.ensures.command command is in
+    subst (λ k. TellsRefusal k ⊎ (c.obey.new.err ≡ c.args.err.now)) same (c.obey.ensures.refused done)
 
 pub returns-in-Err-clause-does : goal.returns-in-Err-clause-does
 returns-in-Err-clause-does g c command is =

@@ -1,6 +1,6 @@
 use Rattle.std.proofs.Common.{subst}
 use Rattle.cli.specs.Stop.{Reports, line_of}
-use Rattle.cli.proofs.DispatchLaws.{tells_misuse}
+use Rattle.cli.proofs.UnbegunLaws.{tells_misuse}
 use Rattle.std.specs.Prelude.{Ok}
 use Rattle.cli.specs.Arguments.Given.{Check, Run}
 use Rattle.cli.specs.Dispatch.{AnswersCheck, AnswersRun}

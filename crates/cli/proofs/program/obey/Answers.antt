@@ -5,8 +5,8 @@ use Rattle.compare.specs.FiltersTold.{IsTold}
 use Rattle.explain.specs.Told.{IsAssembled, IsRecorded, IsVersion}
 use Rattle.compare.specs.Linted.{IsLinted}
 use Rattle.cli.specs.Dispatch.{any_call, explained_as}
-use Rattle.cli.specs.Read.{TellsRead}
-use Rattle.cli.specs.Told.{OfArguments, of_none, of_one, of_two}
+use Rattle.cli.specs.Read.{TellsRead, TellsRules}
+use Rattle.cli.specs.Told.{OfArguments, OfBundle, OfBundles, of_none, of_one, of_two}
 use Rattle.cli.proofs.DispatchLaws.{answers_adapted, answers_manual, answers_replayed, answers_told, now_of}
 use Rattle.cli.proofs.LogLaws.{answers_learned}
 use Rattle.cli.proofs.program.obey.Goals as goal
@@ -18,7 +18,8 @@ returns-in-Explain-clause-does g c = rw c.in-Explain.is (⊎_elim
       told.0,
       answers_told g.O.Sink.held g.O.Sink.failures (g.F.Files.folder c.args.files.now)
           (c.in-Explain.bundle.now ∷ [])
-          (of_one (explained_as c.in-Explain.native (map now_of c.in-Explain.call.now) (any_call (map now_of c.in-Explain.call.now))))
+          (of_one (OfBundle c.in-Explain.native
+          (explained_as c.in-Explain.native (map now_of c.in-Explain.call.now) (any_call (map now_of c.in-Explain.call.now)))))
           c.args.out.now c.tell.new.out c.tell.result c.explain.result told.1 c.tell.ensures,
     ))
     c.explain.ensures)
@@ -44,7 +45,7 @@ pub returns-in-Lint-clause-does : goal.returns-in-Lint-clause-does
 returns-in-Lint-clause-does g c = rw c.in-Lint.is (
   refl,
   answers_told g.O.Sink.held g.O.Sink.failures
-      (g.F.Files.folder c.args.files.now) (c.in-Lint.bundle.now ∷ []) (of_one (IsLinted c.in-Lint.native))
+      (g.F.Files.folder c.args.files.now) (c.in-Lint.bundle.now ∷ []) (of_one (OfBundle c.in-Lint.native (IsLinted c.in-Lint.native)))
       c.args.out.now c.tell-in-Lint.new.out c.tell-in-Lint.result c.linted.result c.linted.ensures c.tell-in-Lint.ensures,
 )
 
@@ -53,7 +54,7 @@ returns-in-Compare-clause-does g c = rw c.in-Compare.is (
   refl,
   answers_told g.O.Sink.held g.O.Sink.failures
       (g.F.Files.folder c.args.files.now) (c.in-Compare.old.now ∷ c.in-Compare.new.now ∷ [])
-      (of_two (IsCompared c.in-Compare.at_most c.in-Compare.native))
+      (of_two (OfBundles c.in-Compare.native (IsCompared c.in-Compare.at_most c.in-Compare.native)))
       c.args.out.now c.tell-in-Compare.new.out c.tell-in-Compare.result c.compared.result c.compared.ensures c.tell-in-Compare.ensures,
 )
 
@@ -70,8 +71,16 @@ pub returns-in-Read-clause-does : goal.returns-in-Read-clause-does
 returns-in-Read-clause-does g c = rw c.in-Read.is (
   refl,
   answers_told g.O.Sink.held g.O.Sink.failures
-      (g.F.Files.folder c.args.files.now) (c.in-Read.bundle.now ∷ []) (of_one (TellsRead c.in-Read.native))
+      (g.F.Files.folder c.args.files.now) (c.in-Read.bundle.now ∷ []) (of_one (OfBundle c.in-Read.native (TellsRead c.in-Read.native)))
       c.args.out.now c.tell-in-Read.new.out c.tell-in-Read.result c.read_out.result c.read_out.ensures c.tell-in-Read.ensures,
+)
+
+pub returns-in-ReadRules-clause-does : goal.returns-in-ReadRules-clause-does
+returns-in-ReadRules-clause-does g c = rw c.in-ReadRules.is (
+  refl,
+  answers_told g.O.Sink.held g.O.Sink.failures
+      (g.F.Files.folder c.args.files.now) (c.in-ReadRules.bundle.now ∷ []) (of_one (OfBundle c.in-ReadRules.native (TellsRules c.in-ReadRules.native)))
+      c.args.out.now c.tell-in-ReadRules.new.out c.tell-in-ReadRules.result c.rules.result c.rules.ensures c.tell-in-ReadRules.ensures,
 )
 
 pub returns-in-Annotate-clause-does : goal.returns-in-Annotate-clause-does

@@ -1,7 +1,7 @@
 use Rattle.std.proofs.Common.{◌∙◌, ℕ, List, ap, inl, inr, map, refl, subst, sym, Vec, Global}
 use Rattle.std.specs.Prelude.{Err}
 use Rattle.std.proofs.lemmas.Result.{err_from_is_err_and}
-use Rattle.cli.specs.Dispatch.{HaveBytes}
+use Rattle.cli.specs.Dispatch.{HaveBundles}
 use Rattle.cli.proofs.program.run.Goals as goal
 
 abbrev bytes_of : Vec ℕ Global → List ℕ
@@ -23,7 +23,7 @@ returns-in_err-texts g c =
 pub returns : goal.returns
 returns g c = inr (
   map bytes_of c.deref.result.now,
-  subst (λ (l : List (Vec ℕ Global)). HaveBytes (g.F.Files.folder c.args.files.now) (map (λ b. b.now) c.args.bundles.now) (map bytes_of l))
+  subst (λ (l : List (Vec ℕ Global)). HaveBundles c.args.native (g.F.Files.folder c.args.files.now) (map (λ b. b.now) c.args.bundles.now) (map bytes_of l))
       (sym c.deref.ensures.value) c.in_ok-texts.ensures.ok,
   c.run_bundles.ensures.runs,
 )

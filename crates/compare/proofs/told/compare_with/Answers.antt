@@ -8,4 +8,5 @@ returns-in-Ok c = λ first means.
 
 pub returns-in-Err : goal.returns-in-Err
 returns-in-Err c = λ first means.
-    second_refused c.args.atmost c.args.native first c.args.second.now c.in-Err.error c.refused.result c.in-Err.ensures.err c.refused.ensures
+    second_refused c.args.atmost c.args.native first c.args.second.now c.args.one.now c.in-Err.error c.refused.result means
+    c.in-Err.ensures.err c.refused.ensures

@@ -46,6 +46,16 @@ pub fn call_on(native: Arch, line: &str) -> Option<Call<'_>>
     numbered(native, nr, text)
 }
 
+/// The call that a line of a log tells, if it is text and tells one.
+pub fn call_in(native: Arch, line: &[u8]) -> Option<Call<'_>>
+    ensures { option_map (λ call. (call.arch, call.nr, call.args)) result ≡ spec.call_in native line.now }
+{
+    match str::from_utf8(line) {
+        Ok(text) => call_on(native, text),
+        Err(_) => None,
+    }
+}
+
 // What strace writes behind the number of a line that tells no call: its end, a signal, an exit.
 const REMARKS: &[&str] = &[" <... ", " --- ", " +++ "];
 

@@ -7,6 +7,9 @@ use crate::narrow::arguments::reading::Reading;
 use crate::narrow::arguments::rows::of_name;
 use call_tables::{Arch, Family, is_narrow};
 
+// How many bits an argument of a machine of 32 bits has.
+const HALF: u32 = 32;
+
 // Whether a call with a token and a number is a machine's.
 fn has_call(arch: Arch, token: u32, nr: u32) -> bool
     ensures { result ≡ has_call token nr arch }
@@ -49,17 +52,48 @@ pub fn readings(token: u32, nr: u32) -> Option<[Reading; 6]>
     }
 }
 
+// How many of the lowest bits of an argument count as read, by what is known of its call.
+fn bits_in(row: Option<[Reading; 6]>, index: usize) -> u32
+    requires { index < 6 }
+    ensures { result ≡ spec.bits_in row index }
+{
+    match row {
+        Some(row) => row[index].bits(),
+        None => 64,
+    }
+}
+
 /// How many of the lowest bits of an argument are read, of the call with a token and a number.
 #[tactic(auto, unfolding(crate::specs::Reads::read_bits))]
 pub fn read_bits(token: u32, nr: u32, index: usize) -> u32
     requires { index < 6 }
     ensures { result ≡ spec.read_bits token nr index }
 {
+    let bits = bits_in(readings(token, nr), index);
     if is_narrow(token) {
-        return 32;
+        return bits.min(HALF);
     }
-    match readings(token, nr) {
-        Some(row) => row[index].bits(),
-        None => 64,
+    bits
+}
+
+/// Whether all that is compared of an argument is read. Of machines of 32 bits the lower half is compared.
+pub(crate) fn is_all_read(token: u32, nr: u32, index: usize) -> bool
+    requires { index < 6 }
+    ensures { result ≡ spec.is_all_read token nr index }
+{
+    if !is_narrow(token) {
+        return false;
     }
+    read_bits(token, nr, index) >= HALF
+}
+
+/// To how many bits an argument is cut: to those that are read, or not at all (64) where no more is compared.
+pub(crate) fn cut_bits(token: u32, nr: u32, index: usize) -> u32
+    requires { index < 6 }
+    ensures { result ≡ spec.cut_bits token nr index }
+{
+    if is_all_read(token, nr, index) {
+        return 64;
+    }
+    read_bits(token, nr, index)
 }

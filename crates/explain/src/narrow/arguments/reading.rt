@@ -2,7 +2,7 @@
 ghost use Rattle.std.specs.Prelude.{◌≡◌};
 ghost use Rattle.explain.specs.Reading as spec;
 
-/// How a kernel of 64 bits reads an argument of a call.
+/// How a kernel reads an argument of a call.
 #[derive(Clone, Copy, Debug, PartialEq, Eq)]
 pub enum Reading {
     /// The call has no such argument.

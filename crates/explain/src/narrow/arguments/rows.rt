@@ -4,7 +4,7 @@ ghost use Rattle.explain.specs.Rows.{rows, readings_in, readings_among};
 ghost use Rattle.explain.specs.Tables as tables;
 
 use crate::linux_arguments::{
-    AARCH64_CALLS, FIRST_CALLS, FOURTH_CALLS, SECOND_CALLS, THIRD_CALLS, X32_CALLS,
+    AARCH64_CALLS, FIRST_CALLS, FOURTH_CALLS, SECOND_CALLS, THIRD_CALLS, X32_CALLS, X86_CALLS,
 };
 use crate::narrow::arguments::reading::Reading;
 use call_tables::Arch;
@@ -42,6 +42,13 @@ fn of_x32() -> &'static [(&'static str, [Reading; 6])]
     ensures { rows result.now ≡ tables.x32_rows }
 {
     X32_CALLS
+}
+
+#[tactic(auto, unfolding(crate::specs::Tables::x86_rows))]
+fn of_x86() -> &'static [(&'static str, [Reading; 6])]
+    ensures { rows result.now ≡ tables.x86_rows }
+{
+    X86_CALLS
 }
 
 #[tactic(auto, unfolding(crate::specs::Tables::aarch64_rows))]
@@ -124,7 +131,7 @@ pub(crate) fn of_name(arch: Arch, name: &str) -> Option<[Reading; 6]>
         Arch::LinuxX32 => on_x32(name),
         Arch::Aarch64 => on_aarch64(name),
         Arch::LinuxAarch64 => on_aarch64(name),
-        Arch::LinuxX86 => None,
+        Arch::LinuxX86 => find(of_x86(), name),
         Arch::LinuxArm => None,
     }
 }

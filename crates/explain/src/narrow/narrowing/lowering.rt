@@ -4,12 +4,11 @@ ghost use Rattle.std.specs.List.{AllZip};
 ghost use Rattle.call_tables.specs.Arch.{token_of};
 ghost use Rattle.explain.specs.Lowered as spec;
 
-use crate::narrow::arguments::read_bits;
+use crate::narrow::arguments::{is_all_read, read_bits};
 use crate::narrow::narrowing::parts::WIDEST;
 use crate::narrow::narrowing::patterns::power_of_two;
 use crate::narrow::narrowing::suiting::Plan;
 use arrayvec::ArrayVec;
-use call_tables::is_narrow;
 use profile::{Cond, Op, Rule};
 use std::alloc::AllocError;
 
@@ -94,7 +93,7 @@ fn stand_in(token: u32, nr: u32, is_cut: bool, cond: &Cond) -> Option<Cond>
     if fits_in(cond, bits) {
         return Some(*cond);
     }
-    if !is_cut && is_narrow(token) {
+    if !is_cut && is_all_read(token, nr, cond.index as usize) {
         return Some(*cond);
     }
     cut_to(cond, bits)

@@ -2,12 +2,11 @@
 ghost use Rattle.std.specs.Prelude.{◌≡◌, IsTrue, All, slice_index};
 ghost use Rattle.explain.specs.Counts as counts;
 ghost use Rattle.explain.specs.Parts.{IsLow};
-ghost use Rattle.explain.specs.Cutting.{IsReadPlan, Suits, SuitsAt};
+ghost use Rattle.explain.specs.Cutting.{IsCutPlan, Suits, SuitsAt};
 
-use crate::narrow::arguments::read_bits;
+use crate::narrow::arguments::{cut_bits, is_all_read, read_bits};
 use crate::narrow::narrowing::parts::WIDEST;
 use crate::narrow::narrowing::patterns::power_of_two;
-use call_tables::is_narrow;
 use profile::{Cond, Op, Rule};
 
 /// To how many bits each argument is cut; above 32 it is left whole.
@@ -40,7 +39,7 @@ fn suits_at(token: u32, nr: u32, bits: u32, cond: &Cond) -> bool
     if bits <= WIDEST {
         return false;
     }
-    if is_narrow(token) {
+    if is_all_read(token, nr, cond.index as usize) {
         return true;
     }
     sees_low(cond, read)
@@ -66,29 +65,25 @@ pub fn suits(rule: &Rule, plan: &[u32; 6]) -> bool
     suit_call(rule.arch.token(), rule.nr, rule.conds.as_slice(), plan)
 }
 
-// How many bits are read of each argument of a call.
-fn read_plan(token: u32, nr: u32) -> [u32; 6]
-    ensures reads { IsReadPlan token nr result }
-    ensures exact { result ≡ counts.read_plan token nr }
+// To how many bits each argument of a call is cut.
+fn cut_plan(token: u32, nr: u32) -> [u32; 6]
+    ensures cuts { IsCutPlan token nr result }
+    ensures exact { result ≡ counts.cut_plan token nr }
 {
     [
-        read_bits(token, nr, 0),
-        read_bits(token, nr, 1),
-        read_bits(token, nr, 2),
-        read_bits(token, nr, 3),
-        read_bits(token, nr, 4),
-        read_bits(token, nr, 5),
+        cut_bits(token, nr, 0),
+        cut_bits(token, nr, 1),
+        cut_bits(token, nr, 2),
+        cut_bits(token, nr, 3),
+        cut_bits(token, nr, 4),
+        cut_bits(token, nr, 5),
     ]
 }
 
-/// How many bits are read of each argument of a rule's call; all, where its machine has narrow arguments, since no more is
-/// compared.
+/// To how many bits each argument of a rule's call is cut: to those that are read, unless no more is compared.
 pub fn own_plan(rule: &Rule) -> [u32; 6]
     ensures suits { Suits result rule.now }
     ensures exact { result ≡ counts.own_plan rule.now }
 {
-    if rule.is_narrow() {
-        return [WHOLE; 6];
-    }
-    read_plan(rule.arch.token(), rule.nr)
+    cut_plan(rule.arch.token(), rule.nr)
 }

@@ -1,7 +1,7 @@
 use Rattle.explain.proofs.audited.any.explanation.Goals as goal
 
-pub returns : goal.returns
-returns c =
+pub returns-clause-explains : goal.returns-clause-explains
+returns-clause-explains c =
     let means = c.in_ok-read.ensures.ok in
     record {
       policy = c.in_ok-read.read.profile;

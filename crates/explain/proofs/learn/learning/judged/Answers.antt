@@ -1,5 +1,6 @@
 use Rattle.std.proofs.Common.{List, ℕ, subst, sym, ◌∙◌}
 use Rattle.profile_json.specs.Meaning.{IsText}
+use Rattle.explain.proofs.MoreLaws.{no_more}
 use Rattle.explain.proofs.learn.learning.judged.Goals as goal
 
 pub returns-in_ok-told-in-Ok : goal.returns-in_ok-told-in-Ok
@@ -13,4 +14,6 @@ returns-in_ok-told-in-Ok c = λ texts taken done.
       means = means.2;
       allows = weighed.allows;
       named = weighed.named;
+      rest = weighed.rest;
+      no_more = no_more c.args.native texts c.args.runtime c.in-Ok.read.profile weighed.named;
     }

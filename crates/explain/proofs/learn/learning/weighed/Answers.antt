@@ -12,4 +12,5 @@ returns c = λ native texts taken _. record {
   named =
       subst (λ (rules : List Rule). All (IsNamed native texts c.args.runtime) rules) c.rules.ensures.rules
       (c.are_named.ensures native texts (are_seen native texts c.args.seen.now taken) c.if-not-are_named.false);
+  rest = c.is_rest.ensures c.if-not-is_rest.false;
 }

@@ -1,6 +1,5 @@
 -- The calls so far and those of the lines that are left are those of the text, and the number is that of the next line.
 use Rattle.std.proofs.Common.{◌≡◌, ◌+◌, ◌++◌, ◌≤◌, length}
-use Rattle.std.specs.Str.{IsUtf8}
 use Rattle.explain.specs.learn.Lines.{lines_of}
 use Rattle.explain.specs.learn.Logged.{calls_from, calls_of}
 use Rattle.explain.specs.learn.inner.Views.{all_logged}
@@ -11,7 +10,6 @@ invariant-line l = record {
   told : all_logged l.calls.items ++ calls_from l.native l.log l.number (lines_of l.rest)
       ≡ all_logged l.fn.calls.items ++ calls_of l.native (l.log, l.text);
   counted : l.number + length l.rest ≤ length l.text + 1;
-  utf8 : IsUtf8 l.rest;
 }
 
 abbrev pub decreases-line : goal.decreases-line

@@ -19,11 +19,11 @@ part-preserved g c = λ before none taken.
     let after = g.I.Source.left c.read.new.self in (
       come.0 ++ take c.in-Ok.count c.read.new.buf,
       Consumes-trans first left after come.0 (take c.in-Ok.count c.read.new.buf) come.1 c.in-Ok.ensures.bytes.0,
-      c.in_ok-is_text-in-Ok.ensures before come.0 come.2 c.if-not-is_text.false,
+      c.in_ok-take_bytes-in-Ok.ensures before come.0 come.2,
     )
 
 pub returns-in-Ok-eq0 : goal.returns-in-Ok-eq0
-returns-in-Ok-eq0 g c = λ before none taken is_text.
+returns-in-Ok-eq0 g c = λ before none taken.
     let come = c.part.invariant before none taken in
     let first = g.I.Source.left c.args.source.now in
     let left = g.I.Source.left c.part.source in
@@ -38,5 +38,5 @@ returns-in-Ok-eq0 g c = λ before none taken is_text.
         end = c.in-Ok-eq0.ensures.bytes.1 zero (omega arith);
       },
       all_came c.args.native before come.0 c.part.progress.part.items c.part.calls.seen.items c.end_line.new.calls.seen.items come.2
-          (c.in_ok-end_line-in-Ok-eq0.ensures.taken (before ++ come.2.lines) come.2.taken is_text),
+          (c.in_ok-end_line-in-Ok-eq0.ensures.taken (before ++ come.2.lines) come.2.taken),
     )

@@ -15,9 +15,9 @@ loop-byte-preserved c = λ before text come.
     let joined : text ++ take (i + 1) bytes ≡ (text ++ take i bytes) ++ get_or bytes i 0 ∷ [] =
     ap (λ (l : List ℕ). text ++ l) grown ∙ sym (append_assoc text (take i bytes) (get_or bytes i 0 ∷ [])) in
     subst (λ (t : List ℕ). HasCome c.args.native before t c.take_byte.new.progress.part.items c.take_byte.new.calls.seen.items) (sym joined)
-    (c.in_ok-is_text.ensures before (text ++ take i bytes) (c.loop-byte.invariant before text come) c.if-not-is_text.false)
+    (c.in_ok-take_byte.ensures before (text ++ take i bytes) (c.loop-byte.invariant before text come))
 
 pub returns : goal.returns
-returns c = λ before text come it_is.
+returns c = λ before text come.
     subst (λ (l : List ℕ). HasCome c.args.native before (text ++ l) c.loop-byte.progress.part.items c.loop-byte.calls.seen.items)
     (take_all c.loop-byte.byte-index c.args.bytes.now c.loop-byte-test.false) (c.loop-byte.invariant before text come)

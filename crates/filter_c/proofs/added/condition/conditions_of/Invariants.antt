@@ -1,4 +1,4 @@
-use Rattle.std.proofs.Common.{◌≡◌, ℕ, take, map, length}
+use Rattle.std.proofs.Common.{◌≡◌, take, map}
 use Rattle.filter_c.specs.Parts.{added_condition, kept_condition}
 use Rattle.filter_c.proofs.added.condition.conditions_of.Given as goal
 

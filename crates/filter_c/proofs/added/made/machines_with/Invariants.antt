@@ -1,4 +1,4 @@
-use Rattle.std.proofs.Common.{◌≡◌, ℕ, take, map, Some}
+use Rattle.std.proofs.Common.{◌≡◌, take, map, Some}
 use Rattle.call_tables.specs.declared.arch.Arch.{Arch}
 use Rattle.filter_c.specs.Machine.{machine_with}
 use Rattle.filter_c.proofs.added.made.machines_with.Given as goal

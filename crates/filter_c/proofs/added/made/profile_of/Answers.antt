@@ -1,4 +1,4 @@
-use Rattle.std.proofs.Common.{◌≡◌, Some, map, subst, sym, ℕ, List, ap, ◌∙◌}
+use Rattle.std.proofs.Common.{◌≡◌, Some, map, subst, ℕ, List, ap, ◌∙◌}
 use Rattle.call_tables.specs.declared.arch.Arch.{Arch}
 use Rattle.profile.specs.declared.fault.BuildError.{BuildError}
 use Rattle.profile.specs.Build.{IsFirstCause}
@@ -23,6 +23,17 @@ returns-in-Ok-build-clause-ok c =
     says_what_was_added c.args.machines.now c.args.default_action c.args.rules.now c.in-Some.arch c.deref.result.now c.in-Ok-rules_of.kept.items
     c.in-Ok-build.profile c.in-Ok-build.ensures.ok
     (lent c.deref.result.now c.in-Ok.archs.items c.args.machines.now c.deref.ensures.value c.in-Ok.ensures.ok) c.in-Ok-rules_of.ensures.ok
+
+pub returns-in-Ok-build-clause-built : goal.returns-in-Ok-build-clause-built
+returns-in-Ok-build-clause-built c = record {
+  machine = c.in-Some.arch;
+  machine_is = let a = c.machine_with.ensures in let b = c.in-Some.is in cc;
+  listed = c.deref.result.now;
+  listed_are = lent c.deref.result.now c.in-Ok.archs.items c.args.machines.now c.deref.ensures.value c.in-Ok.ensures.ok;
+  kept = c.in-Ok-rules_of.kept.items;
+  kept_are = c.in-Ok-rules_of.ensures.ok;
+  built = c.in-Ok-build.ensures.ok;
+}
 
 pub returns-in-Err-NativeMissing-clause-err : goal.returns-in-Err-NativeMissing-clause-err
 returns-in-Err-NativeMissing-clause-err c =

@@ -1,4 +1,4 @@
-use Rattle.std.proofs.Common.{◌≡◌, ℕ, take, map}
+use Rattle.std.proofs.Common.{◌≡◌, take, map}
 use Rattle.filter_c.specs.Parts.{added_rule, kept_rule}
 use Rattle.filter_c.proofs.added.made.rules_of.Given as goal
 

@@ -1,0 +1,46 @@
+-- Which rules are still open once some arguments are known.
+use Rattle.std.specs.Prelude.{◌≡◌, ℕ, ◌<◌, ◌==◌, ◌&&◌, ◌||◌, ◌++◌, ⊤, ◌⊎◌, not, nat_lt, Bool, true, List, filter, slice_index}
+use Rattle.std.specs.List.{list_all}
+use Rattle.profile.specs.declared.conditions.Cond.{Cond}
+use Rattle.profile.specs.declared.rules.Rule.{Rule}
+use Rattle.profile.specs.Policy.{Policy}
+use Rattle.profile.specs.Rule.{argument_of}
+use Rattle.profile.specs.Said.{meets}
+use Rattle.differ.specs.Cells.{AreTooMany}
+use Rattle.differ.specs.OnCall.{bits_of, conditions_on, is_for}
+use Rattle.differ.specs.declared.listed.Unlisted.{Unlisted}
+use Rattle.differ.specs.declared.listed.Unlisted.TheVariants.{TooMany, OutOfMemory}
+use Rattle.differ.specs.declared.opened.Open.{Open}
+
+-- the condition is on a later argument, or the record meets it
+abbrev pub met_before : ℕ → List ℕ → Cond → Bool
+met_before j r c = not (nat_lt c.index j) || meets c (argument_of r c.index)
+
+-- the rule is for the call, and by the first arguments the record may match it
+abbrev pub is_open : ℕ → ℕ → ℕ → List ℕ → Rule → Bool
+is_open token nr j r rule = is_for token nr rule && list_all (met_before j r) rule.conds.items
+
+-- these are the rules of two profiles that are open
+pub record AreOpen (p q : Policy) (token nr j : ℕ) (held : Open) (r : List ℕ) : Type 0 where
+  pub first : held.first.items ≡ filter (is_open token nr j r) p.rules
+  pub second : held.second.items ≡ filter (is_open token nr j r) q.rules
+
+-- the condition is on another argument, or this number meets it
+abbrev pub met_at : ℕ → ℕ → Cond → Bool
+met_at j u c = not (c.index == j) || meets c u
+
+abbrev pub is_met_at : ℕ → ℕ → Rule → Bool
+is_met_at j u rule = list_all (met_at j u) rule.conds.items
+
+-- the first arguments of the record are these
+abbrev pub HasFirst : List ℕ → ℕ → List ℕ → Type 0
+HasFirst args j r = (i : ℕ) → i < j → argument_of r i ≡ slice_index args i
+
+-- the conditions of open rules on one argument
+abbrev pub open_on : ℕ → Open → List Cond
+open_on j held = conditions_on j held.first.items ++ conditions_on j held.second.items
+
+-- why the open rules are not followed: the walk is limited, or some conditions can answer in too many ways
+abbrev pub IsStopped : Bool → ℕ → Open → Unlisted → Type 0
+IsStopped limited token held TooMany = (limited ≡ true) ⊎ ((j : ℕ) × AreTooMany (open_on j held) (bits_of token))
+IsStopped limited token held OutOfMemory = ⊤

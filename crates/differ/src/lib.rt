@@ -1,0 +1,21 @@
+//! On which call records two profiles say unlike verdicts, decided for each call: by numbers that stand for all others where the
+//! conditions on an argument are asked.
+#![tactic(auto)]
+
+mod alike;
+mod begun;
+mod direction;
+mod everywhere;
+mod found;
+mod listed;
+mod named;
+mod on_call;
+mod opened;
+mod walk;
+
+pub use direction::Direction;
+pub use everywhere::{Settled, calls, differ};
+pub use found::Found;
+pub use listed::{MOST_CELLS, Unlisted, cells};
+pub use named::Call;
+pub use on_call::{MOST_COMBINATIONS, differ_on};

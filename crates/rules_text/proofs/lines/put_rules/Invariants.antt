@@ -1,0 +1,10 @@
+-- What is told, and what is to be told of the rules that are left, is all.
+use Rattle.std.proofs.Common.{◌≡◌, ◌++◌, drop}
+use Rattle.std.specs.Prelude.{string_bytes}
+use Rattle.std.specs.List.{flat_map}
+use Rattle.rules_text.specs.Text.{rule_line}
+use Rattle.rules_text.proofs.lines.put_rules.Given as goal
+
+abbrev pub invariant-loop-rule : goal.invariant-loop-rule
+invariant-loop-rule l =
+    string_bytes l.text ++ flat_map rule_line (drop l.rule-index l.rules) ≡ string_bytes l.fn.text ++ flat_map rule_line l.rules

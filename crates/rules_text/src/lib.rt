@@ -1,0 +1,8 @@
+//! A profile as plain text, which a program can read that knows neither bundles nor names of calls.
+#![tactic(auto)]
+
+mod bundle;
+mod lines;
+
+pub use bundle::bundle_text;
+pub use lines::text_of;

@@ -1,0 +1,70 @@
+//! Bundles of the bytes of files.
+ghost use Rattle.std.specs.Prelude.{◌≡◌, IfOk};
+ghost use Rattle.call_tables.specs.declared.arch.Family.TheVariants.{Whole};
+ghost use Rattle.section.specs.Texts as spec;
+ghost use Rattle.section.specs.Texts.{IsBundleText, IsKind, in_bundle};
+
+use crate::kinds::{Kind, kind_of};
+use call_tables::{Arch, Family};
+use serde_json::Value;
+use std::alloc::{AllocError, Global};
+
+/// What stands in a file of these bytes.
+pub fn kind_of_text(alloc: Global, bytes: &[u8]) -> Result<Kind, AllocError>
+    ensures { IfOk result (IsKind bytes.now) }
+{
+    match Value::from_slice(alloc, bytes) {
+        Ok(value) => Ok(kind_of(&value)),
+        Err(error) => {
+            if error.is_memory() {
+                return Err(AllocError);
+            }
+            Ok(Kind::Bundle)
+        }
+    }
+}
+
+const HEAD: &str = "{\"ociVersion\":\"1.0.2\",\"linux\":{\"seccomp\":";
+
+const TAIL: &str = "}}";
+
+/// The bundle in which a section stands.
+pub fn put_in_bundle(alloc: Global, section: &[u8]) -> Result<Vec<u8>, AllocError>
+    ensures { IfOk result (λ text. text.items ≡ in_bundle section.now) }
+{
+    let mut text = Vec::new(alloc);
+    text.extend_from_slice(HEAD.as_bytes())?;
+    text.extend_from_slice(section)?;
+    text.extend_from_slice(TAIL.as_bytes())?;
+    Ok(text)
+}
+
+// The bundle as which bytes of a kind are taken.
+fn taken_as(alloc: Global, kind: Kind, bytes: Vec<u8>) -> Result<Vec<u8>, AllocError>
+    ensures { IfOk result (λ text. text.items ≡ spec.bundle_of kind bytes.items) }
+{
+    match kind {
+        Kind::Section => put_in_bundle(alloc, &bytes),
+        Kind::Bundle => Ok(bytes),
+        Kind::EnginesOwn => Ok(bytes),
+    }
+}
+
+// The bundle of a file, where sections are read.
+fn bundle_of(alloc: Global, bytes: Vec<u8>) -> Result<Vec<u8>, AllocError>
+    ensures { IfOk result (λ text. spec.IsTakenAs Whole bytes.items text.items) }
+{
+    let kind = kind_of_text(alloc, &bytes)?;
+    taken_as(alloc, kind, bytes)
+}
+
+/// The bundle of a file of these bytes, which is read for a native machine: the bytes themselves, or the bundle in which the
+/// section stands that they are. For the machines of the chosen lists a section is none.
+pub fn bundle_text(alloc: Global, native: Arch, bytes: Vec<u8>) -> Result<Vec<u8>, AllocError>
+    ensures { IfOk result (λ text. IsBundleText native bytes.items text.items) }
+{
+    match native.family() {
+        Family::Chosen => Ok(bytes),
+        Family::Whole => bundle_of(alloc, bytes),
+    }
+}

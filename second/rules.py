@@ -1,0 +1,52 @@
+#!/usr/bin/env python3
+"""Writes the rules of a bundle as the text that `second` reads: rules.py MACHINE BUNDLE. Written from docs/PROFILES.md alone, whose tables
+of calls it reads. It expects a bundle that `ccell read` accepts: of the refusals it knows few."""
+import json, pathlib, re, sys
+
+DOCS = pathlib.Path(__file__).resolve().parent.parent / 'docs'
+ACTIONS = {'KILL': 0, 'KILL_PROCESS': 0x80000000, 'TRAP': 0x30000, 'ERRNO': 0x50000, 'TRACE': 0x7ff00000,
+           'LOG': 0x7ffc0000, 'ALLOW': 0x7fff0000}
+WHOLE = ['linux-x86-64', 'linux-x86', 'linux-x32', 'linux-aarch64', 'linux-arm']   # as the columns of linux-calls.txt
+ORDER = ['x86-64', 'linux-x86-64', 'linux-x32', 'linux-x86', 'aarch64', 'linux-aarch64', 'linux-arm']
+
+
+def tables(native):
+    """The machines of the family, and each name's number of each of them."""
+    if native.startswith('linux'):
+        calls = re.findall(r'^(\w+) (\S+)$', (DOCS / 'linux-calls.txt').read_text(), re.M)
+        return WHOLE, {name: dict(zip(WHOLE, numbers.split('/'))) for name, numbers in calls}
+    lists = (DOCS / 'PROFILES.md').read_text().split('**The chosen lists**')[1].split('```')[1]
+    return ['x86-64', 'aarch64'], {name: {'x86-64': x, 'aarch64': a} for name, x, a in re.findall(r'(\w+) (\S+)/([^\s,.]+)', lists)}
+
+
+def verdict(action, data):
+    word = ACTIONS[action.removeprefix('SCMP_ACT_')]
+    return hex(word + (1 if data is None else data) if action in ('SCMP_ACT_ERRNO', 'SCMP_ACT_TRACE') else word)
+
+
+def condition(arg):
+    operator = arg['op'].removeprefix('SCMP_CMP_')
+    datum = ' ' + hex(arg.get('valueTwo', 0)) if operator == 'MASKED_EQ' else ''
+    return f' arg{arg["index"]} {operator} {arg["value"]:#x}{datum}'
+
+
+def text_of(native, bundle):
+    section = bundle['linux']['seccomp']
+    family, calls = tables(native)
+    listed = [machine.removeprefix('SCMP_ARCH_').lower().replace('_', '-') for machine in section.get('architectures', [])]
+    machines = [m for m in ORDER if m in family and (m.removeprefix('linux-') in listed if listed else m == native)]
+    rules = {}   # as a set that keeps its order
+    for entry in section.get('syscalls', []):
+        rest = verdict(entry['action'], entry.get('errnoRet')) + ''.join(map(condition, entry.get('args', [])))
+        for name in entry['names']:
+            for machine in machines:
+                if calls[name][machine] != '-':
+                    number = int(calls[name][machine]) + (0x40000000 if machine == 'linux-x32' else 0)
+                    rules[f'{machine} {number} {rest}'] = None
+    default = verdict(section['defaultAction'], section.get('defaultErrnoRet'))
+    head = ['ccell-profile 1', f'native {native}', f'machines {" ".join(machines)}', f'default {default}', f'rules {len(rules)}']
+    return '\n'.join(head + list(rules)) + '\n'
+
+
+if __name__ == '__main__':
+    sys.stdout.write(text_of(sys.argv[1], json.loads(pathlib.Path(sys.argv[2]).read_bytes())))
