@@ -1,8 +1,9 @@
-/* Makes one filter by libseccomp's interface again and again, for tests/speed: timed TIMES < RULES. A line of RULES is `default ACTION`,
- * `machine TOKEN` or `rule ACTION NAME COUNT`, with four numbers for each condition behind it. It prints the bytes of the filter, and the
- * least milliseconds of processor that one took. */
+/* Makes one filter by libseccomp's interface again and again: timed TIMES [FILE [LEVEL]] < RULES. A line of RULES is `default ACTION`,
+ * `machine TOKEN` or `rule ACTION NAME COUNT`, with four numbers for each condition behind it. It prints how many bytes the filter has, and
+ * the least milliseconds of processor that one took. The filter goes into FILE. LEVEL is libseccomp's SCMP_FLTATR_CTL_OPTIMIZE. */
 #define _GNU_SOURCE
 #include "../seccomp/interface.h"
+#include <fcntl.h>
 #include <stdio.h>
 #include <stdlib.h>
 #include <string.h>
@@ -13,6 +14,7 @@
 scmp_filter_ctx seccomp_init(uint32_t action);
 void seccomp_release(scmp_filter_ctx ctx);
 int seccomp_arch_add(scmp_filter_ctx ctx, uint32_t token);
+int seccomp_attr_set(scmp_filter_ctx ctx, int attribute, uint32_t value);
 int seccomp_rule_add_array(scmp_filter_ctx ctx, uint32_t action, int number, unsigned count, const struct scmp_arg_cmp *args);
 int seccomp_syscall_resolve_name(const char *name);
 int seccomp_export_bpf(scmp_filter_ctx ctx, int fd);
@@ -50,9 +52,10 @@ static double now(void) {
 }
 
 /* Makes the filter: its length in bytes, or -1. */
-static long make(int fd) {
+static long make(int fd, unsigned level) {
     scmp_filter_ctx ctx = seccomp_init(first_action);
     int error = ctx ? 0 : -1;
+    if (!error && level) error = seccomp_attr_set(ctx, OPTIMIZE, level);
     for (int i = 0; i < machine_count && !error; i++)
         if (seccomp_arch_add(ctx, machines[i]) == -22) error = -1; /* the machine itself stands there already */
     for (int i = 0; i < rule_count && !error; i++) {
@@ -66,13 +69,14 @@ static long make(int fd) {
 
 int main(int count, char **words) {
     int times = count > 1 ? atoi(words[1]) : 1;
+    unsigned level = count > 3 ? (unsigned)atoi(words[3]) : 0;
     double least = 1e9;
     long bytes = 0;
     if (read_all()) return fputs("timed: wrong rules\n", stderr), 2;
     for (int i = 0; i < times; i++) {
         double start = now();
-        int fd = memfd_create("filter", 0);
-        bytes = make(fd);
+        int fd = count > 2 ? open(words[2], O_RDWR | O_CREAT | O_TRUNC | O_CLOEXEC, 0600) : memfd_create("filter", 0);
+        bytes = make(fd, level);
         close(fd);
         double took = now() - start;
         if (bytes < 0) return fputs("timed: no filter\n", stderr), 1;

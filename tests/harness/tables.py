@@ -206,18 +206,13 @@ def faults_of_files(page, text):
     return faults
 
 
-def faults_of_figures(page, text):
-    """A table of figures whose last row is `all`: the sums of its columns. Its rows are the crates'."""
-    faults = []
+def faults_of_crates(page, text):
+    """A table of crates: its rows are those of crates.txt."""
     crates = re.findall(r"^(\w+)(?: \w+)?:", read("crates.txt"), re.M)
     for head, *rows in tables(text):
-        if head[0] == "Crate" and sorted(re.sub("`", "", row[0]) for row in rows if row[0] != "all") != sorted(crates):
-            faults.append("a table of crates has not those of crates.txt")
-        if rows and rows[-1][0] == "all":
-            for place in range(1, len(head)):
-                if sum(int(row[place] or 0) for row in rows[:-1]) != int(rows[-1][place] or 0):
-                    faults.append(f"the column {head[place]} has another sum")
-    return faults
+        if head[0] == "Crate" and sorted(re.sub("`", "", row[0]) for row in rows) != sorted(crates):
+            return ["a table of crates has not those of crates.txt"]
+    return []
 
 
 def faults_of_commands(page, text):
@@ -239,7 +234,7 @@ CHECKS = (
     faults_of_actions,
     faults_of_calls,
     faults_of_files,
-    faults_of_figures,
+    faults_of_crates,
     faults_of_commands,
 )
 

@@ -1,6 +1,6 @@
 /* A case: a child loads filters, makes calls, and what came of each is told.
  *
- * The line is FILTERS and CALLS, each `-` or with commas between. A filter is its bytes in digits; a call is `s` or `i` for the way
+ * The line is FILTERS and CALLS, each `-` or with commas between. A filter is its bytes in digits; a call is the letter of its way
  * in, and its number and arguments in hexadecimal, with colons before each. The answer has what came of each load and of each call
  * that was made, and how the child ended. The number of the child itself is told as `pid`. Some children work at once, so answers come
  * when a few are asked for, or none is any more. */
@@ -19,7 +19,7 @@ struct plan {
 	int filters, calls;
 	unsigned short counts[MOST_FILTERS];
 	struct sock_filter insns[MOST_FILTERS][MOST_BYTES / 8];
-	char ways[MOST_CALLS];
+	const struct way *by[MOST_CALLS];
 	struct call asked[MOST_CALLS];
 };
 
@@ -52,6 +52,17 @@ static int read_filters(struct plan *plan, const char **at)
 	}
 }
 
+static const struct way *way_of(char letter)
+{
+	int i;
+
+	for (i = 0; i < way_count; i++) {
+		if (ways[i].letter == letter)
+			return &ways[i];
+	}
+	return NULL;
+}
+
 static int read_calls(struct plan *plan, const char **at)
 {
 	plan->calls = 0;
@@ -64,8 +75,8 @@ static int read_calls(struct plan *plan, const char **at)
 		if (here == MOST_CALLS)
 			return 0;
 		memset(call, 0, sizeof(*call));
-		plan->ways[here] = *(*at)++;
-		if (*(*at)++ != ':')
+		plan->by[here] = way_of(*(*at)++);
+		if (!plan->by[here] || *(*at)++ != ':')
 			return 0;
 		call->number = read_number(at);
 		for (i = 0; i < 6 && **at == ':'; i++) {
@@ -82,7 +93,7 @@ static _Noreturn void carry_out(const struct plan *plan, struct seen *seen)
 {
 	int i;
 
-	limit_child();
+	limit_child(FEW_SECONDS);
 	give_up_privileges();
 	for (i = 0; i < plan->filters; i++) {
 		seen->loads[i] = load(plan->insns[i], plan->counts[i]);
@@ -91,7 +102,7 @@ static _Noreturn void carry_out(const struct plan *plan, struct seen *seen)
 	for (i = 0; i < plan->calls; i++) {
 		const struct call *call = &plan->asked[i];
 
-		seen->results[i] = plan->ways[i] == 'i' ? enter_by_int80(call) : enter_by_syscall(call);
+		seen->results[i] = plan->by[i]->enter(call);
 		seen->called = i + 1;
 	}
 	seen->whole = 1;

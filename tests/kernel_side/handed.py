@@ -10,8 +10,9 @@ from kernel_side.insns import ACTIONS, ALLOW, LD, LD_MEM, NAMELESS, RET, digits
 from kernel_side.sides import Tally
 
 JEQ = 0x15
-CALLS = {"sched_yield": 24, "getpid": 39, "clone": 56, "fork": 57, "execve": 59, "exit": 60, "kill": 62, "getppid": 110, "prctl": 157,
-         "gettid": 186, "exit_group": 231, "seccomp": 317}
+# The calls of which drawn filters answer one, of two of them twice as often, if the machine has them.
+FILTERED = ("sched_yield", "sched_yield", "getpid", "getpid", "getppid", "gettid", "clone", "fork", "execve", "kill", "exit", "exit_group",
+            "seccomp", "prctl")
 # clone(2): CLONE_VM, CLONE_FS, CLONE_FILES, CLONE_SIGHAND and CLONE_THREAD; and a process that sends SIGCHLD.
 THREAD, PROCESS = 0x10F00, 17
 SECCOMP_LOAD, TSYNC, PRCTL_LOAD = 1, 1, (22, 2)
@@ -21,22 +22,23 @@ ALL = json.dumps({"ociVersion": "1.0.2", "linux": {"seccomp": {"defaultAction": 
 ORPHANS, NO_TARGET = "an orphan's parent is task 1", "kill looks for its target first"
 
 
-def drawn_filter(dice):
+def drawn_filter(dice, machine):
     """A filter that answers some calls with verdicts, one of them by its first argument, and allows all others."""
-    nr = dice.pick((24, 24, 39, 39, 110, 186, 56, 57, 59, 62, 60, 231, 317, 157))
+    name = dice.pick([name for name in FILTERED if machine.number(name) is not None])
+    nr = machine.number(name)
     action = dice.pick(ACTIONS + ACTIONS + NAMELESS[:2]) if dice.below(2) else dice.pick((0x50000, 0x7FF00000, ALLOW))
     word = action | dice.pick((1, 2, 13, 4095, 5000))
-    value = dice.below(3) + 1 if nr == 24 else None
+    value = dice.below(3) + 1 if name == "sched_yield" else None
     begin = [(LD, 0, 0, 0)]
     if value is None:
         return digits([*begin, (JEQ, 0, 1, nr), (RET, 0, 0, word), (RET, 0, 0, ALLOW)])
     return digits([*begin, (JEQ, 0, 3, nr), (LD, 0, 0, 16), (JEQ, 0, 1, value), (RET, 0, 0, word), (RET, 0, 0, ALLOW)])
 
 
-def drawn_load(dice):
+def drawn_load(dice, machine):
     """A call that loads a filter, or fails to."""
     kind = dice.below(12)
-    program = drawn_filter(dice)
+    program = drawn_filter(dice, machine)
     if kind == 0:
         return "seccomp", (SECCOMP_LOAD, dice.below(2)), ""
     if kind == 1:
@@ -48,14 +50,15 @@ def drawn_load(dice):
     return "seccomp", (SECCOMP_LOAD, TSYNC if dice.below(2) else 0), program
 
 
-def drawn_command(dice, made):
+def drawn_command(dice, machine, made):
     """A command for one of so many tasks, or for one that is not there: the task, the call, its arguments and the attached bytes."""
     task = dice.below(made + 1) + 1 if dice.below(10) == 0 else dice.below(made) + 1
     kind = dice.below(20)
     if kind < 5 and made < MOST_TASKS:
-        return task, *dice.pick((("fork", ()), ("clone", (PROCESS,)), ("clone", (THREAD,)), ("clone", (THREAD,)))), ""
+        forks = ("fork", ()) if machine.number("fork") is not None else ("clone", (PROCESS,))
+        return task, *dice.pick((forks, ("clone", (PROCESS,)), ("clone", (THREAD,)), ("clone", (THREAD,)))), ""
     if kind < 11:
-        return task, *drawn_load(dice)
+        return task, *drawn_load(dice, machine)
     if kind == 11:
         return task, "execve", (), ""
     if kind == 12:
@@ -65,11 +68,11 @@ def drawn_command(dice, made):
     return task, *dice.pick((("getpid", ()), ("gettid", ()), ("getppid", ()), ("sched_yield", (dice.below(3) + 1,)))), ""
 
 
-def drawn_script(dice):
+def drawn_script(dice, machine):
     """The commands of a script. Task 1 seldom ends."""
     made, commands = 1, []
     for _ in range(dice.below(30) + 10):
-        command = drawn_command(dice, made)
+        command = drawn_command(dice, machine, made)
         task, name, args, _ = command
         if dice.below(8) and (task == 1 and name.startswith("exit")):
             continue
@@ -84,10 +87,10 @@ def line_of(command):
     return " ".join(["call c", str(task), name, *map(str, args), *(["0"] * (2 - len(args)) + ["prog", program] if program else [])])
 
 
-def asked_of(command):
+def asked_of(machine, command):
     """A command as the real side reads it."""
     task, name, args, program = command
-    numbers = [task, CALLS[name], *args, *[0] * (6 - len(args))]
+    numbers = [task, machine.number(name), *args, *[0] * (6 - len(args))]
     return ":".join([*(f"{number:x}" for number in numbers), *([program] if program else [])])
 
 
@@ -171,14 +174,14 @@ def right_answers(sides, commands, said):
 
 def compare(sides, tally, scripts):
     """Has scripts carried out by both."""
-    first = sides.exported("x86-64", ALL)
+    first = sides.exported(sides.machine.run, ALL)
     probed = [with_probes(commands) for commands in scripts]
-    replies = sides.script("x86-64", ALL, [line for lines, _ in probed for line in lines])
+    replies = sides.script(ALL, [line for lines, _ in probed for line in lines])
     at, rights = 0, []
     for commands, (lines, counts) in zip(scripts, probed):
         rights.append([*right_answers(sides, commands, said_of(replies[at : at + len(lines)], counts))])
         at += len(lines)
-    asked = [f"tree {first} {';'.join(asked_of(command) for command, _, _ in right)}" for right in rights]
+    asked = [f"tree {first} {';'.join(asked_of(sides.machine, command) for command, _, _ in right)}" for right in rights]
     for right, told in zip(rights, sides.real(asked)):
         if told in ("no namespace", "no /proc"):
             tally.untried = [f"all of it: {told} for a tree of tasks"]
@@ -216,6 +219,6 @@ def run(sides, dice, count):
     tally = Tally("what a task hands on")
     while count > 0:
         some = min(count, 500)
-        compare(sides, tally, [drawn_script(dice) for _ in range(some)])
+        compare(sides, tally, [drawn_script(dice, sides.machine) for _ in range(some)])
         count -= some
     return tally

@@ -1,7 +1,7 @@
 /* The real side of tests/kernel: reads a line, carries out on this machine's kernel what it asks, and writes a line of answer.
  *
  * A line begins with its kind: `case` (cases.c), `tree` (tree.c), `width` (widths.c) or `told` (told.c). `ways` asks for the
- * addresses behind the instructions of both ways into the kernel. Each is carried out in a child of its own. */
+ * letters of the ways into the kernel, and the addresses behind their instructions. Each is carried out in a child of its own. */
 #include "side.h"
 
 #include <signal.h>
@@ -52,6 +52,15 @@ void tell_end(int whole, int status)
 		printf("status %d\n", WEXITSTATUS(status));
 }
 
+static void tell_ways(void)
+{
+	int i;
+
+	for (i = 0; i < way_count; i++)
+		printf("%s%c:%lx", i ? " " : "", ways[i].letter, (unsigned long)ways[i].behind);
+	putchar('\n');
+}
+
 static void answer(const char *line)
 {
 	static const struct {
@@ -63,7 +72,7 @@ static void answer(const char *line)
 	if (strncmp(line, "case ", 5))
 		end_cases();
 	if (!strcmp(line, "ways")) {
-		printf("%lx %lx\n", (unsigned long)behind_syscall, (unsigned long)behind_int80);
+		tell_ways();
 		return;
 	}
 	for (i = 0; i < sizeof(kinds) / sizeof(kinds[0]); i++) {

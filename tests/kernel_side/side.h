@@ -11,11 +11,18 @@ struct call {
 	unsigned long args[6];
 };
 
-/* The two ways into the kernel, and the addresses behind their instructions, which are the records' instruction pointers. They
- * return what the kernel leaves in the register of the result: an error is a negative number. */
+/* A way into the kernel: its letter in a line, what enters by it, and the address behind the instruction, which is the records'
+ * instruction pointer. `enter` returns what the kernel leaves in the register of the result: an error is a negative number. */
+struct way {
+	char letter;
+	long (*enter)(const struct call *call);
+	const char *behind;
+};
+
+/* The ways of the machine that this program is built for. The first is that of its own calls. */
+extern const struct way ways[];
+extern const int way_count;
 long enter_by_syscall(const struct call *call);
-long enter_by_int80(const struct call *call);
-extern const char behind_syscall[], behind_int80[];
 
 /* A call by its number, through the first way. */
 long enter(unsigned long number, unsigned long a, unsigned long b, unsigned long c, unsigned long d);
@@ -24,8 +31,9 @@ long enter(unsigned long number, unsigned long a, unsigned long b, unsigned long
 long load(const struct sock_filter *insns, unsigned short count);
 long give_up_privileges(void);
 
-/* Limits of a child that carries out a case: time of the processor and of the clock. */
-void limit_child(void);
+/* Limits of a child that carries out a case: seconds of the processor, and four times as many of the clock. */
+enum { FEW_SECONDS = 5, MANY_SECONDS = 150 };
+void limit_child(unsigned int seconds);
 
 /* Ends a child, whatever its filters let through. */
 _Noreturn void leave(void);

@@ -1,4 +1,4 @@
-"""The two sides: the real one is the program of this folder, and the modelled one the built programs `ask` and `ccell`."""
+"""The two sides: the real one is a program on a kernel (real.py), and the modelled one the built programs `ask` and `ccell`."""
 import os
 import subprocess
 import tempfile
@@ -8,50 +8,35 @@ from harness.ask import answers
 from harness.limits import ENDLESS
 from harness.places import ASK, CCELL
 from harness.rows import Fault
+from kernel_side import real
 
-HERE = os.path.dirname(os.path.abspath(__file__))
-SOURCES = ("main.c", "enter.c", "cases.c", "tree.c", "tree_tasks.c", "widths.c", "told.c")
 SYSCALL, INT80 = "s", "i"
 
 
 class Sides:
-    """Both sides, in a folder for what they need."""
+    """Both sides of a machine, in a folder for what they need."""
 
-    def __init__(self, room):
-        self.room = room
-        self.program = f"{room}/side"
+    def __init__(self, room, machine, side):
+        self.room, self.machine, self.side = room, machine, side
         self.effects = {}
-
-    def build(self):
-        """Builds the real side; returns whether a compiler could. Without the static library of C it is built without it."""
-        sources = [f"{HERE}/{name}" for name in SOURCES]
-        for how in (["-static"], ["-no-pie"]):
-            made = subprocess.run(["cc", "-O2", "-Wall", *how, "-o", self.program, *sources], capture_output=True, check=False)
-            if made.returncode == 0:
-                return True
-        return False
 
     def real(self, lines):
         """The real side's answers to lines."""
-        given = "".join(f"{line}\n" for line in lines).encode()
-        ran = subprocess.run([self.program], input=given, capture_output=True, timeout=ENDLESS, check=False)
-        told = ran.stdout.decode().splitlines()
-        if ran.returncode or len(told) != len(lines):
-            raise Fault(f"the real side: status {ran.returncode}, {len(told)} answers to {len(lines)} lines")
-        return told
+        return real.answers(self.side, lines) if lines else []
 
     @staticmethod
     def modelled(lines):
         """The library's answers to questions."""
         return answers(lines) if lines else []
 
-    def script(self, machine, bundle, lines):
+    def script(self, bundle, lines):
         """The replies of `ccell run` to a script over one bundle."""
         with tempfile.NamedTemporaryFile("w", dir=self.room, suffix=".json") as file:
             file.write(bundle)
             file.flush()
             given = "".join(f"{line}\n" for line in lines).encode()
-            ran = subprocess.run([CCELL, "run", machine, file.name], input=given, capture_output=True, timeout=ENDLESS, check=False)
+            words = [CCELL, "run", self.machine.run, file.name]
+            ran = subprocess.run(words, input=given, capture_output=True, timeout=ENDLESS, check=False)
         told = ran.stdout.decode().splitlines()
         if ran.returncode or len(told) != len(lines):
             raise Fault(f"ccell run: status {ran.returncode}, {len(told)} replies to {len(lines)} lines, {told[:1]}")

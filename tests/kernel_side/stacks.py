@@ -1,6 +1,6 @@
 """Stacks: two to five filters on one task. The strictest verdict counts, and among equally strict ones the newest filter's.
 
-A container of `ccell run`, whose own filter allows all calls of x86-64, loads the filters and calls; a child loads the container's
+A container of `ccell run`, whose own filter allows all calls of the machine, loads the filters and calls; a child loads the container's
 filter and the same ones, and makes the same calls.
 """
 import json
@@ -8,14 +8,14 @@ import json
 from kernel_side.insns import ACTIONS, ALLOW, LD, NAMELESS, RET, digits
 from kernel_side.sides import SYSCALL, Tally, case_line
 
-GETPID, JEQ = 39, 0x15
+JEQ = 0x15
 ALL = json.dumps({"ociVersion": "1.0.2", "linux": {"seccomp": {"defaultAction": "SCMP_ACT_ALLOW"}}})
 MOST_ARGUMENTS = 4
 
 
-def filter_of(words):
+def filter_of(getpid, words):
     """A filter that answers `getpid` with one of these verdicts, by the lower half of its first argument, and allows all else."""
-    insns = [(LD, 0, 0, 0), (JEQ, 1, 0, GETPID), (RET, 0, 0, ALLOW), (LD, 0, 0, 16)]
+    insns = [(LD, 0, 0, 0), (JEQ, 1, 0, getpid), (RET, 0, 0, ALLOW), (LD, 0, 0, 16)]
     for place, word in enumerate(words[:-1]):
         insns += [(JEQ, 0, 1, place), (RET, 0, 0, word)]
     return digits([*insns, (RET, 0, 0, words[-1])])
@@ -56,15 +56,15 @@ def result_of(sides, reply):
 
 def compare(sides, tally, first, stacks):
     """Loads each stack on both sides, and makes the calls."""
-    lines, cases, places = [], [], []
+    lines, cases, places, getpid = [], [], [], sides.machine.number("getpid")
     for stack in stacks:
-        filters = [filter_of(words) for words in stack]
+        filters = [filter_of(getpid, words) for words in stack]
         values = range(len(stack[0]))
         begin = ["create c b1", "start c", *(f"call c 1 seccomp 1 0 0 prog {filtered}" for filtered in filters)]
         places.append((len(lines), len(begin), len(values)))
         lines += [*begin, *(f"call c 1 getpid {value}" for value in values), "kill c 9", "delete c"]
-        cases.append(case_line([first, *filters], [(SYSCALL, GETPID, [value]) for value in values]))
-    replies = sides.script("x86-64", ALL, lines)
+        cases.append(case_line([first, *filters], [(SYSCALL, getpid, [value]) for value in values]))
+    replies = sides.script(ALL, lines)
     for stack, (at, loads, calls), told in zip(stacks, places, sides.real(cases)):
         begun, said = replies[at : at + loads], replies[at + loads : at + loads + calls]
         right, right_end = [], "end"
@@ -83,7 +83,7 @@ def compare(sides, tally, first, stacks):
 def run(sides, dice, count):
     """Tries all pairs, and so many stacks at random."""
     tally = Tally("stacks")
-    first = sides.exported("x86-64", ALL)
+    first = sides.exported(sides.machine.run, ALL)
     compare(sides, tally, first, pairs())
     while count > 0:
         some = min(count, 20000)

@@ -270,7 +270,7 @@ void on_told(const char *line)
 	}
 	child = fork();
 	if (child == 0) {
-		limit_child();
+		limit_child(sentences[i].try == load_limit ? MANY_SECONDS : FEW_SECONDS);
 		sentences[i].try();
 		fflush(stdout);
 		leave();

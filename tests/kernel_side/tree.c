@@ -110,7 +110,7 @@ static int has_answered(struct slot *slot, time_t end)
 {
 	struct slot *first = &tree->slots[slot->group];
 	unsigned done = atomic_load(&slot->answered), images = atomic_load(&first->images);
-	int makes = slot->call.number == SYS_fork || slot->call.number == SYS_clone;
+	int makes = makes_task(slot->call.number);
 
 	slot->is_ping = 0;
 	atomic_store(&slot->asked, done + 1);

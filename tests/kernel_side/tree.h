@@ -31,6 +31,9 @@ struct tree {
 extern struct tree *tree;
 extern int tree_file;
 
+/* Whether a call of this number makes a task. */
+int makes_task(unsigned long number);
+
 /* Waits while a word has this value, no longer than the timeout where there is one; and wakes who waits so. */
 void wait_while(atomic_uint *word, unsigned value, const struct timespec *timeout);
 void wake(atomic_uint *word);

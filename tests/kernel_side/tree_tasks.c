@@ -3,6 +3,7 @@
 #include "tree.h"
 
 #include <errno.h>
+#include <fcntl.h>
 #include <linux/futex.h>
 #include <sched.h>
 #include <stdlib.h>
@@ -40,7 +41,7 @@ static void tell_place(char *who, size_t room)
 {
 	char place[64] = { 0 };
 
-	enter(SYS_readlink, (unsigned long)"/proc/thread-self", (unsigned long)place, sizeof(place) - 1, 0);
+	enter(SYS_readlinkat, AT_FDCWD, (unsigned long)"/proc/thread-self", (unsigned long)place, sizeof(place) - 1);
 	if (strcmp(who, place))
 		memcpy(who, place, room);
 }
@@ -69,6 +70,16 @@ static int begin_thread(void *maker)
 	begin(((struct slot *)maker)->group);
 }
 
+/* Some machines have no fork. */
+int makes_task(unsigned long number)
+{
+#ifdef SYS_fork
+	if (number == SYS_fork)
+		return 1;
+#endif
+	return number == SYS_clone;
+}
+
 /* A call that makes a task. The new task does not return. */
 static long make_task(struct slot *slot, const struct call *call)
 {
@@ -94,23 +105,19 @@ static long carry_out(struct slot *slot)
 	char *const words[] = { tree->program, "tree", number, NULL };
 	char *const none[] = { NULL };
 
-	switch (call.number) {
-	case SYS_fork:
-	case SYS_clone:
+	if (makes_task(call.number))
 		return make_task(slot, &call);
-	case SYS_execve:
+	if (call.number == SYS_execve) {
 		number[0] = '0' + tree_file / 10;
 		number[1] = '0' + tree_file % 10;
 		number[2] = 0;
 		call.args[0] = (unsigned long)tree->program;
 		call.args[1] = (unsigned long)words;
 		call.args[2] = (unsigned long)none;
-		return enter_by_syscall(&call);
-	default:
-		if (slot->insns)
-			call.args[2] = (unsigned long)&program;
-		return enter_by_syscall(&call);
+	} else if (slot->insns) {
+		call.args[2] = (unsigned long)&program;
 	}
+	return enter_by_syscall(&call);
 }
 
 static _Noreturn void serve(struct slot *slot)

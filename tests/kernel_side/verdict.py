@@ -1,67 +1,86 @@
 """The verdict: what comes of a call under a filter is what the model says of the filter's verdict on its record.
 
 The calls do no harm: numbers that no call has, calls on descriptors that are not open, and questions for one's own number. They come
-by `syscall`, by `int $0x80` and by x32's numbers, with whatever arguments. What comes of a call that is carried out is asked of a
+by each way of the machine and by x32's numbers, with whatever arguments. What comes of a call that is carried out is asked of a
 child without a filter.
 """
+import functools
 import glob
 import json
 
 from harness.asked import record
-from harness.calls import TOKENS
 from harness.places import TOP
 from kernel_side.insns import LD, SCRATCH, ST, STX, digits, drawn
 from kernel_side.sides import INT80, SYSCALL, Fault, Tally, case_line
 
-X32 = 0x40000000
-# Calls whose result is the same whatever their arguments are, if the first one is no open descriptor: their names and numbers.
-NAMED = {"read": (0, 3), "write": (1, 4), "close": (3, 6), "lseek": (8, 19), "dup": (32, 41), "getpid": (39, 20), "fcntl": (72, 55),
-         "fchmod": (91, 94), "gettid": (186, 224)}
+# Calls whose result is the same whatever their arguments are, if the first one is no open descriptor.
+NAMED = ("read", "write", "close", "lseek", "dup", "getpid", "fcntl", "fchmod", "gettid")
 NO_CALLS = (500, 1000, 0x3FFFFFFF, 0x80000000, 0xFFFFFFFE, 0xFFFFFFFF)
-X32_CALLS = tuple(X32 | nr for nr in (0, 3, 39, 0x200, 1000, 0x3FFFFFFF))
-BY_SYSCALL = (*(nr for nr, _ in NAMED.values()), *NO_CALLS, *X32_CALLS)
-BY_INT80 = (*(nr for _, nr in NAMED.values()), *NO_CALLS, X32)
+X32 = 0x40000000
 NOT_OPEN = (1000, 1001, 65535, 0x7FFFFFFF, 0x80000000, 0xFFFFFFFF)
 HALVES = (0, 1, 2, 7, 255, 0x7FFFFFFF, 0x80000000, 0xFFFFFFFF)
-SOCKET = 41
 OPERATORS = ("NE", "LT", "LE", "EQ", "GE", "GT", "MASKED_EQ")
 SCMP_ACTIONS = ("ALLOW", "ALLOW", "LOG", "ERRNO", "TRACE", "TRAP", "KILL", "KILL_PROCESS")
 
 
-def drawn_call(dice):
-    """A call: its way, its number and its arguments."""
+@functools.cache
+def numbers_of(machine):
+    """The numbers that calls have, by the way in which they come: calls of the machine, and such as it has not."""
+    every = {}
+    for place, (way, _) in enumerate(machine.ways):
+        own = tuple(machine.number(name, place) for name in NAMED)
+        every[way] = (*own, *NO_CALLS, *(machine.further if place == 0 else (X32,)))
+    return every
+
+
+def drawn_call(dice, machine):
+    """A call: its way, its number and its arguments. A machine's second way has a third of them."""
+    every = numbers_of(machine)
     first = dice.pick(HALVES) << 32 | dice.pick(NOT_OPEN)
     args = [first, *(dice.pick(HALVES) << 32 | dice.pick(HALVES) for _ in range(5))]
-    return (INT80, dice.pick(BY_INT80), args) if dice.below(3) == 0 else (SYSCALL, dice.pick(BY_SYSCALL), args)
+    way = INT80 if dice.below(3) == 0 and INT80 in every else SYSCALL
+    return way, dice.pick(every[way]), [arg % 2**machine.bits for arg in args]
 
 
 class Records:
     """The records that the kernel presents: at which addresses calls are made, and what comes of them where nothing refuses them."""
 
     def __init__(self, sides):
-        self.sides = sides
-        self.behind = dict(zip((SYSCALL, INT80), (int(part, 16) for part in sides.real(["ways"])[0].split())))
-        asked = [(way, nr) for way, numbers in ((SYSCALL, BY_SYSCALL), (INT80, BY_INT80)) for nr in numbers]
+        self.sides, self.machine = sides, sides.machine
+        self.every = numbers_of(self.machine)
+        told = [part.split(":") for part in sides.real(["ways"])[0].split()]
+        self.behind = {way: int(place, 16) for way, place in told}
+        asked = [(way, nr) for way, numbers in self.every.items() for nr in numbers]
         told = sides.real([case_line([], [(way, nr, [NOT_OPEN[-1]])]) for way, nr in asked])
-        self.free = {call: line.split()[1] for call, line in zip(asked, told)}
+        self.free = {call: came_free(line) for call, line in zip(asked, told)}
 
-    def has_x86(self):
-        """Whether this kernel has calls of x86."""
-        return self.free[INT80, NAMED["getpid"][1]] == "pid"
+    def has(self, name, place):
+        """Whether this kernel carries out a machine's calls: whether this one answers the number of the child."""
+        return self.free[self.machine.ways[place][0], self.machine.number(name, place)] == "pid"
 
-    def has_x32(self):
-        """Whether it has calls of x32."""
-        return self.free[SYSCALL, X32 | 39] == "pid"
+    def lacks(self):
+        """What of these calls this kernel has not, of those that it may have beside its own."""
+        if INT80 in self.every and not self.has("getpid", 1):
+            yield "calls of x86 that are carried out: this kernel has none"
+        if SYSCALL in self.every and self.free.get((SYSCALL, X32 | 39)) not in (None, "pid") and self.machine.name == "x86-64":
+            yield "calls of x32 that are carried out: this kernel has none; filters judge them as any other"
 
     def of(self, call):
         """The record of a call, as `ask` reads it."""
         way, nr, args = call
-        return record(nr & 0xFFFFFFFF, TOKENS["linux-x86-64" if way == SYSCALL else "linux-x86"], args, self.behind[way])
+        return record(nr & 0xFFFFFFFF, self.machine.token(way), args, self.behind[way])
 
     def numbers(self):
         """Numbers that filters compare with: halves, calls, tokens and addresses."""
         places = [half for place in self.behind.values() for half in (place & 0xFFFFFFFF, place >> 32)]
-        return (*HALVES, *NOT_OPEN, *BY_SYSCALL, *BY_INT80, TOKENS["linux-x86-64"], TOKENS["linux-x86"], *places)
+        calls = [nr for numbers in self.every.values() for nr in numbers]
+        return (*HALVES, *NOT_OPEN, *calls, *(self.machine.token(way) for way in self.every), *places)
+
+
+def came_free(line):
+    """What came of a call that nothing refuses, by the answer to a case of it alone: its result, or the child's end."""
+    _, results, end = line.split(" ", 2)
+    return end if results == "-" else results
 
 
 def drawn_filter(dice, numbers):
@@ -78,7 +97,7 @@ def drawn_condition(dice, index):
     return {"index": index, "op": f"SCMP_CMP_{op}", "value": value, **datum}
 
 
-def drawn_bundle(dice):
+def drawn_bundle(dice, machine):
     """A bundle over the calls, with an entry of at most six conditions for most of them."""
     entries = []
     for name in NAMED:
@@ -90,7 +109,7 @@ def drawn_bundle(dice):
             entry["errnoRet"] = dice.pick((0, 1, 13, 38, 4095))
         args = [drawn_condition(dice, index) for index in range(6) if dice.below(4) == 0]
         entries.append({**entry, **({"args": args} if args else {})})
-    machines = ["SCMP_ARCH_X86_64", *(name for name in ("SCMP_ARCH_X86", "SCMP_ARCH_X32") if dice.below(2))]
+    machines = [machine.listed, *(name for name in machine.besides if dice.below(2))]
     section = {"defaultAction": f"SCMP_ACT_{dice.pick(SCMP_ACTIONS)}", "architectures": machines, "syscalls": entries}
     return json.dumps({"ociVersion": "1.0.2", "linux": {"seccomp": section}})
 
@@ -123,8 +142,8 @@ def compare(records, tally, cases):
             free = records.free.get((way, nr)) or sockets_free(records, nr, args)
             result = sides.came_of(int(word, 16), free)
             tally.see("the task ends" if result is None else "carried out" if result == free else "answers an error")
-            if result is None:
-                right_end = "signal 31"
+            if result is None or result.startswith("signal "):
+                right_end = result or "signal 31"
                 break
             right.append(result)
         is_right = (loads, results, end) == ("0", ",".join(right) or "-", right_end)
@@ -135,38 +154,36 @@ def sockets_free(records, nr, args):
     """What comes of a call of `socket` that nothing refuses."""
     key = SYSCALL, nr, tuple(args)
     if key not in records.free:
-        records.free[key] = records.sides.real([case_line([], [(SYSCALL, nr, args)])])[0].split()[1]
+        records.free[key] = came_free(records.sides.real([case_line([], [(SYSCALL, nr, args)])])[0])
     return records.free[key]
 
 
-def drawn_case(dice, filtered):
+def drawn_case(dice, machine, filtered):
     """A filter with some calls."""
-    return filtered, [drawn_call(dice) for _ in range(dice.below(3) + 1)]
+    return filtered, [drawn_call(dice, machine) for _ in range(dice.below(3) + 1)]
 
 
-def others_case(dice, filtered):
+def others_case(dice, machine, filtered):
     """A filter of others with a call that opens a socket, or with calls as above."""
     if dice.below(2):
-        return drawn_case(dice, filtered)
-    return filtered, [(SYSCALL, SOCKET, [dice.pick((0, 0, 1, 3)) << 32 | dice.pick((1, 2, 16, 45, 0xFFFF)) for _ in range(3)])]
+        return drawn_case(dice, machine, filtered)
+    args = [dice.pick((0, 0, 1, 3)) << 32 | dice.pick((1, 2, 16, 45, 0xFFFF)) for _ in range(3)]
+    return filtered, [(SYSCALL, machine.number("socket"), [arg % 2**machine.bits for arg in args])]
 
 
 def run(sides, dice, count):
     """Tries so many cases: a fifth of them on filters of ours and as many on those of others."""
-    tally = Tally("verdict")
+    tally, machine = Tally("verdict"), sides.machine
     records = Records(sides)
-    if not records.has_x86():
-        tally.untried.append("calls of x86 that are carried out: this kernel has none")
-    if not records.has_x32():
-        tally.untried.append("calls of x32 that are carried out: this kernel has none; filters judge them as any other")
-    bundles = (drawn_bundle(dice) for _ in range(min(400, count // 100 + 10)))
-    ours = [made for made in (sides.exported("linux-x86-64", bundle) for bundle in bundles) if made]
+    tally.untried += records.lacks()
+    bundles = (drawn_bundle(dice, machine) for _ in range(min(400, count // 100 + 10)))
+    ours = [made for made in (sides.exported(machine.whole, bundle) for bundle in bundles) if made]
     numbers, others = records.numbers(), of_others()
     while count > 0:
         some = min(count, 20000)
-        cases = [drawn_case(dice, dice.pick(ours)) for _ in range(some // 5)]
-        cases += [others_case(dice, dice.pick(others)) for _ in range(some // 5)]
-        cases += [drawn_case(dice, drawn_filter(dice, numbers)) for _ in range(some - len(cases))]
+        cases = [drawn_case(dice, machine, dice.pick(ours)) for _ in range(some // 5)]
+        cases += [others_case(dice, machine, dice.pick(others)) for _ in range(some // 5)]
+        cases += [drawn_case(dice, machine, drawn_filter(dice, numbers)) for _ in range(some - len(cases))]
         compare(records, tally, cases)
         count -= some
     return tally

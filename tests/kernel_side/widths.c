@@ -75,7 +75,7 @@ static unsigned long read_argument(const char **at)
 	if (**at != '/')
 		return value;
 	++*at;
-	return (value & 0xffffffff) | read_number(at) << 32;
+	return (value & 0xffffffff) | (unsigned long)((unsigned long long)read_number(at) << 32);
 }
 
 static _Noreturn void carry_out(const char *at, struct seen *seen)
@@ -83,7 +83,7 @@ static _Noreturn void carry_out(const char *at, struct seen *seen)
 	struct call call = { 0, { 0 } };
 	int i;
 
-	limit_child();
+	limit_child(FEW_SECONDS);
 	if (!is_ready())
 		_exit(1);
 	call.number = read_number(&at);

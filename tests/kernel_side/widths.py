@@ -2,7 +2,8 @@
 import os
 
 from harness.places import TOP
-from kernel_side.sides import HERE, Tally
+from kernel_side.real import HERE
+from kernel_side.sides import Tally
 
 # What a call answers where something that this process runs in refuses it: EPERM and ENOSYS.
 REFUSED = ("-1", "-38")
@@ -14,13 +15,13 @@ UPPERS = (1, 0x80000000, 0xFFFFFFFF)
 
 
 def rows():
-    """The rows of widths.txt: a name, a number, an argument's place, its width, the value that has another result, and arguments."""
+    """The rows of widths.txt: a name, an argument's place, its width, the value that has another result, and arguments."""
     with open(f"{HERE}/widths.txt", encoding="utf-8") as file:
         for line in file:
             if not line.startswith("#"):
                 head, _, args = line.partition(":")
-                name, nr, index, width, *other = head.split()
-                yield name, f"{int(nr):x}", int(index), int(width), other[0] if other else None, args.split()
+                name, index, width, *other = head.split()
+                yield name, int(index), int(width), other[0] if other else None, args.split()
 
 
 def told_widths():
@@ -38,7 +39,7 @@ def compare_with_page(tally, every):
     if page is None:
         tally.untried.append("whether docs/linux-6.18-arguments.txt tells the same: there is no such page")
         return
-    for name, _, index, width, *_ in every:
+    for name, index, width, *_ in every:
         told = page.get(name, [])
         is_right = index < len(told) and told[index] == str(width)
         tally.count(is_right, lambda: f"{name}, argument {index}: {width} bits, and the page tells {told}")
@@ -46,22 +47,25 @@ def compare_with_page(tally, every):
 
 def asked_of(nr, args, index, value):
     """The line that makes a call with another value of one argument."""
-    return " ".join(["width", nr, *args[:index], value, *args[index + 1 :]])
+    return " ".join(["width", f"{nr:x}", *args[:index], value, *args[index + 1 :]])
 
 
 def run(sides, dice, more):
     """Tries each row with upper halves at their ends, and with so many others."""
     tally = Tally("widths")
-    every = [*rows()]
+    every = [row for row in rows() if sides.machine.number(row[0]) is not None]
+    lacked = sorted({name for name, *_ in rows()} - {name for name, *_ in every})
+    if lacked:
+        tally.untried.append(f"calls that {sides.machine.name} has not: {' '.join(lacked)}")
     compare_with_page(tally, every)
     uppers = [[*UPPERS, *(dice.below(2**32 - 1) + 1 for _ in range(more))] for _ in every]
     asked, counts = [], []
-    for (_, nr, index, width, other, args), some in zip(every, uppers):
+    for (name, index, width, other, args), some in zip(every, uppers):
         values = [args[index], *(f"{args[index]}/{upper:x}" for upper in some), *([other] if width == 32 else [])]
-        asked += [asked_of(nr, args, index, value) for value in values]
+        asked += [asked_of(sides.machine.number(name), args, index, value) for value in values]
         counts.append(len(values))
     told = iter(sides.real(asked))
-    for (name, _, index, width, _, _), some, count in zip(every, uppers, counts):
+    for (name, index, width, *_), some, count in zip(every, uppers, counts):
         plain, *results = [next(told) for _ in range(count)]
         if plain in REFUSED:
             tally.untried.append(f"{name}, argument {index}: it answers {plain} here")

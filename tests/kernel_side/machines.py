@@ -1,0 +1,73 @@
+"""The machines whose programs make the calls: a row each. Numbers of calls are those of docs/linux-calls.txt."""
+import functools
+from dataclasses import dataclass
+
+from harness.calls import TOKENS
+from harness.places import TOP
+
+# The columns of docs/linux-calls.txt.
+COLUMNS = ("linux-x86-64", "linux-x86", "linux-x32", "linux-aarch64", "linux-arm")
+X32 = 0x40000000
+
+
+@dataclass(frozen=True)
+class Machine:
+    """A machine, as the programs of the real side are built for it."""
+
+    name: str
+    whole: str  # the native machine whose whole table has its calls, which `export` is asked for
+    run: str  # the machine of `ccell run` that has these calls, if there is one
+    ways: tuple  # the letters of the ways into the kernel (ways.c), and whose calls come by each
+    listed: str  # its name in a bundle
+    besides: tuple  # names that a bundle may have beside it
+    bits: int = 64  # of a register
+    further: tuple = ()  # numbers that are no call of its own, and are tried as such
+
+    def number(self, name, way=0):
+        """The number of a call by a way, or None where the machine has none of this name."""
+        return numbers(self.ways[way][1]).get(name)
+
+    def token(self, way):
+        """The token of records of calls that come by a way, by its letter."""
+        return TOKENS[dict(self.ways)[way]]
+
+
+@functools.cache
+def numbers(machine):
+    """The numbers of a machine's calls, by their names."""
+    column = COLUMNS.index(machine)
+    with open(f"{TOP}/docs/linux-calls.txt", encoding="utf-8") as file:
+        lines = [line.split() for line in file if line.strip() and not line.startswith("#")]
+    told = {name: told.split("/")[column] for name, told in lines}
+    return {name: int(number) for name, number in told.items() if number != "-"}
+
+
+X86_64 = Machine(
+    name="x86-64",
+    whole="linux-x86-64",
+    run="x86-64",
+    ways=(("s", "linux-x86-64"), ("i", "linux-x86")),
+    listed="SCMP_ARCH_X86_64",
+    besides=("SCMP_ARCH_X86", "SCMP_ARCH_X32"),
+    further=tuple(X32 | nr for nr in (0, 3, 39, 0x200, 1000, 0x3FFFFFFF)),
+)
+AARCH64 = Machine(
+    name="aarch64",
+    whole="linux-aarch64",
+    run="aarch64",
+    ways=(("s", "linux-aarch64"),),
+    listed="SCMP_ARCH_AARCH64",
+    besides=("SCMP_ARCH_ARM",),
+)
+# The private numbers of ARM begin at 0xf0000: of the first five each is a call, and behind 0xf07ff a call ends by SIGILL.
+ARM = Machine(
+    name="arm",
+    whole="linux-aarch64",
+    run="",
+    ways=(("s", "linux-arm"),),
+    listed="SCMP_ARCH_ARM",
+    besides=("SCMP_ARCH_AARCH64",),
+    bits=32,
+    further=(0xF0000, 0xF0006, 0xF07FF, 0xF0800, 0xFFFFF, 0x40000000),
+)
+MACHINES = {machine.name: machine for machine in (X86_64, AARCH64, ARM)}
