@@ -1,6 +1,6 @@
 pub mod Difference
 pub mod Equal
-pub mod Sameness
+pub mod Complete
 pub mod Order
 pub mod Outcome
 pub mod Told
@@ -8,7 +8,6 @@ pub mod Differ
 pub mod FiltersTold
 pub mod Convictions
 pub mod NoMore
-pub mod Decided
 pub mod inner
 pub mod Past
 pub mod Linted

@@ -1,3 +1,1 @@
 pub mod Found
-pub mod Reading
-pub mod Sizes

@@ -1,0 +1,5 @@
+mod ReadLaws
+mod ItemLaws
+mod WordLaws
+mod HeardLaws
+pub mod SettledLaws
