@@ -5,6 +5,7 @@ mod ReportLaws
 mod EnoughLaws
 mod FileLaws
 mod FoundLaws
+mod NamedLaws
 mod WantedLaws
 mod FormLaws
 mod BundleLaws
@@ -14,4 +15,10 @@ mod ExplainedLaws
 mod StatusLaws
 mod LogLaws
 mod ReadLaws
-mod PartLaws
+pub mod PlainWalks
+pub mod Lists
+pub mod Grammars
+pub mod Leaves
+pub mod Names
+pub mod Readings
+pub mod Told

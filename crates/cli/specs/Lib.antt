@@ -11,4 +11,6 @@ pub mod Headline
 pub mod Statuses
 pub mod inner
 pub mod Read
-pub mod Parts
+pub mod Arguments
+pub mod Manual
+pub mod Prose

@@ -1,1 +1,4 @@
 pub mod Telling
+pub mod Grammar
+pub mod Found
+pub mod Misused

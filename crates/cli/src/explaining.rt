@@ -8,10 +8,9 @@ ghost use Rattle.cli.specs.inner.Telling.{IsToldOf, TellsText};
 use crate::files::{Files, read_bundle};
 use crate::stops::Stop;
 use call_tables::Arch;
-use explain::{audit, explain_any};
+use explain::{Told, audit, explain_any};
 use std::alloc::{AllocError, Global};
 use texts::Source;
-use wording::Told;
 
 const ROOM: usize = 65536;
 

@@ -1,10 +1,17 @@
-pub mod MachineLaws
 mod EqualLaws
+mod SameLaws
 mod SidesLaws
 mod ToldLaws
 mod LineLaws
 mod FilterLineLaws
 pub mod ConvictionLineLaws
+mod ExcessRunLaws
+mod SteadyLaws
+mod PlaceLaws
+mod CauseLaws
+mod ExcessLaws
+mod DecidedLaws
+mod NothingLaws
 mod PastLaws
 mod LintedLaws
 pub mod BehindLaws
@@ -12,7 +19,7 @@ pub mod WriteLaws
 pub mod AnyLaws
 pub mod StubRunLaws
 pub mod SplitLaws
+pub mod PartLaws
 pub mod SparedLaws
 pub mod RightLaws
 pub mod EachCallLaws
-pub mod CompleteLaws

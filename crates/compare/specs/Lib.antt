@@ -1,6 +1,6 @@
 pub mod Difference
 pub mod Equal
-pub mod Complete
+pub mod Sameness
 pub mod Order
 pub mod Outcome
 pub mod Told
@@ -8,6 +8,7 @@ pub mod Differ
 pub mod FiltersTold
 pub mod Convictions
 pub mod NoMore
+pub mod Decided
 pub mod inner
 pub mod Past
 pub mod Linted

@@ -1,4 +1,5 @@
+pub mod Excess
 pub mod Path
 pub mod Parts
+pub mod ProfileParts
 pub mod Spans
-pub mod Sided

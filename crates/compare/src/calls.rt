@@ -1,6 +1,5 @@
-//! Which calls are compared first.
+//! Which calls are compared.
 use call_tables::{Arch, Family};
-use differ::Call;
 use std::alloc::{AllocError, Global};
 
 // So many numbers behind the first one that a call may have, no call has one.
@@ -14,30 +13,20 @@ fn number_without_call(arch: Arch) -> u32 {
     }
 }
 
-// Adds the calls of a machine's table.
-fn add_calls(arch: Arch, calls: &mut Vec<Call>) -> Result<(), AllocError> {
-    let token = arch.token();
-    for numbers in arch.call_numbers() {
-        for nr in numbers.first..numbers.last.saturating_add(1) {
-            if arch.name(nr).is_some() {
-                calls.push(Call { token, nr })?;
+/// The calls of a family's tables, by machine and number, and after them a number without a call for each machine.
+pub(crate) fn calls(alloc: Global, family: Family) -> Result<Vec<(Arch, u32)>, AllocError> {
+    let mut calls = Vec::new(alloc);
+    for arch in family.machines() {
+        for numbers in arch.call_numbers() {
+            for nr in numbers.first..numbers.last.saturating_add(1) {
+                if arch.name(nr).is_some() {
+                    calls.push((*arch, nr))?;
+                }
             }
         }
     }
-    Ok(())
-}
-
-/// The calls of a family's tables, by machine and number, and after them a number without a call for each machine.
-pub(crate) fn calls(alloc: Global, family: Family) -> Result<Vec<Call>, AllocError> {
-    let mut calls = Vec::new(alloc);
     for arch in family.machines() {
-        add_calls(*arch, &mut calls)?;
-    }
-    for arch in family.machines() {
-        calls.push(Call {
-            token: arch.token(),
-            nr: number_without_call(*arch),
-        })?;
+        calls.push((*arch, number_without_call(*arch)))?;
     }
     Ok(calls)
 }

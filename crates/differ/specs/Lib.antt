@@ -1,6 +1,5 @@
 pub mod Cells
 pub mod Direction
 pub mod OnCall
-pub mod Differences
 pub mod inner
 pub mod Everywhere

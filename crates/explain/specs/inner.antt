@@ -1,1 +1,3 @@
 pub mod Found
+pub mod Reading
+pub mod Sizes

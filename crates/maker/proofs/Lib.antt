@@ -1,3 +1,4 @@
+pub mod CheckedLaws
 pub mod TableLaws
 pub mod CompiledLaws
 pub mod RightLaws
@@ -6,4 +7,4 @@ mod BundleLaws
 mod ExportLaws
 mod FindingLaws
 pub mod PlainLaws
-pub mod EvidenceLaws
+mod EvidenceLaws

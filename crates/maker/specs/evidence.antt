@@ -1,3 +1,4 @@
 pub mod Tables
+pub mod AtHand
 pub mod Conviction
 pub mod Right

@@ -4,10 +4,10 @@ ghost use Rattle.std.specs.Prelude.{◌≡◌, IfErr};
 ghost use Rattle.certify.specs.declared.error.CertifyError.TheVariants as maker;
 ghost use Rattle.maker.specs.declared.unready.Unready.TheVariants.{OutOfMemory};
 
-use crate::evidence::{are_plain, bytes_of, has_too_many, propose_shared, shortened};
+use crate::evidence::{has_too_many, propose_shared, shortened};
 use crate::proposal::Proposal;
 use crate::unready::Unready;
-use bpf_insn::Program;
+use bpf_insn::{MAX_INSNS, Program, encode_into};
 use certify::{CertifyError, certify_accepted};
 use kernel_check::{Accepted, accept};
 use profile::Profile;
@@ -49,16 +49,16 @@ fn own_if_plain(
     profile: &Profile,
     own: &Planned,
 ) -> Result<Option<Shorter>, AllocError> {
-    if !are_plain(profile.rules()) {
+    let is_plain = profile.rules().iter().all(|rule| rule.conds.is_empty());
+    if !is_plain || own.insns.len() > MAX_INSNS {
         return Ok(None);
     }
-    match bytes_of(alloc, &own.insns)? {
-        Some(bytes) => Ok(Some(Shorter {
-            bytes,
-            known: Known::AsOwn,
-        })),
-        None => Ok(None),
-    }
+    let mut bytes = vec![in alloc; 0u8; 8 * own.insns.len()]?;
+    encode_into(&own.insns, &mut bytes);
+    Ok(Some(Shorter {
+        bytes,
+        known: Known::AsOwn,
+    }))
 }
 
 // The filter that is proposed first, if there is one.

@@ -89,7 +89,8 @@ fn is_section_of(
             let bundle = put_in_bundle(alloc, section)?;
             means(alloc, native, &bundle, profile)
         }
-        _ => Ok(false),
+        Kind::Bundle => Ok(false),
+        Kind::EnginesOwn => Ok(false),
     }
 }
 

@@ -1,17 +1,17 @@
 -- What functions tell of files, before it is written.
 use Rattle.std.specs.Prelude.{ℕ, ◌≡◌, ◌⊎◌, List, [], ◌∷◌, ◌++◌, Bool, Option, Result, Ok, Err}
 use Rattle.texts.specs.Failures.{Failures}
-use Rattle.wording.specs.declared.told.Told.{Told}
+use Rattle.explain.specs.declared.told.Told.{Told}
 use Rattle.cli.specs.declared.stops.Stop.{Stop}
 use Rattle.call_tables.specs.declared.arch.Arch.{Arch}
 use Rattle.cli.specs.declared.adapting.Both.{Both}
 use Rattle.cli.specs.declared.stops.Stop.TheVariants.{CannotRead, OutOfMemory, Usage}
-use Rattle.strace_logs.specs.Learned.{TellsLearned}
-use Rattle.strace_logs.specs.Wish.{AskFor}
-use Rattle.strace_logs.specs.declared.lists.Otherwise.{Otherwise}
-use Rattle.strace_logs.specs.declared.lists.Runtime.{Runtime}
-use Rattle.strace_logs.specs.declared.reading.Shown.{Shown}
-use Rattle.strace_logs.specs.Taken.{HaveShown}
+use Rattle.explain.specs.learn.Learned.{TellsLearned}
+use Rattle.explain.specs.learn.Wish.{AskFor}
+use Rattle.explain.specs.declared.learn.lists.Otherwise.{Otherwise}
+use Rattle.explain.specs.declared.learn.lists.Runtime.{Runtime}
+use Rattle.explain.specs.declared.learn.reading.Shown.{Shown}
+use Rattle.explain.specs.learn.Taken.{HaveShown}
 use Rattle.cli.specs.Dispatch.{FirstUnread, HaveBytes, StopsAtLog, WritesTold}
 use Rattle.cli.specs.Files.{Folder, HasBytes}
 use Rattle.cli.specs.Adapted.{AskNothing, IsMadeAs}

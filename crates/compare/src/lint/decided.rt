@@ -1,95 +1,63 @@
-//! Which calls get past a profile.
-ghost use Rattle.std.specs.Prelude.{◌≡◌, ℕ, true, IfOk, IfSome, All};
-ghost use Rattle.std.specs.List.{list_any};
-ghost use Rattle.call_tables.specs.declared.arch.Family.{Family as TheFamily};
-ghost use Rattle.widths.specs.Alike.{IsNarrowed};
-ghost use Rattle.widths.specs.Narrowed.{AreNarrowed};
-ghost use Rattle.profile.specs.Policy.{Policy};
-ghost use Rattle.differ.specs.Differences.{AreAllIn, is_told};
-ghost use Rattle.differ.specs.OnCall.{IsFound};
-ghost use Rattle.differ.specs.declared.direction.Direction.TheVariants.{More};
-ghost use Rattle.compare.specs.Past.{ArePast, GetsPast, IsFinding, is_past_of};
+//! Whether a call gets past a profile.
+ghost use Rattle.std.specs.Prelude.{◌≡◌, true, [], ◌∷◌, IfOk, IfSome};
+ghost use Rattle.call_record.specs.Record.{words};
+ghost use Rattle.explain.specs.Alike.{IsNarrowed};
+ghost use Rattle.explain.specs.Narrowed.{AreNarrowed};
+ghost use Rattle.compare.specs.NoMore.{Exceeds};
+ghost use Rattle.compare.specs.Past.{GetsPast, IsFinding};
 
-use crate::lint::past::{Finding, Past};
-use crate::search::{Crowded, crowded_of};
+use crate::lint::past::{Finding, Past, Size};
+use crate::lint::search::search;
+use crate::order::{AtMost, Excess, allows_no_more};
 use call_record::words_are_a_record;
-use call_tables::Family;
-use differ::{Differences, Direction, Found, differences_in};
-use profile::{Profile, Rule};
-use std::alloc::{AllocError, Global};
-use widths::{
+use explain::narrow::{
     CutError, WHOLE, add_narrowed, cleared, cleared_is_alike, is_narrowed, narrowed, suits,
 };
+use profile::{Profile, Rule};
+use std::alloc::{AllocError, Global};
 
 // A call that a profile lets through and its narrowed one refuses gets past.
-fn past_of(profile: &Profile, narrowed: &Profile, found: &Found) -> Past
+fn exceeding(profile: &Profile, narrowed: &Profile, excess: &Excess) -> Past
     requires narrowed { IsNarrowed profile.now narrowed.now }
-    requires found { IsFound narrowed.now profile.now found.now.call.arch found.now.call.nr More found.now }
-    ensures past { GetsPast profile.now result }
-    ensures call { result.call ≡ found.now.call }
+    requires exceeds { Exceeds profile.now narrowed.now (words excess.now.call) excess.now.new excess.now.old }
+    ensures { GetsPast profile.now result }
 {
-    let call = found.call;
+    let call = excess.call;
     let cleared = cleared(&call);
     words_are_a_record(&call);
     words_are_a_record(&cleared);
     cleared_is_alike();
     Past {
         call,
-        word: found.second,
+        word: excess.new,
         cleared,
-        cleared_word: found.first,
+        cleared_word: excess.old,
     }
 }
 
-// The calls that get past, of those on which a profile allows more than its narrowed one.
-fn past_among(
-    alloc: Global,
-    profile: &Profile,
-    narrowed: &Profile,
-    all: &[Found],
-) -> Result<Vec<Past>, AllocError>
-    requires narrowed { IsNarrowed profile.now narrowed.now }
-    requires found { All (λ f. IsFound narrowed.now profile.now f.call.arch f.call.nr More f) all.now }
-    ensures past { IfOk result (λ list. All (GetsPast profile.now) list.items) }
-    ensures told { (t n : ℕ) → is_told all.now t n More ≡ true → IfOk result (λ list. list_any (is_past_of t n) list.items ≡ true) }
+// One call.
+fn one(alloc: Global, past: Past) -> Result<Vec<Past>, AllocError>
+    ensures { IfOk result (λ list. list.items ≡ past ∷ []) }
 {
     let mut list = Vec::new(alloc);
-    for found in all {
-        list.push(past_of(profile, narrowed, found))?;
-    }
+    list.push(past)?;
     Ok(list)
 }
 
-// What the calls that get past come to.
-fn finding_of(list: Vec<Past>, crowded: Vec<Crowded>) -> Finding
-    ensures { (family : TheFamily) (p narrowed : Policy) → IsNarrowed p narrowed → ArePast family p narrowed list.items crowded.items
-        → IsFinding family p result }
+// Whether a profile allows no more than its narrowed one.
+fn decided(alloc: Global, profile: &Profile, narrowed: &Profile) -> Result<Finding, AllocError>
+    requires { IsNarrowed profile.now narrowed.now }
+    ensures { IfOk result (IsFinding profile.now) }
 {
-    if !crowded.is_empty() {
-        return Finding::Undecided(list, crowded);
+    match allows_no_more(alloc, profile, narrowed)? {
+        AtMost::Yes => Ok(Finding::Nothing),
+        AtMost::No(excess) => {
+            let past = exceeding(profile, narrowed, &excess);
+            Ok(Finding::GetPast(one(alloc, past)?))
+        }
+        AtMost::Undecided(crate::order::Size::TooLong) => Ok(Finding::Undecided(Size::TooLong)),
+        AtMost::Undecided(crate::order::Size::TooLarge) => Ok(Finding::Undecided(Size::TooLarge)),
     }
-    if list.is_empty() {
-        return Finding::Nothing;
-    }
-    Finding::GetPast(list)
-}
-
-// Which calls get past a profile, by those on which it allows more than its narrowed one.
-fn by_differences(
-    alloc: Global,
-    family: Family,
-    profile: &Profile,
-    narrowed: &Profile,
-    all: &Differences,
-) -> Result<Finding, AllocError>
-    requires narrowed { IsNarrowed profile.now narrowed.now }
-    requires all { AreAllIn narrowed.now profile.now More all.now }
-    ensures { IfOk result (IsFinding family profile.now) }
-{
-    narrowed.rules();
-    let list = past_among(alloc, profile, narrowed, &all.found)?;
-    let crowded = crowded_of(alloc, family, &all.crowded)?;
-    Ok(finding_of(list, crowded))
 }
 
 // The rules of a profile, unless one looks at a bit that is not read.
@@ -117,39 +85,27 @@ fn is_own(alloc: Global, profile: &Profile) -> Result<bool, CutError>
     }
 }
 
-// Which calls get past a profile with this narrowed one.
-fn beside(
-    alloc: Global,
-    family: Family,
-    profile: &Profile,
-    narrowed: &Profile,
-) -> Result<Finding, AllocError>
-    requires { IsNarrowed profile.now narrowed.now }
-    ensures { IfOk result (IsFinding family profile.now) }
-{
-    let all = differences_in(alloc, narrowed, profile, Direction::More)?;
-    by_differences(alloc, family, profile, narrowed, &all)
-}
-
-// None gets past a profile that is its own narrowed one.
-fn none_past(profile: &Profile) -> Finding
-    requires { IsNarrowed profile.now profile.now }
-    ensures { (family : TheFamily) → IsFinding family profile.now result }
-{
-    profile.rules();
-    Finding::Nothing
-}
-
-/// Which calls get past a profile, whose machines are of a family.
-pub fn finding(alloc: Global, family: Family, profile: &Profile) -> Result<Finding, AllocError>
-    ensures { IfOk result (IsFinding family profile.now) }
+// What is decided where the search finds nothing.
+fn decided_alone(alloc: Global, profile: &Profile) -> Result<Finding, AllocError>
+    ensures { IfOk result (IsFinding profile.now) }
 {
     if let Ok(true) = is_own(alloc, profile) {
-        return Ok(none_past(profile));
+        return Ok(Finding::Nothing);
     }
     match narrowed(alloc, profile) {
-        Ok(narrowed) => beside(alloc, family, profile, &narrowed),
-        Err(CutError::TooMany) => Ok(Finding::TooMany),
+        Ok(narrowed) => decided(alloc, profile, &narrowed),
+        Err(CutError::TooMany) => Ok(Finding::Undecided(Size::TooMany)),
         Err(CutError::OutOfMemory) => Err(AllocError),
     }
+}
+
+/// Which calls get past a profile: where none is told, none does, unless a size was too small for the decision.
+pub fn finding(alloc: Global, profile: &Profile) -> Result<Finding, AllocError>
+    ensures { IfOk result (IsFinding profile.now) }
+{
+    let list = search(alloc, profile)?;
+    if list.is_empty() {
+        return decided_alone(alloc, profile);
+    }
+    Ok(Finding::GetPast(list))
 }

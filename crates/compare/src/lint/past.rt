@@ -1,5 +1,4 @@
 //! Calls that get past a profile by bits that nobody reads.
-use crate::search::Crowded;
 use call_record::{Record, Word};
 
 /// A call that a profile lets through, and the same call with the bits at 0 that are not read, which it refuses.
@@ -11,15 +10,22 @@ pub struct Past {
     pub cleared_word: Word,
 }
 
-/// What gets past a profile.
-#[derive(Drop)]
-pub enum Finding {
-    /// No call.
-    Nothing,
-    /// These calls, and no others.
-    GetPast(Vec<Past>),
-    /// These calls; of some others it was not decided.
-    Undecided(Vec<Past>, Vec<Crowded>),
-    /// It was not decided: the narrowed profile would have more rules than a profile may have.
+/// Which size was too small for a decision.
+#[derive(Clone, Copy, Debug, PartialEq, Eq)]
+pub enum Size {
+    /// The narrowed profile would have more rules than a profile may have.
     TooMany,
+    /// The programs of both profiles have more instructions together than a filter may have.
+    TooLong,
+    /// The certificate would have more nodes or literals than one may have.
+    TooLarge,
+}
+
+/// What gets past a profile.
+#[derive(Debug, Drop)]
+pub enum Finding {
+    Nothing,
+    GetPast(Vec<Past>),
+    /// It was not decided, for a size.
+    Undecided(Size),
 }

@@ -1,21 +1,18 @@
 //! What else in a bundle says less than it seems to. None of it changes what is decided.
 use crate::lint::pairs::put_pairs;
 use call_record::lets_through;
+use explain::ConditionText;
+use explain::narrow::{Reading, Text, readings, sees_low};
 use profile::{Cond, Op, Profile, Rule};
 use profile_json::EntryRules;
-use widths::{Reading, Text, readings, sees_low};
-use wording::ConditionText;
 
-// How an argument is read, if that is known. On x86 and ARM it has 32 bits.
+// How an argument is read, if that is known.
 fn reading_of(rule: &Rule, cond: &Cond) -> Option<Reading> {
-    let known = match readings(rule.arch.token(), rule.nr) {
-        Some(row) => row.get(cond.index as usize).copied(),
-        None => None,
-    };
-    if rule.is_narrow() && matches!(known, None | Some(Reading::Bits64)) {
-        return Some(Reading::Bits32);
+    if rule.is_narrow() {
+        return None;
     }
-    known
+    let row = readings(rule.arch.token(), rule.nr)?;
+    row.get(cond.index as usize).copied()
 }
 
 // Whether a condition refuses a call that has a bit set that nobody reads.
@@ -24,8 +21,7 @@ fn asks_unread(rule: &Rule, cond: &Cond) -> bool {
         return false;
     };
     let bits = reading.bits();
-    let compared = if rule.is_narrow() { 32 } else { 64 };
-    if bits >= compared || sees_low(cond, bits) {
+    if bits >= 64 || sees_low(cond, bits) {
         return false;
     }
     matches!(cond.op, Op::Eq | Op::Lt | Op::Le | Op::MaskedEq)
@@ -50,9 +46,14 @@ fn compared_with(cond: &Cond) -> u64 {
     }
 }
 
-// Why a condition says less than it seems to.
+// Why a condition says less than it seems to. On x86 and ARM each argument has 32 bits.
 fn remark_of(rule: &Rule, cond: &Cond) -> Option<&'static str> {
-    match reading_of(rule, cond)? {
+    let reading = if rule.is_narrow() {
+        Reading::Bits32
+    } else {
+        reading_of(rule, cond)?
+    };
+    match reading {
         Reading::NotTaken => Some("the call has no such argument"),
         Reading::Pointer => {
             Some("a pointer: the address is compared, and not what stands there")

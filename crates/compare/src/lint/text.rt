@@ -1,19 +1,19 @@
 //! The lines that tell what gets past.
-use crate::lint::past::{Finding, Past};
+use crate::lint::past::{Finding, Past, Size};
 use crate::lint::places::place_of;
 use crate::lint::remarks::put_remarks;
-use crate::search::Crowded;
 use call_record::Record;
 use call_tables::{Arch, Family};
+use explain::narrow::Text;
+use explain::{ActionText, machine_with};
 use profile::Profile;
 use profile_json::{EntryRules, rules_by_entry};
 use std::alloc::{AllocError, Global};
-use widths::Text;
-use wording::{ActionText, machine_with};
 
 // Adds a call by its name, if it has one, and its machine.
-fn put_name(text: &mut Text, arch: Option<Arch>, nr: u32) {
-    let Some(arch) = arch else {
+fn put_call(text: &mut Text, family: Family, call: &Record) {
+    let nr = call.nr;
+    let Some(arch) = machine_with(family, call.arch, nr) else {
         return text.put(format_args!("call {nr}"));
     };
     let machine = arch.machine_name();
@@ -54,8 +54,7 @@ fn put_past(alloc: Global, text: &mut Text, family: Family, all: &EntryRules, pa
     if let Some(entry) = place_of(all, &past.call, &past.cleared) {
         text.put(format_args!("linux.seccomp.syscalls[{entry}]: "));
     }
-    let call = &past.call;
-    put_name(text, machine_with(family, call.arch, call.nr), call.nr);
+    put_call(text, family, &past.call);
     put_arguments(text, past);
     put_record(alloc, text, past.cleared_word, &past.cleared);
     put_record(alloc, text, past.word, &past.call);
@@ -71,27 +70,11 @@ fn put_list(alloc: Global, text: &mut Text, family: Family, all: &EntryRules, li
     text.put(format_args!("{count} {calls} past\n"));
 }
 
-// Adds the line of a call that is not decided.
-fn put_crowded(text: &mut Text, call: &Crowded) {
-    text.put("undecided TooLarge ");
-    put_name(text, call.arch, call.nr);
-    text.put("\n");
-}
-
-// Adds the lines of calls that get past, and of those that are not decided.
-fn put_undecided(
-    alloc: Global,
-    text: &mut Text,
-    family: Family,
-    all: &EntryRules,
-    list: &[Past],
-    crowded: &[Crowded],
-) {
-    for past in list {
-        put_past(alloc, text, family, all, past);
-    }
-    for call in crowded {
-        put_crowded(text, call);
+fn size_name(size: Size) -> &'static str {
+    match size {
+        Size::TooMany => "TooMany",
+        Size::TooLong => "TooLong",
+        Size::TooLarge => "TooLarge",
     }
 }
 
@@ -110,10 +93,10 @@ pub(crate) fn text_of(
     match found {
         Finding::Nothing => text.put("nothing gets past\n"),
         Finding::GetPast(list) => put_list(alloc, &mut text, native.family(), &all, list),
-        Finding::Undecided(list, crowded) => {
-            put_undecided(alloc, &mut text, native.family(), &all, list, crowded);
+        Finding::Undecided(size) => {
+            let name = size_name(*size);
+            text.put(format_args!("undecided {name}\n"));
         }
-        Finding::TooMany => text.put("undecided TooMany\n"),
     }
     put_remarks(&mut text, profile, &all);
     text.whole()

@@ -5,13 +5,15 @@ ghost use Rattle.explain.specs.Answers as spec;
 use crate::audited::answers::may_answer;
 use crate::audited::fields::{Event, event_on};
 use crate::audited::lines::{put_number, put_said};
+use crate::learn::split_line;
+use crate::phrases::ActionText;
+use crate::told::{Told, refused_profile};
 use call_record::Word;
 use call_tables::Arch;
 use profile::Profile;
 use profile_json::{EntryRules, read_bundle, rules_by_entry};
 use std::alloc::{AllocError, Global};
 use std::fmt::Write;
-use wording::{ActionText, Told, refused_profile, split_line};
 
 // How many different events are listed. A system has fewer calls.
 const MOST_EVENTS: usize = 1024;

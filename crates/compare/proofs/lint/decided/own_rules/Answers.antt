@@ -1,7 +1,7 @@
 use Rattle.std.proofs.Common.{◌≡◌, ◌+◌, [], ◌∷◌, ◌++◌, List, get_or, take, sym, ◌∙◌, ap, subst, arith}
 use Rattle.std.proofs.lemmas.List.{take_more}
 use Rattle.profile.specs.declared.rules.Rule.{Rule}
-use Rattle.widths.specs.Narrowed.{AreNarrowed}
+use Rattle.explain.specs.Narrowed.{AreNarrowed}
 use Rattle.compare.proofs.lint.decided.own_rules.Goals as goal
 
 pub loop-rule-preserved : goal.loop-rule-preserved

@@ -1,5 +1,5 @@
 use Rattle.std.proofs.Common.{take}
-use Rattle.widths.specs.Narrowed.{AreNarrowed}
+use Rattle.explain.specs.Narrowed.{AreNarrowed}
 use Rattle.compare.proofs.lint.decided.own_rules.Given as goal
 
 abbrev pub invariant-loop-rule : goal.invariant-loop-rule

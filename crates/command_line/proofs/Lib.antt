@@ -1,6 +1,0 @@
-mod Told
-mod Grammars
-mod Words
-mod PlainWalks
-mod Faults
-mod Readings

@@ -1,5 +1,0 @@
-mod ReadLaws
-mod ItemLaws
-mod WordLaws
-mod HeardLaws
-pub mod SettledLaws

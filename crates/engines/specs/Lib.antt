@@ -1,4 +1,0 @@
-pub mod Adapted
-pub mod Words
-pub mod Settled
-pub mod inner

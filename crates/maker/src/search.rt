@@ -1,0 +1,12 @@
+//! Looks for a call record on which a filter and a profile differ.
+//!
+//! It takes any profile and any filter that the kernel accepts, and tries records: calls of the tables, records beside the rules, and
+//! such as the filter's comparisons tell apart. It is not trusted: whoever takes a record asks filter and profile for their verdicts.
+mod rules;
+mod search;
+mod trace;
+mod trials;
+mod words;
+mod work;
+
+pub(crate) use search::{find_beside_rules, find_record};

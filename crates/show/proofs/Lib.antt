@@ -1,2 +1,0 @@
-mod LineLaws
-mod EntryLaws

@@ -1,3 +1,0 @@
-pub mod Shown
-pub mod Unread
-pub mod Read

@@ -1,4 +1,0 @@
-pub mod Deciding
-pub mod Texts
-pub mod Results
-pub mod Splits
